@@ -1,0 +1,2 @@
+pub mod Applies
+pub mod Bounds

@@ -1,0 +1,88 @@
+//! The length as the type counts it: the bytes of a text, the items of a collection.
+ghost use Rattle.std.specs.Prelude.{◌≡◌, ℕ, string_bytes, length, vec_len, Result};
+ghost use Rattle.garde_lengths.specs.Applies.{Applies};
+ghost use Rattle.garde_lengths.specs.Bounds.{bounds_answer, length_fault};
+ghost use Rattle.garde_lengths.specs.declared.bounds.OutOfBounds.{OutOfBounds};
+
+use crate::bounds::{OutOfBounds, check_bounds};
+use crate::rule::Rule;
+use garde_i18n::I18n;
+use garde_report::RuleError;
+use std::alloc::Global;
+
+/// A value with a length.
+pub trait HasSimpleLength {
+    /// The length of the value.
+    ghost simple_len: { Self → ℕ };
+
+    /// The length.
+    fn length(&self) -> usize
+        ensures { result ≡ simple_len self.now };
+}
+
+impl HasSimpleLength for String {
+    ghost simple_len = { λ s. length (string_bytes s) };
+
+    fn length(&self) -> usize {
+        self.len()
+    }
+}
+
+impl<T> HasSimpleLength for Vec<T> {
+    ghost simple_len = { λ v. vec_len v };
+
+    fn length(&self) -> usize {
+        self.len()
+    }
+}
+
+/// A value whose length can be held against bounds.
+pub trait Simple {
+    /// What holding the length against a lower and an upper bound gives.
+    ghost answer: { ℕ → ℕ → Self → Result (Unit {0}) OutOfBounds };
+
+    /// Answers Ok where the length is at least `min` and at most `max`, and else which bound it is beyond. A length that is
+    /// beyond both, since `min` is above `max`, is below the lower one.
+    fn validate_length(&self, min: usize, max: usize) -> Result<(), OutOfBounds>
+        ensures { result ≡ answer min max self.now };
+}
+
+impl<T: HasSimpleLength> Simple for T {
+    ghost answer = { λ min max v. bounds_answer min max (T.simple_len v) };
+
+    fn validate_length(&self, min: usize, max: usize) -> Result<(), OutOfBounds> {
+        check_bounds(self.length(), min, max)
+    }
+}
+
+/// Answers Ok where the length is at least the first of `args` and at most the second, and else the fault with the
+/// handler's text of the bound that it is beyond.
+///
+/// `RuleError::Memory` is answered only where the rule does not hold.
+pub fn apply<T: Simple, H: I18n>(
+    alloc: Global,
+    v: &T,
+    args: (usize, usize),
+    h: &H,
+) -> Result<(), RuleError>
+    ensures { Applies (length_fault args.0 args.1 (T.answer args.0 args.1 v.now)) (H.text h.now) result }
+{
+    let (min, max) = args;
+    match v.validate_length(min, max) {
+        Ok(()) => Ok(()),
+        Err(OutOfBounds::Lower) => Err(RuleError::of(alloc, h.length_lower_than(alloc, min))),
+        Err(OutOfBounds::Upper) => Err(RuleError::of(alloc, h.length_greater_than(alloc, max))),
+    }
+}
+
+/// The rule as a value: the length is at least the first number and at most the second.
+#[derive(Clone, Copy, Debug, PartialEq, Eq)]
+pub struct SimpleLength(pub usize, pub usize);
+
+impl<T: Simple> Rule<T> for SimpleLength {
+    ghost finds = { λ rule v. length_fault rule.0 rule.1 (T.answer rule.0 rule.1 v) };
+
+    fn find<H: I18n>(&self, alloc: Global, value: &T, h: &H) -> Result<(), RuleError> {
+        apply(alloc, value, (self.0, self.1), h)
+    }
+}

@@ -1,0 +1,21 @@
+//! Rules as values.
+ghost use Rattle.std.specs.Prelude.{Option};
+ghost use Rattle.garde_lengths.specs.Applies.{Applies, Fault};
+
+use garde_i18n::I18n;
+use garde_report::RuleError;
+use std::alloc::Global;
+
+/// A rule as a value, which says what is wrong with a `T`.
+///
+/// A check of one's own is a rule too: its fault is a message of its own, which no handler changes.
+pub trait Rule<T> {
+    /// What the rule finds in a value.
+    ghost finds: { Self → T → Option Fault };
+
+    /// Answers Ok where the rule finds nothing, and else the fault with the handler's text of it.
+    ///
+    /// `RuleError::Memory` is answered only where there is a fault whose text could not be made.
+    fn find<H: I18n>(&self, alloc: Global, value: &T, h: &H) -> Result<(), RuleError>
+        ensures { Applies (finds self.now value.now) (H.text h.now) result };
+}
