@@ -1,0 +1,13 @@
+-- When a rule holds, and the fault where it does not.
+use Rattle.std.specs.Prelude.{Bool, true, Option, Some, None, if◌then◌else◌}
+use Rattle.garde_i18n.specs.Datum.{Datum}
+use Rattle.garde_lengths.specs.Applies.{Fault, rule}
+
+-- the fault of this datum where the rule does not hold
+abbrev pub unless : Bool → Datum → Option Fault
+unless holds datum = if holds then None else Some (rule datum)
+
+-- an option passes a rule where it is none, or what it holds passes
+abbrev pub passes_option : {T : Type 0} → (T → Bool) → Option T → Bool
+passes_option passes None = true
+passes_option passes (Some value) = passes value

@@ -1,0 +1,4 @@
+pub mod Holds
+pub mod Text
+pub use Rattle.garde_lengths.specs.Applies.{Fault, rule, own, fault_text, Applies}
+pub use Rattle.garde_lengths.specs.Bounds.{bounds_answer, length_fault}

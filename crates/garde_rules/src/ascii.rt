@@ -1,0 +1,66 @@
+//! Texts of ASCII alone.
+ghost use Rattle.std.specs.Prelude.{◌≡◌, Bool};
+ghost use Rattle.garde_i18n.specs.Datum.{not_ascii};
+ghost use Rattle.garde_lengths.specs.Applies.{Applies};
+ghost use Rattle.garde_rules.specs.Holds.{unless, passes_option};
+ghost use Rattle.garde_rules.specs.Text.{is_ascii_text};
+
+use crate::as_str::AsStr;
+use garde_i18n::I18n;
+use garde_lengths::Rule;
+use garde_report::RuleError;
+use std::alloc::Global;
+
+/// A value that may be ASCII. Every text is one, and an option of one.
+pub trait Ascii {
+    /// Whether the value passes.
+    ghost passes: { Self → Bool };
+
+    /// Whether every byte of the text is below 128. An option without a value passes.
+    fn validate_ascii(&self) -> bool
+        ensures { result ≡ passes self.now };
+}
+
+impl<T: AsStr> Ascii for T {
+    ghost passes = { λ v. is_ascii_text (T.text v) };
+
+    fn validate_ascii(&self) -> bool {
+        self.as_str().is_ascii()
+    }
+}
+
+impl<T: Ascii> Ascii for Option<T> {
+    ghost passes = { passes_option T.passes };
+
+    fn validate_ascii(&self) -> bool {
+        match self {
+            None => true,
+            Some(v) => v.validate_ascii(),
+        }
+    }
+}
+
+/// Answers Ok where every byte is below 128, and else the fault with the handler's text.
+///
+/// `RuleError::Memory` is answered only where the rule does not hold.
+pub fn apply<T: Ascii, H: I18n>(alloc: Global, v: &T, _args: (), h: &H) -> Result<(), RuleError>
+    ensures { Applies (unless (T.passes v.now) not_ascii) (H.text h.now) result }
+{
+    if v.validate_ascii() {
+        Ok(())
+    } else {
+        Err(RuleError::of(alloc, h.ascii_invalid(alloc)))
+    }
+}
+
+/// The rule as a value: every byte is below 128.
+#[derive(Clone, Copy, Debug, Default, PartialEq, Eq)]
+pub struct AsciiOnly;
+
+impl<T: Ascii> Rule<T> for AsciiOnly {
+    ghost finds = { λ _ v. unless (T.passes v) not_ascii };
+
+    fn find<H: I18n>(&self, alloc: Global, value: &T, h: &H) -> Result<(), RuleError> {
+        apply(alloc, value, (), h)
+    }
+}
