@@ -1,0 +1,6 @@
+mod Flat
+mod Counts
+mod Walks
+mod Refusals
+pub mod Visiting
+mod Answering

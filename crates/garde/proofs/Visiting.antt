@@ -1,0 +1,86 @@
+-- Lemmas on what a visit leaves and answers.
+use Rattle.std.proofs.Common.{◌≡◌, ℕ, ◌≤◌, List, [], ◌∷◌, length, Option, Result, Ok, Err, OnOk, OnErr, refl, ap, ◌∙◌, inl, inr, length-append}
+use Rattle.std.specs.List.{enumerate_from}
+use Rattle.std.specs.Result.{IsErr, IsOk}
+use Rattle.std.proofs.lemmas.Bool.{false≢true}
+use Rattle.garde_i18n.specs.Datum.{Datum}
+use Rattle.garde_report.specs.Part.{Part, index_part}
+use Rattle.garde_report.specs.Report.{Entry}
+use Rattle.garde_report.specs.Trace.{Trace, IsTrace, pushed, popped, IsPut, IsNotPut}
+use Rattle.garde_report.specs.declared.error.fault.RuleError.{RuleError}
+use Rattle.garde_rules.specs.{Fault, Applies}
+use Rattle.garde.specs.Laws.{under_has_tree}
+use Rattle.garde.specs.Tree.{found_tree}
+use Rattle.garde.specs.Walk.{Walked}
+use Rattle.garde.specs.Visits.{Visits, Visited, ◌and◌, below, found, only, none, items}
+use Rattle.garde.proofs.Walks.{silent_partly, nothing_walked, under_walked, under_partly, rule_walked, rule_partly, rule_bears, both_walked, first_partly, second_partly, WalkedUpTo, up_to_partly, up_to_all}
+use Rattle.garde.proofs.Refusals.{refuses_under, refuses_under_full, refuses_first, refuses_second, depth_kept, refuses_item, refuses_next}
+
+module _ {text : Datum → List ℕ} {E : Type 0} where
+  -- the first is done, and this is what the second does
+  pub visited_then : (a b : Visits) {before mid after : Trace} {old between new : List Entry} {first result : Result Unit E} → Visited a text before mid old between first → IsOk first → Visited b text mid after between new result → Visited (a and b) text before after old new result
+  unfolding ◌and◌
+  visited_then a b {first = Err e} one is two = absurd (false≢true is)
+  visited_then a b {first = Ok x} {result = Ok y} one is two = record { ok = both_walked one.ok two.ok; err = tt; why = tt }
+  visited_then a b {before = before} {first = Ok x} {result = Err e} one is two = record {
+    ok = tt;
+    err = second_partly one.ok two.err;
+    why = refuses_second (length before.components) a.has_tree (rw (depth_kept one.ok) at two.why);
+  }
+
+  -- the first is refused
+  pub visited_stop : (a b : Visits) {before after : Trace} {old new : List Entry} {first result : Result Unit E} → Visited a text before after old new first → IsErr first → IsErr result → Visited (a and b) text before after old new result
+  unfolding ◌and◌
+  visited_stop a b {first = Ok x} one was is = absurd (false≢true was)
+  visited_stop a b {first = Err e} {result = Ok x} one was is = absurd (false≢true is)
+  visited_stop a b {before = before} {first = Err e} {result = Err f} one was is = record { ok = tt; err = first_partly one.err b.has_tree; why = refuses_first (length before.components) one.why b.has_tree }
+
+  pub visited_below : (k : Part) (a : Visits) {before inner mid after : Trace} {old new : List Entry} {result : Result Unit E} → IsTrace before → inner ≡ pushed before k → Visited a text inner mid old new result → after ≡ popped mid → Visited (below k a) text before after old new result
+  unfolding below
+  visited_below k a {result = Ok x} sound push told pop = record { ok = under_walked k sound push told.ok pop; err = tt; why = tt }
+  visited_below k a {before = before} {result = Err e} sound push told pop = record {
+    ok = tt;
+    err = under_partly k sound push told.err pop;
+    why = refuses_under k _ _ (ap (λ w. length w.components) push ∙ length-append before.components (k ∷ [])) told.why;
+  }
+
+  -- no component more goes onto the trail
+  pub visited_full : (k : Part) (a : Visits) {before after : Trace} {old new : List Entry} {result : Result Unit E} → new ≡ old → after ≡ before → 8 ≤ length before.components → IsErr result → Visited (below k a) text before after old new result
+  unfolding below
+  visited_full k a {result = Ok x} same still full is = absurd (false≢true is)
+  visited_full k a {before = before} {result = Err f} same still full is = record { ok = tt; err = silent_partly (under_has_tree k a.has_tree) same still; why = refuses_under_full k (length before.components) a.has_tree full }
+
+  -- a rule's answer was put
+  pub visited_found : (fault : Option Fault) {before after : Trace} {old new : List Entry} (outcome : Result Unit RuleError) {result : Result Unit E} → IsTrace before → Applies fault text outcome → OnOk result (IsPut outcome before after old new) → OnErr result (IsNotPut outcome before after) → OnErr result (new ≡ old) → Visited (found fault) text before after old new result
+  unfolding found only
+  visited_found fault outcome {result = Ok x} sound applies put refused same = record { ok = rule_walked fault outcome sound applies put; err = tt; why = tt }
+  visited_found fault {before} {after} outcome {result = Err e} sound applies put refused same = record {
+    ok = tt;
+    err = rule_partly fault outcome applies refused same;
+    why = inr (found_tree fault, refl, inl (rule_bears text before after fault outcome applies refused));
+  }
+
+  -- ---- items
+
+  pub is_walked : {a : Visits} {before after : Trace} {old new : List Entry} {result : Result Unit E} → Visited a text before after old new result → IsOk result → Walked a.trees text before after old new
+  is_walked {result = Ok x} told is = told.ok
+  is_walked {result = Err e} told is = absurd (false≢true is)
+
+  pub visited_item : {A : Type 0} (each : A → Visits) (xs : List A) {rest left : List (ℕ × A)} {e : ℕ × A} {before mid after : Trace} {old between new : List Entry} {first result : Result Unit E} → WalkedUpTo index_part (λ x. (each x).trees) text (enumerate_from 0 xs) rest before mid old between → rest ≡ e ∷ left → Visited (below (index_part e.0) (each e.1)) text mid after between new first → IsErr first → IsErr result → Visited (items each xs) text before after old new result
+  unfolding items below
+  visited_item each xs {first = Ok x} so_far step one was is = absurd (false≢true was)
+  visited_item each xs {first = Err e} {result = Ok x} so_far step one was is = absurd (false≢true is)
+  visited_item each xs {before = before} {first = Err e} {result = Err f} so_far step one was is = record {
+    ok = tt;
+    err = up_to_partly (λ x. (each x).has_tree) so_far step one.err;
+    why = refuses_item (λ x. (each x).trees) (λ x. (each x).takes) (length before.components) xs
+        (refuses_next (λ x. (each x).takes) (length before.components) (λ x. (each x).has_tree) so_far step (rw (depth_kept so_far.told) at one.why));
+  }
+
+  pub visited_items : {A : Type 0} (each : A → Visits) (xs : List A) {rest : List (ℕ × A)} {before after : Trace} {old new : List Entry} → WalkedUpTo index_part (λ x. (each x).trees) text (enumerate_from 0 xs) rest before after old new → rest ≡ [] → Visited {E = E} (items each xs) text before after old new (Ok tt)
+  unfolding items
+  visited_items each xs so_far none = record { ok = up_to_all so_far none; err = tt; why = tt }
+
+  pub visited_none : {walk : Trace} {old : List Entry} → Visited {E = E} none text walk walk old old (Ok tt)
+  unfolding none only
+  visited_none = record { ok = nothing_walked; err = tt; why = tt }

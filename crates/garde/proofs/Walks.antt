@@ -1,0 +1,244 @@
+-- Lemmas on what a visit leaves.
+use Rattle.std.proofs.Common.{◌≡◌, ℕ, ◌+◌, ◌<◌, ◌≤◌, List, [], ◌∷◌, ◌++◌, length, get_or, drop, add-one, drop-cons, Option, Some, None, IsSome, Result, Ok, Err, refl, ap, sym, subst, ◌∙◌, append_assoc, append-nil, IsTrue, arith, length-append}
+use Rattle.std.proofs.lemmas.Bool.{true≢false}
+use Rattle.std.specs.List.{enumerate_from}
+use Rattle.std.specs.Prelude.{IsSomeAnd}
+use Rattle.garde_i18n.specs.Datum.{Datum}
+use Rattle.garde_report.specs.Part.{Part}
+use Rattle.garde_report.specs.Report.{Entry}
+use Rattle.garde_report.specs.Trace.{Trace, IsTrace, pushed, popped, IsPut, IsNotPut}
+use Rattle.garde_report.specs.declared.error.fault.RuleError.{RuleError}
+use Rattle.garde_report.specs.declared.error.fault.RuleError.TheVariants as errors
+use Rattle.garde_rules.specs.{Fault, Applies}
+use Rattle.garde.specs.Tree.{Tree, nothing, under, ◌then◌, bears, flat, found_tree}
+use Rattle.garde.specs.Trees.{HasTree, TreesNothing, TreesUnder, TreesBoth, TreesEach}
+use Rattle.garde.specs.Laws.{each_has_tree}
+use Rattle.garde.specs.Walk.{trace_after, Walked, WalkedPartly}
+use Rattle.garde.proofs.Flat.{then-nothing, then_assoc, flat-then}
+use Rattle.garde.proofs.Counts.{trace_after-then, popped-trace_after, trace_after-components, trace_after-nodes, trace_after-front, popped-components, same_trace}
+
+module _ {text : Datum → List ℕ} where
+  -- nothing is said yet, and nothing made
+  pub silent_partly : {trees : Tree → Type 0} {before after : Trace} {old new : List Entry} → HasTree trees → new ≡ old → after ≡ before → WalkedPartly trees text before after old new
+  silent_partly {before = before} {after} {old} has same still = record {
+    tree = has.0;
+    visited = has.1;
+    said = [];
+    unsaid = flat text before.components has.0;
+    cut = refl;
+    report = same ∙ sym (append-nil old);
+    components = ap (λ w. w.components) still;
+    front = omega (arith, ap (λ w. w.front) still);
+    nodes = omega (arith, ap (λ w. w.nodes) still);
+    most = omega (arith, ap (λ w. w.nodes) still, trace_after-nodes before has.0);
+  }
+
+  pub nothing_walked : {walk : Trace} {old : List Entry} → Walked TreesNothing text walk walk old old
+  nothing_walked {old = old} = record { tree = nothing; visited = refl; report = sym (append-nil old); trail = refl; front = omega arith }
+
+  -- ---- a component
+
+  pub under_walked : {trees : Tree → Type 0} {before inner mid after : Trace} {old new : List Entry} (k : Part) → IsTrace before → inner ≡ pushed before k → Walked trees text inner mid old new → after ≡ popped mid → Walked (TreesUnder k trees) text before after old new
+  under_walked {before = before} {inner} {mid} {after} {old} k sound push told pop =
+      let back : after ≡ trace_after before (under k told.tree nothing) =
+      pop ∙ ap popped told.trail ∙ ap (λ w. popped (trace_after w told.tree)) push ∙ popped-trace_after before k told.tree sound in
+      record {
+        tree = under k told.tree nothing;
+        visited = (told.tree, told.visited, refl);
+        report = told.report ∙ ap (λ w. old ++ flat text w.components told.tree) push ∙ ap (λ ls. old ++ ls) (sym (append-nil (flat text (before.components ++ k ∷ []) told.tree)));
+        trail = back;
+        front = omega (arith, trace_after-front before (under k told.tree nothing) sound, ap (λ w. w.front) back);
+      }
+
+  pub under_partly : {trees : Tree → Type 0} {before inner mid after : Trace} {old new : List Entry} (k : Part) → IsTrace before → inner ≡ pushed before k → WalkedPartly trees text inner mid old new → after ≡ popped mid → WalkedPartly (TreesUnder k trees) text before after old new
+  under_partly {before = before} {inner} {mid} {after} k sound push told pop =
+      let parts = popped-components mid before.components k (told.components ∙ ap (λ w. w.components) push) in
+      let count : after.nodes ≡ mid.nodes = ap (λ w. w.nodes) pop in
+      let whole : popped (trace_after inner told.tree) ≡ trace_after before (under k told.tree nothing) =
+      ap (λ w. popped (trace_after w told.tree)) push ∙ popped-trace_after before k told.tree sound in
+      record {
+        tree = under k told.tree nothing;
+        visited = (told.tree, told.visited, refl);
+        said = told.said;
+        unsaid = told.unsaid;
+        cut = append-nil (flat text (before.components ++ k ∷ []) told.tree) ∙ ap (λ w. flat text w.components told.tree) (sym push) ∙ told.cut;
+        report = told.report;
+        components = ap (λ w. w.components) pop ∙ parts;
+        front = omega (arith, told.front, ap (λ w. w.front) push, sound.within, ap length (told.components ∙ ap (λ w. w.components) push) ∙ length-append before.components (k ∷ []), ap (λ w. w.front) pop);
+        nodes = omega (arith, told.nodes, ap (λ w. w.nodes) push, count);
+        most = omega (arith, told.most, count, ap (λ w. w.nodes) whole);
+      }
+
+  -- ---- one after the other
+
+  pub both_walked : {first second : Tree → Type 0} {before mid after : Trace} {old between new : List Entry} → Walked first text before mid old between → Walked second text mid after between new → Walked (TreesBoth first second) text before after old new
+  both_walked {before = before} {mid} {old = old} {between} a b =
+      let parts : mid.components ≡ before.components = ap (λ w. w.components) a.trail ∙ trace_after-components before a.tree in
+      record {
+        tree = a.tree then b.tree;
+        visited = (a.tree, b.tree, a.visited, b.visited, refl);
+        report = b.report ∙ ap (λ ps. between ++ flat text ps b.tree) parts ∙ ap (λ ls. ls ++ flat text before.components b.tree) a.report
+            ∙ append_assoc old (flat text before.components a.tree) (flat text before.components b.tree) ∙ ap (λ ls. old ++ ls) (sym (flat-then text before.components a.tree b.tree));
+        trail = b.trail ∙ ap (λ w. trace_after w b.tree) a.trail ∙ trace_after-then before a.tree b.tree;
+        front = omega (arith, a.front, b.front);
+      }
+
+  -- the first is cut short
+  pub first_partly : {first second : Tree → Type 0} {before after : Trace} {old new : List Entry} → WalkedPartly first text before after old new → HasTree second → WalkedPartly (TreesBoth first second) text before after old new
+  first_partly {before = before} a b = record {
+    tree = a.tree then b.0;
+    visited = (a.tree, b.0, a.visited, b.1, refl);
+    said = a.said;
+    unsaid = a.unsaid ++ flat text before.components b.0;
+    cut = flat-then text before.components a.tree b.0 ∙ ap (λ ls. ls ++ flat text before.components b.0) a.cut ∙ append_assoc a.said a.unsaid (flat text before.components b.0);
+    report = a.report;
+    components = a.components;
+    front = a.front;
+    nodes = a.nodes;
+    most = omega (arith, a.most, trace_after-nodes (trace_after before a.tree) b.0, ap (λ w. w.nodes) (trace_after-then before a.tree b.0));
+  }
+
+  -- the second is
+  pub second_partly : {first second : Tree → Type 0} {before mid after : Trace} {old between new : List Entry} → Walked first text before mid old between → WalkedPartly second text mid after between new → WalkedPartly (TreesBoth first second) text before after old new
+  second_partly {before = before} {mid} {old = old} a b =
+      let parts : mid.components ≡ before.components = ap (λ w. w.components) a.trail ∙ trace_after-components before a.tree in
+      record {
+        tree = a.tree then b.tree;
+        visited = (a.tree, b.tree, a.visited, b.visited, refl);
+        said = flat text before.components a.tree ++ b.said;
+        unsaid = b.unsaid;
+        cut = flat-then text before.components a.tree b.tree ∙ ap (λ ps. flat text before.components a.tree ++ flat text ps b.tree) (sym parts)
+            ∙ ap (λ ls. flat text before.components a.tree ++ ls) b.cut ∙ sym (append_assoc (flat text before.components a.tree) b.said b.unsaid);
+        report = b.report ∙ ap (λ ls. ls ++ b.said) a.report ∙ append_assoc old (flat text before.components a.tree) b.said;
+        components = b.components ∙ parts;
+        front = omega (arith, a.front, b.front);
+        nodes = omega (arith, ap (λ w. w.nodes) a.trail, trace_after-nodes before a.tree, b.nodes);
+        most = omega (arith, b.most, ap (λ w. (trace_after w b.tree).nodes) a.trail, ap (λ w. w.nodes) (trace_after-then before a.tree b.tree));
+      }
+
+-- ---- one tree for another
+
+pub walked_as : {trees others : Tree → Type 0} {text : Datum → List ℕ} {before after : Trace} {old new : List Entry} → ((t : Tree) → trees t → others t) → Walked trees text before after old new → Walked others text before after old new
+walked_as same told = record { tree = told.tree; visited = same told.tree told.visited; report = told.report; trail = told.trail; front = told.front }
+
+pub partly_as : {trees others : Tree → Type 0} {text : Datum → List ℕ} {before after : Trace} {old new : List Entry} → ((t : Tree) → trees t → others t) → WalkedPartly trees text before after old new → WalkedPartly others text before after old new
+partly_as same told = record {
+  tree = told.tree;
+  visited = same told.tree told.visited;
+  said = told.said;
+  unsaid = told.unsaid;
+  cut = told.cut;
+  report = told.report;
+  components = told.components;
+  front = told.front;
+  nodes = told.nodes;
+  most = told.most;
+}
+
+-- ---- what a rule finds
+
+-- a fault that was found, and what is said of it
+some_fault : {P : Fault → Type 0} (found : Option Fault) → IsSomeAnd found P → (f : Fault) × (found ≡ Some f) × P f
+some_fault None h = absurd h
+some_fault (Some f) h = (f, refl, h)
+
+found_some : (found : Option Fault) → IsSome found → (f : Fault) × (found ≡ Some f)
+found_some None h = absurd (true≢false (sym h))
+found_some (Some f) h = (f, refl)
+
+-- what a rule answered was put
+pub rule_walked : {text : Datum → List ℕ} {before after : Trace} {old new : List Entry} (found : Option Fault) (outcome : Result Unit RuleError) → IsTrace before → Applies found text outcome → IsPut outcome before after old new → Walked (λ t. t ≡ found_tree found) text before after old new
+rule_walked {before = before} {old = old} found (Ok _) sound applies (put, same) = record {
+  tree = nothing;
+  visited = sym (ap found_tree applies);
+  report = same ∙ sym (append-nil old);
+  trail = put;
+  front = omega (arith, ap (λ w. w.front) put);
+}
+rule_walked {before = before} {old = old} found (Err (errors.Fault message)) sound applies (put, more) =
+    let (f, is, says) = some_fault found applies in
+    record {
+      tree = found_tree (Some f);
+      visited = sym (ap found_tree is);
+      report = more ∙ ap (λ m. old ++ (before.components, m) ∷ []) says;
+      trail = put ∙ same_trace refl refl (omega arith);
+      front = omega (arith, sound.within, ap (λ w. w.front) put);
+    }
+rule_walked found (Err errors.Memory) sound applies put = absurd put
+
+refused_most : (text : Datum → List ℕ) (before after : Trace) (found : Option Fault) (outcome : Result Unit RuleError) → Applies found text outcome → IsNotPut outcome before after → after.nodes ≤ (trace_after before (found_tree found)).nodes
+refused_most text before after found (Ok _) applies refused = absurd refused
+refused_most text before after found (Err (errors.Fault message)) applies refused =
+    let (f, is, says) = some_fault found applies in
+    subst (λ o. after.nodes ≤ (trace_after before (found_tree o)).nodes) (sym is) (omega (arith, ap (λ w. w.nodes) refused.made, refused.within, refused.grows))
+refused_most text before after found (Err errors.Memory) applies refused = omega (arith, ap (λ w. w.nodes) refused, trace_after-nodes before (found_tree found))
+
+refused_grows : (before after : Trace) (outcome : Result Unit RuleError) → IsNotPut outcome before after → (after.components ≡ before.components) × (before.front ≤ after.front) × (before.nodes ≤ after.nodes)
+refused_grows before after (Ok _) refused = absurd refused
+refused_grows before after (Err (errors.Fault message)) refused = (ap (λ w. w.components) refused.made, refused.grows, omega (arith, ap (λ w. w.nodes) refused.made))
+refused_grows before after (Err errors.Memory) refused = (ap (λ w. w.components) refused, omega (arith, ap (λ w. w.front) refused), omega (arith, ap (λ w. w.nodes) refused))
+
+-- what a rule answered was refused
+pub rule_partly : {text : Datum → List ℕ} {before after : Trace} {old new : List Entry} (found : Option Fault) (outcome : Result Unit RuleError) → Applies found text outcome → IsNotPut outcome before after → new ≡ old → WalkedPartly (λ t. t ≡ found_tree found) text before after old new
+rule_partly {text} {before} {after} {old} found outcome applies refused same =
+    let grows = refused_grows before after outcome refused in
+    record {
+      tree = found_tree found;
+      visited = refl;
+      said = [];
+      unsaid = flat text before.components (found_tree found);
+      cut = refl;
+      report = same ∙ sym (append-nil old);
+      components = grows.0;
+      front = grows.1;
+      nodes = grows.2;
+      most = refused_most text before after found outcome applies refused;
+    }
+
+-- only a rule that found something is refused
+pub rule_bears : (text : Datum → List ℕ) (before after : Trace) (found : Option Fault) (outcome : Result Unit RuleError) → Applies found text outcome → IsNotPut outcome before after → IsTrue (bears (found_tree found))
+rule_bears text before after found (Ok _) applies refused = absurd refused
+rule_bears text before after found (Err (errors.Fault message)) applies refused = let (f, is, says) = some_fault found applies in ap (λ o. bears (found_tree o)) is
+rule_bears text before after found (Err errors.Memory) applies refused = let (f, is) = found_some found applies in ap (λ o. bears (found_tree o)) is
+
+-- ---- item by item
+
+-- of all items, those before rest are told
+pub record WalkedUpTo {K A : Type 0} (part : K → Part) (trees : A → Tree → Type 0) (text : Datum → List ℕ) (all rest : List (K × A)) (before after : Trace) (old new : List Entry) : Type 0 where
+  pub done : List (K × A)
+  pub split : all ≡ done ++ rest
+  pub told : Walked (TreesEach part trees done) text before after old new
+
+-- the trees of some items and of more
+each_append : {K A : Type 0} (part : K → Part) (trees : A → Tree → Type 0) (done rest : List (K × A)) (t : Tree) → TreesBoth (TreesEach part trees done) (TreesEach part trees rest) t → TreesEach part trees (done ++ rest) t
+each_append part trees [] rest t (a, b, va, vb, is) = subst (TreesEach part trees rest) (sym (is ∙ ap (λ s. s then b) va)) vb
+each_append part trees (d ∷ done) rest t (a, b, (a0, a1, va0, va1, ais), vb, is) =
+    (a0, a1 then b, va0, each_append part trees done rest (a1 then b) (a1, b, va1, vb, refl), is ∙ ap (λ s. s then b) ais ∙ then_assoc a0 a1 b)
+
+each_one : {K A : Type 0} (part : K → Part) (trees : A → Tree → Type 0) (e : K × A) (t : Tree) → TreesUnder (part e.0) (trees e.1) t → TreesEach part trees (e ∷ []) t
+each_one part trees e t v = (t, nothing, v, refl, sym (then-nothing t))
+
+module _ {K A : Type 0} {part : K → Part} {trees : A → Tree → Type 0} {text : Datum → List ℕ} where
+  pub up_to_start : {all rest : List (K × A)} {walk : Trace} {old : List Entry} → rest ≡ all → WalkedUpTo part trees text all rest walk walk old old
+  up_to_start same = record { done = []; split = sym same; told = nothing_walked }
+
+  pub up_to_more : {all rest left : List (K × A)} {e : K × A} {before mid after : Trace} {old between new : List Entry} → WalkedUpTo part trees text all rest before mid old between → rest ≡ e ∷ left → Walked (TreesUnder (part e.0) (trees e.1)) text mid after between new → WalkedUpTo part trees text all left before after old new
+  up_to_more {left = left} {e} so_far step more = record {
+    done = so_far.done ++ e ∷ [];
+    split = so_far.split ∙ ap (λ es. so_far.done ++ es) step ∙ sym (append_assoc so_far.done (e ∷ []) left);
+    told = walked_as (λ t (a, b, va, vb, is). each_append part trees so_far.done (e ∷ []) t (a, b, va, each_one part trees e b vb, is)) (both_walked so_far.told more);
+  }
+
+  pub up_to_all : {all rest : List (K × A)} {before after : Trace} {old new : List Entry} → WalkedUpTo part trees text all rest before after old new → rest ≡ [] → Walked (TreesEach part trees all) text before after old new
+  up_to_all so_far none =
+      walked_as (λ t. subst (λ es. TreesEach part trees es t) (sym (so_far.split ∙ ap (λ es. so_far.done ++ es) none ∙ append-nil so_far.done))) so_far.told
+
+  -- the next item is cut short
+  pub up_to_partly : {all rest left : List (K × A)} {e : K × A} {before mid after : Trace} {old between new : List Entry} → ((x : A) → HasTree (trees x)) → WalkedUpTo part trees text all rest before mid old between → rest ≡ e ∷ left → WalkedPartly (TreesUnder (part e.0) (trees e.1)) text mid after between new → WalkedPartly (TreesEach part trees all) text before after old new
+  up_to_partly {left = left} {e} has so_far step more =
+      partly_as (λ t v. subst (λ es. TreesEach part trees es t) (sym (so_far.split ∙ ap (λ es. so_far.done ++ es) step)) (each_append part trees so_far.done (e ∷ left) t v))
+      (second_partly so_far.told (first_partly more (each_has_tree part has left)))
+
+-- the items from the i-th on, numbered
+pub numbered_step : {A : Type 0} (xs : List A) (i : ℕ) (x : A) → i < length xs → x ≡ get_or xs i x → enumerate_from i (drop i xs) ≡ (i, x) ∷ enumerate_from (i + 1) (drop (i + 1) xs)
+numbered_step xs i x lt is = ap (enumerate_from i) (drop-cons xs i x lt) ∙ cc (add-one i, sym is)

@@ -1,0 +1,9 @@
+pub mod Tree
+pub mod Trees
+pub mod Laws
+pub mod Walk
+pub mod Visits
+pub mod Answers
+pub mod Refusal
+pub mod Author
+pub mod Words

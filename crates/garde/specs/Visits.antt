@@ -1,0 +1,81 @@
+-- What a visit of a value comes by, and how it is put together from smaller visits.
+use Rattle.std.specs.Prelude.{◌≡◌, ℕ, List, length, Option, ◌⊎◌, IsTrue, Result, OnOk, OnErr, refl}
+use Rattle.std.specs.List.{Any}
+use Rattle.garde_i18n.specs.Datum.{Datum}
+use Rattle.garde_report.specs.Part.{Part}
+use Rattle.garde_report.specs.Report.{Entry}
+use Rattle.garde_report.specs.Trace.{Trace}
+use Rattle.garde_rules.specs.{Fault}
+use Rattle.garde.specs.Tree.{Tree, nothing, bears, found_tree}
+use Rattle.garde.specs.Trees.{HasTree, Alike, TreesUnder, TreesBoth, TreesItems, TreesOption, FaultyOption}
+use Rattle.garde.specs.Laws.{one_alike, both_have_tree, both_alike, under_has_tree, under_alike, items_have_tree, items_alike, option_has_tree, option_alike}
+use Rattle.garde.specs.Walk.{Walked, WalkedPartly, MayRefuse}
+
+-- The trees that the value may have, whether they bear a fault, and whether a walk may take memory though they bear none;
+-- with the two laws: there is a tree, and all of them bear a fault exactly if the value is faulty.
+pub record Visits : Type 1 where
+  pub trees : Tree → Type 0
+  pub faulty : Type 0
+  pub takes : Type 0
+  pub has_tree : HasTree trees
+  pub alike : Alike trees faulty
+
+-- one tree, whose walk takes no memory but for its faults
+unfoldable pub only : Tree → Visits
+only t = record { trees = λ s. s ≡ t; faulty = IsTrue (bears t); takes = ⊥; has_tree = (t, refl); alike = one_alike t }
+
+-- nothing at all
+unfoldable pub none : Visits
+none = only nothing
+
+-- what a rule finds
+unfoldable pub found : Option Fault → Visits
+found fault = only (found_tree fault)
+
+-- the one, and then the other
+infixr 20 ◌and◌
+unfoldable pub ◌and◌ : Visits → Visits → Visits
+a and b = record {
+  trees = TreesBoth a.trees b.trees;
+  faulty = a.faulty ⊎ b.faulty;
+  takes = a.takes ⊎ b.takes;
+  has_tree = both_have_tree a.has_tree b.has_tree;
+  alike = both_alike a.alike b.alike;
+}
+
+-- beneath a component
+unfoldable pub below : Part → Visits → Visits
+below k a = record {
+  trees = TreesUnder k a.trees;
+  faulty = a.faulty;
+  takes = a.takes;
+  has_tree = under_has_tree k a.has_tree;
+  alike = under_alike k a.alike;
+}
+
+-- each item in turn, beneath its index
+unfoldable pub items : {A : Type 0} → (A → Visits) → List A → Visits
+items each xs = record {
+  trees = TreesItems (λ x. (each x).trees) xs;
+  faulty = Any (λ x. (each x).faulty) xs;
+  takes = Any (λ x. (each x).takes) xs;
+  has_tree = items_have_tree (λ x. (each x).has_tree) xs;
+  alike = items_alike (λ x. (each x).alike) xs;
+}
+
+-- what an option holds, with no component of its own
+unfoldable pub optional : {A : Type 0} → (A → Visits) → Option A → Visits
+optional each v = record {
+  trees = TreesOption (λ x. (each x).trees) v;
+  faulty = FaultyOption (λ x. (each x).faulty) v;
+  takes = FaultyOption (λ x. (each x).takes) v;
+  has_tree = option_has_tree (λ x. (each x).has_tree) v;
+  alike = option_alike (λ x. (each x).alike) v;
+}
+
+-- What a visit leaves and answers. At an Ok all of one tree was walked. At a refusal, which is for want of memory, a
+-- beginning of one tree was walked, and there is a reason why memory was wanted.
+pub record Visited {E : Type 0} (visits : Visits) (text : Datum → List ℕ) (before after : Trace) (old new : List Entry) (result : Result Unit E) : Type 0 where
+  pub ok : OnOk result (Walked visits.trees text before after old new)
+  pub err : OnErr result (WalkedPartly visits.trees text before after old new)
+  pub why : OnErr result (MayRefuse visits.trees visits.takes (length before.components))

@@ -1,0 +1,10 @@
+-- The words of the crates below that the contracts of a caller need.
+pub use Rattle.garde_i18n.specs.Datum.{not_ascii}
+pub use Rattle.garde_i18n.specs.DefaultText.{default_text}
+pub use Rattle.garde_report.specs.Part.{index_part, key_part}
+pub use Rattle.garde_report.specs.Report.{Entry, report_text}
+pub use Rattle.garde_report.specs.Trace.{Trace, new_trace}
+pub use Rattle.garde_rules.specs.{bounds_answer}
+pub use Rattle.garde_rules.specs.Holds.{unless}
+pub use Rattle.garde_rules.specs.Text.{is_ascii_text}
+pub use Rattle.garde_rules.specs.{length_fault}

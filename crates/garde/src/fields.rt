@@ -1,0 +1,24 @@
+//! What is checked of a value, said as a value.
+//!
+//! An author of a type writes its `Validate` implementation as one expression, for instance
+//!
+//! ```text
+//! (
+//!     Field("name", &self.name, (Is(AsciiOnly), Is(SimpleLength(3, 25)))),
+//!     Field("tags", &self.tags, Each(Is(AsciiOnly))),
+//!     Field("address", &self.address, Dive(ctx)),
+//! )
+//!     .visit(alloc, trail, report, h)
+//! ```
+//!
+//! and states `visits` by the words of `garde.specs.Author` in the same shape. Such an implementation needs no proof file.
+
+mod check;
+mod each;
+mod field;
+
+pub use check::{Check, Dive, Is, check_under};
+pub use each::Each;
+pub use field::{Field, Fields};
+pub use garde_rules::ascii::AsciiOnly;
+pub use garde_rules::length::simple::SimpleLength;

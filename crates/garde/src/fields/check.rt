@@ -1,0 +1,105 @@
+//! Checks of a value.
+ghost use Rattle.std.specs.Prelude.{◌≡◌};
+ghost use Rattle.garde_report.specs.Part.{part_of};
+ghost use Rattle.garde.specs.Visits.{Visits, Visited, below, found, ◌and◌};
+
+use crate::validate::Validate;
+use garde_i18n::I18n;
+use garde_report::{Component, Report, Trail};
+use garde_rules::Rule;
+use std::alloc::{AllocError, Global};
+
+/// What is checked of a `T` that stands where the trail leads.
+pub trait Check<'a, T> {
+    /// What a visit of a value by this check comes by.
+    ghost visits: { Self → T → Visits };
+
+    /// Appends the faults that the check finds to the report.
+    ///
+    /// `AllocError` is answered where memory runs out, under the terms of `Validate::validate_into`.
+    fn check<H: I18n>(
+        &self,
+        alloc: Global,
+        value: &'a T,
+        trail: &mut Trail<'a>,
+        report: &mut Report,
+        h: &H,
+    ) -> Result<(), AllocError>
+        ensures { Visited (visits self.now value.now) (H.text h.now) trail.old trail.new report.old report.new result };
+}
+
+/// The check that a rule holds of the value.
+#[derive(Clone, Copy, Debug)]
+pub struct Is<R>(pub R);
+
+impl<'a, T, R: Rule<T>> Check<'a, T> for Is<R> {
+    ghost visits = { λ is v. found (R.finds is.0 v) };
+
+    fn check<H: I18n>(
+        &self,
+        alloc: Global,
+        value: &'a T,
+        trail: &mut Trail<'a>,
+        report: &mut Report,
+        h: &H,
+    ) -> Result<(), AllocError> {
+        trail.put(report, self.0.find(alloc, value, h))
+    }
+}
+
+/// The check that the value, under this context, is valid by its own `Validate`.
+#[derive(Clone, Copy, Debug)]
+pub struct Dive<'c, C>(pub &'c C);
+
+impl<'a, 'c, T: Validate> Check<'a, T> for Dive<'c, T::Context> {
+    ghost visits = { λ dive v. T.visits v dive.0.now };
+
+    fn check<H: I18n>(
+        &self,
+        alloc: Global,
+        value: &'a T,
+        trail: &mut Trail<'a>,
+        report: &mut Report,
+        h: &H,
+    ) -> Result<(), AllocError> {
+        value.validate_into(alloc, self.0, trail, report, h)
+    }
+}
+
+/// One check, and then the other.
+impl<'a, T, A: Check<'a, T>, B: Check<'a, T>> Check<'a, T> for (A, B) {
+    ghost visits = { λ both v. A.visits both.0 v and B.visits both.1 v };
+
+    fn check<H: I18n>(
+        &self,
+        alloc: Global,
+        value: &'a T,
+        trail: &mut Trail<'a>,
+        report: &mut Report,
+        h: &H,
+    ) -> Result<(), AllocError> {
+        self.0.check(alloc, value, trail, report, h)?;
+        self.1.check(alloc, value, trail, report, h)
+    }
+}
+
+/// Checks a value that stands beneath a component: the component is pushed, the value checked, the component popped.
+///
+/// `AllocError` is answered where memory runs out, under the terms of `Validate::validate_into`.
+pub fn check_under<'a, T, C: Check<'a, T>, H: I18n>(
+    alloc: Global,
+    component: Component<'a>,
+    check: &C,
+    value: &'a T,
+    trail: &mut Trail<'a>,
+    report: &mut Report,
+    h: &H,
+) -> Result<(), AllocError>
+    ensures { Visited (below (part_of component.entry) (C.visits check.now value.now)) (H.text h.now)
+        trail.old trail.new report.old report.new result }
+{
+    trail.push(component)?;
+    let checked = check.check(alloc, value, trail, report, h);
+    trail.pop();
+    checked
+}

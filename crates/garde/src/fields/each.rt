@@ -1,0 +1,37 @@
+//! A check of each item.
+ghost use Rattle.garde.specs.Visits.{items};
+
+use super::check::{Check, check_under};
+use garde_i18n::I18n;
+use garde_report::{Component, Report, Trail};
+use std::alloc::{AllocError, Global};
+
+/// The check of each item in turn, under its index.
+#[derive(Clone, Copy, Debug)]
+pub struct Each<C>(pub C);
+
+impl<'a, T, C: Check<'a, T>> Check<'a, Vec<T>> for Each<C> {
+    ghost visits = { λ each v. items (λ x. C.visits each.0 x) v.items };
+
+    fn check<H: I18n>(
+        &self,
+        alloc: Global,
+        value: &'a Vec<T>,
+        trail: &mut Trail<'a>,
+        report: &mut Report,
+        h: &H,
+    ) -> Result<(), AllocError> {
+        for (index, item) in value.iter().enumerate() {
+            check_under(
+                alloc,
+                Component::index(index),
+                &self.0,
+                item,
+                trail,
+                report,
+                h,
+            )?;
+        }
+        Ok(())
+    }
+}

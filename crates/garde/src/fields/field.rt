@@ -1,0 +1,124 @@
+//! The fields of a value.
+ghost use Rattle.garde_report.specs.Part.{key_part};
+ghost use Rattle.garde.specs.Visits.{Visits, Visited, none, below, ◌and◌};
+
+use super::check::{Check, check_under};
+use garde_i18n::I18n;
+use garde_report::{Component, Report, Trail};
+use std::alloc::{AllocError, Global};
+
+/// Fields that are checked in turn, each under its name. It is implemented for one `Field`, for tuples of fields and for
+/// `()`, which checks nothing.
+pub trait Fields<'a> {
+    /// What a visit of the fields comes by.
+    ghost visits: { Self → Visits };
+
+    /// Appends the faults of the fields to the report.
+    ///
+    /// `AllocError` is answered where memory runs out, under the terms of `Validate::validate_into`.
+    fn visit<H: I18n>(
+        &self,
+        alloc: Global,
+        trail: &mut Trail<'a>,
+        report: &mut Report,
+        h: &H,
+    ) -> Result<(), AllocError>
+        ensures { Visited (visits self.now) (H.text h.now) trail.old trail.new report.old report.new result };
+}
+
+/// A field: its name, its value, and what is checked of it.
+#[derive(Clone, Copy, Debug)]
+pub struct Field<'a, T, C>(pub &'a str, pub &'a T, pub C);
+
+impl<'a, T, C: Check<'a, T>> Fields<'a> for Field<'a, T, C> {
+    ghost visits = { λ field. below (key_part field.0.now) (C.visits field.2 field.1.now) };
+
+    fn visit<H: I18n>(
+        &self,
+        alloc: Global,
+        trail: &mut Trail<'a>,
+        report: &mut Report,
+        h: &H,
+    ) -> Result<(), AllocError> {
+        check_under(
+            alloc,
+            Component::key(self.0),
+            &self.2,
+            self.1,
+            trail,
+            report,
+            h,
+        )
+    }
+}
+
+impl<'a> Fields<'a> for () {
+    ghost visits = { λ _. none };
+
+    fn visit<H: I18n>(
+        &self,
+        _alloc: Global,
+        _trail: &mut Trail<'a>,
+        _report: &mut Report,
+        _h: &H,
+    ) -> Result<(), AllocError> {
+        Ok(())
+    }
+}
+
+impl<'a, 'r, F: Fields<'a>> Fields<'a> for &'r F {
+    ghost visits = { λ fields. F.visits fields.now };
+
+    fn visit<H: I18n>(
+        &self,
+        alloc: Global,
+        trail: &mut Trail<'a>,
+        report: &mut Report,
+        h: &H,
+    ) -> Result<(), AllocError> {
+        (**self).visit(alloc, trail, report, h)
+    }
+}
+
+impl<'a, A: Fields<'a>, B: Fields<'a>> Fields<'a> for (A, B) {
+    ghost visits = { λ fields. A.visits fields.0 and B.visits fields.1 };
+
+    fn visit<H: I18n>(
+        &self,
+        alloc: Global,
+        trail: &mut Trail<'a>,
+        report: &mut Report,
+        h: &H,
+    ) -> Result<(), AllocError> {
+        self.0.visit(alloc, trail, report, h)?;
+        self.1.visit(alloc, trail, report, h)
+    }
+}
+
+impl<'a, A: Fields<'a>, B: Fields<'a>, C: Fields<'a>> Fields<'a> for (A, B, C) {
+    ghost visits = { λ fields. A.visits fields.0 and B.visits fields.1 and C.visits fields.2 };
+
+    fn visit<H: I18n>(
+        &self,
+        alloc: Global,
+        trail: &mut Trail<'a>,
+        report: &mut Report,
+        h: &H,
+    ) -> Result<(), AllocError> {
+        (&self.0, (&self.1, &self.2)).visit(alloc, trail, report, h)
+    }
+}
+
+impl<'a, A: Fields<'a>, B: Fields<'a>, C: Fields<'a>, D: Fields<'a>> Fields<'a> for (A, B, C, D) {
+    ghost visits = { λ fields. A.visits fields.0 and B.visits fields.1 and C.visits fields.2 and D.visits fields.3 };
+
+    fn visit<H: I18n>(
+        &self,
+        alloc: Global,
+        trail: &mut Trail<'a>,
+        report: &mut Report,
+        h: &H,
+    ) -> Result<(), AllocError> {
+        (&self.0, (&self.1, (&self.2, &self.3))).visit(alloc, trail, report, h)
+    }
+}

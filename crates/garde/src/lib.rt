@@ -1,0 +1,15 @@
+//! Values that are walked, and a report of every fault at the path where it stands.
+#![tactic(auto)]
+
+mod containers;
+pub mod fields;
+mod refusal;
+pub mod validate;
+
+pub use garde_i18n as i18n;
+pub use garde_i18n::{DefaultI18n, I18n};
+pub use garde_report as error;
+pub use garde_report::{Component, Error, Path, Report, RuleError, Trail};
+pub use garde_rules as rules;
+pub use refusal::ValidateError;
+pub use validate::Validate;
