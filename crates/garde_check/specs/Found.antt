@@ -1,0 +1,16 @@
+-- What is found of users.
+use Rattle.std.specs.Prelude.{◌≡◌, ℕ, List, Option, false, ◌↔◌}
+use Rattle.garde.specs.Author.{items, optional}
+use Rattle.garde.specs.Answers.{Tells}
+use Rattle.garde.specs.Tree.{Tree, bears}
+use Rattle.garde.specs.Words.{Entry, default_text, report_text}
+use Rattle.garde_check.specs.declared.outcome.Outcome.{Outcome}
+use Rattle.garde_check.specs.declared.outcome.Outcome.TheVariants.{Valid}
+use Rattle.garde_check.specs.declared.user.User.{User}
+use Rattle.garde_check.specs.User.{user_visits}
+
+-- The outcome, the text of the report and the number of nodes are those of a tree of the users.
+abbrev pub IsFound : List (Option User) → Outcome → List ℕ → ℕ → Type 0
+IsFound users outcome text made =
+    (t : Tree) × (report : List Entry) × Tells (items (λ user. optional user_visits user) users) default_text report made t
+    × (text ≡ report_text report) × ((outcome ≡ Valid) ↔ (bears t ≡ false))

@@ -1,0 +1,6 @@
+pub mod Lines
+pub mod User
+pub mod Users
+pub mod Found
+pub mod Ran
+pub mod Words

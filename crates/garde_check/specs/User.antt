@@ -1,0 +1,18 @@
+-- What a visit of a user comes by, and the one tree that it has.
+use Rattle.std.specs.Prelude.{ℕ, List}
+use Rattle.garde.specs.Author.{Visits, codes, length, string_bytes, ◌and◌, field, ascii, simple}
+use Rattle.garde.specs.Words.{not_ascii, bounds_answer, key_part, unless, is_ascii_text, length_fault}
+use Rattle.garde.specs.Tree.{Tree, nothing, under, ◌then◌, found_tree}
+use Rattle.garde_check.specs.declared.user.User.{User}
+
+-- Under the key `username`, the rule that the name is ASCII, and then the rule that its length is from 3 to 25.
+abbrev pub user_visits : User → Visits
+user_visits user = field (codes "username") (ascii (string_bytes user.username) and simple 3 25 (length (string_bytes user.username)))
+
+-- what the two rules find in a name
+abbrev pub username_tree : List ℕ → Tree
+username_tree name = found_tree (unless (is_ascii_text name) not_ascii) then found_tree (length_fault 3 25 (bounds_answer 3 25 (length name)))
+
+-- the tree of a user of this name
+abbrev pub named_tree : List ℕ → Tree
+named_tree name = under (key_part (codes "username")) (username_tree name) nothing

@@ -1,0 +1,48 @@
+//! Reads lines on standard input, each the name of a user, and reports every fault at its path.
+#![tactic(auto)]
+
+mod lines;
+mod mode;
+mod outcome;
+mod running;
+mod transfer;
+mod user;
+mod words;
+
+use crate::mode::Command;
+use crate::running::run;
+use crate::transfer::Plain;
+use crate::words::{command, fault_line, status};
+use std::env;
+use std::process::ExitCode;
+
+// What the words after the program's name ask for, or nothing where they are wrong or cannot be had.
+fn command_of(rt: &HostRuntime) -> Option<Command> {
+    let Ok(mut all) = env::args(rt) else {
+        return None;
+    };
+    let _program = all.next();
+    let Ok(words) = all.collect::<Vec<String>>(rt.alloc()) else {
+        return None;
+    };
+    command(&words)
+}
+
+fn main(rt: HostRuntime) -> ExitCode {
+    let Some(command) = command_of(&rt) else {
+        let _ = eprintln!(rt; "garde_check: wrong arguments");
+        return ExitCode::from(2);
+    };
+    let show_nodes = match command {
+        Command::Text => false,
+        Command::Nodes => true,
+    };
+    let mut reader = Plain::new(rt.stdin());
+    let mut writer = Plain::new(rt.stdout());
+    let answer = run(rt.alloc(), &mut reader, &mut writer, show_nodes);
+    if let Err(error) = &answer {
+        let line = fault_line(error);
+        let _ = eprintln!(rt; "{line}");
+    }
+    ExitCode::from(status(&answer))
+}

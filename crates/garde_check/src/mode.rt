@@ -1,0 +1,10 @@
+//! What the program may be asked to do.
+
+/// What is run.
+#[derive(Clone, Copy, PartialEq, Eq, Debug)]
+pub enum Command {
+    /// The report of the lines, as text.
+    Text,
+    /// The same, and a last line with the number of path nodes that were made.
+    Nodes,
+}

@@ -1,0 +1,31 @@
+//! The users whose names are read.
+ghost use Rattle.garde_check.specs.User.{user_visits};
+
+use garde::fields::{AsciiOnly, Field, Fields, Is, SimpleLength};
+use garde::{I18n, Report, Trail, Validate};
+use std::alloc::{AllocError, Global};
+
+/// A user, whose name has 3 to 25 bytes, all of them ASCII.
+#[derive(Drop, Debug)]
+pub struct User {
+    /// The name.
+    pub username: String,
+}
+
+impl Validate for User {
+    type Context = ();
+
+    ghost visits = { λ user _. user_visits user };
+
+    fn validate_into<'a, H: I18n>(
+        &'a self,
+        alloc: Global,
+        _ctx: &(),
+        trail: &mut Trail<'a>,
+        report: &mut Report,
+        h: &H,
+    ) -> Result<(), AllocError> {
+        let rules = (Is(AsciiOnly), Is(SimpleLength(3, 25)));
+        Field("username", &self.username, rules).visit(alloc, trail, report, h)
+    }
+}
