@@ -3,6 +3,7 @@ pub use Rattle.std.specs.Prelude.{codes, length, string_bytes}
 pub use Rattle.garde.specs.Visits.{Visits}
 unfoldable pub use Rattle.garde.specs.Visits.{none, only, found, ◌and◌, below, items, optional}
 pub use Rattle.garde_report.specs.Part.{key_part, index_part}
+pub use Rattle.garde_rules.specs.{Fault, rule, own}
 use Rattle.std.specs.Prelude.{ℕ, List}
 use Rattle.garde_i18n.specs.Datum.{not_ascii}
 use Rattle.garde_report.specs.Part.{key_part}

@@ -4,6 +4,8 @@
 mod containers;
 pub mod fields;
 mod refusal;
+#[cfg(test)]
+mod tests;
 pub mod validate;
 
 pub use garde_i18n as i18n;

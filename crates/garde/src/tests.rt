@@ -1,0 +1,92 @@
+//! Types as an author writes them, and what is told of them.
+mod contact;
+mod couple;
+mod signup;
+
+use crate::tests::contact::Contact;
+use crate::tests::couple::Couple;
+use crate::tests::signup::{Address, Limits, Signup};
+use crate::{DefaultI18n, Trail, Validate, ValidateError};
+use garde_report::Component;
+use std::alloc::{AllocError, Global};
+use std::test::Fail;
+
+fn address(alloc: Global, city: &str) -> Result<Address, AllocError> {
+    Ok(Address {
+        street: String::from_str(alloc, "Main")?,
+        city: String::from_str(alloc, city)?,
+        code: String::from_str(alloc, "60200")?,
+    })
+}
+
+/// The report's text, or the empty one of a valid value.
+fn told(alloc: Global, answer: Result<(), ValidateError>) -> Result<String, AllocError> {
+    match answer {
+        Ok(()) => Ok(String::new(alloc)),
+        Err(refusal) => refusal.to_string(alloc),
+    }
+}
+
+#[test]
+fn each_field_under_its_name(rt: HostRuntime) -> Result<(), Fail> {
+    let alloc = rt.alloc();
+    let signup = Signup {
+        name: String::from_str(alloc, "é")?,
+        password: String::from_str(alloc, "short")?,
+        tags: vec![in alloc;
+            String::from_str(alloc, "ok")?,
+            String::from_str(alloc, "ü")?,
+        ]?,
+        address: address(alloc, "")?,
+    };
+    let text = told(alloc, signup.validate_with(alloc, &Limits { most: 1 }))?;
+    assert_eq!(rt;
+        text.as_str(),
+        "name: not ascii\nname: length is lower than 3\npassword: weak\ntags: length is greater than 1\ntags[1]: not ascii\naddress.city: length is lower than 1\n"
+    );
+    Ok(())
+}
+
+#[test]
+fn wrappers_add_no_component(rt: HostRuntime) -> Result<(), Fail> {
+    let alloc = rt.alloc();
+    let home = address(alloc, "")?;
+    let held = Box::new(alloc, &home)?;
+    let rows = vec![in alloc; None, Some(held)]?;
+    let text = told(alloc, rows.validate(alloc))?;
+    assert_eq!(rt; text.as_str(), "[1].city: length is lower than 1\n");
+    Ok(())
+}
+
+#[test]
+fn couples_and_contacts(rt: HostRuntime) -> Result<(), Fail> {
+    let alloc = rt.alloc();
+    let couple = Couple {
+        left: Contact::Mail(String::from_str(alloc, "ñ")?),
+        right: Contact::Silent,
+    };
+    let text = told(alloc, couple.validate_with_i18n(alloc, &(), &DefaultI18n))?;
+    assert_eq!(rt; text.as_str(), "left.mail: not ascii\n");
+    Ok(())
+}
+
+#[test]
+fn paths_begin_with_the_trail(rt: HostRuntime) -> Result<(), Fail> {
+    let alloc = rt.alloc();
+    let homes = vec![in alloc; address(alloc, "Brno")?, address(alloc, "")?]?;
+    let mut trail = Trail::new(alloc);
+    trail.push(Component::key("homes"))?;
+    let answer = homes.validate_on(alloc, &Limits::default(), &mut trail, &DefaultI18n);
+    let text = told(alloc, answer)?;
+    assert_eq!(rt; text.as_str(), "homes[1].city: length is lower than 1\n");
+    assert_eq!(rt; trail.nodes(), 3);
+    assert_eq!(rt; trail.depth(), 1);
+    Ok(())
+}
+
+#[test]
+fn want_of_memory_prints_a_line(rt: HostRuntime) -> Result<(), Fail> {
+    let text = ValidateError::Memory.to_string(rt.alloc())?;
+    assert_eq!(rt; text.as_str(), "out of memory");
+    Ok(())
+}
