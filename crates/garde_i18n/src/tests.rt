@@ -1,6 +1,8 @@
 //! Tests of handlers: each asks a handler, and a reference to it, for a table of texts.
 mod custom;
 mod czech;
+mod reasons;
+mod scope;
 
 use crate::{DefaultI18n, I18n, InvalidCreditCard, InvalidPhoneNumber, InvalidUrl, IpKind};
 use std::alloc::{AllocError, Global};
@@ -82,10 +84,19 @@ fn answers_the_default_texts(rt: HostRuntime) -> Result<(), Fail> {
         ),
         (Asked::Pattern("\\d+"), "does not match pattern /\\d+/"),
         (Asked::Contains("test"), "does not contain \"test\""),
-        (Asked::Url(InvalidUrl::EmptyHost), "not a valid url: empty host"),
-        (Asked::Prefix("http://"), "value does not begin with \"http://\""),
+        (
+            Asked::Url(InvalidUrl::EmptyHost),
+            "not a valid url: empty host",
+        ),
+        (
+            Asked::Prefix("http://"),
+            "value does not begin with \"http://\"",
+        ),
         (Asked::Suffix(".com"), "does not end with \".com\""),
-        (Asked::Phone(InvalidPhoneNumber::Invalid), "not a valid phone number"),
+        (
+            Asked::Phone(InvalidPhoneNumber::Invalid),
+            "not a valid phone number",
+        ),
         (
             Asked::Phone(InvalidPhoneNumber::TooLong),
             "not a valid phone number: the number is too long",

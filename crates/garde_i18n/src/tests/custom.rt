@@ -1,39 +1,38 @@
-//! A handler with texts of its own, and work under it.
-ghost use Rattle.std.specs.Prelude.{◌≡◌, ◌++◌, IfOk, codes};
-ghost use Rattle.std.specs.Cow.{cow_str_bytes};
+//! A handler with texts of its own.
+ghost use Rattle.std.specs.Prelude.{◌++◌, codes};
 ghost use Rattle.std.specs.Fmt.{decimal};
 ghost use Rattle.garde_i18n.specs.Datum as datum;
 ghost use Rattle.garde_i18n.specs.Reasons.{card_name, url_name, phone_name, ip_kind_text};
 
 use super::{Asked, assert_answers};
-use crate::{I18n, InvalidCreditCard, InvalidPhoneNumber, InvalidUrl, IpKind, with_i18n};
+use crate::{I18n, InvalidCreditCard, InvalidPhoneNumber, InvalidUrl, IpKind};
 use std::alloc::{AllocError, Global};
 use std::borrow::CowStr;
 use std::test::Fail;
 
 /// A handler whose texts all begin with `custom: `.
 #[derive(Drop)]
-struct Custom;
+pub struct Custom;
 
 impl I18n for Custom {
     ghost text = { λ _ asked. elim asked [
-          datum.length_lower min ↦ codes "custom: too short, need at least " ++ decimal min
-        | datum.length_greater max ↦ codes "custom: too long, maximum is " ++ decimal max
-        | datum.range_lower min ↦ codes "custom: value too small, minimum is " ++ min
-        | datum.range_greater max ↦ codes "custom: value too large, maximum is " ++ max
-        | datum.card reason ↦ codes "custom: invalid credit card - " ++ card_name reason
-        | datum.pattern pattern ↦ codes "custom: doesn't match /" ++ (pattern ++ codes "/")
-        | datum.contains pattern ↦
-            codes "custom: missing required text '" ++ (pattern ++ codes "'")
-        | datum.url reason ↦ codes "custom: bad URL - " ++ url_name reason
-        | datum.prefix pattern ↦ codes "custom: must start with '" ++ (pattern ++ codes "'")
-        | datum.suffix pattern ↦ codes "custom: must end with '" ++ (pattern ++ codes "'")
-        | datum.phone reason ↦ codes "custom: phone number error - " ++ phone_name reason
-        | datum.ip kind ↦ codes "custom: not a valid " ++ (ip_kind_text kind ++ codes " IP")
-        | datum.matches field ↦ codes "custom: must match " ++ field
-        | datum.not_ascii ↦ codes "custom: contains non-ASCII characters"
-        | datum.not_alphanumeric ↦ codes "custom: only letters and numbers allowed"
-        | datum.not_set ↦ codes "custom: this field is required"
+      | datum.length_lower min ↦ codes "custom: too short, need at least " ++ decimal min
+      | datum.length_greater max ↦ codes "custom: too long, maximum is " ++ decimal max
+      | datum.range_lower min ↦ codes "custom: value too small, minimum is " ++ min
+      | datum.range_greater max ↦ codes "custom: value too large, maximum is " ++ max
+      | datum.card reason ↦ codes "custom: invalid credit card - " ++ card_name reason
+      | datum.pattern pattern ↦ codes "custom: doesn't match /" ++ (pattern ++ codes "/")
+      | datum.contains pattern ↦
+          codes "custom: missing required text '" ++ (pattern ++ codes "'")
+      | datum.url reason ↦ codes "custom: bad URL - " ++ url_name reason
+      | datum.prefix pattern ↦ codes "custom: must start with '" ++ (pattern ++ codes "'")
+      | datum.suffix pattern ↦ codes "custom: must end with '" ++ (pattern ++ codes "'")
+      | datum.phone reason ↦ codes "custom: phone number error - " ++ phone_name reason
+      | datum.ip kind ↦ codes "custom: not a valid " ++ (ip_kind_text kind ++ codes " IP")
+      | datum.matches field ↦ codes "custom: must match " ++ field
+      | datum.not_ascii ↦ codes "custom: contains non-ASCII characters"
+      | datum.not_alphanumeric ↦ codes "custom: only letters and numbers allowed"
+      | datum.not_set ↦ codes "custom: this field is required"
     ] };
 
     fn length_lower_than(&self, alloc: Global, min: usize) -> Result<CowStr<'static>, AllocError> {
@@ -134,23 +133,47 @@ fn answers_custom_texts(rt: HostRuntime) -> Result<(), Fail> {
     let rows = [
         (Asked::LengthLower(3), "custom: too short, need at least 3"),
         (Asked::LengthGreater(20), "custom: too long, maximum is 20"),
-        (Asked::RangeLower("1"), "custom: value too small, minimum is 1"),
-        (Asked::RangeGreater("99"), "custom: value too large, maximum is 99"),
+        (
+            Asked::RangeLower("1"),
+            "custom: value too small, minimum is 1",
+        ),
+        (
+            Asked::RangeGreater("99"),
+            "custom: value too large, maximum is 99",
+        ),
         (
             Asked::Card(InvalidCreditCard::InvalidLength),
             "custom: invalid credit card - InvalidLength",
         ),
         (Asked::Pattern("[a-z]+"), "custom: doesn't match /[a-z]+/"),
-        (Asked::Contains("hello"), "custom: missing required text 'hello'"),
-        (Asked::Url(InvalidUrl::Overflow), "custom: bad URL - Overflow"),
+        (
+            Asked::Contains("hello"),
+            "custom: missing required text 'hello'",
+        ),
+        (
+            Asked::Url(InvalidUrl::Overflow),
+            "custom: bad URL - Overflow",
+        ),
         (Asked::Prefix("www."), "custom: must start with 'www.'"),
         (Asked::Suffix(".org"), "custom: must end with '.org'"),
-        (Asked::Phone(InvalidPhoneNumber::Invalid), "custom: phone number error - Invalid"),
-        (Asked::Phone(InvalidPhoneNumber::TooShortNsn), "custom: phone number error - TooShortNsn"),
+        (
+            Asked::Phone(InvalidPhoneNumber::Invalid),
+            "custom: phone number error - Invalid",
+        ),
+        (
+            Asked::Phone(InvalidPhoneNumber::TooShortNsn),
+            "custom: phone number error - TooShortNsn",
+        ),
         (Asked::Ip(IpKind::V6), "custom: not a valid IPv6 IP"),
-        (Asked::Matches("confirm_password"), "custom: must match confirm_password"),
+        (
+            Asked::Matches("confirm_password"),
+            "custom: must match confirm_password",
+        ),
         (Asked::NotAscii, "custom: contains non-ASCII characters"),
-        (Asked::NotAlphanumeric, "custom: only letters and numbers allowed"),
+        (
+            Asked::NotAlphanumeric,
+            "custom: only letters and numbers allowed",
+        ),
         (Asked::NotSet, "custom: this field is required"),
     ];
     assert_answers(&rt, rt.alloc(), &Custom, &rows)?;
