@@ -53,7 +53,7 @@ const NOT_SET: &str = "hodnota chybí";
 #[derive(Drop)]
 pub struct Czech;
 
-/// The word for that many characters. Czech has one form for 1, one for 2 to 4, and one for the rest.
+/// The word for that many characters: Czech has a form for 1, one for 2 to 4, and one for the rest.
 fn characters(count: usize) -> &'static str
     ensures { result.now ≡ (if count == 1 then ONE.now
         else (if nat_le 2 count && nat_le count 4 then FEW.now else MANY.now)) }
@@ -67,8 +67,10 @@ fn characters(count: usize) -> &'static str
 
 impl I18n for Czech {
     ghost text = { λ _ asked.
-        let characters : ℕ → List ℕ = λ count. (if count == 1 then words.ONE.now
-        else (if nat_le 2 count && nat_le count 4 then words.FEW.now else words.MANY.now)) in
+        let characters : ℕ → List ℕ = λ count.
+        (if count == 1 then words.ONE.now
+        else (if nat_le 2 count && nat_le count 4 then words.FEW.now
+        else words.MANY.now)) in
         elim asked [
           | datum.length_lower min ↦
               words.SHORTER.now ++ (codes " " ++ (decimal min ++ (codes " " ++ characters min)))
