@@ -1,12 +1,17 @@
 //! Types as an author writes them, and what is told of them.
 mod contact;
 mod couple;
+mod handlers;
+mod long;
 mod signup;
 
+use crate::i18n::with_i18n;
 use crate::tests::contact::Contact;
 use crate::tests::couple::Couple;
+use crate::tests::handlers::{Labelled, Silent};
+use crate::tests::long::Long;
 use crate::tests::signup::{Address, Limits, Signup};
-use crate::{DefaultI18n, Trail, Validate, ValidateError};
+use crate::{DefaultI18n, I18n, Trail, Validate, ValidateError};
 use garde_report::Component;
 use std::alloc::{AllocError, Global};
 use std::test::Fail;
@@ -81,6 +86,60 @@ fn paths_begin_with_the_trail(rt: HostRuntime) -> Result<(), Fail> {
     assert_eq!(rt; text.as_str(), "homes[1].city: length is lower than 1\n");
     assert_eq!(rt; trail.nodes(), 3);
     assert_eq!(rt; trail.depth(), 1);
+    Ok(())
+}
+
+fn two_bytes(alloc: Global) -> Result<Long, AllocError> {
+    Ok(Long {
+        s: String::from_str(alloc, "ab")?,
+    })
+}
+
+/// What a handler says of a text.
+fn said<H: I18n>(alloc: Global, long: &Long, h: &H) -> Result<String, AllocError> {
+    told(alloc, long.validate_with_i18n(alloc, &(), h))
+}
+
+#[test]
+fn the_inner_handler_speaks_inside(rt: HostRuntime) -> Result<(), Fail> {
+    let alloc = rt.alloc();
+    let long = two_bytes(alloc)?;
+    let by_default = "s: length is lower than 5\n";
+    assert_eq!(rt; told(alloc, long.validate(alloc))?.as_str(), by_default);
+    let [outside, inside, again] = with_i18n(Labelled("OUTER:"), |outer| {
+        let outside = said(alloc, &long, outer);
+        let inside = with_i18n(Labelled("INNER:"), |inner| said(alloc, &long, inner));
+        [outside, inside, said(alloc, &long, outer)]
+    });
+    assert_eq!(rt; outside?.as_str(), "s: OUTER:5\n");
+    assert_eq!(rt; inside?.as_str(), "s: INNER:5\n");
+    assert_eq!(rt; again?.as_str(), "s: OUTER:5\n");
+    assert_eq!(rt; told(alloc, long.validate(alloc))?.as_str(), by_default);
+    Ok(())
+}
+
+#[test]
+fn a_handler_borrows_its_label(rt: HostRuntime) -> Result<(), Fail> {
+    let alloc = rt.alloc();
+    let label = String::from_str(alloc, "[cs-CZ] ")?;
+    let handler = Labelled(label.as_str());
+    let text = said(alloc, &two_bytes(alloc)?, &&handler)?;
+    assert_eq!(rt; text.as_str(), "s: [cs-CZ] 5\n");
+    Ok(())
+}
+
+#[test]
+fn own_messages_stay(rt: HostRuntime) -> Result<(), Fail> {
+    let alloc = rt.alloc();
+    let signup = Signup {
+        name: String::from_str(alloc, "é")?,
+        password: String::from_str(alloc, "short")?,
+        tags: Vec::new(alloc),
+        address: address(alloc, "Brno")?,
+    };
+    let answer = signup.validate_with_i18n(alloc, &Limits { most: 9 }, &Silent);
+    let text = told(alloc, answer)?;
+    assert_eq!(rt; text.as_str(), "name: \nname: \npassword: weak\n");
     Ok(())
 }
 
