@@ -2,5 +2,6 @@ mod Flat
 mod Counts
 mod Walks
 mod Refusals
+mod Selected
 pub mod Visiting
 mod Answering

@@ -5,5 +5,6 @@ pub mod Walk
 pub mod Visits
 pub mod Answers
 pub mod Refusal
+pub mod Select
 pub mod Author
 pub mod Words

@@ -3,6 +3,7 @@
 
 mod containers;
 pub mod fields;
+pub mod laws;
 mod refusal;
 #[cfg(test)]
 mod tests;

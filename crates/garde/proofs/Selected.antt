@@ -1,0 +1,88 @@
+-- What is selected of the faults of a tree.
+use Rattle.std.proofs.Common.{◌≡◌, ℕ, Bool, true, false, ◌&&◌, List, [], ◌∷◌, ◌++◌, map, filter, Some, refl, sym, ap, ◌∙◌, append_assoc}
+use Rattle.std.specs.Prelude.{if◌then◌else◌}
+use Rattle.std.proofs.lemmas.List.{map-append}
+use Rattle.garde_i18n.specs.Datum.{Datum}
+use Rattle.garde_report.specs.Part.{Part}
+use Rattle.garde_report.specs.Report.{Entry, has_text, begins_with, selected}
+use Rattle.garde_rules.specs.{fault_text}
+use Rattle.garde.specs.Tree.{Tree, nothing, fault, under, ◌then◌, flat}
+use Rattle.garde.specs.Select.{part, messages, SelectGivesPart}
+use Rattle.garde.proofs.Flat.{flat-then}
+
+-- the same faults further down
+abbrev below : List Part → Entry → Entry
+below p e = (p ++ e.0, e.1)
+
+flat_below : (text : Datum → List ℕ) (p q : List Part) (t : Tree) → flat text (p ++ q) t ≡ map (below p) (flat text q t)
+flat_below text p q nothing = refl
+flat_below text p q (fault f t) = ap (λ l. (p ++ q, fault_text text f) ∷ l) (flat_below text p q t)
+flat_below text p q (under k s t) =
+    (λ i. flat text (append_assoc p q (k ∷ []) i) s ++ flat text (p ++ q) t)
+    ∙ (λ i. flat_below text p (q ++ k ∷ []) s i ++ flat_below text p q t i)
+    ∙ sym (map-append (below p) (flat text (q ++ k ∷ []) s) (flat text q t))
+
+messages_then : (text : Datum → List ℕ) (a b : Tree) → messages (flat text [] (a then b)) ≡ messages (flat text [] a) ++ messages (flat text [] b)
+messages_then text a b = ap messages (flat-then text [] a b) ∙ map-append (λ (e : Entry). e.1) (flat text [] a) (flat text [] b)
+
+-- one entry and those after it
+abbrev kept : Bool → List ℕ → List (List ℕ) → List (List ℕ)
+kept b message ms = if b then message ∷ ms else ms
+
+selected_step : (b : Bool) (e : Entry) (es : List Entry) → messages (if b then e ∷ es else es) ≡ kept b e.1 (messages es)
+selected_step true e es = refl
+selected_step false e es = refl
+
+kept_append : (b : Bool) (m : List ℕ) (xs ys : List (List ℕ)) → kept b m xs ++ ys ≡ kept b m (xs ++ ys)
+kept_append true m xs ys = refl
+kept_append false m xs ys = refl
+
+selected_cons : (way : List (List ℕ)) (e : Entry) (es : List Entry) → selected way (e ∷ es) ≡ kept (begins_with way e.0) e.1 (selected way es)
+selected_cons way e es = selected_step (begins_with way e.0) e (filter (λ (x : Entry). begins_with way x.0) es)
+
+selected_append : (way : List (List ℕ)) (xs ys : List Entry) → selected way (xs ++ ys) ≡ selected way xs ++ selected way ys
+selected_append way [] ys = refl
+selected_append way (e ∷ es) ys =
+    selected_cons way e (es ++ ys) ∙ ap (kept (begins_with way e.0) e.1) (selected_append way es ys)
+    ∙ sym (kept_append (begins_with way e.0) e.1 (selected way es) (selected way ys))
+    ∙ ap (λ l. l ++ selected way ys) (sym (selected_cons way e es))
+
+selected_all : (es : List Entry) → selected [] es ≡ messages es
+selected_all [] = refl
+selected_all (e ∷ es) = ap (λ l. e.1 ∷ l) (selected_all es)
+
+-- beneath a component with the text, and beneath another
+abbrev if_named : Bool → List (List ℕ) → List (List ℕ)
+if_named b ms = if b then ms else []
+
+kept_named : (a b : Bool) (m : List ℕ) (ms : List (List ℕ)) → kept (a && b) m (if_named a ms) ≡ if_named a (kept b m ms)
+kept_named true b m ms = refl
+kept_named false b m ms = refl
+
+none_named : (a : Bool) → [] ≡ if_named a []
+none_named true = refl
+none_named false = refl
+
+selected_below : (text : List ℕ) (way : List (List ℕ)) (k : Part) (es : List Entry) → selected (text ∷ way) (map (below (k ∷ [])) es) ≡ if_named (has_text text (Some k)) (selected way es)
+selected_below text way k [] = none_named (has_text text (Some k))
+selected_below text way k (e ∷ es) =
+    selected_cons (text ∷ way) (below (k ∷ []) e) (map (below (k ∷ [])) es)
+    ∙ ap (kept (has_text text (Some k) && begins_with way e.0) e.1) (selected_below text way k es)
+    ∙ kept_named (has_text text (Some k)) (begins_with way e.0) e.1 (selected way es)
+    ∙ ap (if_named (has_text text (Some k))) (sym (selected_cons way e es))
+
+messages_named : (text : Datum → List ℕ) (a : Bool) (t : Tree) → if_named a (messages (flat text [] t)) ≡ messages (flat text [] (if a then t else nothing))
+messages_named text true t = refl
+messages_named text false t = refl
+
+pub select_gives_part : SelectGivesPart
+select_gives_part t [] text = selected_all (flat text [] t)
+select_gives_part nothing (x ∷ way) text = refl
+select_gives_part (fault f t) (x ∷ way) text = select_gives_part t (x ∷ way) text
+select_gives_part (under k s t) (x ∷ way) text =
+    let named = has_text x (Some k) in
+    selected_append (x ∷ way) (flat text (k ∷ []) s) (flat text [] t)
+    ∙ (λ i. selected (x ∷ way) (flat_below text (k ∷ []) [] s i) ++ select_gives_part t (x ∷ way) text i)
+    ∙ ap (λ l. l ++ messages (flat text [] (part (x ∷ way) t)))
+    (selected_below x way k (flat text [] s) ∙ ap (if_named named) (select_gives_part s way text) ∙ messages_named text named (part way s))
+    ∙ sym (messages_then text (if named then part way s else nothing) (part (x ∷ way) t))

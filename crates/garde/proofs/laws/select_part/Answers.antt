@@ -1,0 +1,5 @@
+use Rattle.garde.proofs.Selected.{select_gives_part}
+use Rattle.garde.proofs.laws.select_part.Goals as goal
+
+pub returns : goal.returns
+returns c = select_gives_part
