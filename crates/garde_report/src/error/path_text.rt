@@ -1,0 +1,75 @@
+//! What a path prints.
+ghost use Rattle.std.specs.Prelude.{drop};
+ghost use Rattle.std.specs.Fmt.{WritesOnOk};
+ghost use Rattle.std.specs.List.{flat_map};
+ghost use Rattle.garde_report.specs.Path.{path_text, root_text, part_text};
+
+use super::component::Kind;
+use super::owned_component::OwnedComponent;
+use crate::rc_list::List;
+use std::fmt;
+
+// Writes the text of a path with these components.
+pub(super) fn write_path<W: fmt::Write>(
+    components: &List<OwnedComponent>,
+    f: &mut fmt::Formatter<W>,
+) -> fmt::Result
+    ensures { WritesOnOk W.write_str_gives f.old result (path_text components.now) f.new }
+{
+    let Some(root) = components.get(0) else {
+        return Ok(());
+    };
+    write_root(root, f)?;
+    write_from(components, 1, f)
+}
+
+// Writes the components from `from` on, each as below another one. It goes down by halves, so
+// that a long path needs little of the stack, and takes no memory.
+fn write_from<W: fmt::Write>(
+    components: &List<OwnedComponent>,
+    from: usize,
+    f: &mut fmt::Formatter<W>,
+) -> fmt::Result
+    ensures { WritesOnOk W.write_str_gives f.old result
+        (flat_map part_text (drop from components.now)) f.new }
+{
+    let len = components.len();
+    if len <= from {
+        return Ok(());
+    }
+    if len - from == 1 {
+        return match components.last() {
+            Some(component) => write_below(component, f),
+            None => Ok(()),
+        };
+    }
+    let middle = from + (len - from) / 2;
+    write_from(components.first(middle), from, f)?;
+    write_from(components, middle, f)
+}
+
+// What a component prints below another one.
+fn write_below<W: fmt::Write>(
+    component: &OwnedComponent,
+    f: &mut fmt::Formatter<W>,
+) -> fmt::Result
+    ensures { WritesOnOk W.write_str_gives f.old result (part_text component.now) f.new }
+{
+    let text = component.text();
+    match component.kind() {
+        Kind::Index => write!(f, "[{text}]"),
+        Kind::Key => write!(f, ".{text}"),
+        Kind::None => write!(f, "{text}"),
+    }
+}
+
+// What it prints as the first component.
+fn write_root<W: fmt::Write>(component: &OwnedComponent, f: &mut fmt::Formatter<W>) -> fmt::Result
+    ensures { WritesOnOk W.write_str_gives f.old result
+        (root_text component.now.kind component.now.text) f.new }
+{
+    match component.kind() {
+        Kind::Key => write!(f, "{}", component.text()),
+        Kind::Index | Kind::None => write_below(component, f),
+    }
+}

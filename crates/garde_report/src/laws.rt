@@ -1,0 +1,9 @@
+//! Laws of paths. Each function does nothing, and its contract is a law for all values.
+ghost use Rattle.garde_report.specs.Plain.{PlainPathsDiffer};
+
+/// Two different paths print different texts, where no component is unnamed, each key is not empty
+/// and holds neither `.` nor `[`, and the text of each index is a decimal number.
+pub fn plain_paths()
+    ensures { PlainPathsDiffer }
+{
+}

@@ -1,0 +1,79 @@
+//! How lists are compared and hashed.
+ghost use Rattle.std.specs.Prelude.{◌≡◌, length, reverse, refl, Some};
+ghost use Rattle.std.specs.Cmp.{partial_order_from_agreeing_total};
+ghost use Rattle.std.specs.Cmp.Lexicographic.{pointwise, lists_per, lists_equiv};
+ghost use Rattle.std.specs.Hash as fed;
+ghost use Rattle.garde_report.specs.Order.{shorter_first, shorter_first-total};
+ghost use Rattle.garde_report.specs.Order.{shorter_first-ties, reverse-fed};
+
+use super::List;
+use std::cmp::Ordering;
+use std::hash::{Hash, Hasher};
+
+impl<T: PartialEq> PartialEq for List<T> {
+    ghost eq = { pointwise T.eq };
+
+    ghost laws = { lists_per T.laws };
+
+    fn eq(&self, other: &List<T>) -> bool {
+        if self.len() != other.len() {
+            return false;
+        }
+        for (item, like) in self.iter().zip(other.iter()) {
+            if item != like {
+                return false;
+            }
+        }
+        true
+    }
+}
+
+impl<T: Eq> Eq for List<T> {
+    ghost laws = { lists_equiv T.Eq.laws };
+}
+
+/// Fewer items come first, and then the first item that differs decides.
+impl<T: Ord> Ord for List<T> {
+    ghost cmp = { shorter_first T.cmp };
+
+    ghost total = { shorter_first-total T.total };
+
+    ghost matches_partial_cmp = { λ x y. refl };
+
+    ghost matches_eq = { shorter_first-ties T.cmp T.matches_eq };
+
+    fn cmp(&self, other: &List<T>) -> Ordering {
+        if self.len() != other.len() {
+            return self.len().cmp(&other.len());
+        }
+        // From the last item on, so an earlier item outweighs what was found.
+        let mut order = Ordering::Equal;
+        for (item, like) in self.iter().zip(other.iter()) {
+            order = item.cmp(like).then(order);
+        }
+        order
+    }
+}
+
+impl<T: Ord> PartialOrd for List<T> {
+    ghost partial_cmp = { λ x y. Some (shorter_first T.cmp x y) };
+
+    ghost laws = { partial_order_from_agreeing_total (shorter_first T.cmp) (shorter_first-total T.total) (λ x y. refl) (shorter_first-ties T.cmp T.matches_eq) };
+
+    fn partial_cmp(&self, other: &List<T>) -> Option<Ordering> {
+        Some(self.cmp(other))
+    }
+}
+
+impl<T: Hash> Hash for List<T> {
+    ghost hash_input = { λ list. fed.slice T.hash_input (reverse list) };
+
+    ghost respects_eq = { reverse-fed T.respects_eq };
+
+    fn hash<H: Hasher>(&self, state: &mut H) {
+        state.write_usize(self.len());
+        for item in self.iter() {
+            item.hash(state);
+        }
+    }
+}
