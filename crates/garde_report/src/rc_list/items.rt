@@ -6,7 +6,7 @@ ghost use Rattle.std.specs.Iterator.{UpTo, YieldsFirstRef, item_count};
 use super::List;
 use std::marker::Model;
 
-/// The items of a list, from the last to the first, seen as the list of those that are left.
+/// The items of a list, from the last to the first. A contract sees the list of those that are left.
 #[derive(Drop)]
 pub struct Iter<'a, T> {
     rest: &'a List<T>,

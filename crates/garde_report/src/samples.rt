@@ -1,0 +1,62 @@
+//! Values of the tests.
+
+use crate::error::{Component, Error, Path, Report};
+use crate::rc_list::{JoinError, List};
+use std::alloc::{AllocError, Global};
+use std::hash::{DefaultHasher, Hash, Hasher};
+use std::test::Fail;
+
+/// The list of these items, the first of them appended first.
+pub(crate) fn list_of(alloc: Global, items: &[char]) -> Result<List<char>, JoinError> {
+    let mut list = List::new();
+    for item in items {
+        list = list.append(alloc, *item)?;
+    }
+    Ok(list)
+}
+
+/// The path of these components.
+pub(crate) fn path_of(alloc: Global, components: &[Component<'_>]) -> Result<Path, JoinError> {
+    let mut path = Path::empty();
+    for component in components {
+        path = path.join_component(alloc, *component)?;
+    }
+    Ok(path)
+}
+
+/// The path of these keys.
+pub(crate) fn keys(alloc: Global, keys: &[&str]) -> Result<Path, JoinError> {
+    let mut path = Path::empty();
+    for key in keys {
+        path = path.join(alloc, *key)?;
+    }
+    Ok(path)
+}
+
+/// Adds a fault at the path of these keys.
+pub(crate) fn add(
+    report: &mut Report,
+    alloc: Global,
+    components: &[&str],
+    message: &str,
+) -> Result<(), Fail> {
+    report.append(keys(alloc, components)?, Error::new(alloc, message)?)?;
+    Ok(())
+}
+
+/// A report of four faults, two of them at one path.
+pub(crate) fn four_faults(alloc: Global) -> Result<Report, Fail> {
+    let mut report = Report::new(alloc);
+    add(&mut report, alloc, &["a", "b"], "lol")?;
+    add(&mut report, alloc, &["a", "b", "c"], "that seems wrong")?;
+    add(&mut report, alloc, &["a", "b", "c"], "pog")?;
+    add(&mut report, alloc, &["array", "0", "c"], "pog")?;
+    Ok(report)
+}
+
+/// What a hasher gives of a value.
+pub(crate) fn hash_of<T: Hash>(value: &T) -> u64 {
+    let mut state = DefaultHasher::new();
+    value.hash(&mut state);
+    state.finish()
+}
