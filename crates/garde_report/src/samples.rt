@@ -1,6 +1,6 @@
 //! Values of the tests.
 
-use crate::error::{Component, Error, Path, Report};
+use crate::error::{Component, Error, Kind, Path, Report};
 use crate::rc_list::{JoinError, List};
 use std::alloc::{AllocError, Global};
 use std::hash::{DefaultHasher, Hash, Hasher};
@@ -15,11 +15,11 @@ pub(crate) fn list_of(alloc: Global, items: &[char]) -> Result<List<char>, JoinE
     Ok(list)
 }
 
-/// The path of these components.
-pub(crate) fn path_of(alloc: Global, components: &[Component<'_>]) -> Result<Path, JoinError> {
+/// The path of components of these kinds and texts.
+pub(crate) fn path_of(alloc: Global, components: &[(Kind, &str)]) -> Result<Path, JoinError> {
     let mut path = Path::empty();
-    for component in components {
-        path = path.join_component(alloc, *component)?;
+    for (kind, text) in components {
+        path = path.join_component(alloc, Component::text(*kind, text))?;
     }
     Ok(path)
 }

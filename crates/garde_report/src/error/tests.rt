@@ -1,10 +1,16 @@
 //! Paths, errors and reports.
 
-use super::{Component, Error, Kind, NoKey, Path, PathComponentKind, Report, RuleError, select};
+use super::{Error, Kind, NoKey, Path, PathComponentKind, Report, RuleError, select};
 use crate::samples::{add, four_faults, hash_of, keys, path_of};
 use std::borrow::CowStr;
 use std::cmp::Ordering;
 use std::test::Fail;
+
+const A: (Kind, &str) = (Kind::Key, "a");
+const B: (Kind, &str) = (Kind::Key, "b");
+const ZERO: (Kind, &str) = (Kind::Index, "0");
+const ONE: (Kind, &str) = (Kind::Index, "1");
+const UNNAMED: (Kind, &str) = (Kind::None, "");
 
 #[test]
 fn a_path_is_joined_walked_and_cut(rt: HostRuntime) -> Result<(), Fail> {
@@ -34,15 +40,13 @@ fn the_root_has_no_parent(rt: HostRuntime) -> Result<(), Fail> {
 
 #[test]
 fn each_component_prints_after_those_above(rt: HostRuntime) -> Result<(), Fail> {
-    let (a, b) = (Component::key("a"), Component::key("b"));
-    let (none, zero) = (Component::unnamed(), Component::index(0));
-    let rows: [(&[Component<'_>], &str); 6] = [
-        (&[a, b], "a.b"),
-        (&[Component::key("a.b")], "a.b"),
-        (&[none, Component::key("k")], ".k"),
-        (&[a, none, b], "a.b"),
-        (&[zero, zero, a], "[0][0].a"),
-        (&[Component::text(Kind::None, "x"), zero], "x[0]"),
+    let rows: [(&[(Kind, &str)], &str); 6] = [
+        (&[A, B], "a.b"),
+        (&[(Kind::Key, "a.b")], "a.b"),
+        (&[UNNAMED, (Kind::Key, "k")], ".k"),
+        (&[A, UNNAMED, B], "a.b"),
+        (&[ZERO, ZERO, A], "[0][0].a"),
+        (&[(Kind::None, "x"), ZERO], "x[0]"),
     ];
     for (components, text) in rows {
         let path = path_of(rt.alloc(), components)?;
@@ -53,14 +57,12 @@ fn each_component_prints_after_those_above(rt: HostRuntime) -> Result<(), Fail> 
 
 #[test]
 fn different_paths_can_print_one_text(rt: HostRuntime) -> Result<(), Fail> {
-    let (a, b, empty) = (Component::key("a"), Component::key("b"), Component::key(""));
-    let (zero, one) = (Component::index(0), Component::index(1));
-    let rows: [(&[Component<'_>], &[Component<'_>], &str); 5] = [
-        (&[Component::key("a.b")], &[a, b], "a.b"),
-        (&[Component::key("a[0]")], &[a, zero], "a[0]"),
-        (&[Component::unnamed(), a], &[empty, a], ".a"),
-        (&[empty], &[], ""),
-        (&[Component::text(Kind::Index, "0].a[1")], &[zero, a, one], "[0].a[1]"),
+    let rows: [(&[(Kind, &str)], &[(Kind, &str)], &str); 5] = [
+        (&[(Kind::Key, "a.b")], &[A, B], "a.b"),
+        (&[(Kind::Key, "a[0]")], &[A, ZERO], "a[0]"),
+        (&[UNNAMED, A], &[(Kind::Key, ""), A], ".a"),
+        (&[(Kind::Key, "")], &[], ""),
+        (&[(Kind::Index, "0].a[1")], &[ZERO, A, ONE], "[0].a[1]"),
     ];
     for (components, others, text) in rows {
         let path = path_of(rt.alloc(), components)?;
@@ -74,13 +76,13 @@ fn different_paths_can_print_one_text(rt: HostRuntime) -> Result<(), Fail> {
 
 #[test]
 fn shorter_paths_come_first(rt: HostRuntime) -> Result<(), Fail> {
-    let (a, b) = (Component::key("a"), Component::key("b"));
-    let rows: [(&[Component<'_>], &[Component<'_>], Ordering); 5] = [
-        (&[Component::key("z")], &[a, b], Ordering::Less),
-        (&[a], &[Component::index(0)], Ordering::Less),
-        (&[Component::index(2)], &[Component::index(10)], Ordering::Greater),
-        (&[b, a], &[a, b], Ordering::Greater),
-        (&[a, b], &[a, b], Ordering::Equal),
+    let rows: [(&[(Kind, &str)], &[(Kind, &str)], Ordering); 6] = [
+        (&[(Kind::Key, "z")], &[A, B], Ordering::Less),
+        (&[A], &[ZERO], Ordering::Less),
+        (&[(Kind::Index, "2")], &[(Kind::Index, "10")], Ordering::Greater),
+        (&[B, A], &[A, B], Ordering::Greater),
+        (&[A, B], &[(Kind::Key, "a.b")], Ordering::Greater),
+        (&[A, B], &[A, B], Ordering::Equal),
     ];
     for (components, others, order) in rows {
         let path = path_of(rt.alloc(), components)?;
@@ -98,7 +100,7 @@ fn each_type_of_component_has_its_kind(rt: HostRuntime) -> Result<(), Fail> {
     let borrowed = Path::new(rt.alloc(), CowStr::Borrowed("a"))?;
     assert!(rt; owned == borrowed);
     let unnamed = Path::new(rt.alloc(), NoKey::default())?;
-    assert!(rt; unnamed == path_of(rt.alloc(), &[Component::default()])?);
+    assert!(rt; unnamed == path_of(rt.alloc(), &[UNNAMED])?);
     let shared = (&7usize).component();
     assert_eq!(rt; shared.kind(), <&usize as PathComponentKind>::component_kind());
     assert_eq!(rt; format!(in rt.alloc(); "{shared}{}", NoKey::default())?.as_str(), "7");
