@@ -1,4 +1,4 @@
--- A text that is cut where its components end.
+-- Paths that their texts tell apart: a text is cut where its first component ends.
 use Rattle.std.proofs.Common.{◌≡◌, ℕ, zero, suc, ◌+◌, ◌<◌, ◌^◌, ◌%◌, List, [], ◌∷◌, ◌++◌, length, ◌⊎◌, inl, inr, refl, sym, ap, subst, ◌∙◌, append_assoc, arith}
 use Rattle.std.specs.List.{All, Contains, flat_map}
 use Rattle.std.specs.Fmt.{decimal}
@@ -19,6 +19,7 @@ abbrev IsAtStop : (ℕ → Type 0) → List ℕ → Type 0
 IsAtStop Stop [] = Unit {0}
 IsAtStop Stop (b ∷ bs) = Stop b
 
+-- texts that are free of stops, with what begins at a stop behind them, are equal where the whole is
 cut : (Stop : ℕ → Type 0) (xs ys us vs : List ℕ) → IsFree Stop xs → IsFree Stop ys → IsAtStop Stop us → IsAtStop Stop vs → xs ++ us ≡ ys ++ vs → (xs ≡ ys) × (us ≡ vs)
 cut Stop [] [] us vs f g s t e = (refl, e)
 cut Stop [] (y ∷ ys) [] vs f g s t e = cc
@@ -38,6 +39,7 @@ EndsKey b = (b ≡ 46) ⊎ (b ≡ 91)
 abbrev EndsIndex : ℕ → Type 0
 EndsIndex b = b ≡ 93
 
+-- a plain key is free of the bytes that end it
 free_key : (text : List ℕ) → ¬ (Contains text 46) → ¬ (Contains text 91) → IsFree EndsKey text
 free_key [] dot bracket = tt
 free_key (b ∷ bs) dot bracket =
@@ -48,6 +50,7 @@ free_append : (Stop : ℕ → Type 0) (xs ys : List ℕ) → IsFree Stop xs → 
 free_append Stop [] ys f g = g
 free_append Stop (x ∷ xs) ys f g = (f.0, free_append Stop xs ys f.1 g)
 
+-- so are the digits of a number
 free_decimal : (n : ℕ) → n < 2 ^ 64 → IsFree EndsIndex (decimal n)
 free_decimal n fits =
     decimal_by_steps (λ m ds. IsFree EndsIndex ds) (λ m small. (λ e. omega arith, tt))
@@ -66,10 +69,11 @@ stops (p ∷ ps) plain = below p.kind p.text (plain 0 p (omega arith))
     below Key text is = inl refl
     below Index text is = inr refl
 
--- two components and what stands after them
+-- two components are the same, and so is what stands after them
 abbrev Same : Kind → Kind → List ℕ → List ℕ → List ℕ → List ℕ → Type 0
 Same k l s t us vs = (k ≡ l) × (s ≡ t) × (us ≡ vs)
 
+-- an index is cut before its closing bracket
 index_apart : (s t us vs : List ℕ) → IsPlain Index s → IsPlain Index t → below_text Index s ++ us ≡ below_text Index t ++ vs → Same Index Index s t us vs
 index_apart s t us vs is it e =
     let inside : (s ++ 93 ∷ []) ++ us ≡ (t ++ 93 ∷ []) ++ vs = cc in
@@ -78,6 +82,7 @@ index_apart s t us vs is it e =
     let after : 93 ∷ us ≡ 93 ∷ vs = both.1 in
     (refl, both.0, cc)
 
+-- a key is cut before a dot or an opening bracket
 key_apart : (s t us vs : List ℕ) → IsPlain Key s → IsPlain Key t → IsAtStop EndsKey us → IsAtStop EndsKey vs → s ++ us ≡ t ++ vs → Same Key Key s t us vs
 key_apart s t us vs is it at_s at_t e =
     let both = cut EndsKey s t us vs (free_key s is.1 is.2) (free_key t it.1 it.2) at_s at_t e in
@@ -92,6 +97,7 @@ heads_differ b c us vs differ e = let same : b ≡ c = cc in differ same
 dot_is_no_bracket : (us vs : List ℕ) → 46 ∷ us ≡ 91 ∷ vs → ⊥
 dot_is_no_bracket us vs e = heads_differ 46 91 us vs (λ same. omega arith) e
 
+-- components below others are the same where what they print is
 below_apart : (k l : Kind) (s t us vs : List ℕ) → IsPlain k s → IsPlain l t → IsAtStop EndsKey us → IsAtStop EndsKey vs → below_text k s ++ us ≡ below_text l t ++ vs → Same k l s t us vs
 below_apart None l s t us vs is it at_s at_t e = absurd is
 below_apart Key None s t us vs is it at_s at_t e = absurd it
@@ -101,10 +107,12 @@ below_apart Key Index s t us vs is it at_s at_t e = absurd (dot_is_no_bracket _ 
 below_apart Index Key s t us vs is it at_s at_t e = absurd (dot_is_no_bracket _ _ (sym e))
 below_apart Index Index s t us vs is it at_s at_t e = index_apart s t us vs is it e
 
+-- a key at the root does not begin as an index does
 key_is_no_index : (s us vs : List ℕ) → IsPlain Key s → s ++ us ≡ 91 ∷ vs → ⊥
 key_is_no_index [] us vs is e = omega (arith, is.0)
 key_is_no_index (b ∷ bs) us vs is e = let same : b ≡ 91 = cc in is.2 (0, omega arith, same)
 
+-- components at the root are the same where what they print is
 root_apart : (k l : Kind) (s t us vs : List ℕ) → IsPlain k s → IsPlain l t → IsAtStop EndsKey us → IsAtStop EndsKey vs → root_text k s ++ us ≡ root_text l t ++ vs → Same k l s t us vs
 root_apart None l s t us vs is it at_s at_t e = absurd is
 root_apart Key None s t us vs is it at_s at_t e = absurd it
@@ -114,6 +122,7 @@ root_apart Key Index s t us vs is it at_s at_t e = absurd (key_is_no_index s us 
 root_apart Index Key s t us vs is it at_s at_t e = absurd (key_is_no_index t vs _ it (sym e))
 root_apart Index Index s t us vs is it at_s at_t e = index_apart s t us vs is it e
 
+-- a plain component prints something
 below_filled : (k : Kind) (s us : List ℕ) → IsPlain k s → [] ≡ below_text k s ++ us → ⊥
 below_filled None s us is e = is
 below_filled Key s us is e = cc
@@ -131,6 +140,7 @@ plain_rest p ps plain = λ k d lt. plain (suc k) d (omega arith)
 same_part : (p q : Part) → p.kind ≡ q.kind → p.text ≡ q.text → p ≡ q
 same_part p q k t = λ i. record { kind = k i; text = t i }
 
+-- the components below the first are the same where what they print is
 rest_apart : (ps qs : List Part) → IsPlainPath ps → IsPlainPath qs → flat_map part_text ps ≡ flat_map part_text qs → ps ≡ qs
 rest_apart [] [] plain clear e = refl
 rest_apart [] (q ∷ qs) plain clear e = absurd (below_filled q.kind q.text (flat_map part_text qs) (clear 0 q (omega arith)) e)

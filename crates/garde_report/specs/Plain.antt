@@ -13,6 +13,7 @@ IsPlain None text = ⊥
 IsPlain Key text = (0 < length text) × ¬ (Contains text 46) × ¬ (Contains text 91)
 IsPlain Index text = (n : ℕ) × (n < 2 ^ 64) × (text ≡ decimal n)
 
+-- each component of the path is plain
 abbrev pub IsPlainPath : List Part → Type 0
 IsPlainPath = All (λ p. IsPlain p.kind p.text)
 

@@ -58,7 +58,8 @@ impl<T: Ord> Ord for List<T> {
 impl<T: Ord> PartialOrd for List<T> {
     ghost partial_cmp = { λ x y. Some (shorter_first T.cmp x y) };
 
-    ghost laws = { partial_order_from_agreeing_total (shorter_first T.cmp) (shorter_first-total T.total) (λ x y. refl) (shorter_first-ties T.cmp T.matches_eq) };
+    ghost laws = { partial_order_from_agreeing_total (shorter_first T.cmp)
+        (shorter_first-total T.total) (λ x y. refl) (shorter_first-ties T.cmp T.matches_eq) };
 
     fn partial_cmp(&self, other: &List<T>) -> Option<Ordering> {
         Some(self.cmp(other))
