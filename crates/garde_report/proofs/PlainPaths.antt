@@ -42,9 +42,10 @@ EndsIndex b = b ≡ 93
 -- a plain key is free of the bytes that end it
 free_key : (text : List ℕ) → ¬ (Contains text 46) → ¬ (Contains text 91) → IsFree EndsKey text
 free_key [] dot bracket = tt
-free_key (b ∷ bs) dot bracket =
-    (λ h. elim h as (λ _. ⊥) [ inl e ↦ dot (0, omega arith, e) | inr e ↦ bracket (0, omega arith, e) ]
-    , free_key bs (λ (k, lt, is). dot (suc k, omega arith, is)) (λ (k, lt, is). bracket (suc k, omega arith, is)))
+free_key (b ∷ bs) dot bracket = (
+  λ h. elim h as (λ _. ⊥) [ inl e ↦ dot (0, omega arith, e) | inr e ↦ bracket (0, omega arith, e) ],
+  free_key bs (λ (k, lt, is). dot (suc k, omega arith, is)) (λ (k, lt, is). bracket (suc k, omega arith, is)),
+)
 
 free_append : (Stop : ℕ → Type 0) (xs ys : List ℕ) → IsFree Stop xs → IsFree Stop ys → IsFree Stop (xs ++ ys)
 free_append Stop [] ys f g = g

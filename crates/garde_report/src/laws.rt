@@ -5,5 +5,4 @@ ghost use Rattle.garde_report.specs.Plain.{PlainPathsDiffer};
 /// and holds neither `.` nor `[`, and the text of each index is a decimal number.
 pub fn plain_paths()
     ensures { PlainPathsDiffer }
-{
-}
+{}

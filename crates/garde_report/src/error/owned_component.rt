@@ -30,10 +30,7 @@ impl Model for OwnedComponent {
 }
 
 impl OwnedComponent {
-    pub(super) fn new(
-        alloc: Global,
-        component: Component<'_>,
-    ) -> Result<OwnedComponent, AllocError>
+    pub(super) fn new(alloc: Global, component: Component<'_>) -> Result<OwnedComponent, AllocError>
         ensures { IfOk result (λ owned. owned ≡ part_of component.entry) }
     {
         Ok(OwnedComponent {

@@ -49,10 +49,7 @@ fn write_from<W: fmt::Write>(
 }
 
 // What a component prints below another one.
-fn write_below<W: fmt::Write>(
-    component: &OwnedComponent,
-    f: &mut fmt::Formatter<W>,
-) -> fmt::Result
+fn write_below<W: fmt::Write>(component: &OwnedComponent, f: &mut fmt::Formatter<W>) -> fmt::Result
     ensures { WritesOnOk W.write_str_gives f.old result (part_text component.now) f.new }
 {
     let text = component.text();

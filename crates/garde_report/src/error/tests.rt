@@ -7,9 +7,13 @@ use std::cmp::Ordering;
 use std::test::Fail;
 
 const A: (Kind, &str) = (Kind::Key, "a");
+
 const B: (Kind, &str) = (Kind::Key, "b");
+
 const ZERO: (Kind, &str) = (Kind::Index, "0");
+
 const ONE: (Kind, &str) = (Kind::Index, "1");
+
 const UNNAMED: (Kind, &str) = (Kind::None, "");
 
 #[test]
@@ -79,7 +83,11 @@ fn shorter_paths_come_first(rt: HostRuntime) -> Result<(), Fail> {
     let rows: [(&[(Kind, &str)], &[(Kind, &str)], Ordering); 6] = [
         (&[(Kind::Key, "z")], &[A, B], Ordering::Less),
         (&[A], &[ZERO], Ordering::Less),
-        (&[(Kind::Index, "2")], &[(Kind::Index, "10")], Ordering::Greater),
+        (
+            &[(Kind::Index, "2")],
+            &[(Kind::Index, "10")],
+            Ordering::Greater,
+        ),
         (&[B, A], &[A, B], Ordering::Greater),
         (&[A, B], &[(Kind::Key, "a.b")], Ordering::Greater),
         (&[A, B], &[A, B], Ordering::Equal),
@@ -102,8 +110,14 @@ fn each_type_of_component_has_its_kind(rt: HostRuntime) -> Result<(), Fail> {
     let unnamed = Path::new(rt.alloc(), NoKey::default())?;
     assert!(rt; unnamed == path_of(rt.alloc(), &[UNNAMED])?);
     let shared = (&7usize).component();
-    assert_eq!(rt; shared.kind(), <&usize as PathComponentKind>::component_kind());
-    assert_eq!(rt; format!(in rt.alloc(); "{shared}{}", NoKey::default())?.as_str(), "7");
+    assert_eq!(rt;
+        shared.kind(),
+        <&usize as PathComponentKind>::component_kind()
+    );
+    assert_eq!(rt;
+        format!(in rt.alloc(); "{shared}{}", NoKey::default())?.as_str(),
+        "7"
+    );
     Ok(())
 }
 
@@ -127,7 +141,10 @@ fn only_the_root_has_no_colon(rt: HostRuntime) -> Result<(), Fail> {
     report.append(unnamed, Error::new(rt.alloc(), "x")?)?;
     add(&mut report, rt.alloc(), &[], "x")?;
     add(&mut report, rt.alloc(), &["a", "b"], "y\nz")?;
-    assert_eq!(rt; report.to_string(rt.alloc())?.as_str(), ": x\nx\na.b: y\nz\n");
+    assert_eq!(rt;
+        report.to_string(rt.alloc())?.as_str(),
+        ": x\nx\na.b: y\nz\n"
+    );
     Ok(())
 }
 

@@ -52,7 +52,10 @@ fn fewer_items_come_first(rt: HostRuntime) -> Result<(), Fail> {
 #[test]
 fn debug_shows_the_first_item_first(rt: HostRuntime) -> Result<(), Fail> {
     let list = list_of(rt.alloc(), &['a', 'c', 'd'])?;
-    assert_eq!(rt; format!(in rt.alloc(); "{list:?}")?.as_str(), "['a', 'c', 'd']");
+    assert_eq!(rt;
+        format!(in rt.alloc(); "{list:?}")?.as_str(),
+        "['a', 'c', 'd']"
+    );
     Ok(())
 }
 
