@@ -1,12 +1,12 @@
 -- Paths that their texts tell apart: a text is cut where its first component ends.
-use Rattle.std.proofs.Common.{◌≡◌, ℕ, zero, suc, ◌+◌, ◌<◌, ◌^◌, ◌%◌, List, [], ◌∷◌, ◌++◌, length, ◌⊎◌, inl, inr, refl, sym, ap, subst, ◌∙◌, append_assoc, arith}
-use Rattle.std.specs.List.{All, Contains, flat_map}
+use Rattle.std.proofs.Common.{◌≡◌, ℕ, suc, ◌+◌, ◌<◌, ◌^◌, ◌%◌, List, [], ◌∷◌, ◌++◌, ◌⊎◌, inl, inr, refl, sym, subst, ◌∙◌, append_assoc, arith}
+use Rattle.std.specs.List.{Contains, flat_map}
 use Rattle.std.specs.Fmt.{decimal}
 use Rattle.std.proofs.lemmas.Fmt.{decimal_by_steps}
 use Rattle.garde_report.specs.declared.error.component.Kind.{Kind}
 use Rattle.garde_report.specs.declared.error.component.Kind.TheVariants.{None, Key, Index}
 use Rattle.garde_report.specs.Part.{Part}
-use Rattle.garde_report.specs.Path.{below_text, root_text, part_text, path_text}
+use Rattle.garde_report.specs.Path.{below_text, root_text, part_text}
 use Rattle.garde_report.specs.Plain.{IsPlain, IsPlainPath, PlainPathsDiffer}
 
 -- no byte is one at which a component ends
