@@ -10,9 +10,10 @@ mod tests;
 pub mod validate;
 
 pub use garde_i18n as i18n;
-pub use garde_i18n::{DefaultI18n, I18n};
-pub use garde_report as error;
-pub use garde_report::{Component, Error, Path, Report, RuleError, Trail};
+pub use garde_i18n::{DefaultI18n, I18n, with_i18n};
+pub use garde_report::{
+    Component, Error, Path, Report, Result, RuleError, Trail, error, rc_list, select, trail,
+};
 pub use garde_rules as rules;
 pub use refusal::ValidateError;
 pub use validate::Validate;

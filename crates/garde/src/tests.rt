@@ -5,13 +5,12 @@ mod handlers;
 mod long;
 mod signup;
 
-use crate::i18n::with_i18n;
 use crate::tests::contact::Contact;
 use crate::tests::couple::Couple;
 use crate::tests::handlers::{Labelled, Silent};
 use crate::tests::long::Long;
 use crate::tests::signup::{Address, Limits, Signup};
-use crate::{DefaultI18n, I18n, Trail, Validate, ValidateError};
+use crate::{DefaultI18n, I18n, Trail, Validate, ValidateError, with_i18n};
 use garde_report::Component;
 use std::alloc::{AllocError, Global};
 use std::test::Fail;

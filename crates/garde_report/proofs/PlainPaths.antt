@@ -1,8 +1,6 @@
 -- Paths that their texts tell apart: a text is cut where its first component ends.
-use Rattle.std.proofs.Common.{◌≡◌, ℕ, suc, ◌+◌, ◌<◌, ◌^◌, ◌%◌, List, [], ◌∷◌, ◌++◌, ◌⊎◌, inl, inr, refl, sym, subst, ◌∙◌, append_assoc, arith}
+use Rattle.std.proofs.Common.{◌≡◌, ℕ, suc, List, [], ◌∷◌, ◌++◌, ◌⊎◌, inl, inr, refl, sym, subst, ◌∙◌, append_assoc, arith}
 use Rattle.std.specs.List.{Contains, flat_map}
-use Rattle.std.specs.Fmt.{decimal}
-use Rattle.std.proofs.lemmas.Fmt.{decimal_by_steps}
 use Rattle.garde_report.specs.declared.error.component.Kind.{Kind}
 use Rattle.garde_report.specs.declared.error.component.Kind.TheVariants.{None, Key, Index}
 use Rattle.garde_report.specs.Part.{Part}
@@ -47,18 +45,13 @@ free_key (b ∷ bs) dot bracket = (
   free_key bs (λ (k, lt, is). dot (suc k, omega arith, is)) (λ (k, lt, is). bracket (suc k, omega arith, is)),
 )
 
-free_append : (Stop : ℕ → Type 0) (xs ys : List ℕ) → IsFree Stop xs → IsFree Stop ys → IsFree Stop (xs ++ ys)
-free_append Stop [] ys f g = g
-free_append Stop (x ∷ xs) ys f g = (f.0, free_append Stop xs ys f.1 g)
-
--- so are the digits of a number
-free_decimal : (n : ℕ) → n < 2 ^ 64 → IsFree EndsIndex (decimal n)
-free_decimal n fits =
-    decimal_by_steps (λ m ds. IsFree EndsIndex ds) (λ m small. (λ e. omega arith, tt))
-    (λ m ds large so_far. free_append EndsIndex ds ((48 + m % 10) ∷ []) so_far (λ e. omega arith, tt)) n fits
-
+-- so is a text of digits
 free_index : (text : List ℕ) → IsPlain Index text → IsFree EndsIndex text
-free_index text (n, fits, is) = subst (IsFree EndsIndex) (sym is) (free_decimal n fits)
+free_index [] digits = tt
+free_index (b ∷ bs) digits = (
+  λ e. let digit = digits 0 b (omega arith) in omega (arith, digit.1),
+  free_index bs (λ k d lt. digits (suc k) d (omega arith)),
+)
 
 -- what stands after a component begins with a dot or a bracket, if anything does
 stops : (ps : List Part) → IsPlainPath ps → IsAtStop EndsKey (flat_map part_text ps)
