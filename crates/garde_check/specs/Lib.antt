@@ -1,6 +1,7 @@
 pub mod Lines
 pub mod User
 pub mod Users
-pub mod Found
+pub mod Findings
+pub mod Wrapped
 pub mod Ran
 pub mod Words

@@ -8,7 +8,7 @@ use Rattle.garde_check.specs.declared.outcome.Outcome.{Outcome}
 use Rattle.garde_check.specs.declared.outcome.Outcome.TheVariants.{Valid}
 use Rattle.garde_check.specs.declared.outcome.RunError.{RunError}
 use Rattle.garde_check.specs.declared.outcome.RunError.TheVariants.{NotUtf8, Read, Write, Memory}
-use Rattle.garde_check.specs.Lines.{AreLines}
+use Rattle.garde_check.specs.Lines.{AreTheLines}
 use Rattle.garde_check.specs.Users.{lines_tree}
 
 -- the line that tells a number of nodes
@@ -22,7 +22,9 @@ output_of show_nodes t = report_text (flat default_text [] t) ++ (if show_nodes 
 -- The output for an input, and its outcome: those of the one tree of the lines of the input.
 abbrev pub Reports : Bool → List ℕ → Outcome → List ℕ → Type 0
 Reports show_nodes input outcome output =
-    (lines : List (List ℕ)) × AreLines input lines × (output ≡ output_of show_nodes (lines_tree 0 lines)) × ((outcome ≡ Valid) ↔ (bears (lines_tree 0 lines) ≡ false))
+    (lines : List (List ℕ)) × AreTheLines input lines
+    × (output ≡ output_of show_nodes (lines_tree 0 lines))
+    × ((outcome ≡ Valid) ↔ (bears (lines_tree 0 lines) ≡ false))
 
 -- What a run leaves. `Gives` says which output belongs to an input. `input` is what the reader had and `left` what it has
 -- left, `before` and `after` are what the writer holds, and the two flags say whether reader and writer have failed.
@@ -37,7 +39,8 @@ module _ (Gives : List ℕ → Outcome → List ℕ → Type 0) (input left befo
   Leaves (Err Read) = Keeps before after × (reader_failed ≡ true)
   -- the writer failed, and a beginning of the output was written
   Leaves (Err Write) = IsAtEnd left × (writer_failed ≡ true) × IfSome input (λ bytes.
-      (outcome : Outcome) × (output : List ℕ) × Gives bytes outcome output × ((k : ℕ) × Appends before after (take k output)))
+      IsUtf8 bytes × ((outcome : Outcome) × (output : List ℕ) × Gives bytes outcome output
+      × ((k : ℕ) × Appends before after (take k output))))
   -- nothing was written
   Leaves (Err Memory) = Keeps before after
 
@@ -47,8 +50,8 @@ TakeFails failed Read = failed ≡ true
 TakeFails failed Memory = Unit {0}
 TakeFails failed _ = ⊥
 
--- why no answer is made for these bytes
-abbrev pub AnswerFails : List ℕ → RunError → Type 0
-AnswerFails bytes NotUtf8 = IsUtf8 bytes → ⊥
-AnswerFails bytes Memory = Unit {0}
-AnswerFails bytes _ = ⊥
+-- why no output is made for these bytes
+abbrev pub OutputFails : List ℕ → RunError → Type 0
+OutputFails bytes NotUtf8 = IsUtf8 bytes → ⊥
+OutputFails bytes Memory = Unit {0}
+OutputFails bytes _ = ⊥

@@ -3,8 +3,8 @@
 /// What is run.
 #[derive(Clone, Copy, PartialEq, Eq, Debug)]
 pub enum Command {
-    /// The report of the lines, as text.
+    /// The report of the lines is written as text.
     Text,
-    /// The same, and a last line with the number of path nodes that were made.
+    /// The same, and then a line with the number of path nodes that were made.
     Nodes,
 }

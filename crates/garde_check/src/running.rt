@@ -2,8 +2,8 @@
 ghost use Rattle.std.specs.Prelude.{◌≡◌, ℕ, false, true, IfOk, IfErr, OnOk, OnErr, IfSome, take, string_bytes};
 ghost use Rattle.std.specs.Str.{IsUtf8};
 ghost use Rattle.std.specs.Io.KnownBytes.{Appends, IsAtEnd};
-ghost use Rattle.garde_check.specs.Found.{IsFound};
-ghost use Rattle.garde_check.specs.Ran.{Reports, Leaves, TakeFails, AnswerFails};
+ghost use Rattle.garde_check.specs.Findings.{AreFindings};
+ghost use Rattle.garde_check.specs.Ran.{Reports, Leaves, TakeFails, OutputFails};
 
 use crate::lines::users_of;
 use crate::outcome::{Outcome, RunError};
@@ -16,7 +16,7 @@ use std::str;
 /// How many bytes are asked for at a time.
 const PART: usize = 4096;
 
-// All that is left in a reader.
+// Takes all that is left in a reader.
 fn take_all<S: Source>(alloc: Global, reader: &mut S) -> Result<Vec<u8>, RunError>
     requires { S.has_failed reader.old ≡ false }
     ensures ok { IfOk result (λ bytes. IfSome (S.remaining reader.old) (λ all. bytes.items ≡ all)) }
@@ -50,70 +50,71 @@ fn give_all<W: Sink>(writer: &mut W, bytes: &[u8]) -> Result<(), Failed>
     Ok(())
 }
 
-// What is found of users.
+// What the validation of users found: the outcome, the text of the report, and the number of path nodes that were made.
 #[derive(Drop)]
-struct Found {
+struct Findings {
     outcome: Outcome,
-    text: String,
-    made: usize,
+    report: String,
+    nodes: usize,
 }
 
 // Validates the users.
-fn look_through(alloc: Global, users: &Vec<Option<User>>) -> Result<Found, AllocError>
-    ensures { IfOk result (λ found. IsFound users.now.items found.outcome (string_bytes found.text) found.made) }
+fn validate_users(alloc: Global, users: &Vec<Option<User>>) -> Result<Findings, AllocError>
+    ensures { IfOk result (λ f. AreFindings users.now.items f.outcome (string_bytes f.report) f.nodes) }
 {
     let mut trail = Trail::new(alloc);
     let answer = users.validate_on(alloc, &(), &mut trail, &DefaultI18n);
-    let made = trail.nodes();
+    let nodes = trail.nodes();
     match answer {
-        Ok(()) => Ok(Found {
+        Ok(()) => Ok(Findings {
             outcome: Outcome::Valid,
-            text: String::new(alloc),
-            made,
+            report: String::new(alloc),
+            nodes,
         }),
-        Err(ValidateError::Report(report)) => Ok(Found {
+        Err(ValidateError::Report(report)) => Ok(Findings {
             outcome: Outcome::Faults,
-            text: report.to_string(alloc)?,
-            made,
+            report: report.to_string(alloc)?,
+            nodes,
         }),
         Err(ValidateError::Memory) => Err(AllocError),
     }
 }
 
-// What is answered for an input.
+// What is written for an input, and the outcome that goes with it.
 #[derive(Drop)]
-struct Answer {
+struct Output {
     outcome: Outcome,
-    output: String,
+    text: String,
 }
 
-// The report of an input's lines.
-fn answer_of(alloc: Global, bytes: &[u8], show_nodes: bool) -> Result<Answer, RunError>
-    ensures ok { IfOk result (λ answer. IsUtf8 bytes.now × Reports show_nodes bytes.now answer.outcome (string_bytes answer.output)) }
-    ensures err { IfErr result (AnswerFails bytes.now) }
+// Makes the whole output for an input.
+fn make_output(alloc: Global, bytes: &[u8], show_nodes: bool) -> Result<Output, RunError>
+    ensures ok { IfOk result (λ output. IsUtf8 bytes.now
+        × Reports show_nodes bytes.now output.outcome (string_bytes output.text)) }
+    ensures err { IfErr result (OutputFails bytes.now) }
 {
-    let Ok(text) = str::from_utf8(bytes) else {
+    let Ok(input) = str::from_utf8(bytes) else {
         return Err(RunError::NotUtf8);
     };
-    let users = users_of(alloc, text)?;
-    let found = look_through(alloc, &users)?;
-    let Found {
+    let users = users_of(alloc, input)?;
+    let findings = validate_users(alloc, &users)?;
+    let Findings {
         outcome,
-        text: mut output,
-        made,
-    } = found;
+        report: mut text,
+        nodes,
+    } = findings;
     if show_nodes {
-        writeln!(output, "nodes: {made}")?;
+        writeln!(text, "nodes: {nodes}")?;
     }
-    Ok(Answer { outcome, output })
+    Ok(Output { outcome, text })
 }
 
-/// Reads the reader to its end, validates the users of its lines, and writes the report of them; with `show_nodes` then a
-/// line `nodes: n`, the number of path nodes that were made.
+/// Reads the reader to its end, validates the users of its lines and writes the report. With `show_nodes` a line `nodes: n`
+/// follows, which tells how many path nodes were made.
 ///
-/// The whole output is made in memory before the first byte is written, and each byte is written once. All that is read is
-/// kept, so a reader that never ends leads to `RunError::Memory`. After `Write` a beginning of the output was written, and
-/// after each other refusal nothing.
+/// The whole output is made in memory before its first byte is written, and each byte is written once. All that is read is
+/// kept, so a reader that never ends leads to `RunError::Memory`. After `RunError::Write` a beginning of the output was
+/// written, and after each other refusal nothing.
 pub fn run<S: Source, W: Sink>(
     alloc: Global,
     reader: &mut S,
@@ -123,12 +124,13 @@ pub fn run<S: Source, W: Sink>(
     requires fresh_reader { S.has_failed reader.old ≡ false }
     requires fresh_writer { W.has_failed writer.old ≡ false }
     ensures { Leaves (Reports show_nodes) (S.remaining reader.old) (S.remaining reader.new)
-        (W.contents writer.old) (W.contents writer.new) (S.has_failed reader.new) (W.has_failed writer.new) result }
+        (W.contents writer.old) (W.contents writer.new)
+        (S.has_failed reader.new) (W.has_failed writer.new) result }
 {
     let bytes = take_all(alloc, reader)?;
-    let answer = answer_of(alloc, &bytes, show_nodes)?;
-    let Ok(()) = give_all(writer, answer.output.as_bytes()) else {
+    let output = make_output(alloc, &bytes, show_nodes)?;
+    let Ok(()) = give_all(writer, output.text.as_bytes()) else {
         return Err(RunError::Write);
     };
-    Ok(answer.outcome)
+    Ok(output.outcome)
 }

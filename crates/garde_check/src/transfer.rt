@@ -1,8 +1,10 @@
 //! Where bytes come from, and where they go.
-ghost use Rattle.std.specs.Prelude.{◌≡◌, ℕ, ◌<◌, ◌≤◌, List, Option, Bool, true, false, length, take, IfOk, OnErr, is_err, cond};
+ghost use Rattle.std.specs.Prelude.{◌≡◌, ℕ, ◌<◌, ◌≤◌, List, Option, Bool, true, false, length, take, IfOk, OnOk, OnErr};
 ghost use Rattle.std.specs.Io.KnownBytes.{Consumes, IsAtEnd, WriteAppends};
+ghost use Rattle.garde_check.specs.Wrapped.{Wrapped};
 
 use std::io::{Read, Write};
+use std::marker::Model;
 
 /// A call of a reader or a writer failed.
 #[derive(Clone, Copy, PartialEq, Eq, Debug)]
@@ -16,13 +18,14 @@ pub trait Source {
     // Whether a call has failed yet.
     ghost has_failed: { Self → Bool };
 
-    /// Moves bytes to the front of `part`, and says how many. None are left where it says 0.
+    /// Moves bytes to the front of `part`, which is not empty, and says how many. None are left where it says 0.
     fn take(&mut self, part: &mut [u8]) -> Result<usize, Failed>
         requires { 0 < length part.old }
         ensures bound { IfOk result (λ n. n ≤ length part.new) }
         ensures bytes { IfOk result (λ n. Consumes (remaining self.old) (remaining self.new) (take n part.new)) }
         ensures end { IfOk result (λ n. n ≡ 0 → IsAtEnd (remaining self.new)) }
-        ensures failed { has_failed self.new ≡ cond (is_err result) true (has_failed self.old) };
+        ensures ok { OnOk result (has_failed self.new ≡ has_failed self.old) }
+        ensures err { OnErr result (has_failed self.new ≡ true) };
 }
 
 /// What bytes are given to.
@@ -33,26 +36,34 @@ pub trait Sink {
     // Whether a call has failed yet.
     ghost has_failed: { Self → Bool };
 
-    /// Takes at least one byte from the front of `part`, and says how many. It takes none where it fails.
+    /// Takes at least one byte from the front of `part`, which is not empty, and says how many. It takes none where it fails.
     fn give(&mut self, part: &[u8]) -> Result<usize, Failed>
         requires { 0 < length part.now }
         ensures some { IfOk result (λ n. 0 < n) }
         ensures bound { IfOk result (λ n. n ≤ length part.now) }
         ensures bytes { WriteAppends (contents self.old) (contents self.new) result part.now }
-        ensures failed { has_failed self.new ≡ cond (is_err result) true (has_failed self.old) };
+        ensures ok { OnOk result (has_failed self.new ≡ has_failed self.old) }
+        ensures err { OnErr result (has_failed self.new ≡ true) };
 }
 
-/// A reader or a writer of the standard library. Each error of it is `Failed`.
+/// A reader or a writer of the standard library. Each error of it is `Failed`, and so is a write that takes no byte.
 #[derive(Drop)]
 pub struct Plain<D> {
     device: D,
     failed: bool,
 }
 
+impl<D> Model for Plain<D> {
+    ghost Value = { Wrapped D };
+
+    ghost view = { λ p. record { device = p.device; has_failed = p.failed } };
+}
+
 impl<D> Plain<D> {
+    /// The reader or the writer, of which no call has failed yet.
     pub fn new(device: D) -> Plain<D>
         ensures device { result.device ≡ device }
-        ensures failed { result.failed ≡ false }
+        ensures fresh { result.has_failed ≡ false }
     {
         Plain {
             device,
@@ -60,6 +71,7 @@ impl<D> Plain<D> {
         }
     }
 
+    /// Gives the reader or the writer back.
     pub fn into_inner(self) -> D
         ensures { result ≡ self.device }
     {
@@ -71,7 +83,7 @@ impl<D> Plain<D> {
 impl<R: Read> Source for Plain<R> {
     ghost remaining = { λ p. R.remaining p.device };
 
-    ghost has_failed = { λ p. p.failed };
+    ghost has_failed = { λ p. p.has_failed };
 
     fn take(&mut self, part: &mut [u8]) -> Result<usize, Failed> {
         match self.device.read(part) {
@@ -87,7 +99,7 @@ impl<R: Read> Source for Plain<R> {
 impl<W: Write> Sink for Plain<W> {
     ghost contents = { λ p. W.contents p.device };
 
-    ghost has_failed = { λ p. p.failed };
+    ghost has_failed = { λ p. p.has_failed };
 
     fn give(&mut self, part: &[u8]) -> Result<usize, Failed> {
         match self.device.write(part) {

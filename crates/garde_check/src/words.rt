@@ -1,4 +1,4 @@
-//! What the words of the command line ask for, and how a run is told of.
+//! What the words of the command line ask for, and how the end of a run is told.
 ghost use Rattle.std.specs.Prelude.{◌≡◌, ◌≢◌, IfSome, IfNone, map, string_bytes};
 ghost use Rattle.garde_check.specs.declared.mode.Command.{Command};
 ghost use Rattle.garde_check.specs.Words.{words_of, status_of, line_of};
@@ -6,7 +6,7 @@ ghost use Rattle.garde_check.specs.Words.{words_of, status_of, line_of};
 use crate::mode::Command;
 use crate::outcome::{Outcome, RunError};
 
-/// What the words ask for, or nothing where they are wrong.
+/// What the words after the program's name ask for, or `None` where they ask for nothing that there is.
 pub fn command(words: &[String]) -> Option<Command>
     ensures some { IfSome result (λ c. map string_bytes words.now ≡ words_of c) }
     ensures none { IfNone result ((c : Command) → map string_bytes words.now ≢ words_of c) }
@@ -21,7 +21,7 @@ pub fn command(words: &[String]) -> Option<Command>
     }
 }
 
-/// The status that tells of a run.
+/// The exit status after a run: 0 where all is valid, 1 where there are faults, 2 where the run ended early.
 pub fn status(answer: &Result<Outcome, RunError>) -> u8
     ensures { result ≡ status_of answer.now }
 {
@@ -32,7 +32,7 @@ pub fn status(answer: &Result<Outcome, RunError>) -> u8
     }
 }
 
-/// The line that tells of a refusal.
+/// The line on standard error that tells why a run ended early, without its line feed.
 pub fn fault_line(error: &RunError) -> &'static str
     ensures { result.now ≡ line_of error.now }
 {

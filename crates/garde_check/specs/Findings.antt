@@ -1,4 +1,4 @@
--- What is found of users.
+-- What the validation of users finds.
 use Rattle.std.specs.Prelude.{◌≡◌, ℕ, List, Option, false, ◌↔◌}
 use Rattle.garde.specs.Author.{items, optional}
 use Rattle.garde.specs.Answers.{Tells}
@@ -9,8 +9,10 @@ use Rattle.garde_check.specs.declared.outcome.Outcome.TheVariants.{Valid}
 use Rattle.garde_check.specs.declared.user.User.{User}
 use Rattle.garde_check.specs.User.{user_visits}
 
--- The outcome, the text of the report and the number of nodes are those of a tree of the users.
-abbrev pub IsFound : List (Option User) → Outcome → List ℕ → ℕ → Type 0
-IsFound users outcome text made =
-    (t : Tree) × (report : List Entry) × Tells (items (λ user. optional user_visits user) users) default_text report made t
+-- One tree of the users gives the text of the report and the number of nodes, and the outcome is `Valid` exactly where
+-- that tree bears no fault.
+abbrev pub AreFindings : List (Option User) → Outcome → List ℕ → ℕ → Type 0
+AreFindings users outcome text count =
+    (t : Tree) × (report : List Entry)
+    × Tells (items (λ user. optional user_visits user) users) default_text report count t
     × (text ≡ report_text report) × ((outcome ≡ Valid) ↔ (bears t ≡ false))

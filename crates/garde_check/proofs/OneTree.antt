@@ -7,8 +7,8 @@ use Rattle.garde.specs.Trees.{TreesEach}
 use Rattle.garde.specs.Tree.{Tree, nothing, under, ◌then◌, bears, flat, nodes}
 use Rattle.garde.specs.Words.{default_text, index_part, key_part, report_text}
 use Rattle.garde_check.specs.declared.outcome.Outcome.{Outcome}
-use Rattle.garde_check.specs.Lines.{AreLines}
-use Rattle.garde_check.specs.Found.{IsFound}
+use Rattle.garde_check.specs.Lines.{AreTheLines}
+use Rattle.garde_check.specs.Findings.{AreFindings}
 use Rattle.garde_check.specs.Ran.{Reports, nodes_line}
 use Rattle.garde_check.specs.declared.user.User.{User}
 use Rattle.garde_check.specs.User.{user_visits, named_tree}
@@ -40,10 +40,10 @@ users_one : (users : List (Option User)) (t : Tree) → AllByRecursion IsNamed u
 unfolding items
 users_one users t named is = each_one 0 users t named is
 
--- what is found of the users of lines is what is reported of these
-pub lines_found : (show_nodes : Bool) (users : List (Option User)) (bytes text output : List ℕ) (made : ℕ) (outcome : Outcome) → AreLines bytes (map text_of users) → AllByRecursion IsNamed users → IsFound users outcome text made
+-- what is found of the users of lines is what is reported of these lines
+pub lines_reported : (show_nodes : Bool) (users : List (Option User)) (bytes text output : List ℕ) (made : ℕ) (outcome : Outcome) → AreTheLines bytes (map text_of users) → AllByRecursion IsNamed users → AreFindings users outcome text made
     → output ≡ text ++ (if show_nodes then nodes_line made else []) → Reports show_nodes bytes outcome output
-lines_found show_nodes users bytes text output made outcome lines named (t, report, (visited, is, count), says, valid) shown =
+lines_reported show_nodes users bytes text output made outcome lines named (t, report, (visited, is, count), says, valid) shown =
     let same : t ≡ lines_tree 0 (map text_of users) = users_one users t named visited in (
       map text_of users,
       lines,
