@@ -22,4 +22,4 @@ module _ (Gives : List ℕ → Outcome → List ℕ → Type 0) (input before af
       → IfSome input (λ all. IsUtf8 all × ((o : Outcome) × (out : List ℕ) × Gives all o out × ((n : ℕ) × Appends before after (take n out))))
   written_in_part k same text gives written =
       of_all (λ all. IsUtf8 all × ((o : Outcome) × (out : List ℕ) × Gives all o out × ((n : ℕ) × Appends before after (take n out)))) bytes input same
-          (text, (outcome, output, gives, (k, written)))
+      (text, (outcome, output, gives, (k, written)))

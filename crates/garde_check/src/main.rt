@@ -5,6 +5,8 @@ mod lines;
 mod mode;
 mod outcome;
 mod running;
+#[cfg(test)]
+mod tests;
 mod transfer;
 mod user;
 mod words;

@@ -1,0 +1,68 @@
+//! Readers and writers that fail, or do not end.
+ghost use Rattle.std.specs.Prelude.{None, Some, false};
+
+use crate::transfer::{Failed, Sink, Source};
+
+/// A reader that gives one byte a call, and fails once it has given as many as `whole` says.
+#[derive(Drop)]
+pub struct OneByOne<'a> {
+    pub bytes: &'a [u8],
+    pub whole: usize,
+    pub failed: bool,
+}
+
+impl<'a> Source for OneByOne<'a> {
+    ghost remaining = { λ s. Some s.bytes.now };
+
+    ghost has_failed = { λ s. s.failed };
+
+    fn take(&mut self, part: &mut [u8]) -> Result<usize, Failed> {
+        if self.whole == 0 {
+            self.failed = true;
+            return Err(Failed);
+        }
+        let Some((byte, after)) = self.bytes.split_first() else {
+            return Ok(0);
+        };
+        part[0] = *byte;
+        self.bytes = after;
+        self.whole -= 1;
+        Ok(1)
+    }
+}
+
+/// A reader that always has more.
+#[derive(Drop)]
+pub struct Endless;
+
+impl Source for Endless {
+    ghost remaining = { λ _. None };
+
+    ghost has_failed = { λ _. false };
+
+    fn take(&mut self, part: &mut [u8]) -> Result<usize, Failed> {
+        Ok(part.len())
+    }
+}
+
+/// A writer that takes one byte a call, `room` in all, and then fails.
+#[derive(Drop)]
+pub struct Narrow {
+    pub taken: Vec<u8>,
+    pub room: usize,
+    pub failed: bool,
+}
+
+impl Sink for Narrow {
+    ghost contents = { λ s. Some s.taken.items };
+
+    ghost has_failed = { λ s. s.failed };
+
+    fn give(&mut self, part: &[u8]) -> Result<usize, Failed> {
+        if self.taken.len() >= self.room || self.taken.push(part[0]).is_err() {
+            self.failed = true;
+            return Err(Failed);
+        }
+        Ok(1)
+    }
+}
