@@ -9,8 +9,8 @@ use Rattle.garde_check.specs.declared.outcome.Outcome.TheVariants.{Valid}
 use Rattle.garde_check.specs.declared.user.User.{User}
 use Rattle.garde_check.specs.User.{user_visits}
 
--- One tree of the users gives the text of the report and the number of nodes, and the outcome is `Valid` exactly where
--- that tree bears no fault.
+-- One tree of the users gives the text of the report and the number of nodes, and the outcome is
+-- `Valid` exactly where that tree bears no fault.
 abbrev pub AreFindings : List (Option User) → Outcome → List ℕ → ℕ → Type 0
 AreFindings users outcome text count =
     (t : Tree) × (report : List Entry)

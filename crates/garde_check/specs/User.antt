@@ -5,14 +5,20 @@ use Rattle.garde.specs.Words.{not_ascii, bounds_answer, key_part, unless, is_asc
 use Rattle.garde.specs.Tree.{Tree, nothing, under, ◌then◌, found_tree}
 use Rattle.garde_check.specs.declared.user.User.{User}
 
--- Under the key `username`, the rule that the name is ASCII, and then the rule that its length is from 3 to 25.
+-- Under the key `username`, the rule that the name is ASCII, and then the rule that its length is
+-- at least 3 and at most 25.
 abbrev pub user_visits : User → Visits
-user_visits user = field (codes "username") (ascii (string_bytes user.username) and simple 3 25 (length (string_bytes user.username)))
+user_visits user =
+    let name = string_bytes user.username in
+    field (codes "username") (ascii name and simple 3 25 (length name))
 
--- what the two rules find in a name
+-- The fault `not ascii` where some byte of the name is above 127, and then the fault of a length below
+-- 3 or above 25 where the name has such a length.
 abbrev pub username_tree : List ℕ → Tree
-username_tree name = found_tree (unless (is_ascii_text name) not_ascii) then found_tree (length_fault 3 25 (bounds_answer 3 25 (length name)))
+username_tree name =
+    found_tree (unless (is_ascii_text name) not_ascii)
+    then found_tree (length_fault 3 25 (bounds_answer 3 25 (length name)))
 
--- the tree of a user of this name
+-- the tree of a user of this name: one step, under the key `username`
 abbrev pub named_tree : List ℕ → Tree
 named_tree name = under (key_part (codes "username")) (username_tree name) nothing

@@ -12,11 +12,13 @@ abbrev pub words_of : Command → List (List ℕ)
 words_of Text = []
 words_of Nodes = codes "--nodes" ∷ []
 
+-- 0 where no fault was found, 1 where one was, 2 for every refusal
 abbrev pub status_of : Result Outcome RunError → ℕ
 status_of (Ok Valid) = 0
 status_of (Ok Faults) = 1
 status_of (Err _) = 2
 
+-- the line that tells of each refusal
 abbrev pub line_of : RunError → List ℕ
 line_of NotUtf8 = codes "garde_check: the input is not UTF-8"
 line_of Read = codes "garde_check: the input could not be read"

@@ -19,9 +19,11 @@ fn user_of(alloc: Global, line: &str) -> Result<Option<User>, AllocError>
     Ok(Some(User { username }))
 }
 
-/// The users of a text that is cut at line feeds: an empty line is no user, and every other line is the name of one.
+/// The users of a text that is cut at line feeds: an empty line is no user, and every other line is
+/// the name of one.
 ///
-/// What stands after the last line feed is a line only if it is not empty. A carriage return is an ordinary character.
+/// What stands after the last line feed is a line only if it is not empty. A carriage return is an
+/// ordinary character.
 pub fn users_of(alloc: Global, text: &str) -> Result<Vec<Option<User>>, AllocError>
     ensures lines { IfOk result (λ users. AreTheLines text.now (map text_of users.items)) }
     ensures named { IfOk result (λ users. AllByRecursion IsNamed users.items) }

@@ -18,7 +18,7 @@ use crate::words::{command, fault_line, status};
 use std::env;
 use std::process::ExitCode;
 
-// What the words after the program's name ask for, or nothing where they are wrong or cannot be had.
+// What the words after the program's name ask for, or `None` where they are wrong or cannot be had.
 fn command_of(rt: &HostRuntime) -> Option<Command> {
     let Ok(mut all) = env::args(rt) else {
         return None;

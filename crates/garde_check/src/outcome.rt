@@ -9,11 +9,11 @@ use std::alloc::AllocError;
 pub enum Outcome {
     /// No fault.
     Valid,
-    /// A fault at least.
+    /// At least one fault.
     Faults,
 }
 
-/// Why a run ended early.
+/// Why a run was refused.
 #[derive(Clone, Copy, PartialEq, Eq, Debug)]
 pub enum RunError {
     /// The input is not UTF-8. Nothing was written.

@@ -38,7 +38,8 @@ fn take_all<S: Source>(alloc: Global, reader: &mut S) -> Result<Vec<u8>, RunErro
 fn give_all<W: Sink>(writer: &mut W, bytes: &[u8]) -> Result<(), Failed>
     requires { W.has_failed writer.old ≡ false }
     ensures ok { OnOk result (Appends (W.contents writer.old) (W.contents writer.new) bytes.now) }
-    ensures err { OnErr result ((k : ℕ) × Appends (W.contents writer.old) (W.contents writer.new) (take k bytes.now)) }
+    ensures err { OnErr result ((k : ℕ)
+        × Appends (W.contents writer.old) (W.contents writer.new) (take k bytes.now)) }
     ensures failed { OnErr result (W.has_failed writer.new ≡ true) }
 {
     let mut rest = bytes;
@@ -50,7 +51,8 @@ fn give_all<W: Sink>(writer: &mut W, bytes: &[u8]) -> Result<(), Failed>
     Ok(())
 }
 
-// What the validation of users found: the outcome, the text of the report, and the number of path nodes that were made.
+// What the validation of users found: the outcome, the text of the report, and the number of path
+// nodes that were made.
 #[derive(Drop)]
 struct Findings {
     outcome: Outcome,
@@ -60,7 +62,8 @@ struct Findings {
 
 // Validates the users.
 fn validate_users(alloc: Global, users: &Vec<Option<User>>) -> Result<Findings, AllocError>
-    ensures { IfOk result (λ f. AreFindings users.now.items f.outcome (string_bytes f.report) f.nodes) }
+    ensures { IfOk result (λ found.
+        AreFindings users.now.items found.outcome (string_bytes found.report) found.nodes) }
 {
     let mut trail = Trail::new(alloc);
     let answer = users.validate_on(alloc, &(), &mut trail, &DefaultI18n);
@@ -109,12 +112,12 @@ fn make_output(alloc: Global, bytes: &[u8], show_nodes: bool) -> Result<Output, 
     Ok(Output { outcome, text })
 }
 
-/// Reads the reader to its end, validates the users of its lines and writes the report. With `show_nodes` a line `nodes: n`
-/// follows, which tells how many path nodes were made.
+/// Reads the reader to its end, validates the users of its lines and writes the report. With
+/// `show_nodes` a line `nodes: n` follows, which tells how many path nodes were made.
 ///
-/// The whole output is made in memory before its first byte is written, and each byte is written once. All that is read is
-/// kept, so a reader that never ends leads to `RunError::Memory`. After `RunError::Write` a beginning of the output was
-/// written, and after each other refusal nothing.
+/// The whole output is made in memory before its first byte is written, and each byte is written
+/// once. All that is read is kept, so a reader that never ends leads to `RunError::Memory`. After
+/// `RunError::Write` a beginning of the output was written, and after each other refusal nothing.
 pub fn run<S: Source, W: Sink>(
     alloc: Global,
     reader: &mut S,

@@ -18,11 +18,13 @@ pub trait Source {
     // Whether a call has failed yet.
     ghost has_failed: { Self → Bool };
 
-    /// Moves bytes to the front of `part`, which is not empty, and says how many. None are left where it says 0.
+    /// Moves bytes to the front of `part`, which is not empty, and says how many. Where it says 0,
+    /// none are left.
     fn take(&mut self, part: &mut [u8]) -> Result<usize, Failed>
         requires { 0 < length part.old }
         ensures bound { IfOk result (λ n. n ≤ length part.new) }
-        ensures bytes { IfOk result (λ n. Consumes (remaining self.old) (remaining self.new) (take n part.new)) }
+        ensures bytes { IfOk result (λ n.
+            Consumes (remaining self.old) (remaining self.new) (take n part.new)) }
         ensures end { IfOk result (λ n. n ≡ 0 → IsAtEnd (remaining self.new)) }
         ensures ok { OnOk result (has_failed self.new ≡ has_failed self.old) }
         ensures err { OnErr result (has_failed self.new ≡ true) };
@@ -36,7 +38,8 @@ pub trait Sink {
     // Whether a call has failed yet.
     ghost has_failed: { Self → Bool };
 
-    /// Takes at least one byte from the front of `part`, which is not empty, and says how many. It takes none where it fails.
+    /// Takes at least one byte from the front of `part`, which is not empty, and says how many.
+    /// Where it fails, it takes none.
     fn give(&mut self, part: &[u8]) -> Result<usize, Failed>
         requires { 0 < length part.now }
         ensures some { IfOk result (λ n. 0 < n) }
@@ -46,7 +49,8 @@ pub trait Sink {
         ensures err { OnErr result (has_failed self.new ≡ true) };
 }
 
-/// A reader or a writer of the standard library. Each error of it is `Failed`, and so is a write that takes no byte.
+/// A reader or a writer of the standard library. Each error of it is `Failed`, and so is a write
+/// that takes no byte.
 #[derive(Drop)]
 pub struct Plain<D> {
     device: D,

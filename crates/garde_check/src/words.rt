@@ -6,7 +6,7 @@ ghost use Rattle.garde_check.specs.Words.{words_of, status_of, line_of};
 use crate::mode::Command;
 use crate::outcome::{Outcome, RunError};
 
-/// What the words after the program's name ask for, or `None` where they ask for nothing that there is.
+/// What the words after the program's name ask for, or `None` where they are wrong.
 pub fn command(words: &[String]) -> Option<Command>
     ensures some { IfSome result (λ c. map string_bytes words.now ≡ words_of c) }
     ensures none { IfNone result ((c : Command) → map string_bytes words.now ≢ words_of c) }
@@ -21,7 +21,8 @@ pub fn command(words: &[String]) -> Option<Command>
     }
 }
 
-/// The exit status after a run: 0 where all is valid, 1 where there are faults, 2 where the run ended early.
+/// The exit status after a run: 0 where no fault was found, 1 where one was, 2 where the run was
+/// refused.
 pub fn status(answer: &Result<Outcome, RunError>) -> u8
     ensures { result ≡ status_of answer.now }
 {
@@ -32,7 +33,7 @@ pub fn status(answer: &Result<Outcome, RunError>) -> u8
     }
 }
 
-/// The line on standard error that tells why a run ended early, without its line feed.
+/// The line on standard error that tells why a run was refused, without its line feed.
 pub fn fault_line(error: &RunError) -> &'static str
     ensures { result.now ≡ line_of error.now }
 {
