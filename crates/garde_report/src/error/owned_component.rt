@@ -33,9 +33,13 @@ impl OwnedComponent {
     pub(super) fn new(alloc: Global, component: Component<'_>) -> Result<OwnedComponent, AllocError>
         ensures { IfOk result (λ owned. owned ≡ part_of component.entry) }
     {
+        let name = match component {
+            Component::Text(_, text) => String::from_str(alloc, text)?,
+            Component::Number(number) => format!(in alloc; "{number}")?,
+        };
         Ok(OwnedComponent {
             kind: component.kind(),
-            name: format!(in alloc; "{component}")?,
+            name,
         })
     }
 
