@@ -14,3 +14,8 @@ abbrev pub length_fault : ℕ → ℕ → Result (Unit {0}) OutOfBounds → Opti
 length_fault min max (Ok _) = None
 length_fault min max (Err Lower) = Some (rule (length_lower min))
 length_fault min max (Err Upper) = Some (rule (length_greater max))
+
+-- what holding an option against bounds gives: an option without a value is within them
+abbrev pub option_answer : {T : Type 0} → (T → Result (Unit {0}) OutOfBounds) → Option T → Result (Unit {0}) OutOfBounds
+option_answer answer None = Ok tt
+option_answer answer (Some value) = answer value

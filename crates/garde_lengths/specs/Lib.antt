@@ -1,2 +1,3 @@
 pub mod Applies
 pub mod Bounds
+pub mod Counts

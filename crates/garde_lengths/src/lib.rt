@@ -2,6 +2,8 @@
 #![tactic(auto)]
 
 mod bounds;
+mod count;
+pub mod laws;
 pub mod length;
 mod rule;
 

@@ -1,0 +1,172 @@
+//! The length in characters.
+ghost use Rattle.std.specs.Prelude.{◌≡◌, ℕ, string_bytes, length, vec_len, Result};
+ghost use Rattle.std.specs.Box.{boxed_str_bytes, boxed_slice_len};
+ghost use Rattle.std.specs.Cow.{cow_str_bytes};
+ghost use Rattle.std.specs.Rc.{rc_str_bytes, rc_slice_items};
+ghost use Rattle.garde_lengths.specs.Applies.{Applies};
+ghost use Rattle.garde_lengths.specs.Bounds.{bounds_answer, length_fault, option_answer};
+ghost use Rattle.garde_lengths.specs.Counts.{char_count};
+ghost use Rattle.garde_lengths.specs.declared.bounds.OutOfBounds.{OutOfBounds};
+
+use crate::bounds::{OutOfBounds, check_bounds};
+use crate::count::count_chars;
+use crate::rule::Rule;
+use garde_i18n::I18n;
+use garde_report::RuleError;
+use std::alloc::Global;
+use std::borrow::CowStr;
+use std::boxed::{BoxedSlice, BoxedStr};
+use std::rc::{RcSlice, RcStr};
+
+/// A value that has a number of characters: a text, or a list of characters. A character is a Unicode scalar value.
+pub trait HasChars {
+    /// How many characters the value has.
+    ghost char_len: { Self → ℕ };
+
+    /// How many characters the value has.
+    fn num_chars(&self) -> usize
+        ensures { result ≡ char_len self.now };
+}
+
+impl HasChars for String {
+    ghost char_len = { λ v. char_count (string_bytes v) };
+
+    fn num_chars(&self) -> usize {
+        count_chars(self.as_str())
+    }
+}
+
+impl HasChars for &String {
+    ghost char_len = { λ v. char_count (string_bytes v.now) };
+
+    fn num_chars(&self) -> usize {
+        count_chars(self.as_str())
+    }
+}
+
+impl HasChars for &str {
+    ghost char_len = { λ v. char_count v.now };
+
+    fn num_chars(&self) -> usize {
+        count_chars(self)
+    }
+}
+
+impl HasChars for CowStr<'_> {
+    ghost char_len = { λ v. char_count (cow_str_bytes v) };
+
+    fn num_chars(&self) -> usize {
+        count_chars(self.as_str())
+    }
+}
+
+impl HasChars for RcStr {
+    ghost char_len = { λ v. char_count (rc_str_bytes v) };
+
+    fn num_chars(&self) -> usize {
+        count_chars(self.as_str())
+    }
+}
+
+impl HasChars for BoxedStr {
+    ghost char_len = { λ v. char_count (boxed_str_bytes v) };
+
+    fn num_chars(&self) -> usize {
+        count_chars(self.as_str())
+    }
+}
+
+impl HasChars for &[char] {
+    ghost char_len = { λ v. length v.now };
+
+    fn num_chars(&self) -> usize {
+        self.len()
+    }
+}
+
+impl HasChars for RcSlice<char> {
+    ghost char_len = { λ v. length (rc_slice_items v) };
+
+    fn num_chars(&self) -> usize {
+        self.len()
+    }
+}
+
+impl HasChars for BoxedSlice<char> {
+    ghost char_len = { λ v. boxed_slice_len v };
+
+    fn num_chars(&self) -> usize {
+        self.len()
+    }
+}
+
+impl HasChars for Vec<char> {
+    ghost char_len = { λ v. vec_len v };
+
+    fn num_chars(&self) -> usize {
+        self.len()
+    }
+}
+
+/// A value whose number of characters can be held against bounds: a value that has characters, and an option of one.
+pub trait Chars {
+    /// What holding the number of characters against a lower and an upper bound gives.
+    ghost answer: { ℕ → ℕ → Self → Result (Unit {0}) OutOfBounds };
+
+    /// Answers Ok where there are at least `min` and at most `max` characters, and else which bound the number is beyond. A
+    /// number that is beyond both, since `min` is above `max`, is below the lower one. An option without a value is within
+    /// all bounds.
+    fn validate_num_chars(&self, min: usize, max: usize) -> Result<(), OutOfBounds>
+        ensures { result ≡ answer min max self.now };
+}
+
+impl<T: HasChars> Chars for T {
+    ghost answer = { λ min max v. bounds_answer min max (T.char_len v) };
+
+    fn validate_num_chars(&self, min: usize, max: usize) -> Result<(), OutOfBounds> {
+        check_bounds(self.num_chars(), min, max)
+    }
+}
+
+impl<T: Chars> Chars for Option<T> {
+    ghost answer = { λ min max. option_answer (T.answer min max) };
+
+    fn validate_num_chars(&self, min: usize, max: usize) -> Result<(), OutOfBounds> {
+        match self {
+            None => Ok(()),
+            Some(v) => v.validate_num_chars(min, max),
+        }
+    }
+}
+
+/// Answers Ok where there are at least as many characters as the first of `args` and at most as many as the second, and else
+/// the fault with the handler's text of the bound that the number is beyond.
+///
+/// `RuleError::Memory` is answered only where the rule does not hold.
+pub fn apply<T: Chars, H: I18n>(
+    alloc: Global,
+    v: &T,
+    args: (usize, usize),
+    h: &H,
+) -> Result<(), RuleError>
+    ensures { Applies (length_fault args.0 args.1 (T.answer args.0 args.1 v.now)) (H.text h.now) result }
+{
+    let (min, max) = args;
+    match v.validate_num_chars(min, max) {
+        Ok(()) => Ok(()),
+        Err(OutOfBounds::Lower) => Err(RuleError::of(alloc, h.length_lower_than(alloc, min))),
+        Err(OutOfBounds::Upper) => Err(RuleError::of(alloc, h.length_greater_than(alloc, max))),
+    }
+}
+
+/// The rule as a value: there are at least as many characters as the first number and at most as many as the second.
+#[derive(Clone, Copy, Debug, PartialEq, Eq)]
+pub struct CharsLength(pub usize, pub usize);
+
+impl<T: Chars> Rule<T> for CharsLength {
+    ghost finds = { λ rule v. length_fault rule.0 rule.1 (T.answer rule.0 rule.1 v) };
+
+    fn find<H: I18n>(&self, alloc: Global, value: &T, h: &H) -> Result<(), RuleError> {
+        apply(alloc, value, (self.0, self.1), h)
+    }
+}
