@@ -1,12 +1,12 @@
-use Rattle.std.proofs.Common.{◌≡◌, ◌+◌, ◌<◌, ◌≤◌, ℕ, List, [], ◌∷◌, ◌++◌, length, Bool, true, false, cond, refl, sym, ap, ◌∙◌, arith}
-use Rattle.std.specs.Str.{chars, IsUtf8}
-use Rattle.std.specs.Prelude.{count_by, nat_lt, encode_utf8_all, encode_utf8}
-use Rattle.std.proofs.lemmas.Str.{encodes-chars, length-encode, len_utf8_bounds}
+use Rattle.std.proofs.Common.{◌≡◌, ◌+◌, ◌≤◌, ℕ, List, [], ◌∷◌, length, cond, refl, ap, ◌∙◌, arith}
+use Rattle.std.specs.Str.{chars}
+use Rattle.std.specs.Prelude.{nat_lt, encode_utf8_all, encode_utf8}
+use Rattle.std.proofs.lemmas.Str.{encodes-chars, length-encode}
 use Rattle.std.proofs.lemmas.Bool.Decides.{nat_tests}
 use Rattle.std.proofs.lemmas.List.{length-append}
 use Rattle.std.proofs.lemmas.List.Recursion.{is_count_by}
 use Rattle.std.specs.Char.{len_utf8}
-use Rattle.garde_lengths.specs.Counts.{UnitsLaw, astral_count, unit_count, char_count, byte_count}
+use Rattle.garde_lengths.specs.Counts.{UnitsLaw, astral_count}
 
 -- a character takes no fewer bytes than units
 unit_le : (c : ℕ) → 1 + cond (nat_lt 0xFFFF c) 1 0 ≤ len_utf8 c

@@ -1,8 +1,11 @@
 //! The length as the type counts it: the bytes of a text, the items of a collection.
-ghost use Rattle.std.specs.Prelude.{◌≡◌, ℕ, string_bytes, length, vec_len, Result};
+ghost use Rattle.std.specs.Prelude.{◌≡◌, ℕ, Result};
 ghost use Rattle.garde_lengths.specs.Applies.{Applies};
-ghost use Rattle.garde_lengths.specs.Bounds.{bounds_answer, length_fault};
+ghost use Rattle.garde_lengths.specs.Bounds.{bounds_answer, length_fault, option_answer};
 ghost use Rattle.garde_lengths.specs.declared.bounds.OutOfBounds.{OutOfBounds};
+
+mod collections;
+mod texts;
 
 use crate::bounds::{OutOfBounds, check_bounds};
 use crate::rule::Rule;
@@ -10,39 +13,23 @@ use garde_i18n::I18n;
 use garde_report::RuleError;
 use std::alloc::Global;
 
-/// A value with a length.
+/// A value that has a length: a text has its bytes in UTF-8, a collection its items, a map its pairs.
 pub trait HasSimpleLength {
     /// The length of the value.
     ghost simple_len: { Self → ℕ };
 
-    /// The length.
+    /// The length of the value.
     fn length(&self) -> usize
         ensures { result ≡ simple_len self.now };
 }
 
-impl HasSimpleLength for String {
-    ghost simple_len = { λ s. length (string_bytes s) };
-
-    fn length(&self) -> usize {
-        self.len()
-    }
-}
-
-impl<T> HasSimpleLength for Vec<T> {
-    ghost simple_len = { λ v. vec_len v };
-
-    fn length(&self) -> usize {
-        self.len()
-    }
-}
-
-/// A value whose length can be held against bounds.
+/// A value whose length can be held against bounds: a value that has a length, an array, and an option of one.
 pub trait Simple {
     /// What holding the length against a lower and an upper bound gives.
     ghost answer: { ℕ → ℕ → Self → Result (Unit {0}) OutOfBounds };
 
     /// Answers Ok where the length is at least `min` and at most `max`, and else which bound it is beyond. A length that is
-    /// beyond both, since `min` is above `max`, is below the lower one.
+    /// beyond both, since `min` is above `max`, is below the lower one. An option without a value is within all bounds.
     fn validate_length(&self, min: usize, max: usize) -> Result<(), OutOfBounds>
         ensures { result ≡ answer min max self.now };
 }
@@ -52,6 +39,33 @@ impl<T: HasSimpleLength> Simple for T {
 
     fn validate_length(&self, min: usize, max: usize) -> Result<(), OutOfBounds> {
         check_bounds(self.length(), min, max)
+    }
+}
+
+impl<T, const N: usize> Simple for [T; N] {
+    ghost answer = { λ min max _. bounds_answer min max N };
+
+    fn validate_length(&self, min: usize, max: usize) -> Result<(), OutOfBounds> {
+        check_bounds(N, min, max)
+    }
+}
+
+impl<T, const N: usize> Simple for &[T; N] {
+    ghost answer = { λ min max _. bounds_answer min max N };
+
+    fn validate_length(&self, min: usize, max: usize) -> Result<(), OutOfBounds> {
+        check_bounds(N, min, max)
+    }
+}
+
+impl<T: Simple> Simple for Option<T> {
+    ghost answer = { λ min max. option_answer (T.answer min max) };
+
+    fn validate_length(&self, min: usize, max: usize) -> Result<(), OutOfBounds> {
+        match self {
+            None => Ok(()),
+            Some(v) => v.validate_length(min, max),
+        }
     }
 }
 

@@ -1,4 +1,4 @@
-use Rattle.std.proofs.Common.{◌≡◌, ◌+◌, ℕ, length, rules, ap}
+use Rattle.std.proofs.Common.{◌≡◌, length, rules}
 use Rattle.std.specs.Str.{chars}
 use Rattle.std.proofs.lemmas.Str.{chars_from_encodes}
 use Rattle.std.proofs.lemmas.List.Sums.{length-filter}
