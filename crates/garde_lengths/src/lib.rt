@@ -6,6 +6,8 @@ mod count;
 pub mod laws;
 pub mod length;
 mod rule;
+#[cfg(test)]
+mod tests;
 
 pub use bounds::OutOfBounds;
 pub use rule::Rule;

@@ -1,0 +1,108 @@
+//! Tests of the counts of texts.
+use super::assert_answer;
+use crate::Rule;
+use crate::laws::units;
+use crate::length::bytes::{self, BytesLength};
+use crate::length::chars::{self, CharsLength};
+use crate::length::graphemes::{self, GraphemesLength};
+use crate::length::simple::SimpleLength;
+use crate::length::utf16::{self, Utf16Length};
+use crate::length::{HasBytes, HasChars, HasGraphemes, HasSimpleLength, HasUtf16CodeUnits};
+use garde_i18n::DefaultI18n;
+use std::alloc::Global;
+use std::borrow::CowStr;
+use std::boxed::BoxedStr;
+use std::process::Abort;
+use std::rc::RcStr;
+use std::test::Fail;
+
+/// A face (U+1F602), and an `e` with a mark of its own (U+0301).
+const FACE: &str = "😂";
+
+const MARKED: &str = "e\u{301}";
+
+/// The five lengths, in the order of the modules' names: bytes, characters, clusters, simple, code units.
+fn counts<T: HasBytes + HasChars + HasGraphemes + HasSimpleLength + HasUtf16CodeUnits>(
+    text: &T,
+) -> [usize; 5] {
+    [
+        text.num_bytes(),
+        text.num_chars(),
+        text.num_graphemes(),
+        text.length(),
+        text.num_code_units(),
+    ]
+}
+
+#[test]
+fn counts_a_text_by_each_unit(rt: HostRuntime) {
+    for (text, wanted) in [
+        (FACE, [4, 1, 1, 4, 2]),
+        (MARKED, [3, 2, 1, 3, 2]),
+        ("", [0; 5]),
+    ] {
+        assert_eq!(rt; counts(&text), wanted, "{text}");
+    }
+    units();
+}
+
+#[test]
+fn counts_every_type_of_text_alike(rt: HostRuntime) -> Result<(), Fail> {
+    let alloc = rt.alloc();
+    let wanted = [4, 1, 1, 4, 2];
+    let owned = String::from_str(alloc, FACE)?;
+    assert_eq!(rt; counts(&&owned), wanted);
+    assert_eq!(rt; counts(&owned), wanted);
+    assert_eq!(rt; counts(&CowStr::Owned(owned)), wanted);
+    assert_eq!(rt; counts(&RcStr::from_str(alloc, FACE)?), wanted);
+    assert_eq!(rt; counts(&BoxedStr::from_str(alloc, FACE)?), wanted);
+    Ok(())
+}
+
+#[test]
+fn holds_each_count_against_its_bounds(rt: HostRuntime) {
+    let alloc = rt.alloc();
+    let h = DefaultI18n;
+    let low = Some("length is lower than 3");
+    assert_answer(&rt, bytes::apply(alloc, &MARKED, (3, 3), &h), None);
+    assert_answer(&rt, chars::apply(alloc, &MARKED, (3, 3), &h), low);
+    assert_answer(&rt, graphemes::apply(alloc, &MARKED, (1, 1), &h), None);
+    assert_answer(&rt, graphemes::apply(alloc, &MARKED, (3, 3), &h), low);
+    assert_answer(&rt, utf16::apply(alloc, &FACE, (2, 2), &h), None);
+    assert_answer(&rt, utf16::apply(alloc, &FACE, (3, 3), &h), low);
+}
+
+/// Asserts what a rule as a value finds in the face.
+fn assert_finds<R: Rule<&'static str> + Drop>(
+    rt: &impl Abort,
+    alloc: Global,
+    rule: R,
+    fault: Option<&str>,
+) {
+    assert_answer(rt, rule.find(alloc, &FACE, &DefaultI18n), fault);
+}
+
+#[test]
+fn finds_the_same_by_rules_as_values(rt: HostRuntime) {
+    let alloc = rt.alloc();
+    assert_finds(
+        &rt,
+        alloc,
+        SimpleLength(0, 3),
+        Some("length is greater than 3"),
+    );
+    assert_finds(&rt, alloc, BytesLength(4, 4), None);
+    assert_finds(
+        &rt,
+        alloc,
+        CharsLength(2, 4),
+        Some("length is lower than 2"),
+    );
+    assert_finds(&rt, alloc, GraphemesLength(1, 1), None);
+    assert_finds(
+        &rt,
+        alloc,
+        Utf16Length(0, 1),
+        Some("length is greater than 1"),
+    );
+}
