@@ -1,4 +1,5 @@
 pub mod Holds
+pub mod Range
 pub mod Text
 pub use Rattle.garde_lengths.specs.Applies.{Fault, rule, own, fault_text, Applies}
-pub use Rattle.garde_lengths.specs.Bounds.{bounds_answer, length_fault}
+pub use Rattle.garde_lengths.specs.Bounds.{bounds_answer, length_fault, option_answer}

@@ -1,9 +1,15 @@
 //! The rules of the validation library: what they ask of a value, and the fault where it does not hold.
 #![tactic(auto)]
 
+pub mod alphanumeric;
 mod as_str;
 pub mod ascii;
+pub mod contains;
+pub mod matches;
+pub mod prefix;
 pub mod range;
+pub mod required;
+pub mod suffix;
 
 pub use as_str::AsStr;
 pub use garde_lengths::{Rule, length};

@@ -1,0 +1,86 @@
+//! Texts of letters and numbers alone.
+ghost use Rattle.std.specs.Prelude.{◌≡◌, Bool};
+ghost use Rattle.garde_i18n.specs.Datum as datum;
+ghost use Rattle.garde_lengths.specs.Applies.{Applies};
+ghost use Rattle.garde_rules.specs.Holds.{unless, passes_option};
+ghost use Rattle.garde_rules.specs.Text.{is_alphanumeric_char, is_alphanumeric_text};
+
+use crate::as_str::AsStr;
+use garde_i18n::I18n;
+use garde_lengths::Rule;
+use garde_report::RuleError;
+use std::alloc::Global;
+use unicode::properties::{GeneralCategory, is_alphabetic};
+
+// Whether the character is a letter or a number.
+fn is_alphanumeric(c: char) -> bool
+    ensures { result ≡ is_alphanumeric_char c }
+{
+    is_alphabetic(c)
+        || matches!(
+            GeneralCategory::for_char(c),
+            GeneralCategory::DecimalNumber
+                | GeneralCategory::LetterNumber
+                | GeneralCategory::OtherNumber
+        )
+}
+
+/// A value that may be alphanumeric. Every text may, and an option of one.
+pub trait Alphanumeric {
+    /// Whether the value passes.
+    ghost passes: { Self → Bool };
+
+    /// Whether every character of the text has the property Alphabetic of Unicode, or one of the general categories Nd, Nl
+    /// and No. The empty text passes, and an option without a value.
+    fn validate_alphanumeric(&self) -> bool
+        ensures { result ≡ passes self.now };
+}
+
+impl<T: AsStr> Alphanumeric for T {
+    ghost passes = { λ v. is_alphanumeric_text (T.text v) };
+
+    fn validate_alphanumeric(&self) -> bool {
+        self.as_str().chars().all(is_alphanumeric)
+    }
+}
+
+impl<T: Alphanumeric> Alphanumeric for Option<T> {
+    ghost passes = { passes_option T.passes };
+
+    fn validate_alphanumeric(&self) -> bool {
+        match self {
+            None => true,
+            Some(v) => v.validate_alphanumeric(),
+        }
+    }
+}
+
+/// Answers Ok where every character is a letter or a number, and else the fault with the handler's text.
+///
+/// `RuleError::Memory` is answered only where the rule does not hold.
+pub fn apply<T: Alphanumeric, H: I18n>(
+    alloc: Global,
+    v: &T,
+    _args: (),
+    h: &H,
+) -> Result<(), RuleError>
+    ensures { Applies (unless (T.passes v.now) datum.not_alphanumeric) (H.text h.now) result }
+{
+    if v.validate_alphanumeric() {
+        Ok(())
+    } else {
+        Err(RuleError::of(alloc, h.alphanumeric_invalid(alloc)))
+    }
+}
+
+/// The rule as a value: every character is a letter or a number.
+#[derive(Clone, Copy, Debug, Default, PartialEq, Eq)]
+pub struct AlphanumericOnly;
+
+impl<T: Alphanumeric> Rule<T> for AlphanumericOnly {
+    ghost finds = { λ _ v. unless (T.passes v) datum.not_alphanumeric };
+
+    fn find<H: I18n>(&self, alloc: Global, value: &T, h: &H) -> Result<(), RuleError> {
+        apply(alloc, value, (), h)
+    }
+}

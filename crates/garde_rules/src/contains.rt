@@ -1,0 +1,77 @@
+//! Texts that have a pattern as a part.
+ghost use Rattle.std.specs.Prelude.{◌≡◌, ◌↔◌, Bool, IsTrue, ℕ, List};
+ghost use Rattle.std.specs.Str.Iter.{HasSubslice};
+ghost use Rattle.garde_i18n.specs.Datum as datum;
+ghost use Rattle.garde_lengths.specs.Applies.{Applies};
+ghost use Rattle.garde_rules.specs.Holds.{unless, passes_option};
+ghost use Rattle.garde_rules.specs.Text.{has_part};
+
+use crate::as_str::AsStr;
+use garde_i18n::I18n;
+use garde_lengths::Rule;
+use garde_report::RuleError;
+use std::alloc::Global;
+
+/// A value that may have a text as a part. Every text may, and an option of one.
+pub trait Contains {
+    /// Whether the value passes with this pattern.
+    ghost passes: { List ℕ → Self → Bool };
+
+    /// Whether the text has the pattern as a part. The empty pattern is a part of every text. An option without a value passes.
+    fn validate_contains(&self, pattern: &str) -> bool
+        ensures { result ≡ passes pattern.now self.now };
+}
+
+impl<T: AsStr> Contains for T {
+    ghost passes = { λ pattern v. has_part pattern (T.text v) };
+
+    fn validate_contains(&self, pattern: &str) -> bool
+        ensures value { result ≡ has_part pattern.now (T.text self.now) }
+        ensures part { IsTrue result ↔ HasSubslice (T.text self.now) pattern.now }
+    {
+        self.as_str().contains(pattern)
+    }
+}
+
+impl<T: Contains> Contains for Option<T> {
+    ghost passes = { λ pattern. passes_option (T.passes pattern) };
+
+    fn validate_contains(&self, pattern: &str) -> bool {
+        match self {
+            None => true,
+            Some(v) => v.validate_contains(pattern),
+        }
+    }
+}
+
+/// Answers Ok where the text has the pattern as a part, and else the fault with the handler's text.
+///
+/// `RuleError::Memory` is answered only where the rule does not hold.
+pub fn apply<T: Contains, H: I18n>(
+    alloc: Global,
+    v: &T,
+    args: (&str,),
+    h: &H,
+) -> Result<(), RuleError>
+    ensures { let pattern = args.entry.0.now in
+        Applies (unless (T.passes pattern v.now) (datum.contains pattern)) (H.text h.now) result }
+{
+    let (pattern,) = args;
+    if v.validate_contains(pattern) {
+        Ok(())
+    } else {
+        Err(RuleError::of(alloc, h.contains_missing(alloc, pattern)))
+    }
+}
+
+/// The rule as a value: the text has this pattern as a part.
+#[derive(Clone, Copy, Debug)]
+pub struct Containing<'a>(pub &'a str);
+
+impl<T: Contains> Rule<T> for Containing<'_> {
+    ghost finds = { λ rule v. unless (T.passes rule.0.now v) (datum.contains rule.0.now) };
+
+    fn find<H: I18n>(&self, alloc: Global, value: &T, h: &H) -> Result<(), RuleError> {
+        apply(alloc, value, (self.0,), h)
+    }
+}

@@ -1,0 +1,62 @@
+//! Values that equal another, as a password that is given twice.
+ghost use Rattle.std.specs.Prelude.{◌≡◌, Bool};
+ghost use Rattle.garde_i18n.specs.Datum as datum;
+ghost use Rattle.garde_lengths.specs.Applies.{Applies};
+ghost use Rattle.garde_rules.specs.Holds.{unless};
+
+use garde_i18n::I18n;
+use garde_lengths::Rule;
+use garde_report::RuleError;
+use std::alloc::Global;
+
+/// A value that may match another. A value with an equality matches its equals, and so does an option: one without a value
+/// matches only another without one.
+pub trait Matches<O> {
+    /// Whether the value matches the other.
+    ghost passes: { Self → O → Bool };
+
+    /// Whether the value matches the other.
+    fn validate_matches(&self, other: &O) -> bool
+        ensures { result ≡ passes self.now other.now };
+}
+
+impl<T: PartialEq> Matches<T> for T {
+    ghost passes = { T.eq };
+
+    fn validate_matches(&self, other: &T) -> bool {
+        self == other
+    }
+}
+
+/// Answers Ok where the value matches the second of `args`, and else the fault with the handler's text of the first, which
+/// is the name of the field that the other value comes from.
+///
+/// `RuleError::Memory` is answered only where the rule does not hold.
+pub fn apply<T: Matches<O>, O, H: I18n>(
+    alloc: Global,
+    v: &T,
+    args: (&str, &O),
+    h: &H,
+) -> Result<(), RuleError>
+    ensures { let field = args.entry.0.now in let other = args.entry.1.now in
+        Applies (unless (T.passes v.now other) (datum.matches field)) (H.text h.now) result }
+{
+    let (field, other) = args;
+    if v.validate_matches(other) {
+        Ok(())
+    } else {
+        Err(RuleError::of(alloc, h.matches_field_mismatch(alloc, field)))
+    }
+}
+
+/// The rule as a value: the value matches that of another field, which is named first.
+#[derive(Clone, Copy, Debug)]
+pub struct EqualTo<'a, O>(pub &'a str, pub &'a O);
+
+impl<T: Matches<O>, O> Rule<T> for EqualTo<'_, O> {
+    ghost finds = { λ rule v. unless (T.passes v rule.1.now) (datum.matches rule.0.now) };
+
+    fn find<H: I18n>(&self, alloc: Global, value: &T, h: &H) -> Result<(), RuleError> {
+        apply(alloc, value, (self.0, self.1), h)
+    }
+}
