@@ -10,6 +10,8 @@ pub mod prefix;
 pub mod range;
 pub mod required;
 pub mod suffix;
+#[cfg(test)]
+mod tests;
 
 pub use as_str::AsStr;
 pub use garde_lengths::{Rule, length};

@@ -50,7 +50,8 @@ pub fn apply<T: Matches<O>, O, H: I18n>(
 }
 
 /// The rule as a value: the value matches that of another field, which is named first.
-#[derive(Clone, Copy, Debug)]
+#[derive(Debug)]
+#[derive_where(Clone, Copy)]
 pub struct EqualTo<'a, O>(pub &'a str, pub &'a O);
 
 impl<T: Matches<O>, O> Rule<T> for EqualTo<'_, O> {

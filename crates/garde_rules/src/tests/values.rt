@@ -1,0 +1,80 @@
+//! Tests of the rules as values.
+use super::assert_answer;
+use crate::Rule;
+use crate::alphanumeric::AlphanumericOnly;
+use crate::ascii::AsciiOnly;
+use crate::contains::Containing;
+use crate::matches::EqualTo;
+use crate::prefix::StartingWith;
+use crate::range::InRange;
+use crate::required::Present;
+use crate::suffix::EndingWith;
+use garde_i18n::DefaultI18n;
+use std::alloc::Global;
+use std::process::Abort;
+use std::test::Fail;
+
+/// Asserts what a rule as a value finds.
+fn assert_finds<T, R: Rule<T> + Drop>(
+    rt: &impl Abort,
+    alloc: Global,
+    rule: R,
+    value: &T,
+    fault: Option<&str>,
+) {
+    assert_answer(rt, rule.find(alloc, value, &DefaultI18n), fault);
+}
+
+#[test]
+fn finds_the_same_in_texts(rt: HostRuntime) {
+    let alloc = rt.alloc();
+    let text = "a_é";
+    assert_finds(&rt, alloc, AsciiOnly, &text, Some("not ascii"));
+    assert_finds(
+        &rt,
+        alloc,
+        AlphanumericOnly,
+        &text,
+        Some("not alphanumeric"),
+    );
+    assert_finds(
+        &rt,
+        alloc,
+        Containing("b"),
+        &text,
+        Some("does not contain \"b\""),
+    );
+    assert_finds(&rt, alloc, StartingWith("a"), &text, None);
+    assert_finds(
+        &rt,
+        alloc,
+        EndingWith("_"),
+        &text,
+        Some("does not end with \"_\""),
+    );
+}
+
+#[test]
+fn finds_the_same_in_other_values(rt: HostRuntime) -> Result<(), Fail> {
+    let alloc = rt.alloc();
+    let owned = String::from_str(alloc, "b")?;
+    let different = Some("does not match password field");
+    assert_finds(&rt, alloc, EqualTo("password", &owned), &owned, None);
+    assert_finds(&rt, alloc, EqualTo("password", &"a"), &"b", different);
+    assert_finds(
+        &rt,
+        alloc,
+        InRange(Some(18), None),
+        &17u8,
+        Some("lower than 18"),
+    );
+    assert_finds(
+        &rt,
+        alloc,
+        InRange(None, Some(10)),
+        &100i32,
+        Some("greater than 10"),
+    );
+    assert_finds(&rt, alloc, Present, &Some(1u8), None);
+    Ok(())
+}
