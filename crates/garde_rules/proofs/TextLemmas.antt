@@ -1,14 +1,16 @@
 -- What the tests of the rules say of a text.
-use Rattle.std.proofs.Common.{◌≡◌, ◌<◌, ℕ, List, [], ◌∷◌, ◌++◌, length, take, drop, Bool, true, false, eqb, ltb, refl, sym, ap, ◌∙◌, arith, ⊎_elim, append-nil}
+use Rattle.std.proofs.Common.{◌≡◌, ◌<◌, ℕ, List, [], ◌∷◌, ◌++◌, length, take, drop, Bool, true, false, eqb, ltb, refl, sym, ap, ◌∙◌, arith, ⊎_elim, append-nil, None}
 use Rattle.std.specs.Bool.{Decides, MatchBool}
 use Rattle.std.specs.List.{All, starts_with}
 use Rattle.std.specs.Str.{IsAscii, IsNotAscii}
 use Rattle.std.specs.Str.Iter.{HasSubslice}
+use Rattle.std.specs.Str.Pattern.{HasMatch, FindsText}
 use Rattle.std.specs.Cmp.Lexicographic.{bytes_decides}
 use Rattle.std.proofs.lemmas.Bool.{or_cases, or_left, or_right}
 use Rattle.std.proofs.lemmas.Bool.Decides.{same_from_decides, Decides-ltb, Decides-by_and}
 use Rattle.std.proofs.lemmas.List.{take-append-drop}
 use Rattle.std.proofs.lemmas.Str.Ascii.{IsAscii-from_all, All-from_ascii}
+use Rattle.std.proofs.lemmas.Str.Pattern.{contains_text}
 use Rattle.std.proofs.Math.Seq.{take-nil, take-append_seam}
 use Rattle.garde_rules.specs.Text.{is_ascii_text, has_part}
 
@@ -47,6 +49,6 @@ part_no p (b ∷ bs) ([], c, e) = or_left _ _ (starts_true p c (b ∷ bs) e)
 part_no p [] (x ∷ a, c, e) = cc
 part_no p (b ∷ bs) (x ∷ a, c, e) = or_right _ _ (part_no p bs (a, c, cc))
 
--- a text has a pattern as a part exactly if it is something, the pattern, and something more
-pub part_decides : (p bs : List ℕ) → Decides (has_part p bs) (HasSubslice bs p)
-part_decides p bs = (part_yes p bs, part_no p bs)
+-- std's search of a pattern says whether the text has it as a part
+pub part_is : (r : Bool) (p bs : List ℕ) → MatchBool r (HasMatch (FindsText p) bs) (FindsText p bs None) → r ≡ has_part p bs
+part_is r p bs h = same_from_decides r (has_part p bs) (contains_text r p bs h) (part_yes p bs, part_no p bs)

@@ -24,6 +24,7 @@ pub trait Ascii {
 impl<T: AsStr> Ascii for T {
     ghost passes = { λ v. is_ascii_text (T.text v) };
 
+    #[tactic(auto, using(crate::proofs::TextLemmas::ascii_is))]
     fn validate_ascii(&self) -> bool {
         self.as_str().is_ascii()
     }

@@ -25,6 +25,7 @@ pub trait Contains {
 impl<T: AsStr> Contains for T {
     ghost passes = { λ pattern v. has_part pattern (T.text v) };
 
+    #[tactic(auto, using(crate::proofs::TextLemmas::part_is, std::proofs::lemmas::Str::Pattern::contains_text))]
     fn validate_contains(&self, pattern: &str) -> bool
         ensures value { result ≡ has_part pattern.now (T.text self.now) }
         ensures part { IsTrue result ↔ HasSubslice (T.text self.now) pattern.now }

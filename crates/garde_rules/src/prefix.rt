@@ -24,6 +24,7 @@ pub trait Prefix {
 impl<T: AsStr> Prefix for T {
     ghost passes = { λ pattern v. has_prefix pattern (T.text v) };
 
+    #[tactic(auto, using(std::proofs::lemmas::Str::Pattern::starts_text))]
     fn validate_prefix(&self, pattern: &str) -> bool {
         self.as_str().starts_with(pattern)
     }

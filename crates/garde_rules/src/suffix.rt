@@ -24,6 +24,7 @@ pub trait Suffix {
 impl<T: AsStr> Suffix for T {
     ghost passes = { λ pattern v. has_suffix pattern (T.text v) };
 
+    #[tactic(auto, using(std::proofs::lemmas::Str::Pattern::ends_text))]
     fn validate_suffix(&self, pattern: &str) -> bool {
         self.as_str().ends_with(pattern)
     }
