@@ -14,8 +14,8 @@ abbrev pub fault_text : (Datum → List ℕ) → Fault → List ℕ
 fault_text text (rule datum) = text datum
 fault_text text (own message) = message
 
--- What is answered where a rule found this: Ok only of nothing, a fault only with the text of what was found, and want
--- of memory only where something was found.
+-- What is answered where a rule found this: Ok only of nothing, a fault only with the text of what
+-- was found, and want of memory only where something was found.
 abbrev pub Applies : Option Fault → (Datum → List ℕ) → Result (Unit {0}) RuleError → Type 0
 Applies found text (Ok _) = found ≡ None
 Applies found text (Err (errors.Fault message)) = IsSomeAnd found (λ fault. message ≡ fault_text text fault)

@@ -1,13 +1,13 @@
--- When a length is out of its bounds, and which fault that is.
+-- When a number is out of its bounds, and which fault of a length that is.
 use Rattle.std.specs.Prelude.{ℕ, nat_lt, Result, Ok, Err, Option, Some, None, if◌then◌else◌}
 use Rattle.garde_i18n.specs.Datum.{length_lower, length_greater}
 use Rattle.garde_lengths.specs.Applies.{Fault, rule}
 use Rattle.garde_lengths.specs.declared.bounds.OutOfBounds.{OutOfBounds}
 use Rattle.garde_lengths.specs.declared.bounds.OutOfBounds.TheVariants.{Lower, Upper}
 
--- what holding a length against its bounds gives: the lower bound is asked first
+-- what holding a number against its bounds gives: the lower bound is asked first
 abbrev pub bounds_answer : ℕ → ℕ → ℕ → Result (Unit {0}) OutOfBounds
-bounds_answer min max len = if nat_lt len min then Err Lower else (if nat_lt max len then Err Upper else Ok tt)
+bounds_answer min max n = if nat_lt n min then Err Lower else (if nat_lt max n then Err Upper else Ok tt)
 
 -- the fault of a length, where holding it against these bounds gave this
 abbrev pub length_fault : ℕ → ℕ → Result (Unit {0}) OutOfBounds → Option Fault
@@ -16,6 +16,7 @@ length_fault min max (Err Lower) = Some (rule (length_lower min))
 length_fault min max (Err Upper) = Some (rule (length_greater max))
 
 -- what holding an option against bounds gives: an option without a value is within them
-abbrev pub option_answer : {T : Type 0} → (T → Result (Unit {0}) OutOfBounds) → Option T → Result (Unit {0}) OutOfBounds
+abbrev pub option_answer :
+    {T : Type 0} → (T → Result (Unit {0}) OutOfBounds) → Option T → Result (Unit {0}) OutOfBounds
 option_answer answer None = Ok tt
 option_answer answer (Some value) = answer value

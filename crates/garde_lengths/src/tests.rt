@@ -1,4 +1,5 @@
-//! Tests of the lengths: each holds the answers on a table of values against texts that are written out.
+//! Tests of the lengths: each holds the answers on a table of values against texts that are written
+//! out.
 mod collections;
 mod options;
 mod texts;

@@ -50,5 +50,7 @@ part_no p [] (x ∷ a, c, e) = cc
 part_no p (b ∷ bs) (x ∷ a, c, e) = or_right _ _ (part_no p bs (a, c, cc))
 
 -- std's search of a pattern says whether the text has it as a part
-pub part_is : (r : Bool) (p bs : List ℕ) → MatchBool r (HasMatch (FindsText p) bs) (FindsText p bs None) → r ≡ has_part p bs
-part_is r p bs h = same_from_decides r (has_part p bs) (contains_text r p bs h) (part_yes p bs, part_no p bs)
+pub part_is :
+    (r : Bool) (p bs : List ℕ) → MatchBool r (HasMatch (FindsText p) bs) (FindsText p bs None) → r ≡ has_part p bs
+part_is r p bs h =
+    same_from_decides r (has_part p bs) (contains_text r p bs h) (part_yes p bs, part_no p bs)

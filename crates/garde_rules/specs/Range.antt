@@ -9,7 +9,8 @@ use Rattle.garde_lengths.specs.declared.bounds.OutOfBounds.TheVariants.{Lower, U
 abbrev pub int_bounds_answer : ℤ → ℤ → ℤ → Result (Unit {0}) OutOfBounds
 int_bounds_answer min max n = if int_lt n min then Err Lower else (if int_lt max n then Err Upper else Ok tt)
 
--- the fault of a range whose bounds have these texts, where holding the value against them gave this
+-- the fault of a range whose bounds have these texts, where holding the value against them gave
+-- this
 abbrev pub range_fault : List ℕ → List ℕ → Result (Unit {0}) OutOfBounds → Option Fault
 range_fault min max (Ok _) = None
 range_fault min max (Err Lower) = Some (rule (range_lower min))

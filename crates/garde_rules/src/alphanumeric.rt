@@ -30,8 +30,8 @@ pub trait Alphanumeric {
     /// Whether the value passes.
     ghost passes: { Self → Bool };
 
-    /// Whether every character of the text has the property Alphabetic of Unicode, or one of the general categories Nd, Nl
-    /// and No. The empty text passes, and an option without a value.
+    /// Whether every character of the text has the property Alphabetic of Unicode, or one of the
+    /// general categories Nd, Nl and No. The empty text passes, and an option without a value.
     fn validate_alphanumeric(&self) -> bool
         ensures { result ≡ passes self.now };
 }
@@ -55,7 +55,8 @@ impl<T: Alphanumeric> Alphanumeric for Option<T> {
     }
 }
 
-/// Answers Ok where every character is a letter or a number, and else the fault with the handler's text.
+/// Answers Ok where every character is a letter or a number, and else the fault with the handler's
+/// text.
 ///
 /// `RuleError::Memory` is answered only where the rule does not hold.
 pub fn apply<T: Alphanumeric, H: I18n>(

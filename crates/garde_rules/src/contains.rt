@@ -17,7 +17,8 @@ pub trait Contains {
     /// Whether the value passes with this pattern.
     ghost passes: { List ℕ → Self → Bool };
 
-    /// Whether the text has the pattern as a part. The empty pattern is a part of every text. An option without a value passes.
+    /// Whether the text has the pattern as a part. The empty pattern is a part of every text. An
+    /// option without a value passes.
     fn validate_contains(&self, pattern: &str) -> bool
         ensures { result ≡ passes pattern.now self.now };
 }

@@ -1,4 +1,5 @@
-//! The rules of the validation library: what they ask of a value, and the fault where it does not hold.
+//! The rules of the validation library: what they ask of a value, and the fault where it does not
+//! hold.
 #![tactic(auto)]
 
 pub mod alphanumeric;

@@ -9,8 +9,8 @@ use garde_lengths::Rule;
 use garde_report::RuleError;
 use std::alloc::Global;
 
-/// A value that may match another. A value with an equality matches its equals, and so does an option: one without a value
-/// matches only another without one.
+/// A value that may match another. A value with an equality matches its equals, and so does an
+/// option: one without a value matches only another without one.
 pub trait Matches<O> {
     /// Whether the value matches the other.
     ghost passes: { Self → O → Bool };
@@ -28,8 +28,8 @@ impl<T: PartialEq> Matches<T> for T {
     }
 }
 
-/// Answers Ok where the value matches the second of `args`, and else the fault with the handler's text of the first, which
-/// is the name of the field that the other value comes from.
+/// Answers Ok where the value matches the second of `args`, and else the fault with the handler's
+/// text of the first, which is the name of the field that the other value comes from.
 ///
 /// `RuleError::Memory` is answered only where the rule does not hold.
 pub fn apply<T: Matches<O>, O, H: I18n>(

@@ -16,7 +16,8 @@ pub trait Prefix {
     /// Whether the value passes with this pattern.
     ghost passes: { List ℕ → Self → Bool };
 
-    /// Whether the text begins with the pattern. Every text begins with the empty pattern. An option without a value passes.
+    /// Whether the text begins with the pattern. Every text begins with the empty pattern. An
+    /// option without a value passes.
     fn validate_prefix(&self, pattern: &str) -> bool
         ensures { result ≡ passes pattern.now self.now };
 }

@@ -16,7 +16,8 @@ pub trait Suffix {
     /// Whether the value passes with this pattern.
     ghost passes: { List ℕ → Self → Bool };
 
-    /// Whether the text ends with the pattern. Every text ends with the empty pattern. An option without a value passes.
+    /// Whether the text ends with the pattern. Every text ends with the empty pattern. An option
+    /// without a value passes.
     fn validate_suffix(&self, pattern: &str) -> bool
         ensures { result ≡ passes pattern.now self.now };
 }

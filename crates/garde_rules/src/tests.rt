@@ -1,4 +1,5 @@
-//! Tests of the rules: each holds the answers on a table of values against texts that are written out.
+//! Tests of the rules: each holds the answers on a table of values against texts that are written
+//! out.
 mod options;
 mod ranges;
 mod texts;

@@ -115,14 +115,15 @@ impl<const N: usize> HasBytes for [u8; N] {
     }
 }
 
-/// A value whose number of bytes can be held against bounds: a value that has bytes, and an option of one.
+/// A value whose number of bytes can be held against bounds: a value that has bytes, and an option
+/// of one.
 pub trait Bytes {
     /// What holding the number of bytes against a lower and an upper bound gives.
     ghost answer: { ℕ → ℕ → Self → Result (Unit {0}) OutOfBounds };
 
-    /// Answers Ok where there are at least `min` and at most `max` bytes, and else which bound the number is beyond. A
-    /// number that is beyond both, since `min` is above `max`, is below the lower one. An option without a value is within
-    /// all bounds.
+    /// Answers Ok where there are at least `min` and at most `max` bytes, and else which bound the
+    /// number is beyond. A number that is beyond both, since `min` is above `max`, is below the
+    /// lower one. An option without a value is within all bounds.
     fn validate_num_bytes(&self, min: usize, max: usize) -> Result<(), OutOfBounds>
         ensures { result ≡ answer min max self.now };
 }
@@ -146,8 +147,8 @@ impl<T: Bytes> Bytes for Option<T> {
     }
 }
 
-/// Answers Ok where there are at least as many bytes as the first of `args` and at most as many as the second, and else
-/// the fault with the handler's text of the bound that the number is beyond.
+/// Answers Ok where there are at least as many bytes as the first of `args` and at most as many as
+/// the second, and else the fault with the handler's text of the bound that the number is beyond.
 ///
 /// `RuleError::Memory` is answered only where the rule does not hold.
 pub fn apply<T: Bytes, H: I18n>(
@@ -166,7 +167,8 @@ pub fn apply<T: Bytes, H: I18n>(
     }
 }
 
-/// The rule as a value: there are at least as many bytes as the first number and at most as many as the second.
+/// The rule as a value: there are at least as many bytes as the first number and at most as many as
+/// the second.
 #[derive(Clone, Copy, Debug, PartialEq, Eq)]
 pub struct BytesLength(pub usize, pub usize);
 

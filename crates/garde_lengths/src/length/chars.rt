@@ -18,7 +18,8 @@ use std::borrow::CowStr;
 use std::boxed::{BoxedSlice, BoxedStr};
 use std::rc::{RcSlice, RcStr};
 
-/// A value that has a number of characters: a text, or a list of characters. A character is a Unicode scalar value.
+/// A value that has a number of characters: a text, or a list of characters. A character is a
+/// Unicode scalar value.
 pub trait HasChars {
     /// How many characters the value has.
     ghost char_len: { Self → ℕ };
@@ -108,14 +109,15 @@ impl HasChars for Vec<char> {
     }
 }
 
-/// A value whose number of characters can be held against bounds: a value that has characters, and an option of one.
+/// A value whose number of characters can be held against bounds: a value that has characters, and
+/// an option of one.
 pub trait Chars {
     /// What holding the number of characters against a lower and an upper bound gives.
     ghost answer: { ℕ → ℕ → Self → Result (Unit {0}) OutOfBounds };
 
-    /// Answers Ok where there are at least `min` and at most `max` characters, and else which bound the number is beyond. A
-    /// number that is beyond both, since `min` is above `max`, is below the lower one. An option without a value is within
-    /// all bounds.
+    /// Answers Ok where there are at least `min` and at most `max` characters, and else which bound
+    /// the number is beyond. A number that is beyond both, since `min` is above `max`, is below the
+    /// lower one. An option without a value is within all bounds.
     fn validate_num_chars(&self, min: usize, max: usize) -> Result<(), OutOfBounds>
         ensures { result ≡ answer min max self.now };
 }
@@ -139,8 +141,9 @@ impl<T: Chars> Chars for Option<T> {
     }
 }
 
-/// Answers Ok where there are at least as many characters as the first of `args` and at most as many as the second, and else
-/// the fault with the handler's text of the bound that the number is beyond.
+/// Answers Ok where there are at least as many characters as the first of `args` and at most as
+/// many as the second, and else the fault with the handler's text of the bound that the number is
+/// beyond.
 ///
 /// `RuleError::Memory` is answered only where the rule does not hold.
 pub fn apply<T: Chars, H: I18n>(
@@ -159,7 +162,8 @@ pub fn apply<T: Chars, H: I18n>(
     }
 }
 
-/// The rule as a value: there are at least as many characters as the first number and at most as many as the second.
+/// The rule as a value: there are at least as many characters as the first number and at most as
+/// many as the second.
 #[derive(Clone, Copy, Debug, PartialEq, Eq)]
 pub struct CharsLength(pub usize, pub usize);
 

@@ -78,14 +78,15 @@ impl HasGraphemes for BoxedStr {
     }
 }
 
-/// A value whose number of grapheme clusters can be held against bounds: a value that has grapheme clusters, and an option of one.
+/// A value whose number of grapheme clusters can be held against bounds: a value that has grapheme
+/// clusters, and an option of one.
 pub trait Graphemes {
     /// What holding the number of grapheme clusters against a lower and an upper bound gives.
     ghost answer: { ℕ → ℕ → Self → Result (Unit {0}) OutOfBounds };
 
-    /// Answers Ok where there are at least `min` and at most `max` grapheme clusters, and else which bound the number is beyond. A
-    /// number that is beyond both, since `min` is above `max`, is below the lower one. An option without a value is within
-    /// all bounds.
+    /// Answers Ok where there are at least `min` and at most `max` grapheme clusters, and else
+    /// which bound the number is beyond. A number that is beyond both, since `min` is above `max`,
+    /// is below the lower one. An option without a value is within all bounds.
     fn validate_num_graphemes(&self, min: usize, max: usize) -> Result<(), OutOfBounds>
         ensures { result ≡ answer min max self.now };
 }
@@ -109,8 +110,9 @@ impl<T: Graphemes> Graphemes for Option<T> {
     }
 }
 
-/// Answers Ok where there are at least as many grapheme clusters as the first of `args` and at most as many as the second, and else
-/// the fault with the handler's text of the bound that the number is beyond.
+/// Answers Ok where there are at least as many grapheme clusters as the first of `args` and at most
+/// as many as the second, and else the fault with the handler's text of the bound that the number
+/// is beyond.
 ///
 /// `RuleError::Memory` is answered only where the rule does not hold.
 pub fn apply<T: Graphemes, H: I18n>(
@@ -129,7 +131,8 @@ pub fn apply<T: Graphemes, H: I18n>(
     }
 }
 
-/// The rule as a value: there are at least as many grapheme clusters as the first number and at most as many as the second.
+/// The rule as a value: there are at least as many grapheme clusters as the first number and at
+/// most as many as the second.
 #[derive(Clone, Copy, Debug, PartialEq, Eq)]
 pub struct GraphemesLength(pub usize, pub usize);
 

@@ -13,7 +13,8 @@ use garde_i18n::I18n;
 use garde_report::RuleError;
 use std::alloc::Global;
 
-/// A value that has a length: a text has its bytes in UTF-8, a collection its items, a map its pairs.
+/// A value that has a length: a text has its bytes in UTF-8, a collection its items, a map its
+/// pairs.
 pub trait HasSimpleLength {
     /// The length of the value.
     ghost simple_len: { Self → ℕ };
@@ -23,13 +24,15 @@ pub trait HasSimpleLength {
         ensures { result ≡ simple_len self.now };
 }
 
-/// A value whose length can be held against bounds: a value that has a length, an array, and an option of one.
+/// A value whose length can be held against bounds: a value that has a length, an array, and an
+/// option of one.
 pub trait Simple {
     /// What holding the length against a lower and an upper bound gives.
     ghost answer: { ℕ → ℕ → Self → Result (Unit {0}) OutOfBounds };
 
-    /// Answers Ok where the length is at least `min` and at most `max`, and else which bound it is beyond. A length that is
-    /// beyond both, since `min` is above `max`, is below the lower one. An option without a value is within all bounds.
+    /// Answers Ok where the length is at least `min` and at most `max`, and else which bound it is
+    /// beyond. A length that is beyond both, since `min` is above `max`, is below the lower one. An
+    /// option without a value is within all bounds.
     fn validate_length(&self, min: usize, max: usize) -> Result<(), OutOfBounds>
         ensures { result ≡ answer min max self.now };
 }
@@ -69,8 +72,8 @@ impl<T: Simple> Simple for Option<T> {
     }
 }
 
-/// Answers Ok where the length is at least the first of `args` and at most the second, and else the fault with the
-/// handler's text of the bound that it is beyond.
+/// Answers Ok where the length is at least the first of `args` and at most the second, and else the
+/// fault with the handler's text of the bound that it is beyond.
 ///
 /// `RuleError::Memory` is answered only where the rule does not hold.
 pub fn apply<T: Simple, H: I18n>(

@@ -21,7 +21,8 @@ const FACE: &str = "😂";
 
 const MARKED: &str = "e\u{301}";
 
-/// The five lengths, in the order of the modules' names: bytes, characters, clusters, simple, code units.
+/// The five lengths, in the order of the modules' names: bytes, characters, clusters, simple, code
+/// units.
 fn counts<T: HasBytes + HasChars + HasGraphemes + HasSimpleLength + HasUtf16CodeUnits>(
     text: &T,
 ) -> [usize; 5] {
