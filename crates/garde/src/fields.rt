@@ -4,8 +4,8 @@
 //!
 //! ```text
 //! (
-//!     Field("name", &self.name, (Is(AsciiOnly), Is(SimpleLength(3, 25)))),
-//!     Field("tags", &self.tags, Each(Is(AsciiOnly))),
+//!     Field("name", &self.name, (Is(Ascii), Is(Length { min: 3, max: 25 }))),
+//!     Field("tags", &self.tags, Each(Is(Ascii))),
 //!     Field("address", &self.address, Dive(ctx)),
 //! )
 //!     .visit(alloc, trail, report, h)
@@ -20,5 +20,7 @@ mod field;
 pub use check::{Check, Dive, Is, check_under};
 pub use each::Each;
 pub use field::{Field, Fields};
-pub use garde_rules::ascii::AsciiOnly;
-pub use garde_rules::length::simple::SimpleLength;
+pub use garde_rules::values::{
+    Alphanumeric, Ascii, ByteLength, CharLength, Contains, GraphemeLength, Length, Matches, Prefix,
+    Range, Required, Suffix, Utf16Length,
+};

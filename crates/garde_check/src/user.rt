@@ -1,7 +1,7 @@
 //! The users whose names are read.
 ghost use Rattle.garde_check.specs.User.{user_visits};
 
-use garde::fields::{AsciiOnly, Field, Fields, Is, SimpleLength};
+use garde::fields::{Ascii, Field, Fields, Is, Length};
 use garde::{I18n, Report, Trail, Validate};
 use std::alloc::{AllocError, Global};
 
@@ -25,7 +25,7 @@ impl Validate for User {
         report: &mut Report,
         h: &H,
     ) -> Result<(), AllocError> {
-        let rules = (Is(AsciiOnly), Is(SimpleLength(3, 25)));
+        let rules = (Is(Ascii), Is(Length { min: 3, max: 25 }));
         Field("username", &self.username, rules).visit(alloc, trail, report, h)
     }
 }

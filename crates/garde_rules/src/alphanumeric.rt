@@ -7,7 +7,6 @@ ghost use Rattle.garde_rules.specs.Text.{is_alphanumeric_char, is_alphanumeric_t
 
 use crate::as_str::AsStr;
 use garde_i18n::I18n;
-use garde_lengths::Rule;
 use garde_report::RuleError;
 use std::alloc::Global;
 use unicode::properties::{GeneralCategory, is_alphabetic};
@@ -71,17 +70,5 @@ pub fn apply<T: Alphanumeric, H: I18n>(
         Ok(())
     } else {
         Err(RuleError::of(alloc, h.alphanumeric_invalid(alloc)))
-    }
-}
-
-/// The rule as a value: every character is a letter or a number.
-#[derive(Clone, Copy, Debug, Default, PartialEq, Eq)]
-pub struct AlphanumericOnly;
-
-impl<T: Alphanumeric> Rule<T> for AlphanumericOnly {
-    ghost finds = { λ _ v. unless (T.passes v) datum.not_alphanumeric };
-
-    fn find<H: I18n>(&self, alloc: Global, value: &T, h: &H) -> Result<(), RuleError> {
-        apply(alloc, value, (), h)
     }
 }

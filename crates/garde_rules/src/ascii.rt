@@ -7,7 +7,6 @@ ghost use Rattle.garde_rules.specs.Text.{is_ascii_text};
 
 use crate::as_str::AsStr;
 use garde_i18n::I18n;
-use garde_lengths::Rule;
 use garde_report::RuleError;
 use std::alloc::Global;
 
@@ -51,17 +50,5 @@ pub fn apply<T: Ascii, H: I18n>(alloc: Global, v: &T, _args: (), h: &H) -> Resul
         Ok(())
     } else {
         Err(RuleError::of(alloc, h.ascii_invalid(alloc)))
-    }
-}
-
-/// The rule as a value: every byte is below 128.
-#[derive(Clone, Copy, Debug, Default, PartialEq, Eq)]
-pub struct AsciiOnly;
-
-impl<T: Ascii> Rule<T> for AsciiOnly {
-    ghost finds = { λ _ v. unless (T.passes v) not_ascii };
-
-    fn find<H: I18n>(&self, alloc: Global, value: &T, h: &H) -> Result<(), RuleError> {
-        apply(alloc, value, (), h)
     }
 }

@@ -8,7 +8,6 @@ ghost use Rattle.garde_rules.specs.Text.{has_part};
 
 use crate::as_str::AsStr;
 use garde_i18n::I18n;
-use garde_lengths::Rule;
 use garde_report::RuleError;
 use std::alloc::Global;
 
@@ -63,17 +62,5 @@ pub fn apply<T: Contains, H: I18n>(
         Ok(())
     } else {
         Err(RuleError::of(alloc, h.contains_missing(alloc, pattern)))
-    }
-}
-
-/// The rule as a value: the text has this pattern as a part.
-#[derive(Clone, Copy, Debug)]
-pub struct Containing<'a>(pub &'a str);
-
-impl<T: Contains> Rule<T> for Containing<'_> {
-    ghost finds = { λ rule v. unless (T.passes rule.0.now v) (datum.contains rule.0.now) };
-
-    fn find<H: I18n>(&self, alloc: Global, value: &T, h: &H) -> Result<(), RuleError> {
-        apply(alloc, value, (self.0,), h)
     }
 }

@@ -13,6 +13,7 @@ pub mod required;
 pub mod suffix;
 #[cfg(test)]
 mod tests;
+pub mod values;
 
 pub use as_str::AsStr;
 pub use garde_lengths::{Rule, length};

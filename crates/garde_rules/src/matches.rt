@@ -5,7 +5,6 @@ ghost use Rattle.garde_lengths.specs.Applies.{Applies};
 ghost use Rattle.garde_rules.specs.Holds.{unless};
 
 use garde_i18n::I18n;
-use garde_lengths::Rule;
 use garde_report::RuleError;
 use std::alloc::Global;
 
@@ -46,18 +45,5 @@ pub fn apply<T: Matches<O>, O, H: I18n>(
         Ok(())
     } else {
         Err(RuleError::of(alloc, h.matches_field_mismatch(alloc, field)))
-    }
-}
-
-/// The rule as a value: the value matches that of another field, which is named first.
-#[derive(Debug)]
-#[derive_where(Clone, Copy)]
-pub struct EqualTo<'a, O>(pub &'a str, pub &'a O);
-
-impl<T: Matches<O>, O> Rule<T> for EqualTo<'_, O> {
-    ghost finds = { λ rule v. unless (T.passes v rule.1.now) (datum.matches rule.0.now) };
-
-    fn find<H: I18n>(&self, alloc: Global, value: &T, h: &H) -> Result<(), RuleError> {
-        apply(alloc, value, (self.0, self.1), h)
     }
 }

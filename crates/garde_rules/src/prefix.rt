@@ -7,7 +7,6 @@ ghost use Rattle.garde_rules.specs.Text.{has_prefix};
 
 use crate::as_str::AsStr;
 use garde_i18n::I18n;
-use garde_lengths::Rule;
 use garde_report::RuleError;
 use std::alloc::Global;
 
@@ -59,17 +58,5 @@ pub fn apply<T: Prefix, H: I18n>(
         Ok(())
     } else {
         Err(RuleError::of(alloc, h.prefix_missing(alloc, pattern)))
-    }
-}
-
-/// The rule as a value: the text begins with this pattern.
-#[derive(Clone, Copy, Debug)]
-pub struct StartingWith<'a>(pub &'a str);
-
-impl<T: Prefix> Rule<T> for StartingWith<'_> {
-    ghost finds = { λ rule v. unless (T.passes rule.0.now v) (datum.prefix rule.0.now) };
-
-    fn find<H: I18n>(&self, alloc: Global, value: &T, h: &H) -> Result<(), RuleError> {
-        apply(alloc, value, (self.0,), h)
     }
 }

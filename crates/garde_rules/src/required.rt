@@ -5,7 +5,6 @@ ghost use Rattle.garde_lengths.specs.Applies.{Applies};
 ghost use Rattle.garde_rules.specs.Holds.{unless};
 
 use garde_i18n::I18n;
-use garde_lengths::Rule;
 use garde_report::RuleError;
 use std::alloc::Global;
 
@@ -37,17 +36,5 @@ pub fn apply<T: Required, H: I18n>(alloc: Global, v: &T, _args: (), h: &H) -> Re
         Ok(())
     } else {
         Err(RuleError::of(alloc, h.required_not_set(alloc)))
-    }
-}
-
-/// The rule as a value: the value is there.
-#[derive(Clone, Copy, Debug, Default, PartialEq, Eq)]
-pub struct Present;
-
-impl<T: Required> Rule<T> for Present {
-    ghost finds = { λ _ v. unless (T.set v) datum.not_set };
-
-    fn find<H: I18n>(&self, alloc: Global, value: &T, h: &H) -> Result<(), RuleError> {
-        apply(alloc, value, (), h)
     }
 }

@@ -2,7 +2,7 @@
 ghost use Rattle.garde.specs.Author.{Visits, codes, string_bytes, none, field, ascii};
 ghost use Rattle.garde.specs.declared.tests.contact.Contact.TheVariants.{Mail, Silent};
 
-use crate::fields::{AsciiOnly, Field, Fields, Is};
+use crate::fields::{Ascii, Field, Fields, Is};
 use crate::{I18n, Report, Trail, Validate};
 use std::alloc::{AllocError, Global};
 
@@ -30,9 +30,7 @@ impl Validate for Contact {
         h: &H,
     ) -> Result<(), AllocError> {
         match self {
-            Contact::Mail(text) => {
-                Field("mail", text, Is(AsciiOnly)).visit(alloc, trail, report, h)
-            }
+            Contact::Mail(text) => { Field("mail", text, Is(Ascii)).visit(alloc, trail, report, h) }
             Contact::Silent => ().visit(alloc, trail, report, h),
         }
     }

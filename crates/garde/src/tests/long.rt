@@ -2,7 +2,7 @@
 ghost use Rattle.std.specs.Prelude.{◌-◌, ◌^◌};
 ghost use Rattle.garde.specs.Author.{codes, length, string_bytes, field, simple};
 
-use crate::fields::{Field, Fields, Is, SimpleLength};
+use crate::fields::{Field, Fields, Is, Length};
 use crate::{I18n, Report, Trail, Validate};
 use std::alloc::{AllocError, Global};
 
@@ -25,6 +25,14 @@ impl Validate for Long {
         report: &mut Report,
         h: &H,
     ) -> Result<(), AllocError> {
-        Field("s", &self.s, Is(SimpleLength(5, usize::MAX))).visit(alloc, trail, report, h)
+        Field(
+            "s",
+            &self.s,
+            Is(Length {
+                min: 5,
+                max: usize::MAX,
+            }),
+        )
+        .visit(alloc, trail, report, h)
     }
 }

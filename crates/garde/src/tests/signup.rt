@@ -2,7 +2,7 @@
 ghost use Rattle.std.specs.Prelude.{◌≡◌, None, Some, if◌then◌else◌, nat_lt};
 ghost use Rattle.garde.specs.Author.{codes, length, string_bytes, ◌and◌, items, found, own, field, ascii, simple};
 
-use crate::fields::{AsciiOnly, Dive, Each, Field, Fields, Is, SimpleLength};
+use crate::fields::{Ascii, Dive, Each, Field, Fields, Is, Length};
 use crate::rules::Rule;
 use crate::{I18n, Report, RuleError, Trail, Validate};
 use std::alloc::{AllocError, Global};
@@ -63,9 +63,16 @@ impl Validate for Address {
         h: &H,
     ) -> Result<(), AllocError> {
         (
-            Field("street", &self.street, Is(AsciiOnly)),
-            Field("city", &self.city, Is(SimpleLength(1, ctx.most))),
-            Field("code", &self.code, Is(SimpleLength(5, 5))),
+            Field("street", &self.street, Is(Ascii)),
+            Field(
+                "city",
+                &self.city,
+                Is(Length {
+                    min: 1,
+                    max: ctx.most,
+                }),
+            ),
+            Field("code", &self.code, Is(Length { min: 5, max: 5 })),
         )
             .visit(alloc, trail, report, h)
     }
@@ -98,12 +105,22 @@ impl Validate for Signup {
         h: &H,
     ) -> Result<(), AllocError> {
         (
-            Field("name", &self.name, (Is(AsciiOnly), Is(SimpleLength(3, 25)))),
+            Field(
+                "name",
+                &self.name,
+                (Is(Ascii), Is(Length { min: 3, max: 25 })),
+            ),
             Field("password", &self.password, Is(Strong)),
             Field(
                 "tags",
                 &self.tags,
-                (Is(SimpleLength(0, ctx.most)), Each(Is(AsciiOnly))),
+                (
+                    Is(Length {
+                        min: 0,
+                        max: ctx.most,
+                    }),
+                    Each(Is(Ascii)),
+                ),
             ),
             Field("address", &self.address, Dive(ctx)),
         )

@@ -167,15 +167,19 @@ pub fn apply<T: Bytes, H: I18n>(
     }
 }
 
-/// The rule as a value: there are at least as many bytes as the first number and at most as many as
-/// the second.
+/// The rule as a value: there are at least `min` bytes and at most `max`.
 #[derive(Clone, Copy, Debug, PartialEq, Eq)]
-pub struct BytesLength(pub usize, pub usize);
+pub struct ByteLength {
+    /// The least number of bytes.
+    pub min: usize,
+    /// The greatest number of bytes.
+    pub max: usize,
+}
 
-impl<T: Bytes> Rule<T> for BytesLength {
-    ghost finds = { λ rule v. length_fault rule.0 rule.1 (T.answer rule.0 rule.1 v) };
+impl<T: Bytes> Rule<T> for ByteLength {
+    ghost finds = { λ rule v. length_fault rule.min rule.max (T.answer rule.min rule.max v) };
 
     fn find<H: I18n>(&self, alloc: Global, value: &T, h: &H) -> Result<(), RuleError> {
-        apply(alloc, value, (self.0, self.1), h)
+        apply(alloc, value, (self.min, self.max), h)
     }
 }

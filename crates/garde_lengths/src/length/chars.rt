@@ -162,15 +162,19 @@ pub fn apply<T: Chars, H: I18n>(
     }
 }
 
-/// The rule as a value: there are at least as many characters as the first number and at most as
-/// many as the second.
+/// The rule as a value: there are at least `min` characters and at most `max`.
 #[derive(Clone, Copy, Debug, PartialEq, Eq)]
-pub struct CharsLength(pub usize, pub usize);
+pub struct CharLength {
+    /// The least number of characters.
+    pub min: usize,
+    /// The greatest number of characters.
+    pub max: usize,
+}
 
-impl<T: Chars> Rule<T> for CharsLength {
-    ghost finds = { λ rule v. length_fault rule.0 rule.1 (T.answer rule.0 rule.1 v) };
+impl<T: Chars> Rule<T> for CharLength {
+    ghost finds = { λ rule v. length_fault rule.min rule.max (T.answer rule.min rule.max v) };
 
     fn find<H: I18n>(&self, alloc: Global, value: &T, h: &H) -> Result<(), RuleError> {
-        apply(alloc, value, (self.0, self.1), h)
+        apply(alloc, value, (self.min, self.max), h)
     }
 }

@@ -131,15 +131,19 @@ pub fn apply<T: Graphemes, H: I18n>(
     }
 }
 
-/// The rule as a value: there are at least as many grapheme clusters as the first number and at
-/// most as many as the second.
+/// The rule as a value: there are at least `min` grapheme clusters and at most `max`.
 #[derive(Clone, Copy, Debug, PartialEq, Eq)]
-pub struct GraphemesLength(pub usize, pub usize);
+pub struct GraphemeLength {
+    /// The least number of clusters.
+    pub min: usize,
+    /// The greatest number of clusters.
+    pub max: usize,
+}
 
-impl<T: Graphemes> Rule<T> for GraphemesLength {
-    ghost finds = { λ rule v. length_fault rule.0 rule.1 (T.answer rule.0 rule.1 v) };
+impl<T: Graphemes> Rule<T> for GraphemeLength {
+    ghost finds = { λ rule v. length_fault rule.min rule.max (T.answer rule.min rule.max v) };
 
     fn find<H: I18n>(&self, alloc: Global, value: &T, h: &H) -> Result<(), RuleError> {
-        apply(alloc, value, (self.0, self.1), h)
+        apply(alloc, value, (self.min, self.max), h)
     }
 }

@@ -92,14 +92,19 @@ pub fn apply<T: Simple, H: I18n>(
     }
 }
 
-/// The rule as a value: the length is at least the first number and at most the second.
+/// The rule as a value: the length is at least `min` and at most `max`.
 #[derive(Clone, Copy, Debug, PartialEq, Eq)]
-pub struct SimpleLength(pub usize, pub usize);
+pub struct Length {
+    /// The least length.
+    pub min: usize,
+    /// The greatest length.
+    pub max: usize,
+}
 
-impl<T: Simple> Rule<T> for SimpleLength {
-    ghost finds = { λ rule v. length_fault rule.0 rule.1 (T.answer rule.0 rule.1 v) };
+impl<T: Simple> Rule<T> for Length {
+    ghost finds = { λ rule v. length_fault rule.min rule.max (T.answer rule.min rule.max v) };
 
     fn find<H: I18n>(&self, alloc: Global, value: &T, h: &H) -> Result<(), RuleError> {
-        apply(alloc, value, (self.0, self.1), h)
+        apply(alloc, value, (self.min, self.max), h)
     }
 }

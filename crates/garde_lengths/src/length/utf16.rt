@@ -131,15 +131,19 @@ pub fn apply<T: Utf16CodeUnits, H: I18n>(
     }
 }
 
-/// The rule as a value: there are at least as many code units as the first number and at most as
-/// many as the second.
+/// The rule as a value: there are at least `min` code units and at most `max`.
 #[derive(Clone, Copy, Debug, PartialEq, Eq)]
-pub struct Utf16Length(pub usize, pub usize);
+pub struct Utf16Length {
+    /// The least number of code units.
+    pub min: usize,
+    /// The greatest number of code units.
+    pub max: usize,
+}
 
 impl<T: Utf16CodeUnits> Rule<T> for Utf16Length {
-    ghost finds = { λ rule v. length_fault rule.0 rule.1 (T.answer rule.0 rule.1 v) };
+    ghost finds = { λ rule v. length_fault rule.min rule.max (T.answer rule.min rule.max v) };
 
     fn find<H: I18n>(&self, alloc: Global, value: &T, h: &H) -> Result<(), RuleError> {
-        apply(alloc, value, (self.0, self.1), h)
+        apply(alloc, value, (self.min, self.max), h)
     }
 }

@@ -2,10 +2,10 @@
 use super::assert_answer;
 use crate::Rule;
 use crate::laws::units;
-use crate::length::bytes::{self, BytesLength};
-use crate::length::chars::{self, CharsLength};
-use crate::length::graphemes::{self, GraphemesLength};
-use crate::length::simple::SimpleLength;
+use crate::length::bytes::{self, ByteLength};
+use crate::length::chars::{self, CharLength};
+use crate::length::graphemes::{self, GraphemeLength};
+use crate::length::simple::Length;
 use crate::length::utf16::{self, Utf16Length};
 use crate::length::{HasBytes, HasChars, HasGraphemes, HasSimpleLength, HasUtf16CodeUnits};
 use garde_i18n::DefaultI18n;
@@ -89,21 +89,21 @@ fn finds_the_same_by_rules_as_values(rt: HostRuntime) {
     assert_finds(
         &rt,
         alloc,
-        SimpleLength(0, 3),
+        Length { min: 0, max: 3 },
         Some("length is greater than 3"),
     );
-    assert_finds(&rt, alloc, BytesLength(4, 4), None);
+    assert_finds(&rt, alloc, ByteLength { min: 4, max: 4 }, None);
     assert_finds(
         &rt,
         alloc,
-        CharsLength(2, 4),
+        CharLength { min: 2, max: 4 },
         Some("length is lower than 2"),
     );
-    assert_finds(&rt, alloc, GraphemesLength(1, 1), None);
+    assert_finds(&rt, alloc, GraphemeLength { min: 1, max: 1 }, None);
     assert_finds(
         &rt,
         alloc,
-        Utf16Length(0, 1),
+        Utf16Length { min: 0, max: 1 },
         Some("length is greater than 1"),
     );
 }

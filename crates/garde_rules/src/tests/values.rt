@@ -1,14 +1,7 @@
 //! Tests of the rules as values.
 use super::assert_answer;
 use crate::Rule;
-use crate::alphanumeric::AlphanumericOnly;
-use crate::ascii::AsciiOnly;
-use crate::contains::Containing;
-use crate::matches::EqualTo;
-use crate::prefix::StartingWith;
-use crate::range::InRange;
-use crate::required::Present;
-use crate::suffix::EndingWith;
+use crate::values::{Alphanumeric, Ascii, Contains, Matches, Prefix, Range, Required, Suffix};
 use garde_i18n::DefaultI18n;
 use std::alloc::Global;
 use std::process::Abort;
@@ -29,26 +22,20 @@ fn assert_finds<T, R: Rule<T> + Drop>(
 fn finds_the_same_in_texts(rt: HostRuntime) {
     let alloc = rt.alloc();
     let text = "a_é";
-    assert_finds(&rt, alloc, AsciiOnly, &text, Some("not ascii"));
+    assert_finds(&rt, alloc, Ascii, &text, Some("not ascii"));
+    assert_finds(&rt, alloc, Alphanumeric, &text, Some("not alphanumeric"));
     assert_finds(
         &rt,
         alloc,
-        AlphanumericOnly,
-        &text,
-        Some("not alphanumeric"),
-    );
-    assert_finds(
-        &rt,
-        alloc,
-        Containing("b"),
+        Contains("b"),
         &text,
         Some("does not contain \"b\""),
     );
-    assert_finds(&rt, alloc, StartingWith("a"), &text, None);
+    assert_finds(&rt, alloc, Prefix("a"), &text, None);
     assert_finds(
         &rt,
         alloc,
-        EndingWith("_"),
+        Suffix("_"),
         &text,
         Some("does not end with \"_\""),
     );
@@ -59,22 +46,46 @@ fn finds_the_same_in_other_values(rt: HostRuntime) -> Result<(), Fail> {
     let alloc = rt.alloc();
     let owned = String::from_str(alloc, "b")?;
     let different = Some("does not match password field");
-    assert_finds(&rt, alloc, EqualTo("password", &owned), &owned, None);
-    assert_finds(&rt, alloc, EqualTo("password", &"a"), &"b", different);
     assert_finds(
         &rt,
         alloc,
-        InRange(Some(18), None),
+        Matches {
+            field: "password",
+            other: &owned,
+        },
+        &owned,
+        None,
+    );
+    assert_finds(
+        &rt,
+        alloc,
+        Matches {
+            field: "password",
+            other: &"a",
+        },
+        &"b",
+        different,
+    );
+    assert_finds(
+        &rt,
+        alloc,
+        Range {
+            min: Some(18),
+            max: None,
+        },
         &17u8,
         Some("lower than 18"),
     );
     assert_finds(
         &rt,
         alloc,
-        InRange(None, Some(10)),
+        Range {
+            min: None,
+            max: Some(10),
+        },
         &100i32,
         Some("greater than 10"),
     );
-    assert_finds(&rt, alloc, Present, &Some(1u8), None);
+    assert_finds(&rt, alloc, Required, &Some(1u8), None);
     Ok(())
 }
