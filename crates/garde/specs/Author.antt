@@ -4,13 +4,14 @@ pub use Rattle.garde.specs.Visits.{Visits}
 unfoldable pub use Rattle.garde.specs.Visits.{none, only, found, ◌and◌, below, items, optional}
 pub use Rattle.garde_report.specs.Part.{key_part, index_part}
 pub use Rattle.garde_rules.specs.{Fault, rule, own}
-use Rattle.std.specs.Prelude.{ℕ, List}
-use Rattle.garde_i18n.specs.Datum.{not_ascii}
+use Rattle.std.specs.Prelude.{ℕ, ℤ, List, Bool, Option, is_some}
+use Rattle.std.specs.Fmt.{decimal, signed_decimal}
+use Rattle.garde_i18n.specs.Datum as datum
 use Rattle.garde_report.specs.Part.{key_part}
-use Rattle.garde_rules.specs.{bounds_answer}
+use Rattle.garde_rules.specs.{bounds_answer, length_fault}
 use Rattle.garde_rules.specs.Holds.{unless}
-use Rattle.garde_rules.specs.Text.{is_ascii_text}
-use Rattle.garde_rules.specs.{length_fault}
+use Rattle.garde_rules.specs.Range.{range_fault, int_bounds_answer}
+use Rattle.garde_rules.specs.Text.{is_ascii_text, is_alphanumeric_text, has_part, has_prefix, has_suffix}
 use Rattle.garde.specs.Visits.{Visits, below, found}
 
 -- a field, by its name
@@ -19,8 +20,37 @@ field name visits = below (key_part name) visits
 
 -- the rule that every byte of a text is below 128
 abbrev pub ascii : List ℕ → Visits
-ascii text = found (unless (is_ascii_text text) not_ascii)
+ascii text = found (unless (is_ascii_text text) datum.not_ascii)
 
--- the rule that a length is at least the first number and at most the second
-abbrev pub simple : ℕ → ℕ → ℕ → Visits
-simple min max len = found (length_fault min max (bounds_answer min max len))
+-- the rule that every character of a text is a letter or a number
+abbrev pub alphanumeric : List ℕ → Visits
+alphanumeric text = found (unless (is_alphanumeric_text text) datum.not_alphanumeric)
+
+-- the rules that a text has a pattern as a part, begins with it, or ends with it
+abbrev pub contains : List ℕ → List ℕ → Visits
+contains pattern text = found (unless (has_part pattern text) (datum.contains pattern))
+
+abbrev pub prefix : List ℕ → List ℕ → Visits
+prefix pattern text = found (unless (has_prefix pattern text) (datum.prefix pattern))
+
+abbrev pub suffix : List ℕ → List ℕ → Visits
+suffix pattern text = found (unless (has_suffix pattern text) (datum.suffix pattern))
+
+-- the rule that a value equals that of the field of this name, where this says whether it does
+abbrev pub matches : List ℕ → Bool → Visits
+matches name equal = found (unless equal (datum.matches name))
+
+-- the rule that an option has a value
+abbrev pub required : {A : Type 0} → Option A → Visits
+required v = found (unless (is_some v) datum.not_set)
+
+-- the rule that a number without a sign, or with one, is at least the first and at most the second number
+abbrev pub unsigned_in : ℕ → ℕ → ℕ → Visits
+unsigned_in min max n = found (range_fault (decimal min) (decimal max) (bounds_answer min max n))
+
+abbrev pub signed_in : ℤ → ℤ → ℤ → Visits
+signed_in min max n = found (range_fault (signed_decimal min) (signed_decimal max) (int_bounds_answer min max n))
+
+-- the rule that a length, in whatever unit, is at least the first and at most the second number
+abbrev pub length_in : ℕ → ℕ → ℕ → Visits
+length_in min max len = found (length_fault min max (bounds_answer min max len))

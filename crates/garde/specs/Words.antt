@@ -4,7 +4,7 @@ pub use Rattle.garde_i18n.specs.DefaultText.{default_text}
 pub use Rattle.garde_report.specs.Part.{index_part, key_part}
 pub use Rattle.garde_report.specs.Report.{Entry, report_text}
 pub use Rattle.garde_report.specs.Trace.{Trace, new_trace}
-pub use Rattle.garde_rules.specs.{bounds_answer}
+pub use Rattle.garde_rules.specs.{bounds_answer, byte_count, char_count, unit_count, grapheme_count}
 pub use Rattle.garde_rules.specs.Holds.{unless}
 pub use Rattle.garde_rules.specs.Text.{is_ascii_text}
 pub use Rattle.garde_rules.specs.{length_fault}

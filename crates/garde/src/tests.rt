@@ -2,17 +2,22 @@
 mod contact;
 mod couple;
 mod handlers;
+mod item;
 mod long;
+mod profile;
 mod signup;
 
 use crate::tests::contact::Contact;
 use crate::tests::couple::Couple;
 use crate::tests::handlers::{Labelled, Silent};
+use crate::tests::item::{Identifier, Item};
 use crate::tests::long::Long;
+use crate::tests::profile::Profile;
 use crate::tests::signup::{Address, Limits, Signup};
-use crate::{DefaultI18n, I18n, Trail, Validate, ValidateError, with_i18n};
+use crate::{DefaultI18n, I18n, Report, Trail, Validate, ValidateError, select, with_i18n};
 use garde_report::Component;
 use std::alloc::{AllocError, Global};
+use std::process::Abort;
 use std::test::Fail;
 
 fn address(alloc: Global, city: &str) -> Result<Address, AllocError> {
@@ -139,6 +144,52 @@ fn own_messages_stay(rt: HostRuntime) -> Result<(), Fail> {
     let answer = signup.validate_with_i18n(alloc, &Limits { most: 9 }, &Silent);
     let text = told(alloc, answer)?;
     assert_eq!(rt; text.as_str(), "name: \nname: \npassword: weak\n");
+    Ok(())
+}
+
+/// Asserts that these are the messages at and beneath a way.
+fn assert_selects(rt: &impl Abort, report: &Report, way: &[&str], messages: &[&str]) {
+    let mut wanted = messages.iter();
+    for error in select(report, way) {
+        assert_eq!(rt; Some(&error.message()), wanted.next());
+    }
+    assert!(rt; wanted.next().is_none());
+}
+
+#[test]
+fn selects_the_faults_of_a_part(rt: HostRuntime) -> Result<(), Fail> {
+    let alloc = rt.alloc();
+    let item = Item {
+        name: String::from_str(alloc, "😂")?,
+        identifiers: vec![in alloc; Identifier { id: 10 }, Identifier { id: 20 }]?,
+    };
+    let Err(ValidateError::Report(report)) = item.validate(alloc) else {
+        return Err("no report".into());
+    };
+    assert_selects(
+        &rt,
+        &report,
+        &["name"],
+        &["not ascii", "length is lower than 10"],
+    );
+    assert_selects(&rt, &report, &["identifiers", "0"], &["greater than 4"]);
+    Ok(())
+}
+
+#[test]
+fn each_rule_has_its_text(rt: HostRuntime) -> Result<(), Fail> {
+    let alloc = rt.alloc();
+    let profile = Profile {
+        tag: String::from_str(alloc, "a b")?,
+        address: String::from_str(alloc, "localhost")?,
+        phone: None,
+        degrees: 100,
+    };
+    let text = told(alloc, profile.validate(alloc))?;
+    assert_eq!(rt;
+        text.as_str(),
+        "tag: not alphanumeric\naddress: value does not begin with \"https://\"\naddress: does not contain \".\"\naddress: does not end with \"/\"\nphone: not set\ndegrees: greater than 10\n"
+    );
     Ok(())
 }
 

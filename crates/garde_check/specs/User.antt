@@ -1,6 +1,6 @@
 -- What a visit of a user comes by, and the one tree that it has.
 use Rattle.std.specs.Prelude.{ℕ, List}
-use Rattle.garde.specs.Author.{Visits, codes, length, string_bytes, ◌and◌, field, ascii, simple}
+use Rattle.garde.specs.Author.{Visits, codes, length, string_bytes, ◌and◌, field, ascii, length_in}
 use Rattle.garde.specs.Words.{not_ascii, bounds_answer, key_part, unless, is_ascii_text, length_fault}
 use Rattle.garde.specs.Tree.{Tree, nothing, under, ◌then◌, found_tree}
 use Rattle.garde_check.specs.declared.user.User.{User}
@@ -10,7 +10,7 @@ use Rattle.garde_check.specs.declared.user.User.{User}
 abbrev pub user_visits : User → Visits
 user_visits user =
     let name = string_bytes user.username in
-    field (codes "username") (ascii name and simple 3 25 (length name))
+    field (codes "username") (ascii name and length_in 3 25 (length name))
 
 -- The fault `not ascii` where some byte of the name is above 127, and then the fault of a length below
 -- 3 or above 25 where the name has such a length.

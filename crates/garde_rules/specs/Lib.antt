@@ -3,3 +3,4 @@ pub mod Range
 pub mod Text
 pub use Rattle.garde_lengths.specs.Applies.{Fault, rule, own, fault_text, Applies}
 pub use Rattle.garde_lengths.specs.Bounds.{bounds_answer, length_fault, option_answer}
+pub use Rattle.garde_lengths.specs.Counts.{byte_count, char_count, unit_count, grapheme_count}

@@ -1,6 +1,6 @@
 //! One text under one rule.
 ghost use Rattle.std.specs.Prelude.{◌-◌, ◌^◌};
-ghost use Rattle.garde.specs.Author.{codes, length, string_bytes, field, simple};
+ghost use Rattle.garde.specs.Author.{codes, length, string_bytes, field, length_in};
 
 use crate::fields::{Field, Fields, Is, Length};
 use crate::{I18n, Report, Trail, Validate};
@@ -15,7 +15,7 @@ pub struct Long {
 impl Validate for Long {
     type Context = ();
 
-    ghost visits = { λ v _. field (codes "s") (simple 5 (2 ^ 64 - 1) (length (string_bytes v.s))) };
+    ghost visits = { λ v _. field (codes "s") (length_in 5 (2 ^ 64 - 1) (length (string_bytes v.s))) };
 
     fn validate_into<'a, H: I18n>(
         &'a self,

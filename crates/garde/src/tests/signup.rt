@@ -1,6 +1,6 @@
 //! A form with a context, a rule of its own, and a part that validates itself.
 ghost use Rattle.std.specs.Prelude.{◌≡◌, None, Some, if◌then◌else◌, nat_lt};
-ghost use Rattle.garde.specs.Author.{codes, length, string_bytes, ◌and◌, items, found, own, field, ascii, simple};
+ghost use Rattle.garde.specs.Author.{codes, length, string_bytes, ◌and◌, items, found, own, field, ascii, length_in};
 
 use crate::fields::{Ascii, Dive, Each, Field, Fields, Is, Length};
 use crate::rules::Rule;
@@ -51,8 +51,8 @@ impl Validate for Address {
 
     ghost visits = { λ v c.
         field (codes "street") (ascii (string_bytes v.street))
-        and field (codes "city") (simple 1 c.most (length (string_bytes v.city)))
-        and field (codes "code") (simple 5 5 (length (string_bytes v.code))) };
+        and field (codes "city") (length_in 1 c.most (length (string_bytes v.city)))
+        and field (codes "code") (length_in 5 5 (length (string_bytes v.code))) };
 
     fn validate_into<'a, H: I18n>(
         &'a self,
@@ -91,9 +91,9 @@ impl Validate for Signup {
     type Context = Limits;
 
     ghost visits = { λ v c.
-        field (codes "name") (ascii (string_bytes v.name) and simple 3 25 (length (string_bytes v.name)))
+        field (codes "name") (ascii (string_bytes v.name) and length_in 3 25 (length (string_bytes v.name)))
         and field (codes "password") (found (if nat_lt (length (string_bytes v.password)) 12 then Some (own (codes "weak")) else None))
-        and field (codes "tags") (simple 0 c.most (length v.tags.items) and items (λ tag. ascii (string_bytes tag)) v.tags.items)
+        and field (codes "tags") (length_in 0 c.most (length v.tags.items) and items (λ tag. ascii (string_bytes tag)) v.tags.items)
         and field (codes "address") (⟦<Address as Validate>⟧.visits v.address c) };
 
     fn validate_into<'a, H: I18n>(
