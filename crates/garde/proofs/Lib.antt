@@ -4,4 +4,5 @@ mod Walks
 mod Refusals
 mod Selected
 pub mod Visiting
+mod Rest
 mod Answering

@@ -1,14 +1,14 @@
 -- Lemmas on why a walk may be refused memory.
 use Rattle.std.proofs.Common.{◌≡◌, ℕ, ◌+◌, ◌<◌, ◌≤◌, max, false, List, [], ◌∷◌, ◌++◌, length, refl, ap, sym, subst, ◌∙◌, ◌⊎◌, inl, inr, IsTrue, arith}
-use Rattle.std.specs.List.{Any, enumerate_from}
+use Rattle.std.specs.List.{Any}
 use Rattle.garde_report.specs.Part.{Part}
 use Rattle.garde_report.specs.Report.{Entry}
 use Rattle.garde_report.specs.Trace.{Trace}
 use Rattle.garde_i18n.specs.Datum.{Datum}
 use Rattle.garde.specs.Tree.{Tree, nothing, fault, under, ◌then◌, bears, height}
-use Rattle.garde.specs.Trees.{HasTree, TreesUnder, TreesBoth, TreesEach, TreesItems}
+use Rattle.garde.specs.Trees.{HasTree, TreesUnder, TreesBoth, TreesEach}
 use Rattle.garde.specs.Walk.{Walked, MayRefuse}
-use Rattle.garde.specs.Laws.{bears-then, or_parts, Any-cons, Any-numbered, under_has_tree, each_has_tree}
+use Rattle.garde.specs.Laws.{bears-then, or_parts, Any-cons, under_has_tree, each_has_tree}
 use Rattle.garde.proofs.Counts.{trace_after-components}
 use Rattle.garde.proofs.Walks.{WalkedUpTo}
 
@@ -63,10 +63,6 @@ pub refuses_next : {K A : Type 0} {part : K → Part} {trees : A → Tree → Ty
 refuses_next {part = part} {trees} {left = left} {e} takes depth has so_far step wants =
     subst (λ es. MayRefuse (TreesEach part trees es) (Any (λ d. takes d.1) es) depth) (sym (so_far.split ∙ ap (λ es. so_far.done ++ es) step)) (refuses_entry part trees takes has depth so_far.done left e wants)
 
--- the same of items by their numbers
-pub refuses_item : {A : Type 0} (trees : A → Tree → Type 0) (takes : A → Type 0) (depth : ℕ) (xs : List A) → MayRefuse (TreesItems trees xs) (Any (λ e. takes e.1) (enumerate_from 0 xs)) depth → MayRefuse (TreesItems trees xs) (Any takes xs) depth
-refuses_item trees takes depth xs = refuses_as depth (λ t v. v) (Any-numbered takes 0 xs).0
-
--- and of walks that have come down to what was there before
+-- a walk comes down to the components that were there before
 pub depth_kept : {trees : Tree → Type 0} {text : Datum → List ℕ} {before after : Trace} {old new : List Entry} → Walked trees text before after old new → length after.components ≡ length before.components
 depth_kept {before = before} told = ap (λ w. length w.components) told.trail ∙ ap length (trace_after-components before told.tree)

@@ -1,6 +1,7 @@
 -- Lemmas on what a visit leaves and answers.
 use Rattle.std.proofs.Common.{◌≡◌, ℕ, ◌≤◌, List, [], ◌∷◌, length, Option, Result, Ok, Err, OnOk, OnErr, refl, ap, ◌∙◌, inl, inr, length-append}
 use Rattle.std.specs.List.{enumerate_from}
+use Rattle.std.proofs.lemmas.List.Sorted.{IsPermutation-refl}
 use Rattle.std.specs.Result.{IsErr, IsOk}
 use Rattle.std.proofs.lemmas.Bool.{false≢true}
 use Rattle.garde_i18n.specs.Datum.{Datum}
@@ -9,12 +10,12 @@ use Rattle.garde_report.specs.Report.{Entry}
 use Rattle.garde_report.specs.Trace.{Trace, IsTrace, pushed, popped, IsPut, IsNotPut}
 use Rattle.garde_report.specs.declared.error.fault.RuleError.{RuleError}
 use Rattle.garde_rules.specs.{Fault, Applies}
-use Rattle.garde.specs.Laws.{under_has_tree}
-use Rattle.garde.specs.Tree.{found_tree}
+use Rattle.garde.specs.Laws.{Any-numbered, under_has_tree}
+use Rattle.garde.specs.Tree.{Tree, found_tree}
 use Rattle.garde.specs.Walk.{Walked}
-use Rattle.garde.specs.Visits.{Visits, Visited, ◌and◌, below, found, only, none, items}
-use Rattle.garde.proofs.Walks.{silent_partly, nothing_walked, under_walked, under_partly, rule_walked, rule_partly, rule_bears, both_walked, first_partly, second_partly, WalkedUpTo, up_to_partly, up_to_all}
-use Rattle.garde.proofs.Refusals.{refuses_under, refuses_under_full, refuses_first, refuses_second, depth_kept, refuses_item, refuses_next}
+use Rattle.garde.specs.Visits.{Visits, Visited, ◌and◌, below, found, only, none, items, entries, items_in_any_order, entries_in_any_order}
+use Rattle.garde.proofs.Walks.{silent_partly, nothing_walked, under_walked, under_partly, rule_walked, rule_partly, rule_bears, both_walked, first_partly, second_partly, walked_as, partly_as, WalkedUpTo, up_to_partly, up_to_all}
+use Rattle.garde.proofs.Refusals.{refuses_under, refuses_under_full, refuses_first, refuses_second, refuses_as, depth_kept, refuses_next}
 
 module _ {text : Datum → List ℕ} {E : Type 0} where
   -- the first is done, and this is what the second does
@@ -66,20 +67,40 @@ module _ {text : Datum → List ℕ} {E : Type 0} where
   is_walked {result = Ok x} told is = told.ok
   is_walked {result = Err e} told is = absurd (false≢true is)
 
-  pub visited_item : {A : Type 0} (each : A → Visits) (xs : List A) {rest left : List (ℕ × A)} {e : ℕ × A} {before mid after : Trace} {old between new : List Entry} {first result : Result Unit E} → WalkedUpTo index_part (λ x. (each x).trees) text (enumerate_from 0 xs) rest before mid old between → rest ≡ e ∷ left → Visited (below (index_part e.0) (each e.1)) text mid after between new first → IsErr first → IsErr result → Visited (items each xs) text before after old new result
-  unfolding items below
-  visited_item each xs {first = Ok x} so_far step one was is = absurd (false≢true was)
-  visited_item each xs {first = Err e} {result = Ok x} so_far step one was is = absurd (false≢true is)
-  visited_item each xs {before = before} {first = Err e} {result = Err f} so_far step one was is = record {
+  -- what a visit comes by may be said in another way
+  pub visited_as : {a b : Visits} {before after : Trace} {old new : List Entry} {result : Result Unit E} → ((t : Tree) → a.trees t → b.trees t) → (a.takes → b.takes) → Visited a text before after old new result → Visited b text before after old new result
+  visited_as {result = Ok x} same more told = record { ok = walked_as same told.ok; err = tt; why = tt }
+  visited_as {before = before} {result = Err e} same more told = record { ok = tt; err = partly_as same told.err; why = refuses_as (length before.components) same more told.why }
+
+  -- the next of the entries is refused
+  pub visited_entry : {K A : Type 0} (part : K → Part) (each : A → Visits) {all rest left : List (K × A)} {e : K × A} {before mid after : Trace} {old between new : List Entry} {first result : Result Unit E} → WalkedUpTo part (λ x. (each x).trees) text all rest before mid old between → rest ≡ e ∷ left → Visited (below (part e.0) (each e.1)) text mid after between new first → IsErr first → IsErr result → Visited (entries part each all) text before after old new result
+  unfolding entries below
+  visited_entry part each {first = Ok x} so_far step one was is = absurd (false≢true was)
+  visited_entry part each {first = Err e} {result = Ok x} so_far step one was is = absurd (false≢true is)
+  visited_entry part each {before = before} {first = Err e} {result = Err f} so_far step one was is = record {
     ok = tt;
     err = up_to_partly (λ x. (each x).has_tree) so_far step one.err;
-    why = refuses_item (λ x. (each x).trees) (λ x. (each x).takes) (length before.components) xs
-        (refuses_next (λ x. (each x).takes) (length before.components) (λ x. (each x).has_tree) so_far step (rw (depth_kept so_far.told) at one.why));
+    why = refuses_next (λ x. (each x).takes) (length before.components) (λ x. (each x).has_tree) so_far step (rw (depth_kept so_far.told) at one.why);
   }
 
-  pub visited_items : {A : Type 0} (each : A → Visits) (xs : List A) {rest : List (ℕ × A)} {before after : Trace} {old new : List Entry} → WalkedUpTo index_part (λ x. (each x).trees) text (enumerate_from 0 xs) rest before after old new → rest ≡ [] → Visited {E = E} (items each xs) text before after old new (Ok tt)
-  unfolding items
-  visited_items each xs so_far none = record { ok = up_to_all so_far none; err = tt; why = tt }
+  -- all of the entries are done
+  pub visited_entries : {K A : Type 0} (part : K → Part) (each : A → Visits) {all rest : List (K × A)} {before after : Trace} {old new : List Entry} → WalkedUpTo part (λ x. (each x).trees) text all rest before after old new → rest ≡ [] → Visited {E = E} (entries part each all) text before after old new (Ok tt)
+  unfolding entries
+  visited_entries part each so_far none = record { ok = up_to_all so_far none; err = tt; why = tt }
+
+  -- items are entries under their numbers
+  pub visited_numbered : {A : Type 0} (each : A → Visits) (xs : List A) {before after : Trace} {old new : List Entry} {result : Result Unit E} → Visited (entries index_part each (enumerate_from 0 xs)) text before after old new result → Visited (items each xs) text before after old new result
+  unfolding entries items
+  visited_numbered each xs told = visited_as (λ t v. v) (Any-numbered (λ x. (each x).takes) 0 xs).0 told
+
+  -- the order in which they come is some order
+  pub visited_some_items : {A : Type 0} (each : A → Visits) (xs : List A) {before after : Trace} {old new : List Entry} {result : Result Unit E} → Visited (items each xs) text before after old new result → Visited (items_in_any_order each xs) text before after old new result
+  unfolding items items_in_any_order
+  visited_some_items each xs told = visited_as (λ t v. (xs, IsPermutation-refl xs, v)) (λ h. h) told
+
+  pub visited_some_entries : {K A : Type 0} (part : K → Part) (each : A → Visits) (es : List (K × A)) {before after : Trace} {old new : List Entry} {result : Result Unit E} → Visited (entries part each es) text before after old new result → Visited (entries_in_any_order part each es) text before after old new result
+  unfolding entries entries_in_any_order
+  visited_some_entries part each es told = visited_as (λ t v. (es, IsPermutation-refl es, v)) (λ h. h) told
 
   pub visited_none : {walk : Trace} {old : List Entry} → Visited {E = E} none text walk walk old old (Ok tt)
   unfolding none only

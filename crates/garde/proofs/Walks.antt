@@ -1,7 +1,6 @@
 -- Lemmas on what a visit leaves.
-use Rattle.std.proofs.Common.{◌≡◌, ℕ, ◌+◌, ◌<◌, ◌≤◌, List, [], ◌∷◌, ◌++◌, length, get_or, drop, add-one, drop-cons, Option, Some, None, IsSome, Result, Ok, Err, refl, ap, sym, subst, ◌∙◌, append_assoc, append-nil, IsTrue, arith, length-append}
+use Rattle.std.proofs.Common.{◌≡◌, ℕ, ◌≤◌, List, [], ◌∷◌, ◌++◌, length, Option, Some, None, IsSome, Result, Ok, Err, refl, ap, sym, subst, ◌∙◌, append_assoc, append-nil, IsTrue, arith, length-append}
 use Rattle.std.proofs.lemmas.Bool.{true≢false}
-use Rattle.std.specs.List.{enumerate_from}
 use Rattle.std.specs.Prelude.{IsSomeAnd}
 use Rattle.garde_i18n.specs.Datum.{Datum}
 use Rattle.garde_report.specs.Part.{Part}
@@ -238,7 +237,3 @@ module _ {K A : Type 0} {part : K → Part} {trees : A → Tree → Type 0} {tex
   up_to_partly {left = left} {e} has so_far step more =
       partly_as (λ t v. subst (λ es. TreesEach part trees es t) (sym (so_far.split ∙ ap (λ es. so_far.done ++ es) step)) (each_append part trees so_far.done (e ∷ left) t v))
       (second_partly so_far.told (first_partly more (each_has_tree part has left)))
-
--- the items from the i-th on, numbered
-pub numbered_step : {A : Type 0} (xs : List A) (i : ℕ) (x : A) → i < length xs → x ≡ get_or xs i x → enumerate_from i (drop i xs) ≡ (i, x) ∷ enumerate_from (i + 1) (drop (i + 1) xs)
-numbered_step xs i x lt is = ap (enumerate_from i) (drop-cons xs i x lt) ∙ cc (add-one i, sym is)

@@ -4,9 +4,11 @@ use Rattle.std.specs.Prelude.{◌≡◌, ℕ, zero, suc, ◌+◌, Bool, true, fa
 use Rattle.std.specs.List.{Any, enumerate_from}
 use Rattle.std.proofs.Common.{ap, sym, subst, ◌∙◌, inl, inr, arith}
 use Rattle.std.proofs.lemmas.Bool.{true≢false}
+use Rattle.std.proofs.lemmas.List.Sorted.{IsPermutation-refl, IsPermutation-sym, Contains-permutation}
+use Rattle.std.specs.List.Sorted.{IsPermutation}
 use Rattle.garde_report.specs.Part.{Part, index_part}
 use Rattle.garde.specs.Tree.{Tree, nothing, fault, under, ◌then◌, bears}
-use Rattle.garde.specs.Trees.{HasTree, Alike, TreesNothing, TreesUnder, TreesBoth, TreesEach, TreesItems, TreesOption, FaultyOption}
+use Rattle.garde.specs.Trees.{HasTree, Alike, TreesNothing, TreesUnder, TreesBoth, TreesEach, TreesItems, TreesOption, TreesInAnyOrder, FaultyOption}
 
 pub or_parts : (x y : Bool) → IsTrue (x || y) ↔ (IsTrue x ⊎ IsTrue y)
 or_parts true y = (λ e. inl refl, λ h. refl)
@@ -99,3 +101,18 @@ items_alike {faulty = faulty} alike xs t v =
     let each = each_alike index_part alike (enumerate_from 0 xs) t v in
     let same = Any-numbered faulty 0 xs in
     (λ e. same.0 (each.0 e), λ h. each.1 (same.1 h))
+
+-- ---- any order
+
+Any-permutation : {A : Type 0} (P : A → Type 0) (xs ys : List A) → IsPermutation xs ys → Any P xs → Any P ys
+Any-permutation P xs ys moved (k, x, lt, is, h) =
+    let found = Contains-permutation xs ys x moved (k, lt, is) in
+    (found.0, x, found.1, found.2, h)
+
+pub any_order_has_tree : {A : Type 0} {trees : List A → Tree → Type 0} → ((xs : List A) → HasTree (trees xs)) → (xs : List A) → HasTree (TreesInAnyOrder trees xs)
+any_order_has_tree has xs = ((has xs).0, (xs, IsPermutation-refl xs, (has xs).1))
+
+pub any_order_alike : {A : Type 0} {trees : List A → Tree → Type 0} {faulty : A → Type 0} → ((xs : List A) → Alike (trees xs) (Any faulty xs)) → (xs : List A) → Alike (TreesInAnyOrder trees xs) (Any faulty xs)
+any_order_alike {faulty = faulty} alike xs t (ys, moved, v) =
+    let same = alike ys t v in
+    (λ e. Any-permutation faulty ys xs (IsPermutation-sym xs ys moved) (same.0 e), λ h. same.1 (Any-permutation faulty xs ys moved h))

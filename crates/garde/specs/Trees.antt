@@ -1,6 +1,7 @@
 -- Which trees a value may have, as a relation, since a hashed collection has several.
 use Rattle.std.specs.Prelude.{◌≡◌, false, List, [], ◌∷◌, Option, Some, None, ◌↔◌, IsTrue}
 use Rattle.std.specs.List.{enumerate_from}
+use Rattle.std.specs.List.Sorted.{IsPermutation}
 use Rattle.garde_report.specs.Part.{Part, index_part}
 use Rattle.garde.specs.Tree.{Tree, nothing, under, ◌then◌, bears}
 
@@ -46,3 +47,7 @@ TreesOption trees (Some x) = trees x
 abbrev pub FaultyOption : {A : Type 0} → (A → Type 0) → Option A → Type 0
 FaultyOption faulty None = ⊥
 FaultyOption faulty (Some x) = faulty x
+
+-- the trees of the items in some order
+abbrev pub TreesInAnyOrder : {A : Type 0} → (List A → Tree → Type 0) → List A → Tree → Type 0
+TreesInAnyOrder trees xs t = (ys : List _) × IsPermutation xs ys × trees ys t

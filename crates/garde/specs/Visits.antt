@@ -2,13 +2,13 @@
 use Rattle.std.specs.Prelude.{◌≡◌, ℕ, List, length, Option, ◌⊎◌, IsTrue, Result, OnOk, OnErr, refl}
 use Rattle.std.specs.List.{Any}
 use Rattle.garde_i18n.specs.Datum.{Datum}
-use Rattle.garde_report.specs.Part.{Part}
+use Rattle.garde_report.specs.Part.{Part, index_part}
 use Rattle.garde_report.specs.Report.{Entry}
 use Rattle.garde_report.specs.Trace.{Trace}
 use Rattle.garde_rules.specs.{Fault}
 use Rattle.garde.specs.Tree.{Tree, nothing, bears, found_tree}
-use Rattle.garde.specs.Trees.{HasTree, Alike, TreesUnder, TreesBoth, TreesItems, TreesOption, FaultyOption}
-use Rattle.garde.specs.Laws.{one_alike, both_have_tree, both_alike, under_has_tree, under_alike, items_have_tree, items_alike, option_has_tree, option_alike}
+use Rattle.garde.specs.Trees.{HasTree, Alike, TreesUnder, TreesBoth, TreesEach, TreesItems, TreesOption, TreesInAnyOrder, FaultyOption}
+use Rattle.garde.specs.Laws.{one_alike, both_have_tree, both_alike, under_has_tree, under_alike, each_has_tree, each_alike, items_have_tree, items_alike, any_order_has_tree, any_order_alike, option_has_tree, option_alike}
 use Rattle.garde.specs.Walk.{Walked, WalkedPartly, MayRefuse}
 
 -- The trees that the value may have, whether they bear a fault, and whether a walk may take memory though they bear none;
@@ -53,6 +53,10 @@ below k a = record {
   alike = under_alike k a.alike;
 }
 
+-- an item, beneath its index
+abbrev pub item : ℕ → Visits → Visits
+item index a = below (index_part index) a
+
 -- each item in turn, beneath its index
 unfoldable pub items : {A : Type 0} → (A → Visits) → List A → Visits
 items each xs = record {
@@ -61,6 +65,36 @@ items each xs = record {
   takes = Any (λ x. (each x).takes) xs;
   has_tree = items_have_tree (λ x. (each x).has_tree) xs;
   alike = items_alike (λ x. (each x).alike) xs;
+}
+
+-- each value in turn, beneath the component of its key
+unfoldable pub entries : {K A : Type 0} → (K → Part) → (A → Visits) → List (K × A) → Visits
+entries part each es = record {
+  trees = TreesEach part (λ x. (each x).trees) es;
+  faulty = Any (λ e. (each e.1).faulty) es;
+  takes = Any (λ e. (each e.1).takes) es;
+  has_tree = each_has_tree part (λ x. (each x).has_tree) es;
+  alike = each_alike part (λ x. (each x).alike) es;
+}
+
+-- each item once in some order, beneath its index in that order
+unfoldable pub items_in_any_order : {A : Type 0} → (A → Visits) → List A → Visits
+items_in_any_order each xs = record {
+  trees = TreesInAnyOrder (TreesItems (λ x. (each x).trees)) xs;
+  faulty = Any (λ x. (each x).faulty) xs;
+  takes = Any (λ x. (each x).takes) xs;
+  has_tree = any_order_has_tree (items_have_tree (λ x. (each x).has_tree)) xs;
+  alike = any_order_alike (items_alike (λ x. (each x).alike)) xs;
+}
+
+-- each value once in some order, beneath the component of its key
+unfoldable pub entries_in_any_order : {K A : Type 0} → (K → Part) → (A → Visits) → List (K × A) → Visits
+entries_in_any_order part each es = record {
+  trees = TreesInAnyOrder (TreesEach part (λ x. (each x).trees)) es;
+  faulty = Any (λ e. (each e.1).faulty) es;
+  takes = Any (λ e. (each e.1).takes) es;
+  has_tree = any_order_has_tree (each_has_tree part (λ x. (each x).has_tree)) es;
+  alike = any_order_alike (each_alike part (λ x. (each x).alike)) es;
 }
 
 -- what an option holds, with no component of its own

@@ -16,6 +16,7 @@
 mod check;
 mod each;
 mod field;
+mod source;
 
 pub use check::{Check, Dive, Is, check_under};
 pub use each::Each;
@@ -24,3 +25,4 @@ pub use garde_rules::values::{
     Alphanumeric, Ascii, ByteLength, CharLength, Contains, GraphemeLength, Length, Matches, Prefix,
     Range, Required, Suffix, Utf16Length,
 };
+pub(crate) use source::{check_entries, check_items};

@@ -1,9 +1,10 @@
 //! A check of each item.
 ghost use Rattle.garde.specs.Visits.{items};
 
-use super::check::{Check, check_under};
+use super::check::Check;
+use super::source::check_items;
 use garde_i18n::I18n;
-use garde_report::{Component, Report, Trail};
+use garde_report::{Report, Trail};
 use std::alloc::{AllocError, Global};
 
 /// The check of each item in turn, under its index.
@@ -21,17 +22,6 @@ impl<'a, T, C: Check<'a, T>> Check<'a, Vec<T>> for Each<C> {
         report: &mut Report,
         h: &H,
     ) -> Result<(), AllocError> {
-        for (index, item) in value.iter().enumerate() {
-            check_under(
-                alloc,
-                Component::index(index),
-                &self.0,
-                item,
-                trail,
-                report,
-                h,
-            )?;
-        }
-        Ok(())
+        check_items(alloc, value.iter(), &self.0, trail, report, h)
     }
 }

@@ -1,0 +1,102 @@
+//! Sequences, each item under its index.
+ghost use Rattle.garde.specs.Visits.{items};
+
+use crate::fields::{Check, Dive, Each, check_items};
+use crate::validate::Validate;
+use garde_i18n::I18n;
+use garde_report::{Report, Trail};
+use std::alloc::{AllocError, Global};
+use std::collections::{LinkedList, VecDeque};
+
+/// Each item in order, under its index.
+impl<T: Validate> Validate for Vec<T> {
+    type Context = T::Context;
+
+    ghost visits = { λ v c. items (λ x. T.visits x c) v.items };
+
+    fn validate_into<'a, H: I18n>(
+        &'a self,
+        alloc: Global,
+        ctx: &T::Context,
+        trail: &mut Trail<'a>,
+        report: &mut Report,
+        h: &H,
+    ) -> Result<(), AllocError> {
+        Each(Dive(ctx)).check(alloc, self, trail, report, h)
+    }
+}
+
+/// Each item in order, under its index.
+impl<T: Validate> Validate for &[T] {
+    type Context = T::Context;
+
+    ghost visits = { λ v c. items (λ x. T.visits x c) v.now };
+
+    fn validate_into<'a, H: I18n>(
+        &'a self,
+        alloc: Global,
+        ctx: &T::Context,
+        trail: &mut Trail<'a>,
+        report: &mut Report,
+        h: &H,
+    ) -> Result<(), AllocError> {
+        check_items(alloc, self.iter(), &Dive(ctx), trail, report, h)
+    }
+}
+
+/// Each item in order, under its index.
+impl<T: Validate, const N: usize> Validate for [T; N] {
+    type Context = T::Context;
+
+    ghost visits = { λ v c. items (λ x. T.visits x c) v };
+
+    fn validate_into<'a, H: I18n>(
+        &'a self,
+        alloc: Global,
+        ctx: &T::Context,
+        trail: &mut Trail<'a>,
+        report: &mut Report,
+        h: &H,
+    ) -> Result<(), AllocError> {
+        let items = self.iter();
+        check_items(alloc, items, &Dive(ctx), trail, report, h)
+    }
+}
+
+/// Each item in order, under its index.
+impl<T: Validate> Validate for VecDeque<T> {
+    type Context = T::Context;
+
+    ghost visits = { λ v c. items (λ x. T.visits x c) v.items };
+
+    fn validate_into<'a, H: I18n>(
+        &'a self,
+        alloc: Global,
+        ctx: &T::Context,
+        trail: &mut Trail<'a>,
+        report: &mut Report,
+        h: &H,
+    ) -> Result<(), AllocError> {
+        let front_to_back = self.iter();
+        check_items(alloc, front_to_back, &Dive(ctx), trail, report, h)
+    }
+}
+
+/// Each item in order, under its index.
+impl<T: Validate> Validate for LinkedList<T> {
+    type Context = T::Context;
+
+    ghost visits = { λ v c. items (λ x. T.visits x c) v };
+
+    fn validate_into<'a, H: I18n>(
+        &'a self,
+        alloc: Global,
+        ctx: &T::Context,
+        trail: &mut Trail<'a>,
+        report: &mut Report,
+        h: &H,
+    ) -> Result<(), AllocError> {
+        let head_to_tail = self.iter();
+        check_items(alloc, head_to_tail, &Dive(ctx), trail, report, h)
+    }
+}

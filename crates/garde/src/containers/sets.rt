@@ -1,0 +1,68 @@
+//! Sets and heaps, each item under the index at which it comes.
+ghost use Rattle.std.specs.BinaryHeap.{heap_items};
+ghost use Rattle.garde.specs.Visits.{items, items_in_any_order};
+
+use crate::fields::{Dive, check_items};
+use crate::validate::Validate;
+use garde_i18n::I18n;
+use garde_report::{Report, Trail};
+use std::alloc::{AllocError, Global};
+use std::collections::{BTreeSet, BinaryHeap, HashSet};
+use std::hash::{BuildHasher, Hash};
+
+/// Each item in the order of the set, under its index.
+impl<T: Validate + Ord> Validate for BTreeSet<T> {
+    type Context = T::Context;
+
+    ghost visits = { λ v c. items (λ x. T.visits x c) v.keys };
+
+    fn validate_into<'a, H: I18n>(
+        &'a self,
+        alloc: Global,
+        ctx: &T::Context,
+        trail: &mut Trail<'a>,
+        report: &mut Report,
+        h: &H,
+    ) -> Result<(), AllocError> {
+        let ascending = self.iter();
+        check_items(alloc, ascending, &Dive(ctx), trail, report, h)
+    }
+}
+
+/// Each item once in some order, under its index in that order.
+impl<T: Validate + Eq + Hash, S: BuildHasher> Validate for HashSet<T, S> {
+    type Context = T::Context;
+
+    ghost visits = { λ v c. items_in_any_order (λ x. T.visits x c) v.keys };
+
+    fn validate_into<'a, H: I18n>(
+        &'a self,
+        alloc: Global,
+        ctx: &T::Context,
+        trail: &mut Trail<'a>,
+        report: &mut Report,
+        h: &H,
+    ) -> Result<(), AllocError> {
+        let some_order = self.iter();
+        check_items(alloc, some_order, &Dive(ctx), trail, report, h)
+    }
+}
+
+/// Each item once in some order, under its index in that order.
+impl<T: Validate + Ord> Validate for BinaryHeap<T> {
+    type Context = T::Context;
+
+    ghost visits = { λ v c. items_in_any_order (λ x. T.visits x c) (heap_items v) };
+
+    fn validate_into<'a, H: I18n>(
+        &'a self,
+        alloc: Global,
+        ctx: &T::Context,
+        trail: &mut Trail<'a>,
+        report: &mut Report,
+        h: &H,
+    ) -> Result<(), AllocError> {
+        let heap_order = self.iter();
+        check_items(alloc, heap_order, &Dive(ctx), trail, report, h)
+    }
+}

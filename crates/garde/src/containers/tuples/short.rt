@@ -1,0 +1,142 @@
+//! Tuples of one to six items.
+ghost use Rattle.garde.specs.Visits.{item, ◌and◌};
+
+use super::{Item, Items};
+use crate::validate::Validate;
+use garde_i18n::I18n;
+use garde_report::{Report, Trail};
+use std::alloc::{AllocError, Global};
+
+/// Each item in order, under its index.
+impl<A: Validate> Validate for (A,) {
+    type Context = A::Context;
+
+    ghost visits = { λ v c. item 0 (A.visits v.0 c) };
+
+    fn validate_into<'a, H: I18n>(
+        &'a self,
+        alloc: Global,
+        ctx: &A::Context,
+        trail: &mut Trail<'a>,
+        report: &mut Report,
+        h: &H,
+    ) -> Result<(), AllocError> {
+        items!(self; 0).visit(alloc, ctx, self, trail, report, h)
+    }
+}
+
+/// Each item in order, under its index.
+impl<A: Validate, B: Validate<Context = A::Context>> Validate for (A, B) {
+    type Context = A::Context;
+
+    ghost visits = { λ v c. item 0 (A.visits v.0 c) and item 1 (B.visits v.1 c) };
+
+    fn validate_into<'a, H: I18n>(
+        &'a self,
+        alloc: Global,
+        ctx: &A::Context,
+        trail: &mut Trail<'a>,
+        report: &mut Report,
+        h: &H,
+    ) -> Result<(), AllocError> {
+        items!(self; 0 1).visit(alloc, ctx, self, trail, report, h)
+    }
+}
+
+/// Each item in order, under its index.
+impl<A: Validate, B: Validate<Context = A::Context>, C: Validate<Context = A::Context>> Validate
+    for (A, B, C) {
+    type Context = A::Context;
+
+    ghost visits = { λ v c.
+        item 0 (A.visits v.0 c) and item 1 (B.visits v.1 c) and item 2 (C.visits v.2 c) };
+
+    fn validate_into<'a, H: I18n>(
+        &'a self,
+        alloc: Global,
+        ctx: &A::Context,
+        trail: &mut Trail<'a>,
+        report: &mut Report,
+        h: &H,
+    ) -> Result<(), AllocError> {
+        items!(self; 0 1 2).visit(alloc, ctx, self, trail, report, h)
+    }
+}
+
+/// Each item in order, under its index.
+impl<
+    A: Validate,
+    B: Validate<Context = A::Context>,
+    C: Validate<Context = A::Context>,
+    D: Validate<Context = A::Context>,
+> Validate for (A, B, C, D) {
+    type Context = A::Context;
+
+    ghost visits = { λ v c.
+        item 0 (A.visits v.0 c) and item 1 (B.visits v.1 c) and item 2 (C.visits v.2 c)
+        and item 3 (D.visits v.3 c) };
+
+    fn validate_into<'a, H: I18n>(
+        &'a self,
+        alloc: Global,
+        ctx: &A::Context,
+        trail: &mut Trail<'a>,
+        report: &mut Report,
+        h: &H,
+    ) -> Result<(), AllocError> {
+        items!(self; 0 1 2 3).visit(alloc, ctx, self, trail, report, h)
+    }
+}
+
+/// Each item in order, under its index.
+impl<
+    A: Validate,
+    B: Validate<Context = A::Context>,
+    C: Validate<Context = A::Context>,
+    D: Validate<Context = A::Context>,
+    E: Validate<Context = A::Context>,
+> Validate for (A, B, C, D, E) {
+    type Context = A::Context;
+
+    ghost visits = { λ v c.
+        item 0 (A.visits v.0 c) and item 1 (B.visits v.1 c) and item 2 (C.visits v.2 c)
+        and item 3 (D.visits v.3 c) and item 4 (E.visits v.4 c) };
+
+    fn validate_into<'a, H: I18n>(
+        &'a self,
+        alloc: Global,
+        ctx: &A::Context,
+        trail: &mut Trail<'a>,
+        report: &mut Report,
+        h: &H,
+    ) -> Result<(), AllocError> {
+        items!(self; 0 1 2 3 4).visit(alloc, ctx, self, trail, report, h)
+    }
+}
+
+/// Each item in order, under its index.
+impl<
+    A: Validate,
+    B: Validate<Context = A::Context>,
+    C: Validate<Context = A::Context>,
+    D: Validate<Context = A::Context>,
+    E: Validate<Context = A::Context>,
+    F: Validate<Context = A::Context>,
+> Validate for (A, B, C, D, E, F) {
+    type Context = A::Context;
+
+    ghost visits = { λ v c.
+        item 0 (A.visits v.0 c) and item 1 (B.visits v.1 c) and item 2 (C.visits v.2 c)
+        and item 3 (D.visits v.3 c) and item 4 (E.visits v.4 c) and item 5 (F.visits v.5 c) };
+
+    fn validate_into<'a, H: I18n>(
+        &'a self,
+        alloc: Global,
+        ctx: &A::Context,
+        trail: &mut Trail<'a>,
+        report: &mut Report,
+        h: &H,
+    ) -> Result<(), AllocError> {
+        items!(self; 0 1 2 3 4 5).visit(alloc, ctx, self, trail, report, h)
+    }
+}

@@ -1,0 +1,144 @@
+//! Values that hold one other value, or none.
+ghost use Rattle.std.specs.Cow.{cow_value};
+ghost use Rattle.garde.specs.Visits.{none, optional};
+
+use crate::fields::Fields;
+use crate::validate::Validate;
+use garde_i18n::I18n;
+use garde_report::{Report, Trail};
+use std::alloc::{AllocError, Global};
+use std::borrow::Cow;
+use std::rc::Rc;
+
+/// The value that is referred to, with no component of its own.
+impl<T: Validate> Validate for &T {
+    type Context = T::Context;
+
+    ghost visits = { λ v. T.visits v.now };
+
+    fn validate_into<'a, H: I18n>(
+        &'a self,
+        alloc: Global,
+        ctx: &T::Context,
+        trail: &mut Trail<'a>,
+        report: &mut Report,
+        h: &H,
+    ) -> Result<(), AllocError> {
+        (*self).validate_into(alloc, ctx, trail, report, h)
+    }
+}
+
+/// The value that is referred to, with no component of its own.
+impl<T: Validate> Validate for &mut T {
+    type Context = T::Context;
+
+    ghost visits = { λ v. T.visits v.now };
+
+    fn validate_into<'a, H: I18n>(
+        &'a self,
+        alloc: Global,
+        ctx: &T::Context,
+        trail: &mut Trail<'a>,
+        report: &mut Report,
+        h: &H,
+    ) -> Result<(), AllocError> {
+        (**self).validate_into(alloc, ctx, trail, report, h)
+    }
+}
+
+/// The value in the box, with no component of its own.
+impl<T: Validate> Validate for Box<T> {
+    type Context = T::Context;
+
+    ghost visits = { λ v. T.visits v.value };
+
+    fn validate_into<'a, H: I18n>(
+        &'a self,
+        alloc: Global,
+        ctx: &T::Context,
+        trail: &mut Trail<'a>,
+        report: &mut Report,
+        h: &H,
+    ) -> Result<(), AllocError> {
+        self.as_ref().validate_into(alloc, ctx, trail, report, h)
+    }
+}
+
+/// The shared value, with no component of its own.
+impl<T: Validate> Validate for Rc<T> {
+    type Context = T::Context;
+
+    ghost visits = { λ v. T.visits v.value };
+
+    fn validate_into<'a, H: I18n>(
+        &'a self,
+        alloc: Global,
+        ctx: &T::Context,
+        trail: &mut Trail<'a>,
+        report: &mut Report,
+        h: &H,
+    ) -> Result<(), AllocError> {
+        Rc::as_ref(self).validate_into(alloc, ctx, trail, report, h)
+    }
+}
+
+/// The value that is borrowed or owned, with no component of its own.
+impl<T: Validate + Clone> Validate for Cow<'_, T> {
+    type Context = T::Context;
+
+    ghost visits = { λ v. T.visits (cow_value v) };
+
+    fn validate_into<'a, H: I18n>(
+        &'a self,
+        alloc: Global,
+        ctx: &T::Context,
+        trail: &mut Trail<'a>,
+        report: &mut Report,
+        h: &H,
+    ) -> Result<(), AllocError> {
+        match self {
+            Cow::Borrowed(value) => value.validate_into(alloc, ctx, trail, report, h),
+            Cow::Owned(value) => value.validate_into(alloc, ctx, trail, report, h),
+        }
+    }
+}
+
+/// The value that there is, with no component of its own. No value has no fault.
+#[tactic(auto, unfolding(crate::specs::Visits::optional))]
+impl<T: Validate> Validate for Option<T> {
+    type Context = T::Context;
+
+    ghost visits = { λ v c. optional (λ x. T.visits x c) v };
+
+    fn validate_into<'a, H: I18n>(
+        &'a self,
+        alloc: Global,
+        ctx: &T::Context,
+        trail: &mut Trail<'a>,
+        report: &mut Report,
+        h: &H,
+    ) -> Result<(), AllocError> {
+        match self {
+            Some(value) => value.validate_into(alloc, ctx, trail, report, h),
+            None => Ok(()),
+        }
+    }
+}
+
+/// Nothing is visited, and there is no fault.
+impl Validate for () {
+    type Context = ();
+
+    ghost visits = { λ _ _. none };
+
+    fn validate_into<'a, H: I18n>(
+        &'a self,
+        alloc: Global,
+        _ctx: &(),
+        trail: &mut Trail<'a>,
+        report: &mut Report,
+        h: &H,
+    ) -> Result<(), AllocError> {
+        ().visit(alloc, trail, report, h)
+    }
+}
