@@ -1,11 +1,13 @@
 //! Types as an author writes them, and what is told of them.
 mod contact;
+mod containers;
 mod couple;
 mod handlers;
 mod item;
 mod long;
 mod profile;
 mod signup;
+mod user;
 
 use crate::tests::contact::Contact;
 use crate::tests::couple::Couple;
