@@ -1,9 +1,9 @@
 //! Values that sets, heaps and maps can hold, and one that can be cloned.
 ghost use Rattle.std.specs.Prelude.{None, Some, if◌then◌else◌, nat_lt};
 ghost use Rattle.garde_i18n.specs.Datum.{range_greater};
-ghost use Rattle.garde.specs.Author.{codes, length, string_bytes, ◌and◌, field, ascii, simple, found, rule};
+ghost use Rattle.garde.specs.Author.{codes, length, string_bytes, ◌and◌, field, ascii, length_in, found, rule};
 
-use crate::fields::{AsciiOnly, Field, Fields, Is, SimpleLength};
+use crate::fields::{Ascii, Field, Fields, Is, Length};
 use crate::rules::Rule;
 use crate::{I18n, Report, RuleError, Trail, Validate};
 use std::alloc::{AllocError, Global};
@@ -19,7 +19,7 @@ impl Validate for User {
 
     ghost visits = { λ user _.
         field (codes "username")
-        (ascii (string_bytes user.username) and simple 3 25 (length (string_bytes user.username))) };
+        (ascii (string_bytes user.username) and length_in 3 25 (length (string_bytes user.username))) };
 
     fn validate_into<'a, H: I18n>(
         &'a self,
@@ -29,7 +29,7 @@ impl Validate for User {
         report: &mut Report,
         h: &H,
     ) -> Result<(), AllocError> {
-        let rules = (Is(AsciiOnly), Is(SimpleLength(3, 25)));
+        let rules = (Is(Ascii), Is(Length { min: 3, max: 25 }));
         Field("username", &self.username, rules).visit(alloc, trail, report, h)
     }
 }
