@@ -1,0 +1,49 @@
+//! Texts that may be URLs.
+ghost use Rattle.std.specs.Prelude.{◌≡◌, IfOk, MatchResult};
+ghost use Rattle.garde_engines.specs.Urls.{reason_of, url_answer, IsUrl, IsNoUrl};
+
+use garde_i18n::InvalidUrl;
+use std::alloc::{AllocError, Global};
+use url::Url;
+
+pub use url::ParseError;
+
+/// The reason of an error of the parser: that of the same name, `Other` where there is none of it, and no reason of `Overflow` and
+/// `OutOfMemory`, which say nothing of the text.
+pub fn reason(error: &ParseError) -> Option<InvalidUrl>
+    ensures { result ≡ reason_of error.now }
+{
+    match error {
+        ParseError::EmptyHost => Some(InvalidUrl::EmptyHost),
+        ParseError::IdnaError => Some(InvalidUrl::IdnaError),
+        ParseError::InvalidPort => Some(InvalidUrl::InvalidPort),
+        ParseError::InvalidIpv4Address => Some(InvalidUrl::InvalidIpv4Address),
+        ParseError::InvalidIpv6Address => Some(InvalidUrl::InvalidIpv6Address),
+        ParseError::InvalidDomainCharacter => Some(InvalidUrl::InvalidDomainCharacter),
+        ParseError::RelativeUrlWithoutBase => Some(InvalidUrl::RelativeUrlWithoutBase),
+        ParseError::RelativeUrlWithCannotBeABaseBase => {
+            Some(InvalidUrl::RelativeUrlWithCannotBeABaseBase)
+        }
+        ParseError::SetHostOnCannotBeABaseUrl => Some(InvalidUrl::SetHostOnCannotBeABaseUrl),
+        ParseError::CannotSet => Some(InvalidUrl::Other),
+        ParseError::Overflow | ParseError::OutOfMemory => None,
+    }
+}
+
+/// Parses the text as an absolute URL: Ok where it is one, and else the reason why it is none.
+///
+/// `AllocError` is answered where there is no memory for the parts of the URL, or they come to 4 GB; it says nothing of the text.
+pub fn check_url(alloc: Global, text: &str) -> Result<Result<(), InvalidUrl>, AllocError>
+    ensures value { IfOk result (λ answer. answer ≡ url_answer text.now) }
+    ensures parsed { IfOk result (λ answer. MatchResult answer
+        (λ _. IsUrl text.now)
+        (λ reason. IsNoUrl text.now reason)) }
+{
+    match Url::parse(alloc, text) {
+        Ok(_) => Ok(Ok(())),
+        Err(error) => match reason(&error) {
+            Some(reason) => Ok(Err(reason)),
+            None => Err(AllocError),
+        },
+    }
+}
