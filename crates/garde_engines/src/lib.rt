@@ -5,4 +5,6 @@
 #![tactic(auto)]
 
 pub mod patterns;
+#[cfg(test)]
+mod tests;
 pub mod urls;

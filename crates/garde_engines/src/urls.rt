@@ -4,9 +4,8 @@ ghost use Rattle.garde_engines.specs.Urls.{reason_of, url_answer, IsUrl, IsNoUrl
 
 use garde_i18n::InvalidUrl;
 use std::alloc::{AllocError, Global};
-use url::Url;
-
 pub use url::ParseError;
+use url::Url;
 
 /// The reason of an error of the parser: that of the same name, `Other` where there is none of it, and no reason of `Overflow` and
 /// `OutOfMemory`, which say nothing of the text.

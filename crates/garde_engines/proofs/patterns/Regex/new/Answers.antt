@@ -1,5 +1,4 @@
 use Rattle.std.proofs.Common.{refl}
-use Rattle.garde_engines.specs.Patterns.{IsPattern}
 use Rattle.garde_engines.proofs.PatternLemmas.{reads_pattern, refuses_pattern}
 use Rattle.garde_engines.proofs.patterns.Regex.new.Goals as goal
 
