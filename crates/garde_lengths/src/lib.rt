@@ -8,6 +8,7 @@ pub mod length;
 mod rule;
 #[cfg(test)]
 mod tests;
+mod urls;
 
 pub use bounds::OutOfBounds;
 pub use rule::Rule;

@@ -3,6 +3,7 @@
 mod collections;
 mod options;
 mod texts;
+mod urls;
 
 use crate::length::simple;
 use garde_i18n::DefaultI18n;
