@@ -1,5 +1,11 @@
 pub mod Holds
+pub mod Ip
+pub mod IpText
+pub mod Ipv4Reader
+pub mod Ipv6Reader
+pub mod Memory
 pub mod Range
+pub mod Reasons
 pub mod Text
 pub use Rattle.garde_lengths.specs.Applies.{Fault, rule, own, fault_text, Applies}
 pub use Rattle.garde_lengths.specs.Bounds.{bounds_answer, length_fault, option_answer}

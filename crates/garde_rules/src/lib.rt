@@ -6,6 +6,7 @@ pub mod alphanumeric;
 mod as_str;
 pub mod ascii;
 pub mod contains;
+pub mod ip;
 pub mod matches;
 pub mod prefix;
 pub mod range;

@@ -1,0 +1,115 @@
+//! Texts of IP addresses.
+ghost use Rattle.std.specs.Prelude.{◌≡◌, ◌++◌, ◌↔◌, Bool, IsTrue, Some, IfErr, is_ok, codes};
+ghost use Rattle.garde_i18n.specs.Datum as datum;
+ghost use Rattle.garde_i18n.specs.Reasons.{ip_kind_text};
+ghost use Rattle.garde_i18n.specs.declared.reasons.IpKind.{IpKind};
+ghost use Rattle.garde_lengths.specs.Applies.{Applies};
+ghost use Rattle.garde_rules.specs.Holds.{unless, passes_option};
+ghost use Rattle.garde_rules.specs.Ip.{IsIp};
+ghost use Rattle.garde_rules.specs.IpText.{is_ip_text};
+
+mod v4;
+mod v6;
+
+use crate::as_str::AsStr;
+use garde_i18n::I18n;
+pub use garde_i18n::IpKind;
+use garde_report::RuleError;
+use std::alloc::Global;
+use std::fmt;
+use std::marker::Model;
+pub use v4::is_ipv4;
+pub use v6::is_ipv6;
+
+/// Why a text is refused: it is no address of the kind that was asked for.
+#[derive(Drop)]
+pub struct AddrParseError {
+    kind: IpKind,
+}
+
+// Contracts see the error as that kind.
+impl Model for AddrParseError {
+    ghost use Rattle.garde_i18n.specs.declared.reasons.IpKind.{IpKind};
+
+    ghost Value = { IpKind };
+
+    ghost view = { λ error. error.kind };
+}
+
+impl fmt::Display for AddrParseError {
+    ghost output = { λ kind. Some (codes "invalid " ++ (ip_kind_text kind ++ codes " address syntax")) };
+
+    fn fmt<W: fmt::Write>(&self, f: &mut fmt::Formatter<W>) -> fmt::Result {
+        let kind = self.kind;
+        write!(f, "invalid {kind} address syntax")
+    }
+}
+
+// Whether the text is an address of the kind.
+fn is_ip(text: &str, kind: IpKind) -> bool
+    ensures grammar { IsTrue result ↔ IsIp kind text.now }
+    ensures value { result ≡ is_ip_text kind text.now }
+{
+    match kind {
+        IpKind::Any => is_ipv4(text) || is_ipv6(text),
+        IpKind::V4 => is_ipv4(text),
+        IpKind::V6 => is_ipv6(text),
+    }
+}
+
+/// A value that may be an IP address. Every text may, and an option of one.
+pub trait Ip {
+    /// Why a value is refused.
+    type Error: fmt::Display + Drop;
+
+    /// Whether the value is an address of the kind.
+    ghost passes: { IpKind → Self → Bool };
+
+    /// Answers Ok where the value is an IP address of the kind, and else an error. An option without a value passes.
+    fn validate_ip(&self, kind: IpKind) -> Result<(), Self::Error>
+        ensures { is_ok result ≡ passes kind self.now };
+}
+
+impl<T: AsStr> Ip for T {
+    type Error = AddrParseError;
+
+    ghost passes = { λ kind v. is_ip_text kind (T.text v) };
+
+    fn validate_ip(&self, kind: IpKind) -> Result<(), AddrParseError>
+        ensures value { is_ok result ≡ is_ip_text kind (T.text self.now) }
+        ensures grammar { IsTrue (is_ok result) ↔ IsIp kind (T.text self.now) }
+        ensures error { IfErr result (λ error. error ≡ kind) }
+    {
+        if is_ip(self.as_str(), kind) {
+            Ok(())
+        } else {
+            Err(AddrParseError { kind })
+        }
+    }
+}
+
+impl<T: Ip> Ip for Option<T> {
+    type Error = T::Error;
+
+    ghost passes = { λ kind. passes_option (T.passes kind) };
+
+    fn validate_ip(&self, kind: IpKind) -> Result<(), T::Error> {
+        match self {
+            None => Ok(()),
+            Some(v) => v.validate_ip(kind),
+        }
+    }
+}
+
+/// Answers Ok where the value is an IP address of the kind, and else the fault with the handler's text.
+///
+/// `RuleError::Memory` is answered only where the rule does not hold.
+pub fn apply<T: Ip, H: I18n>(alloc: Global, v: &T, args: (IpKind,), h: &H) -> Result<(), RuleError>
+    ensures { Applies (unless (T.passes args.0 v.now) (datum.ip args.0)) (H.text h.now) result }
+{
+    let (kind,) = args;
+    match v.validate_ip(kind) {
+        Ok(()) => Ok(()),
+        Err(_) => Err(RuleError::of(alloc, h.ip_invalid(alloc, kind))),
+    }
+}
