@@ -6,8 +6,11 @@ pub mod alphanumeric;
 mod as_str;
 pub mod ascii;
 pub mod contains;
+pub mod credit_card;
 pub mod ip;
 pub mod matches;
+pub mod pattern;
+pub mod phone_number;
 pub mod prefix;
 pub mod range;
 pub mod required;
@@ -15,6 +18,7 @@ pub mod suffix;
 #[cfg(test)]
 mod tests;
 pub mod values;
+pub mod url;
 
 pub use as_str::AsStr;
 pub use garde_lengths::{Rule, length};

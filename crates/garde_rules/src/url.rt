@@ -1,0 +1,65 @@
+//! Texts that are URLs.
+ghost use Rattle.std.specs.Prelude.{◌≡◌, IfOk, MatchResult, Result};
+ghost use Rattle.garde_engines.specs.Urls.{url_answer, IsUrl, IsNoUrl};
+ghost use Rattle.garde_i18n.specs.declared.reasons.InvalidUrl.{InvalidUrl};
+ghost use Rattle.garde_rules.specs.Memory.{AppliesInMemory};
+ghost use Rattle.garde_rules.specs.Reasons.{url_fault, option_reason};
+
+use crate::as_str::AsStr;
+use garde_engines::urls::check_url;
+pub use garde_engines::urls::{ParseError, reason};
+use garde_i18n::I18n;
+pub use garde_i18n::InvalidUrl;
+use garde_report::RuleError;
+use std::alloc::{AllocError, Global};
+
+/// A value that may be a URL. Every text may, and an option of one.
+pub trait Url {
+    /// Ok of a URL, and else why the value is none.
+    ghost answer: { Self → Result (Unit {0}) InvalidUrl };
+
+    /// Answers Ok where the text is an absolute URL, as the crate `url` parses it, and else why it is none. An option without
+    /// a value passes.
+    ///
+    /// `AllocError` is answered where there is no memory for the parts of the URL, or they come to 4 GB; it says nothing of the
+    /// text.
+    fn validate_url(&self, alloc: Global) -> Result<Result<(), InvalidUrl>, AllocError>
+        ensures { IfOk result (λ given. given ≡ answer self.now) };
+}
+
+impl<T: AsStr> Url for T {
+    ghost answer = { λ v. url_answer (T.text v) };
+
+    fn validate_url(&self, alloc: Global) -> Result<Result<(), InvalidUrl>, AllocError>
+        ensures value { IfOk result (λ given. given ≡ url_answer (T.text self.now)) }
+        ensures parsed { IfOk result (λ given. MatchResult given
+            (λ _. IsUrl (T.text self.now))
+            (λ reason. IsNoUrl (T.text self.now) reason)) }
+    {
+        check_url(alloc, self.as_str())
+    }
+}
+
+impl<T: Url> Url for Option<T> {
+    ghost answer = { option_reason T.answer };
+
+    fn validate_url(&self, alloc: Global) -> Result<Result<(), InvalidUrl>, AllocError> {
+        match self {
+            None => Ok(Ok(())),
+            Some(v) => v.validate_url(alloc),
+        }
+    }
+}
+
+/// Answers Ok where the text is an absolute URL, and else the fault with the handler's text of why it is none.
+///
+/// `RuleError::Memory` is answered where there is no memory for the parts of the URL or the fault; it says nothing of the text.
+pub fn apply<T: Url, H: I18n>(alloc: Global, v: &T, _args: (), h: &H) -> Result<(), RuleError>
+    ensures { AppliesInMemory (url_fault (T.answer v.now)) (H.text h.now) result }
+{
+    match v.validate_url(alloc) {
+        Ok(Ok(())) => Ok(()),
+        Ok(Err(reason)) => Err(RuleError::of(alloc, h.url_invalid(alloc, reason))),
+        Err(AllocError) => Err(RuleError::Memory),
+    }
+}
