@@ -19,6 +19,7 @@ pub mod suffix;
 mod tests;
 pub mod values;
 pub mod url;
+pub mod values_engines;
 
 pub use as_str::AsStr;
 pub use garde_lengths::{Rule, length};

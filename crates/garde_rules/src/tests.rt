@@ -1,8 +1,12 @@
 //! Tests of the rules: each holds the answers on a table of values against texts that are written
 //! out.
+mod addresses;
+mod numbers;
 mod options;
+mod patterns;
 mod ranges;
 mod texts;
+mod urls;
 mod values;
 
 use garde_report::RuleError;
