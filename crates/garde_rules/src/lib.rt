@@ -17,9 +17,8 @@ pub mod required;
 pub mod suffix;
 #[cfg(test)]
 mod tests;
-pub mod values;
 pub mod url;
-pub mod values_engines;
+pub mod values;
 
 pub use as_str::AsStr;
 pub use garde_lengths::{Rule, length};

@@ -1,10 +1,18 @@
 //! The rules as values, each named as the attribute of the Rust crate's derive that asks for it.
-ghost use Rattle.std.specs.Prelude.{unwrap_or};
+ghost use Rattle.std.specs.Prelude.{Option, unwrap_or};
 ghost use Rattle.garde_i18n.specs.Datum as datum;
 ghost use Rattle.garde_rules.specs.Holds.{unless};
+ghost use Rattle.garde_rules.specs.Memory.{AppliesInMemory};
 ghost use Rattle.garde_rules.specs.Range.{range_fault};
+ghost use Rattle.garde_rules.specs.Reasons.{card_fault, phone_fault, url_fault};
+ghost use Rattle.garde_lengths.specs.Applies.{Fault};
 
-use crate::{alphanumeric, ascii, contains, matches, prefix, range, required, suffix};
+use crate::ip::IpKind;
+use crate::pattern::Matcher;
+use crate::{
+    alphanumeric, ascii, contains, credit_card, ip, matches, pattern, phone_number, prefix, range,
+    required, suffix, url,
+};
 use garde_i18n::I18n;
 use garde_lengths::Rule;
 pub use garde_lengths::length::bytes::ByteLength;
@@ -121,5 +129,77 @@ impl<T: required::Required> Rule<T> for Required {
 
     fn find<H: I18n>(&self, alloc: Global, value: &T, h: &H) -> Result<(), RuleError> {
         required::apply(alloc, value, (), h)
+    }
+}
+
+/// The rule as a value: the value is an IP address of this kind.
+#[derive(Clone, Copy)]
+pub struct Ip(pub IpKind);
+
+impl<T: ip::Ip> Rule<T> for Ip {
+    ghost finds = { λ rule v. unless (T.passes rule.0 v) (datum.ip rule.0) };
+
+    fn find<H: I18n>(&self, alloc: Global, value: &T, h: &H) -> Result<(), RuleError> {
+        ip::apply(alloc, value, (self.0,), h)
+    }
+}
+
+/// The rule as a value: the value is a credit card number.
+#[derive(Clone, Copy, Debug, Default, PartialEq, Eq)]
+pub struct CreditCard;
+
+impl<T: credit_card::CreditCard> Rule<T> for CreditCard {
+    ghost finds = { λ _ v. card_fault (T.answer v) };
+
+    fn find<H: I18n>(&self, alloc: Global, value: &T, h: &H) -> Result<(), RuleError> {
+        credit_card::apply(alloc, value, (), h)
+    }
+}
+
+/// The rule as a value: the value is a phone number.
+#[derive(Clone, Copy, Debug, Default, PartialEq, Eq)]
+pub struct PhoneNumber;
+
+impl<T: phone_number::PhoneNumber> Rule<T> for PhoneNumber {
+    ghost finds = { λ _ v. phone_fault (T.answer v) };
+
+    fn find<H: I18n>(&self, alloc: Global, value: &T, h: &H) -> Result<(), RuleError> {
+        phone_number::apply(alloc, value, (), h)
+    }
+}
+
+/// A rule as a value that may want memory for its answer, as the search for a pattern does.
+pub trait MemoryRule<T> {
+    /// What the rule finds in a value.
+    ghost finds: { Self → T → Option Fault };
+
+    /// Answers Ok only where the rule finds nothing, and a fault only with the handler's text of what
+    /// it finds. `RuleError::Memory` says nothing of the value.
+    fn find_in_memory<H: I18n>(&self, alloc: Global, value: &T, h: &H) -> Result<(), RuleError>
+        ensures { AppliesInMemory (finds self.now value.now) (H.text h.now) result };
+}
+
+/// The rule as a value: the matcher's pattern matches anywhere in the text.
+#[derive(Debug)]
+#[derive_where(Clone, Copy)]
+pub struct Pattern<'a, M>(pub &'a M);
+
+impl<T: pattern::Pattern, M: Matcher> MemoryRule<T> for Pattern<'_, M> {
+    ghost finds = { λ rule v. unless (T.passes (M.matches rule.0.now) v) (datum.pattern (M.text rule.0.now)) };
+
+    fn find_in_memory<H: I18n>(&self, alloc: Global, value: &T, h: &H) -> Result<(), RuleError> {
+        pattern::apply(alloc, value, (self.0,), h)
+    }
+}
+
+/// The rule as a value: the text is an absolute URL.
+#[derive(Clone, Copy, Debug, Default, PartialEq, Eq)]
+pub struct Url;
+
+impl<T: url::Url> MemoryRule<T> for Url {
+    ghost finds = { λ _ v. url_fault (T.answer v) };
+
+    fn find_in_memory<H: I18n>(&self, alloc: Global, value: &T, h: &H) -> Result<(), RuleError> {
+        url::apply(alloc, value, (), h)
     }
 }

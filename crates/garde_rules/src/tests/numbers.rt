@@ -2,11 +2,10 @@
 ghost use Rattle.std.specs.Prelude.{Result};
 
 use super::assert_answer;
-use crate::Rule;
 use crate::credit_card::{self, CreditCard, InvalidCreditCard};
 use crate::ip::IpKind;
 use crate::phone_number::{self, InvalidPhoneNumber, PhoneNumber};
-use crate::values_engines::{CardNumber, IpAddress, Telephone};
+use crate::{Rule, values};
 use garde_i18n::DefaultI18n;
 
 /// A value that gives this answer when it is asked for a credit card number.
@@ -72,11 +71,19 @@ fn finds_the_same_by_rules_as_values(rt: HostRuntime) {
     let alloc = rt.alloc();
     let card = Card(Err(InvalidCreditCard::InvalidLuhn));
     let fault = Some("not a valid credit card number: invalid luhn");
-    assert_answer(&rt, CardNumber.find(alloc, &card, &DefaultI18n), fault);
+    assert_answer(
+        &rt,
+        values::CreditCard.find(alloc, &card, &DefaultI18n),
+        fault,
+    );
     let phone = Phone(Err(InvalidPhoneNumber::Invalid));
     let fault = Some("not a valid phone number");
-    assert_answer(&rt, Telephone.find(alloc, &phone, &DefaultI18n), fault);
-    let rule = IpAddress(IpKind::V6);
+    assert_answer(
+        &rt,
+        values::PhoneNumber.find(alloc, &phone, &DefaultI18n),
+        fault,
+    );
+    let rule = values::Ip(IpKind::V6);
     let fault = Some("not a valid IPv6 address");
     assert_answer(&rt, rule.find(alloc, &"1.2.3.4", &DefaultI18n), fault);
     assert_answer(&rt, rule.find(alloc, &"::1", &DefaultI18n), None);
