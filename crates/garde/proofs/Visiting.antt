@@ -9,11 +9,13 @@ use Rattle.garde_report.specs.Part.{Part, index_part}
 use Rattle.garde_report.specs.Report.{Entry}
 use Rattle.garde_report.specs.Trace.{Trace, IsTrace, pushed, popped, IsPut, IsNotPut}
 use Rattle.garde_report.specs.declared.error.fault.RuleError.{RuleError}
+use Rattle.garde_report.specs.declared.error.fault.RuleError.TheVariants as errors
 use Rattle.garde_rules.specs.{Fault, Applies}
+use Rattle.garde_rules.specs.Memory.{AppliesInMemory}
 use Rattle.garde.specs.Laws.{Any-numbered, under_has_tree}
 use Rattle.garde.specs.Tree.{Tree, found_tree}
 use Rattle.garde.specs.Walk.{Walked}
-use Rattle.garde.specs.Visits.{Visits, Visited, ◌and◌, below, found, only, none, items, entries, items_in_any_order, entries_in_any_order}
+use Rattle.garde.specs.Visits.{Visits, Visited, taking, ◌and◌, below, found, only, none, items, entries, items_in_any_order, entries_in_any_order}
 use Rattle.garde.proofs.Walks.{silent_partly, nothing_walked, under_walked, under_partly, rule_walked, rule_partly, rule_bears, both_walked, first_partly, second_partly, walked_as, partly_as, WalkedUpTo, up_to_partly, up_to_all}
 use Rattle.garde.proofs.Refusals.{refuses_under, refuses_under_full, refuses_first, refuses_second, refuses_as, depth_kept, refuses_next}
 
@@ -51,6 +53,12 @@ module _ {text : Datum → List ℕ} {E : Type 0} where
   visited_full k a {result = Ok x} same still full is = absurd (false≢true is)
   visited_full k a {before = before} {result = Err f} same still full is = record { ok = tt; err = silent_partly (under_has_tree k a.has_tree) same still; why = refuses_under_full k (length before.components) a.has_tree full }
 
+  -- what is taken besides is a reason of its own
+  taking_more : {a : Visits} {before after : Trace} {old new : List Entry} {result : Result Unit E} → Visited a text before after old new result → Visited (taking a) text before after old new result
+  unfolding taking
+  taking_more {result = Ok x} told = record { ok = told.ok; err = tt; why = tt }
+  taking_more {result = Err e} told = record { ok = tt; err = told.err; why = inl tt }
+
   -- a rule's answer was put
   pub visited_found : (fault : Option Fault) {before after : Trace} {old new : List Entry} (outcome : Result Unit RuleError) {result : Result Unit E} → IsTrace before → Applies fault text outcome → OnOk result (IsPut outcome before after old new) → OnErr result (IsNotPut outcome before after) → OnErr result (new ≡ old) → Visited (found fault) text before after old new result
   unfolding found only
@@ -60,6 +68,14 @@ module _ {text : Datum → List ℕ} {E : Type 0} where
     err = rule_partly fault outcome applies refused same;
     why = inr (found_tree fault, refl, inl (rule_bears text before after fault outcome applies refused));
   }
+
+  -- a rule's answer was put that may want memory though it finds nothing
+  pub visited_taking : (fault : Option Fault) {before after : Trace} {old new : List Entry} (outcome : Result Unit RuleError) {result : Result Unit E} → IsTrace before → AppliesInMemory fault text outcome → OnOk result (IsPut outcome before after old new) → OnErr result (IsNotPut outcome before after) → OnErr result (new ≡ old) → Visited (taking (found fault)) text before after old new result
+  unfolding found only taking
+  visited_taking fault (Ok x) sound applies put refused same = taking_more (visited_found fault (Ok x) sound applies put refused same)
+  visited_taking fault (Err (errors.Fault m)) sound applies put refused same = taking_more (visited_found fault (Err (errors.Fault m)) sound applies put refused same)
+  visited_taking fault (Err errors.Memory) {result = Ok x} sound applies put refused same = absurd put
+  visited_taking fault (Err errors.Memory) {result = Err e} sound applies put refused same = record { ok = tt; err = silent_partly (found_tree fault, refl) same refused; why = inl tt }
 
   -- ---- items
 

@@ -1,7 +1,7 @@
 -- The words in which the author of a type says what a visit of it comes by.
 pub use Rattle.std.specs.Prelude.{codes, length, string_bytes}
 pub use Rattle.garde.specs.Visits.{Visits}
-unfoldable pub use Rattle.garde.specs.Visits.{none, only, found, ◌and◌, below, items, optional}
+unfoldable pub use Rattle.garde.specs.Visits.{none, only, found, taking, ◌and◌, below, items, optional}
 pub use Rattle.garde_report.specs.Part.{key_part, index_part}
 pub use Rattle.garde_rules.specs.{Fault, rule, own}
 use Rattle.std.specs.Prelude.{ℕ, ℤ, List, Bool, Option, is_some}
@@ -11,8 +11,12 @@ use Rattle.garde_report.specs.Part.{key_part}
 use Rattle.garde_rules.specs.{bounds_answer, length_fault}
 use Rattle.garde_rules.specs.Holds.{unless}
 use Rattle.garde_rules.specs.Range.{range_fault, int_bounds_answer}
+use Rattle.garde_rules.specs.IpText.{is_ip_text}
+use Rattle.garde_rules.specs.Reasons.{url_fault}
+use Rattle.garde_rules.specs.{matches_source, url_answer}
+use Rattle.garde_i18n.specs.declared.reasons.IpKind.{IpKind}
 use Rattle.garde_rules.specs.Text.{is_ascii_text, is_alphanumeric_text, has_part, has_prefix, has_suffix}
-use Rattle.garde.specs.Visits.{Visits, below, found}
+use Rattle.garde.specs.Visits.{Visits, below, found, taking}
 
 -- a field, by its name
 abbrev pub field : List ℕ → Visits → Visits
@@ -54,3 +58,15 @@ signed_in min max n = found (range_fault (signed_decimal min) (signed_decimal ma
 -- the rule that a length, in whatever unit, is at least the first and at most the second number
 abbrev pub length_in : ℕ → ℕ → ℕ → Visits
 length_in min max len = found (length_fault min max (bounds_answer min max len))
+
+-- the rule that a text is an address of this kind
+abbrev pub ip : IpKind → List ℕ → Visits
+ip kind text = found (unless (is_ip_text kind text) (datum.ip kind))
+
+-- The rules that the pattern of the first text matches anywhere in the second, and that a text is an absolute URL. Each may
+-- take memory for its answer.
+abbrev pub pattern : List ℕ → List ℕ → Visits
+pattern source text = taking (found (unless (matches_source source text) (datum.pattern source)))
+
+abbrev pub url : List ℕ → Visits
+url text = taking (found (url_fault (url_answer text)))

@@ -1,5 +1,5 @@
 -- What a visit of a value comes by, and how it is put together from smaller visits.
-use Rattle.std.specs.Prelude.{◌≡◌, ℕ, List, length, Option, ◌⊎◌, IsTrue, Result, OnOk, OnErr, refl}
+use Rattle.std.specs.Prelude.{◌≡◌, ⊤, ℕ, List, length, Option, ◌⊎◌, IsTrue, Result, OnOk, OnErr, refl}
 use Rattle.std.specs.List.{Any}
 use Rattle.garde_i18n.specs.Datum.{Datum}
 use Rattle.garde_report.specs.Part.{Part, index_part}
@@ -31,6 +31,10 @@ none = only nothing
 -- what a rule finds
 unfoldable pub found : Option Fault → Visits
 found fault = only (found_tree fault)
+
+-- the same, of which a walk may take memory though there is no fault
+unfoldable pub taking : Visits → Visits
+taking a = record { trees = a.trees; faulty = a.faulty; takes = ⊤; has_tree = a.has_tree; alike = a.alike }
 
 -- the one, and then the other
 infixr 20 ◌and◌

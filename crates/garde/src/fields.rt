@@ -18,11 +18,11 @@ mod each;
 mod field;
 mod source;
 
-pub use check::{Check, Dive, Is, check_under};
+pub use check::{Check, Dive, Is, IsInMemory, check_under};
 pub use each::Each;
 pub use field::{Field, Fields};
 pub use garde_rules::values::{
-    Alphanumeric, Ascii, ByteLength, CharLength, Contains, GraphemeLength, Length, Matches, Prefix,
-    Range, Required, Suffix, Utf16Length,
+    Alphanumeric, Ascii, ByteLength, CharLength, Contains, CreditCard, GraphemeLength, Ip, Length,
+    Matches, Pattern, PhoneNumber, Prefix, Range, Required, Suffix, Url, Utf16Length,
 };
 pub(crate) use source::{check_entries, check_items};

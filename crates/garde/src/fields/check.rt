@@ -1,12 +1,13 @@
 //! Checks of a value.
 ghost use Rattle.std.specs.Prelude.{◌≡◌};
 ghost use Rattle.garde_report.specs.Part.{part_of};
-ghost use Rattle.garde.specs.Visits.{Visits, Visited, below, found, ◌and◌};
+ghost use Rattle.garde.specs.Visits.{Visits, Visited, below, found, taking, ◌and◌};
 
 use crate::validate::Validate;
 use garde_i18n::I18n;
 use garde_report::{Component, Report, Trail};
 use garde_rules::Rule;
+use garde_rules::values::MemoryRule;
 use std::alloc::{AllocError, Global};
 
 /// What is checked of a `T` that stands where the trail leads.
@@ -44,6 +45,25 @@ impl<'a, T, R: Rule<T>> Check<'a, T> for Is<R> {
         h: &H,
     ) -> Result<(), AllocError> {
         trail.put(report, self.0.find(alloc, value, h))
+    }
+}
+
+/// The check that a rule holds of the value which may want memory for its answer.
+#[derive(Clone, Copy, Debug)]
+pub struct IsInMemory<R>(pub R);
+
+impl<'a, T, R: MemoryRule<T>> Check<'a, T> for IsInMemory<R> {
+    ghost visits = { λ is v. taking (found (R.finds is.0 v)) };
+
+    fn check<H: I18n>(
+        &self,
+        alloc: Global,
+        value: &'a T,
+        trail: &mut Trail<'a>,
+        report: &mut Report,
+        h: &H,
+    ) -> Result<(), AllocError> {
+        trail.put(report, self.0.find_in_memory(alloc, value, h))
     }
 }
 
