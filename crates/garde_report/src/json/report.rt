@@ -1,0 +1,87 @@
+//! Errors, faults and reports as JSON trees.
+ghost use Rattle.std.specs.Prelude.{◌≡◌, ◌≢◌, ℕ, List, IfOk, Err};
+ghost use Rattle.serde_json.specs.View.{view};
+ghost use Rattle.garde_report.specs.Json.{error_json, entry_json, report_json};
+ghost use Rattle.garde_report.specs.Report.{Entry};
+ghost use Rattle.garde_report.specs.declared.json.JsonRefused.{JsonRefused};
+
+use super::JsonRefused;
+use super::form::{pair, sole_member};
+use super::path::{path_from_json, path_to_json};
+use crate::error::{Error, Path, Report};
+use serde_json::{Value, json};
+use std::alloc::{AllocError, Global};
+
+fn error_to_json(alloc: Global, error: &Error) -> Result<Value, AllocError>
+    ensures { IfOk result (λ tree. view tree ≡ error_json error.now) }
+{
+    let message = error.message();
+    json!(in alloc; {"message": message})
+}
+
+fn error_from_json(alloc: Global, tree: &Value) -> Result<Error, JsonRefused>
+    ensures ok { IfOk result (λ error. view tree.now ≡ error_json error) }
+    ensures form { result ≡ Err JsonRefused.Form
+        → (error : List ℕ) → view tree.now ≢ error_json error }
+{
+    let Some(message) = sole_member(tree, "message") else {
+        return Err(JsonRefused::Form);
+    };
+    let Some(message) = message.as_str() else {
+        return Err(JsonRefused::Form);
+    };
+    Ok(Error::new(alloc, message)?)
+}
+
+fn entry_to_json(alloc: Global, path: &Path, error: &Error) -> Result<Value, AllocError>
+    ensures { IfOk result (λ tree. view tree ≡ entry_json (path.now, error.now)) }
+{
+    let path = path_to_json(alloc, path)?;
+    let error = error_to_json(alloc, error)?;
+    json!(in alloc; [path, error])
+}
+
+fn entry_from_json(alloc: Global, tree: &Value) -> Result<(Path, Error), JsonRefused>
+    ensures ok { IfOk result (λ entry. view tree.now ≡ entry_json entry) }
+    ensures form { result ≡ Err JsonRefused.Form
+        → (entry : Entry) → view tree.now ≢ entry_json entry }
+{
+    let Some((path, error)) = pair(tree) else {
+        return Err(JsonRefused::Form);
+    };
+    let path = path_from_json(alloc, path)?;
+    let error = error_from_json(alloc, error)?;
+    Ok((path, error))
+}
+
+/// The written form of a report.
+pub fn report_to_json(alloc: Global, report: &Report) -> Result<Value, AllocError>
+    ensures { IfOk result (λ tree. view tree ≡ report_json report.now) }
+{
+    let mut errors = Vec::new(alloc);
+    for (path, error) in report.iter() {
+        errors.push(entry_to_json(alloc, path, error)?)?;
+    }
+    let errors = Value::Array(errors);
+    json!(in alloc; {"errors": errors})
+}
+
+/// The report whose written form a tree is. `Form` is answered only where no report has that form.
+pub fn report_from_json(alloc: Global, tree: &Value) -> Result<Report, JsonRefused>
+    ensures ok { IfOk result (λ report. report_json report ≡ view tree.now) }
+    ensures form { result ≡ Err JsonRefused.Form
+        → (report : List Entry) → view tree.now ≢ report_json report }
+{
+    let Some(errors) = sole_member(tree, "errors") else {
+        return Err(JsonRefused::Form);
+    };
+    let Some(entries) = errors.as_array() else {
+        return Err(JsonRefused::Form);
+    };
+    let mut report = Report::new(alloc);
+    for entry in entries {
+        let (path, error) = entry_from_json(alloc, entry)?;
+        report.append(path, error)?;
+    }
+    Ok(report)
+}
