@@ -8,3 +8,4 @@ pub mod Refusal
 pub mod Select
 pub mod Author
 pub mod Words
+pub mod Validated

@@ -7,13 +7,17 @@ pub mod laws;
 mod refusal;
 #[cfg(test)]
 mod tests;
+mod unvalidated;
+mod valid;
 pub mod validate;
 
 pub use garde_i18n as i18n;
 pub use garde_i18n::{DefaultI18n, I18n, with_i18n};
 pub use garde_report::{
-    Component, Error, Path, Report, Result, RuleError, Trail, error, rc_list, select, trail,
+    Component, Error, Path, Report, Result, RuleError, Trail, error, json, rc_list, select, trail,
 };
 pub use garde_rules as rules;
 pub use refusal::ValidateError;
+pub use unvalidated::{IntoValidError, Unvalidated};
+pub use valid::Valid;
 pub use validate::Validate;

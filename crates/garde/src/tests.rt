@@ -3,11 +3,15 @@ mod contact;
 mod containers;
 mod couple;
 mod handlers;
+mod hog;
 mod item;
 mod long;
+mod named;
 mod nested;
 mod profile;
 mod signup;
+mod span;
+mod typed_states;
 mod user;
 
 use crate::rules::pattern::regex::Regex;

@@ -1,0 +1,100 @@
+//! Values before and after they are validated.
+
+use crate::tests::hog::Hog;
+use crate::tests::named::Named;
+use crate::tests::span::Span;
+use crate::{IntoValidError, Unvalidated, Valid};
+use std::alloc::{AllocError, Global};
+use std::test::Fail;
+
+// One user of this name, and no second one.
+fn users(alloc: Global, name: &str) -> Result<Unvalidated<Vec<Option<Named>>>, AllocError> {
+    let username = String::from_str(alloc, name)?;
+    Ok(Unvalidated::new(vec![in alloc; Some(Named { username }), None]?))
+}
+
+const FAULTS: &str = "[0].username: not ascii\n[0].username: length is lower than 3\n";
+
+#[test]
+fn a_valid_value_is_handed_on(rt: HostRuntime) -> Result<(), Fail> {
+    let valid = users(rt.alloc(), "test")?.validate(rt.alloc())?;
+    assert_eq!(rt; valid.len(), 2);
+    let shown = "[Some(Named { username: \"test\" }), None]";
+    assert_eq!(rt;
+        format!(in rt.alloc(); "{:?}", valid.into_inner())?.as_str(),
+        shown
+    );
+    Ok(())
+}
+
+#[test]
+fn a_value_with_faults_leaves_its_report(rt: HostRuntime) -> Result<(), Fail> {
+    let answer = users(rt.alloc(), "é")?.validate_with(rt.alloc(), &());
+    let Err(IntoValidError::Report(report)) = answer else {
+        return Err("it has faults".into());
+    };
+    assert_eq!(rt; report.to_string(rt.alloc())?.as_str(), FAULTS);
+    Ok(())
+}
+
+// The rest grows until all of the report is made. Each refusal hands back the value, which is
+// validated again.
+#[test]
+fn want_of_memory_hands_the_value_back(rt: HostRuntime) -> Result<(), Fail> {
+    let mut value = users(rt.alloc(), "é")?;
+    let mut hog = Hog::new(rt.alloc())?;
+    for rest in (0..400usize).map(|k| 16 * k) {
+        hog.leave(rest);
+        let answer = value.validate(rt.alloc());
+        hog.release();
+        match answer {
+            Err(IntoValidError::Memory(back)) => value = back,
+            Err(IntoValidError::Report(report)) => {
+                assert!(rt; rest > 0, "memory did not run out");
+                assert_eq!(rt; report.to_string(rt.alloc())?.as_str(), FAULTS);
+                return Ok(());
+            }
+            Ok(_) => return Err("it has faults".into()),
+        }
+        let shown = "[Some(Named { username: \"é\" }), None]";
+        assert_eq!(rt; format!(in rt.alloc(); "{value:?}")?.as_str(), shown);
+    }
+    Err("memory was never ample".into())
+}
+
+#[test]
+fn a_valid_value_takes_no_memory(rt: HostRuntime) -> Result<(), Fail> {
+    let value = users(rt.alloc(), "test")?;
+    let mut hog = Hog::new(rt.alloc())?;
+    hog.leave(0);
+    let answer = value.validate(rt.alloc());
+    hog.release();
+    assert!(rt; answer.is_ok());
+    Ok(())
+}
+
+#[test]
+fn states_are_copied_and_shown(rt: HostRuntime) -> Result<(), Fail> {
+    let alloc = rt.alloc();
+    let span = Unvalidated::from(Span { from: 2, to: 5 });
+    let valid = span.validate(alloc)?;
+    let again = Valid::clone(&valid)?;
+    assert_eq!(rt;
+        format!(in alloc; "{span:?} {again:?}")?.as_str(),
+        "Span { from: 2, to: 5 } Valid(Span { from: 2, to: 5 })"
+    );
+    let empty: Unvalidated<Span> = Unvalidated::default();
+    assert_eq!(rt; empty.clone()?.validate(alloc)?.to, 0);
+    let backwards = Unvalidated::new(Span { from: 5, to: 2 });
+    assert_eq!(rt;
+        format!(in alloc; "{:?}", IntoValidError::Memory(backwards))?.as_str(),
+        "Memory(Span { from: 5, to: 2 })"
+    );
+    assert!(rt;
+        matches!(
+            &backwards.validate_with(alloc, &()),
+            Err(IntoValidError::Report(_))
+        )
+    );
+    Ok(())
+}

@@ -1,0 +1,68 @@
+//! Values that were validated.
+ghost use Rattle.std.specs.Prelude.{◌≡◌, IfOk, IsOk};
+
+use crate::validate::Validate;
+use std::alloc::AllocError;
+use std::marker::Model;
+use std::ops::Deref;
+
+/// A value of which some context found no fault. A contract sees the value.
+///
+/// Only `Unvalidated` makes one, and `clone` of another.
+#[derive(Debug, Drop)]
+pub struct Valid<T: Validate>(T);
+
+impl<T: Validate> Model for Valid<T> {
+    ghost use Rattle.garde.specs.Validated.{IsValid};
+
+    ghost Value = { T };
+
+    ghost view = { λ valid. valid.0 };
+
+    ghost invariant = { λ valid. IsValid T.visits valid.0 };
+}
+
+impl<T: Validate> Valid<T> {
+    ghost use Rattle.garde.specs.Validated.{IsValid};
+
+    /// The value, of which some context found no fault.
+    pub(crate) fn new(value: T) -> Self
+        requires { IsValid T.visits value }
+        ensures { result ≡ value }
+    {
+        Valid(value)
+    }
+
+    /// The value, of which some context found no fault.
+    pub fn into_inner(self) -> T
+        ensures value { result ≡ self }
+        ensures valid { IsValid T.visits result }
+    {
+        let Valid(value) = self;
+        value
+    }
+}
+
+impl<T: Validate + Clone> Valid<T> {
+    /// Another such value. It may be called where each clone of the value is equal to it.
+    pub fn clone(&self) -> Result<Valid<T>, AllocError>
+        requires { (copy : T) → T.is_clone self.now copy → copy ≡ self.now }
+        ensures ok { IfOk result (λ copy. copy ≡ self.now) }
+        ensures given { T.is_infallible self.now → IsOk result }
+    {
+        Ok(Valid(self.0.clone()?))
+    }
+}
+
+/// The value, of which some context found no fault.
+impl<T: Validate> Deref for Valid<T> {
+    ghost use Rattle.garde.specs.Validated.{IsValid};
+
+    type Target = T;
+
+    ghost deref_gives = { λ valid value. (value ≡ valid) × IsValid T.visits value };
+
+    fn deref(&self) -> &T {
+        &self.0
+    }
+}
