@@ -1,6 +1,7 @@
 -- The words of the crates below that the contracts of a caller need.
 pub use Rattle.garde_i18n.specs.Datum.{not_ascii}
 pub use Rattle.garde_i18n.specs.DefaultText.{default_text}
+pub use Rattle.garde_report.specs.Json.{report_json, report_json-no_float}
 pub use Rattle.garde_report.specs.Part.{index_part, key_part}
 pub use Rattle.garde_report.specs.Report.{Entry, report_text}
 pub use Rattle.garde_report.specs.Trace.{Trace, new_trace}
