@@ -6,7 +6,6 @@ mod handlers;
 mod hog;
 mod item;
 mod long;
-mod named;
 mod nested;
 mod profile;
 mod signup;
@@ -23,6 +22,7 @@ use crate::tests::long::Long;
 use crate::tests::nested::{Account, Home, Person};
 use crate::tests::profile::Profile;
 use crate::tests::signup::{Address, Limits, Signup};
+use crate::tests::user::User;
 use crate::{DefaultI18n, I18n, Report, Trail, Validate, ValidateError, select, with_i18n};
 use garde_report::Component;
 use std::alloc::{AllocError, Global};
@@ -238,6 +238,16 @@ fn each_part_in_its_order(rt: HostRuntime) -> Result<(), Fail> {
         told(alloc, answer)?.as_str(),
         "user.name: at least 3\nuser.age: at least \nuser.phone: at least \naddress.street: at least 5\naddress.city: at least 2\naddress.zip_code: at least \nbio: at least 10\n"
     );
+    Ok(())
+}
+
+#[test]
+fn empty_texts_leave_their_paths(rt: HostRuntime) -> Result<(), Fail> {
+    let alloc = rt.alloc();
+    let username = String::from_str(alloc, "é")?;
+    let users = vec![in alloc; Some(User { username })]?;
+    let text = told(alloc, users.validate_with_i18n(alloc, &(), &Silent))?;
+    assert_eq!(rt; text.as_str(), "[0].username: \n[0].username: \n");
     Ok(())
 }
 

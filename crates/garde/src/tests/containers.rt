@@ -1,5 +1,6 @@
 //! What is told of values that hold other values.
-use crate::tests::user::{Numbered, User};
+use crate::tests::item::Identifier;
+use crate::tests::user::User;
 use crate::{DefaultI18n, Trail, Validate, ValidateError};
 use std::alloc::{AllocError, Global};
 use std::borrow::Cow;
@@ -167,10 +168,10 @@ fn shared_and_borrowed_values_add_nothing(rt: HostRuntime) -> Result<(), Fail> {
     let shared = Rc::new(alloc, user(alloc, "ab")?)?;
     let text = told(alloc, &shared)?;
     assert_eq!(rt; text.as_str(), TOO_SHORT);
-    let numbered = Numbered { id: 10 };
+    let numbered = Identifier { id: 10 };
     let text = told(alloc, &Cow::Borrowed(&numbered))?;
     assert_eq!(rt; text.as_str(), "id: greater than 4\nnodes: 1");
-    let text = told(alloc, &Cow::<Numbered>::Owned(numbered))?;
+    let text = told(alloc, &Cow::<Identifier>::Owned(numbered))?;
     assert_eq!(rt; text.as_str(), "id: greater than 4\nnodes: 1");
     Ok(())
 }

@@ -7,7 +7,7 @@ use crate::{I18n, Report, Trail, Validate};
 use std::alloc::{AllocError, Global};
 
 /// A number of at most 4, under the key `id`.
-#[derive(Debug, Drop)]
+#[derive(Clone, Copy, Debug)]
 pub struct Identifier {
     pub id: u64,
 }

@@ -1,16 +1,16 @@
 //! Values before and after they are validated.
 
 use crate::tests::hog::Hog;
-use crate::tests::named::Named;
 use crate::tests::span::Span;
+use crate::tests::user::User;
 use crate::{IntoValidError, Unvalidated, Valid};
 use std::alloc::{AllocError, Global};
 use std::test::Fail;
 
 // One user of this name, and no second one.
-fn users(alloc: Global, name: &str) -> Result<Unvalidated<Vec<Option<Named>>>, AllocError> {
+fn users(alloc: Global, name: &str) -> Result<Unvalidated<Vec<Option<User>>>, AllocError> {
     let username = String::from_str(alloc, name)?;
-    Ok(Unvalidated::new(vec![in alloc; Some(Named { username }), None]?))
+    Ok(Unvalidated::new(vec![in alloc; Some(User { username }), None]?))
 }
 
 const FAULTS: &str = "[0].username: not ascii\n[0].username: length is lower than 3\n";
@@ -19,7 +19,7 @@ const FAULTS: &str = "[0].username: not ascii\n[0].username: length is lower tha
 fn a_valid_value_is_handed_on(rt: HostRuntime) -> Result<(), Fail> {
     let valid = users(rt.alloc(), "test")?.validate(rt.alloc())?;
     assert_eq!(rt; valid.len(), 2);
-    let shown = "[Some(Named { username: \"test\" }), None]";
+    let shown = "[Some(User { username: \"test\" }), None]";
     assert_eq!(rt;
         format!(in rt.alloc(); "{:?}", valid.into_inner())?.as_str(),
         shown
@@ -56,7 +56,7 @@ fn want_of_memory_hands_the_value_back(rt: HostRuntime) -> Result<(), Fail> {
             }
             Ok(_) => return Err("it has faults".into()),
         }
-        let shown = "[Some(Named { username: \"é\" }), None]";
+        let shown = "[Some(User { username: \"é\" }), None]";
         assert_eq!(rt; format!(in rt.alloc(); "{value:?}")?.as_str(), shown);
     }
     Err("memory was never ample".into())
