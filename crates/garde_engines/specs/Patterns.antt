@@ -1,22 +1,26 @@
--- Which texts are patterns, and what a pattern matches, by the grammar of `regex` and its definition of a match.
+-- Which texts are patterns, and what a pattern matches, by the grammar of `regex` and its
+-- definition of a match.
 use Rattle.std.specs.Prelude.{◌≡◌, ◌<◌, ◌≤◌, ◌⊎◌, ℕ, List, Bool, false, is_some, Option, None, Some, IsSomeAnd, IfSome}
 use Rattle.std.specs.Str.{chars}
 use Rattle.regex.specs.Patterns.{Re, find_str, default_config}
 use Rattle.regex_syntax.specs.Grammar.{read, Names}
 use Rattle.regex_syntax.specs.Brackets.{Nested}
 
--- what the grammar reads in a text, under the default options: a pattern, how deep it is nested, and the names of its groups
+-- what the grammar reads in a text, under the default options: a pattern, how deep it is nested,
+-- and the names of its groups
 abbrev pub reading : List ℕ → Option (Nested Re × Names)
 reading source = read default_config (chars source)
 
 -- the grammar reads a pattern in the text, within the limit on nesting
 abbrev pub IsPattern : List ℕ → Type 0
-IsPattern source = IsSomeAnd (reading source) (λ (pattern, _). pattern.depth ≤ default_config.nest_limit)
+IsPattern source =
+    IsSomeAnd (reading source) (λ (pattern, _). pattern.depth ≤ default_config.nest_limit)
 
 -- the grammar reads no pattern in the text, or one beyond the limit on nesting
 abbrev pub IsNoPattern : List ℕ → Type 0
 IsNoPattern source =
-    (reading source ≡ None) ⊎ IfSome (reading source) (λ (pattern, _). default_config.nest_limit < pattern.depth)
+    (reading source ≡ None)
+    ⊎ IfSome (reading source) (λ (pattern, _). default_config.nest_limit < pattern.depth)
 
 -- whether what was read has a match anywhere in a text
 abbrev pub has_match : Option (Nested Re × Names) → List ℕ → Bool

@@ -7,8 +7,8 @@ use Rattle.url.specs.declared.error.ParseError.TheVariants as error
 use Rattle.garde_i18n.specs.declared.reasons.InvalidUrl.{InvalidUrl}
 use Rattle.garde_i18n.specs.declared.reasons.InvalidUrl.TheVariants as reason
 
--- The reason of an error: that of the same name, and `Other` where there is none of it. Want of memory and a URL of 4 GB
--- have none, since they say nothing of the text.
+-- The reason of an error: that of the same name, and `Other` where there is none of it. Want of
+-- memory and a URL of 4 GB have none, since they say nothing of the text.
 abbrev pub reason_of : ParseError → Option InvalidUrl
 reason_of error.EmptyHost = Some reason.EmptyHost
 reason_of error.IdnaError = Some reason.IdnaError
@@ -29,7 +29,8 @@ IsUrl text = (url : Parts) × (parse_url None text ≡ Ok url)
 
 -- the parser gives an error of this reason of the text
 abbrev pub IsNoUrl : List ℕ → InvalidUrl → Type 0
-IsNoUrl text reason = (error : ParseError) × (parse_url None text ≡ Err error) × (reason_of error ≡ Some reason)
+IsNoUrl text reason =
+    (error : ParseError) × (parse_url None text ≡ Err error) × (reason_of error ≡ Some reason)
 
 -- Ok of a URL, and else the reason of the error; an error without a reason is read as `Overflow`
 abbrev pub answer_of : Parsed Parts → Result (Unit {0}) InvalidUrl

@@ -8,7 +8,8 @@ use std::marker::Model;
 /// Why a pattern was not compiled.
 #[derive(Debug, Clone, Copy, PartialEq, Eq)]
 pub enum PatternRefused {
-    /// The text is no pattern of the syntax of `regex`, or one that is nested deeper than it allows.
+    /// The text is no pattern of the syntax of `regex`, or one that is nested deeper than it
+    /// allows.
     Syntax,
     /// Any other reason: the compiled pattern would be too big, or there is no memory for it.
     Other,
@@ -38,8 +39,8 @@ impl Regex {
 
     /// Compiles a pattern of the syntax of `regex`, under its default options.
     ///
-    /// `PatternRefused::Syntax` is answered only where the syntax does not allow the text. A text that it allows may be refused
-    /// with `PatternRefused::Other`.
+    /// `PatternRefused::Syntax` is answered only where the syntax does not allow the text. A text
+    /// that it allows may be refused with `PatternRefused::Other`.
     pub fn new(alloc: Global, source: &str) -> Result<Regex, PatternRefused>
         ensures source { IfOk result (λ regex. regex ≡ source.now) }
         ensures pattern { OnOk result (IsPattern source.now) }

@@ -7,8 +7,8 @@ use std::alloc::{AllocError, Global};
 pub use url::ParseError;
 use url::Url;
 
-/// The reason of an error of the parser: that of the same name, `Other` where there is none of it, and no reason of `Overflow` and
-/// `OutOfMemory`, which say nothing of the text.
+/// The reason of an error of the parser: that of the same name, `Other` where there is none of it,
+/// and no reason of `Overflow` and `OutOfMemory`, which say nothing of the text.
 pub fn reason(error: &ParseError) -> Option<InvalidUrl>
     ensures { result ≡ reason_of error.now }
 {
@@ -31,7 +31,8 @@ pub fn reason(error: &ParseError) -> Option<InvalidUrl>
 
 /// Parses the text as an absolute URL: Ok where it is one, and else the reason why it is none.
 ///
-/// `AllocError` is answered where there is no memory for the parts of the URL, or they come to 4 GB; it says nothing of the text.
+/// `AllocError` is answered where there is no memory for the parts of the URL, or they come to 4
+/// GB; it says nothing of the text.
 pub fn check_url(alloc: Global, text: &str) -> Result<Result<(), InvalidUrl>, AllocError>
     ensures value { IfOk result (λ answer. answer ≡ url_answer text.now) }
     ensures parsed { IfOk result (λ answer. MatchResult answer

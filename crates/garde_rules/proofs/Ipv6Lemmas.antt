@@ -1,12 +1,12 @@
 -- What the reader accepts_ipv4 is what the grammar of IPv6 texts says.
-use Rattle.std.proofs.Common.{◌≡◌, ◌↔◌, ℕ, zero, suc, ◌+◌, ◌-◌, ◌*◌, ◌<◌, ◌≤◌, List, [], ◌∷◌, ◌++◌, length, Bool, true, false, eqb, ltb, leb, ◌||◌, ◌&&◌, cond, Option, Some, None, refl, sym, ap, ◌∙◌, subst, arith, inl, inr, ◌⊎◌, ⊎_elim, rules, append-nil, append_assoc, get_or}
+use Rattle.std.proofs.Common.{◌≡◌, ℕ, ◌+◌, ◌<◌, ◌≤◌, List, [], ◌∷◌, ◌++◌, length, Bool, true, false, eqb, ltb, ◌&&◌, Option, Some, None, refl, sym, ap, ◌∙◌, subst, arith, inl, inr, ◌⊎◌, ⊎_elim}
 use Rattle.std.specs.Bool.{Decides}
 use Rattle.std.specs.Char.{is_ascii_hexdigit, digit_value}
-use Rattle.std.specs.Str.Parse.{AllDigits, IsNumeral}
+use Rattle.std.specs.Str.Parse.{AllDigits}
 use Rattle.std.proofs.lemmas.Bool.{or_cases, or_left, or_right, and_parts, and_from}
 use Rattle.std.proofs.lemmas.Bool.Decides.{nat_tests}
-use Rattle.garde_rules.specs.Ip.{IsIpv4, IsIpv6, IsGroup}
-use Rattle.garde_rules.specs.Ipv4Reader.{start_ipv4, read_ipv4, accepts_ipv4, is_ipv4_text}
+use Rattle.garde_rules.specs.Ip.{IsIpv6}
+use Rattle.garde_rules.specs.Ipv4Reader.{start_ipv4, read_ipv4, accepts_ipv4}
 use Rattle.garde_rules.specs.Ipv6Reader.{ends_octets, read_octets, is_full, count_digit, read_piece, is_group_len, read_colon, read_other, read_ipv6, ends_at, accepts_ipv6, is_ipv6_text}
 use Rattle.garde_rules.specs.declared.ip.v4.Ipv4Reader.{Ipv4Reader}
 use Rattle.garde_rules.specs.declared.ip.v6.Place.{Place}

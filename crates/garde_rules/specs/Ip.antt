@@ -11,7 +11,8 @@ dot = 46
 abbrev pub colon : ℕ
 colon = 58
 
--- 1 to 3 decimal digits with a value of at most 255, of which the first is `0` only where there is no other
+-- 1 to 3 decimal digits with a value of at most 255, of which the first is `0` only where there is
+-- no other
 abbrev pub IsOctet : List ℕ → Type 0
 IsOctet digits =
     IsNumeral 10 digits × (length digits ≤ 3) × (digits_value 10 digits ≤ 255)
@@ -32,12 +33,14 @@ abbrev pub IsRun : ℕ → List ℕ → Type 0
 IsRun zero text = text ≡ []
 IsRun (suc zero) text = IsGroup text
 IsRun (suc (suc n)) text =
-    (group : List ℕ) × (rest : List ℕ) × IsGroup group × IsRun (suc n) rest × (text ≡ group ++ colon ∷ rest)
+    (group : List ℕ) × (rest : List ℕ) × IsGroup group × IsRun (suc n) rest
+    × (text ≡ group ++ colon ∷ rest)
 
 -- n groups joined by `:`, where an IPv4 text may stand for the last two
 abbrev pub IsTail : ℕ → List ℕ → Type 0
 IsTail n text = IsRun n text ⊎ (((n ≡ 2) × IsIpv4 text) ⊎ ((2 < n)
-    × ((run : List ℕ) × (octets : List ℕ) × IsRun (n - 2) run × IsIpv4 octets × (text ≡ run ++ colon ∷ octets))))
+    × ((run : List ℕ) × (octets : List ℕ) × IsRun (n - 2) run × IsIpv4 octets
+    × (text ≡ run ++ colon ∷ octets))))
 
 -- a tail of 8 groups; or a run of some groups, `::` and a tail of some groups, together at most 7
 abbrev pub IsIpv6 : List ℕ → Type 0

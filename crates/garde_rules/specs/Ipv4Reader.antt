@@ -22,7 +22,11 @@ abbrev pub read_digit : Ipv4Reader → ℕ → Option Ipv4Reader
 read_digit reader digit =
     if nat_le 3 reader.digits || (nat_lt 0 reader.digits && reader.value == 0) then None
     else (if nat_lt 255 (reader.value * 10 + digit) then None
-    else Some (record { left = reader.left; digits = reader.digits + 1; value = reader.value * 10 + digit }))
+    else Some (record {
+      left = reader.left;
+      digits = reader.digits + 1;
+      value = reader.value * 10 + digit;
+    }))
 
 -- after a byte
 abbrev pub read_ipv4 : Ipv4Reader → ℕ → Option Ipv4Reader

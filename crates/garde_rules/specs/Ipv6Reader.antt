@@ -68,7 +68,8 @@ ends_at Lead compressed groups = false
 ends_at Colon compressed groups = false
 ends_at Double compressed groups = nat_le groups 7
 ends_at (Piece digits octets) compressed groups =
-    (is_group_len digits && is_full compressed (groups + 1)) || (ends_octets octets && is_full compressed (groups + 2))
+    (is_group_len digits && is_full compressed (groups + 1))
+    || (ends_octets octets && is_full compressed (groups + 2))
 
 -- an address may end here
 abbrev pub ends_ipv6 : Ipv6Reader → Bool

@@ -5,9 +5,10 @@ use Rattle.garde_lengths.specs.Applies.{Fault, fault_text}
 use Rattle.garde_report.specs.declared.error.fault.RuleError.{RuleError}
 use Rattle.garde_report.specs.declared.error.fault.RuleError.TheVariants as errors
 
--- What is answered where a rule found this, unless memory ran out: Ok only of nothing, and a fault only with the text of
--- what was found. Want of memory says nothing of the value.
+-- What is answered where a rule found this, unless memory ran out: Ok only of nothing, and a fault
+-- only with the text of what was found. Want of memory says nothing of the value.
 abbrev pub AppliesInMemory : Option Fault → (Datum → List ℕ) → Result (Unit {0}) RuleError → Type 0
 AppliesInMemory found text (Ok _) = found ≡ None
-AppliesInMemory found text (Err (errors.Fault message)) = IsSomeAnd found (λ fault. message ≡ fault_text text fault)
+AppliesInMemory found text (Err (errors.Fault message)) =
+    IsSomeAnd found (λ fault. message ≡ fault_text text fault)
 AppliesInMemory found text (Err errors.Memory) = ⊤

@@ -21,6 +21,7 @@ abbrev pub url_fault : Result (Unit {0}) InvalidUrl → Option Fault
 url_fault = reason_fault url
 
 -- what an option gives: Ok where it is none, and else what its value gives
-abbrev pub option_reason : {T E : Type 0} → (T → Result (Unit {0}) E) → Option T → Result (Unit {0}) E
+abbrev pub option_reason : {T E : Type 0} → (T → Result (Unit {0}) E)
+    → Option T → Result (Unit {0}) E
 option_reason answer None = Ok tt
 option_reason answer (Some value) = answer value

@@ -9,13 +9,14 @@ pub use garde_i18n::InvalidCreditCard;
 use garde_report::RuleError;
 use std::alloc::Global;
 
-/// A value that may be a credit card number. Which values are is left to the implementation: there is none for texts. An option
-/// of such a value is one.
+/// A value that may be a credit card number. Which values are is left to the implementation: there
+/// is none for texts. An option of such a value is one.
 pub trait CreditCard {
     /// Ok of a credit card number, and else why the value is none.
     ghost answer: { Self → Result (Unit {0}) InvalidCreditCard };
 
-    /// Answers Ok where the value is a credit card number, and else why it is none. An option without a value passes.
+    /// Answers Ok where the value is a credit card number, and else why it is none. An option
+    /// without a value passes.
     fn validate_credit_card(&self) -> Result<(), InvalidCreditCard>
         ensures { result ≡ answer self.now };
 }
@@ -31,7 +32,8 @@ impl<T: CreditCard> CreditCard for Option<T> {
     }
 }
 
-/// Answers Ok where the value is a credit card number, and else the fault with the handler's text of why it is none.
+/// Answers Ok where the value is a credit card number, and else the fault with the handler's text
+/// of why it is none.
 ///
 /// `RuleError::Memory` is answered only where the rule does not hold.
 pub fn apply<T: CreditCard, H: I18n>(

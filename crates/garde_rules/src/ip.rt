@@ -37,7 +37,8 @@ impl Model for AddrParseError {
 }
 
 impl fmt::Display for AddrParseError {
-    ghost output = { λ kind. Some (codes "invalid " ++ (ip_kind_text kind ++ codes " address syntax")) };
+    ghost output = { λ kind.
+        Some (codes "invalid " ++ (ip_kind_text kind ++ codes " address syntax")) };
 
     fn fmt<W: fmt::Write>(&self, f: &mut fmt::Formatter<W>) -> fmt::Result {
         let kind = self.kind;
@@ -65,7 +66,8 @@ pub trait Ip {
     /// Whether the value is an address of the kind.
     ghost passes: { IpKind → Self → Bool };
 
-    /// Answers Ok where the value is an IP address of the kind, and else an error. An option without a value passes.
+    /// Answers Ok where the value is an IP address of the kind, and else an error. An option
+    /// without a value passes.
     fn validate_ip(&self, kind: IpKind) -> Result<(), Self::Error>
         ensures { is_ok result ≡ passes kind self.now };
 }
@@ -101,7 +103,8 @@ impl<T: Ip> Ip for Option<T> {
     }
 }
 
-/// Answers Ok where the value is an IP address of the kind, and else the fault with the handler's text.
+/// Answers Ok where the value is an IP address of the kind, and else the fault with the handler's
+/// text.
 ///
 /// `RuleError::Memory` is answered only where the rule does not hold.
 pub fn apply<T: Ip, H: I18n>(alloc: Global, v: &T, args: (IpKind,), h: &H) -> Result<(), RuleError>

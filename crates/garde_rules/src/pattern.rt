@@ -26,7 +26,8 @@ pub trait Pattern {
     /// Whether the value passes with a matcher that matches these texts.
     ghost passes: { (List ℕ → Bool) → Self → Bool };
 
-    /// Whether the matcher says that its pattern matches anywhere in the text. An option without a value passes.
+    /// Whether the matcher says that its pattern matches anywhere in the text. An option without a
+    /// value passes.
     ///
     /// `AllocError` says nothing of the value.
     fn validate_pattern<M: Matcher>(&self, alloc: Global, matcher: &M) -> Result<bool, AllocError>
@@ -52,10 +53,11 @@ impl<T: Pattern> Pattern for Option<T> {
     }
 }
 
-/// Answers Ok where the matcher's pattern matches anywhere in the text, and else the fault with the handler's text of the
-/// pattern.
+/// Answers Ok where the matcher's pattern matches anywhere in the text, and else the fault with the
+/// handler's text of the pattern.
 ///
-/// `RuleError::Memory` is answered where there is no memory for the search or the fault; it says nothing of the value.
+/// `RuleError::Memory` is answered where there is no memory for the search or the fault; it says
+/// nothing of the value.
 pub fn apply<T: Pattern, M: Matcher, H: I18n>(
     alloc: Global,
     v: &T,
@@ -63,7 +65,8 @@ pub fn apply<T: Pattern, M: Matcher, H: I18n>(
     h: &H,
 ) -> Result<(), RuleError>
     ensures { let matcher = args.entry.0.now in
-        AppliesInMemory (unless (T.passes (M.matches matcher) v.now) (datum.pattern (M.text matcher)))
+        AppliesInMemory
+        (unless (T.passes (M.matches matcher) v.now) (datum.pattern (M.text matcher)))
         (H.text h.now) result }
 {
     let (matcher,) = args;

@@ -9,13 +9,14 @@ pub use garde_i18n::InvalidPhoneNumber;
 use garde_report::RuleError;
 use std::alloc::Global;
 
-/// A value that may be a phone number. Which values are is left to the implementation: there is none for texts. An option
-/// of such a value is one.
+/// A value that may be a phone number. Which values are is left to the implementation: there is
+/// none for texts. An option of such a value is one.
 pub trait PhoneNumber {
     /// Ok of a phone number, and else why the value is none.
     ghost answer: { Self → Result (Unit {0}) InvalidPhoneNumber };
 
-    /// Answers Ok where the value is a phone number, and else why it is none. An option without a value passes.
+    /// Answers Ok where the value is a phone number, and else why it is none. An option without a
+    /// value passes.
     fn validate_phone_number(&self) -> Result<(), InvalidPhoneNumber>
         ensures { result ≡ answer self.now };
 }
@@ -31,7 +32,8 @@ impl<T: PhoneNumber> PhoneNumber for Option<T> {
     }
 }
 
-/// Answers Ok where the value is a phone number, and else the fault with the handler's text of why it is none.
+/// Answers Ok where the value is a phone number, and else the fault with the handler's text of why
+/// it is none.
 ///
 /// `RuleError::Memory` is answered only where the rule does not hold.
 pub fn apply<T: PhoneNumber, H: I18n>(

@@ -18,11 +18,11 @@ pub trait Url {
     /// Ok of a URL, and else why the value is none.
     ghost answer: { Self → Result (Unit {0}) InvalidUrl };
 
-    /// Answers Ok where the text is an absolute URL, as the crate `url` parses it, and else why it is none. An option without
-    /// a value passes.
+    /// Answers Ok where the text is an absolute URL, as the crate `url` parses it, and else why it
+    /// is none. An option without a value passes.
     ///
-    /// `AllocError` is answered where there is no memory for the parts of the URL, or they come to 4 GB; it says nothing of the
-    /// text.
+    /// `AllocError` is answered where there is no memory for the parts of the URL, or they come to
+    /// 4 GB; it says nothing of the text.
     fn validate_url(&self, alloc: Global) -> Result<Result<(), InvalidUrl>, AllocError>
         ensures { IfOk result (λ given. given ≡ answer self.now) };
 }
@@ -51,9 +51,11 @@ impl<T: Url> Url for Option<T> {
     }
 }
 
-/// Answers Ok where the text is an absolute URL, and else the fault with the handler's text of why it is none.
+/// Answers Ok where the text is an absolute URL, and else the fault with the handler's text of why
+/// it is none.
 ///
-/// `RuleError::Memory` is answered where there is no memory for the parts of the URL or the fault; it says nothing of the text.
+/// `RuleError::Memory` is answered where there is no memory for the parts of the URL or the fault;
+/// it says nothing of the text.
 pub fn apply<T: Url, H: I18n>(alloc: Global, v: &T, _args: (), h: &H) -> Result<(), RuleError>
     ensures { AppliesInMemory (url_fault (T.answer v.now)) (H.text h.now) result }
 {

@@ -89,8 +89,9 @@ fn reads_ipv4(text: &str) -> bool
 
 /// Whether the text is an IPv4 address: four octets joined by `.`.
 ///
-/// An octet is 1 to 3 decimal digits with a value of at most 255, and begins with `0` only where it is `0`. This is the
-/// dotted decimal form of RFC 6943, section 3.1.1, without its octal, hexadecimal and shorter forms.
+/// An octet is 1 to 3 decimal digits with a value of at most 255, and begins with `0` only where it
+/// is `0`. This is the dotted decimal form of RFC 6943, section 3.1.1, without its octal,
+/// hexadecimal and shorter forms.
 pub fn is_ipv4(text: &str) -> bool
     ensures grammar { IsTrue result ↔ IsIpv4 text.now }
     ensures value { result ≡ is_ipv4_text text.now }

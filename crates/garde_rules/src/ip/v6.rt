@@ -182,11 +182,11 @@ fn reads_ipv6(text: &str) -> bool
     reader.may_end()
 }
 
-/// Whether the text is an IPv6 address: eight groups joined by `:`, or at most seven where one `::` stands for those that are
-/// left out. An IPv4 address may stand for the last two groups.
+/// Whether the text is an IPv6 address: eight groups joined by `:`, or at most seven where one `::`
+/// stands for those that are left out. An IPv4 address may stand for the last two groups.
 ///
-/// A group is 1 to 4 hexadecimal digits. These are the three forms of RFC 4291, section 2.2. There is no zone, no bracket and
-/// no blank, and `::` stands for at least one group.
+/// A group is 1 to 4 hexadecimal digits. These are the three forms of RFC 4291, section 2.2. There
+/// is no zone, no bracket and no blank, and `::` stands for at least one group.
 pub fn is_ipv6(text: &str) -> bool
     ensures grammar { IsTrue result ↔ IsIpv6 text.now }
     ensures value { result ≡ is_ipv6_text text.now }
