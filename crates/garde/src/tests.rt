@@ -192,12 +192,14 @@ fn each_rule_has_its_text(rt: HostRuntime) -> Result<(), Fail> {
         tag: String::from_str(alloc, "a b")?,
         address: String::from_str(alloc, "localhost")?,
         phone: None,
+        host: String::from_str(alloc, "1.2.3")?,
+        site: String::from_str(alloc, "abc")?,
         degrees: 100,
     };
     let text = told(alloc, profile.validate(alloc))?;
     assert_eq!(rt;
         text.as_str(),
-        "tag: not alphanumeric\naddress: value does not begin with \"https://\"\naddress: does not contain \".\"\naddress: does not end with \"/\"\nphone: not set\ndegrees: greater than 10\n"
+        "tag: not alphanumeric\naddress: value does not begin with \"https://\"\naddress: does not contain \".\"\naddress: does not end with \"/\"\nphone: not set\nhost: not a valid IP address\nsite: not a valid url: relative URL without a base\ndegrees: greater than 10\n"
     );
     Ok(())
 }
@@ -217,6 +219,30 @@ fn account(alloc: Global) -> Result<Account, AllocError> {
         },
         bio: String::from_str(alloc, "Short")?,
     })
+}
+
+#[test]
+fn a_person_alone(rt: HostRuntime) -> Result<(), Fail> {
+    let alloc = rt.alloc();
+    let person = Person {
+        name: String::from_str(alloc, "Jo")?,
+        age: 15,
+        phone: None,
+    };
+    let text = told(alloc, person.validate(alloc))?;
+    assert_eq!(rt;
+        text.as_str(),
+        "name: length is lower than 3\nage: lower than 18\nphone: not set\n"
+    );
+    let text = told(
+        alloc,
+        person.validate_with_i18n(alloc, &(), &Labelled("at least ")),
+    )?;
+    assert_eq!(rt;
+        text.as_str(),
+        "name: at least 3\nage: at least \nphone: at least \n"
+    );
+    Ok(())
 }
 
 #[test]

@@ -1,20 +1,25 @@
 //! A type that asks each rule that the other types leave out.
 ghost use Rattle.std.specs.Prelude.{pos, negsuc};
 ghost use Rattle.garde.specs.Words.{char_count};
-ghost use Rattle.garde.specs.Author.{codes, string_bytes, ◌and◌, field, alphanumeric, contains, prefix, suffix, required, signed_in, length_in};
+ghost use Rattle.garde_i18n.specs.declared.reasons.IpKind.TheVariants.{Any};
+ghost use Rattle.garde.specs.Author.{codes, string_bytes, ◌and◌, field, alphanumeric, contains, prefix, suffix, required, signed_in, length_in, ip, url};
 
 use crate::fields::{
-    Alphanumeric, CharLength, Contains, Field, Fields, Is, Prefix, Range, Required, Suffix,
+    Alphanumeric, CharLength, Contains, Field, Fields, Ip, Is, IsInMemory, Prefix, Range, Required,
+    Suffix, Url,
 };
+use crate::i18n::IpKind;
 use crate::{I18n, Report, Trail, Validate};
 use std::alloc::{AllocError, Global};
 
-/// A tag, an address and a temperature.
+/// A tag, an address, a host, a site and a temperature.
 #[derive(Debug, Drop)]
 pub struct Profile {
     pub tag: String,
     pub address: String,
     pub phone: Option<u32>,
+    pub host: String,
+    pub site: String,
     pub degrees: i32,
 }
 
@@ -25,6 +30,8 @@ impl Validate for Profile {
         field (codes "tag") (alphanumeric (string_bytes v.tag) and length_in 1 20 (char_count (string_bytes v.tag)))
         and field (codes "address") (prefix (codes "https://") (string_bytes v.address) and (contains (codes ".") (string_bytes v.address) and suffix (codes "/") (string_bytes v.address)))
         and field (codes "phone") (required v.phone)
+        and field (codes "host") (ip Any (string_bytes v.host))
+        and field (codes "site") (url (string_bytes v.site))
         and field (codes "degrees") (signed_in (negsuc 9) (pos 10) v.degrees) };
 
     fn validate_into<'a, H: I18n>(
@@ -44,13 +51,19 @@ impl Validate for Profile {
             ),
             Field("address", &self.address, address),
             Field("phone", &self.phone, Is(Required)),
-            Field(
-                "degrees",
-                &self.degrees,
-                Is(Range {
-                    min: Some(-10),
-                    max: Some(10),
-                }),
+            (
+                Field("host", &self.host, Is(Ip(IpKind::Any))),
+                (
+                    Field("site", &self.site, IsInMemory(Url)),
+                    Field(
+                        "degrees",
+                        &self.degrees,
+                        Is(Range {
+                            min: Some(-10),
+                            max: Some(10),
+                        }),
+                    ),
+                ),
             ),
         )
             .visit(alloc, trail, report, h)
