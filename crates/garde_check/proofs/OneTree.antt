@@ -1,15 +1,17 @@
 -- The tree of users is that of their lines.
 use Rattle.std.proofs.Common.{◌≡◌, ℕ, ◌+◌, List, [], ◌∷◌, refl, sym, ap, ◌∙◌, map}
-use Rattle.std.specs.Prelude.{◌++◌, ◌-◌, ◌^◌, min, Bool, if◌then◌else◌, Option, Some, None, string_bytes}
+use Rattle.std.specs.Prelude.{Option, Some, None, string_bytes}
 use Rattle.std.specs.List.{AllByRecursion, enumerate_from}
 use Rattle.garde.specs.Author.{codes, only, found, ◌and◌, below, items, optional}
 use Rattle.garde.specs.Trees.{TreesEach}
-use Rattle.garde.specs.Tree.{Tree, nothing, under, ◌then◌, bears, flat, nodes}
-use Rattle.garde.specs.Words.{default_text, index_part, key_part, report_text}
+use Rattle.garde.specs.Tree.{Tree, nothing, under, ◌then◌, bears}
+use Rattle.garde.specs.Words.{Entry, index_part, key_part}
 use Rattle.garde_check.specs.declared.outcome.Outcome.{Outcome}
 use Rattle.garde_check.specs.Lines.{AreTheLines}
 use Rattle.garde_check.specs.Findings.{AreFindings}
-use Rattle.garde_check.specs.Ran.{Reports, nodes_line}
+use Rattle.garde_check.specs.declared.form.Form.{Form}
+use Rattle.garde_check.specs.Form.{written}
+use Rattle.garde_check.specs.Ran.{Reports, output_of}
 use Rattle.garde_check.specs.declared.user.User.{User}
 use Rattle.garde_check.specs.User.{user_visits, named_tree}
 use Rattle.garde_check.specs.Users.{text_of, IsNamed, line_tree, lines_tree}
@@ -41,13 +43,12 @@ unfolding items
 users_one users t named is = each_one 0 users t named is
 
 -- what is found of the users of lines is what is reported of these lines
-pub lines_reported : (show_nodes : Bool) (users : List (Option User)) (bytes text output : List ℕ) (made : ℕ) (outcome : Outcome) → AreTheLines bytes (map text_of users) → AllByRecursion IsNamed users → AreFindings users outcome text made
-    → output ≡ text ++ (if show_nodes then nodes_line made else []) → Reports show_nodes bytes outcome output
-lines_reported show_nodes users bytes text output made outcome lines named (t, report, (visited, is, count), says, valid) shown =
+pub lines_reported : (form : Form) (users : List (Option User)) (bytes output : List ℕ) (report : List Entry) (made : ℕ) (outcome : Outcome) → AreTheLines bytes (map text_of users) → AllByRecursion IsNamed users → AreFindings users outcome report made
+    → output ≡ written form report made → Reports form bytes outcome output
+lines_reported form users bytes output report made outcome lines named (t, (visited, is, count), valid) shown =
     let same : t ≡ lines_tree 0 (map text_of users) = users_one users t named visited in (
       map text_of users,
       lines,
-      shown ∙ (λ i. (says ∙ ap report_text is) i ++ (if show_nodes then nodes_line (count i) else []))
-          ∙ ap (λ s. report_text (flat default_text [] s) ++ (if show_nodes then nodes_line (min (nodes s) (2 ^ 64 - 1)) else [])) same,
+      shown ∙ (λ i. written form (is i) (count i)) ∙ ap (output_of form) same,
       (λ e. sym (ap bears same) ∙ valid.0 e, λ e. valid.1 (ap bears same ∙ e)),
     )

@@ -3,5 +3,6 @@ pub mod User
 pub mod Users
 pub mod Findings
 pub mod Wrapped
+pub mod Form
 pub mod Ran
 pub mod Words

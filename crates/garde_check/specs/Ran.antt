@@ -1,32 +1,28 @@
 -- What a run leaves.
-use Rattle.std.specs.Prelude.{◌≡◌, ◌++◌, ◌-◌, ◌^◌, ℕ, List, [], Bool, true, false, Option, IfSome, Result, Ok, Err, take, ◌↔◌, min, codes, decimal, if◌then◌else◌}
+use Rattle.std.specs.Prelude.{◌≡◌, ◌-◌, ◌^◌, ℕ, List, [], Bool, true, false, Option, IfSome, Result, Ok, Err, take, ◌↔◌, min}
 use Rattle.std.specs.Str.{IsUtf8}
 use Rattle.std.specs.Io.KnownBytes.{Appends, IsAtEnd, Keeps}
-use Rattle.garde.specs.Words.{default_text, report_text}
+use Rattle.garde.specs.Words.{default_text}
 use Rattle.garde.specs.Tree.{Tree, bears, flat, nodes}
 use Rattle.garde_check.specs.declared.outcome.Outcome.{Outcome}
 use Rattle.garde_check.specs.declared.outcome.Outcome.TheVariants.{Valid}
 use Rattle.garde_check.specs.declared.outcome.RunError.{RunError}
 use Rattle.garde_check.specs.declared.outcome.RunError.TheVariants.{NotUtf8, Read, Write, Memory}
+use Rattle.garde_check.specs.declared.form.Form.{Form}
+use Rattle.garde_check.specs.Form.{written}
 use Rattle.garde_check.specs.Lines.{AreTheLines}
 use Rattle.garde_check.specs.Users.{lines_tree}
 
--- the line that tells a number of nodes
-abbrev pub nodes_line : ℕ → List ℕ
-nodes_line n = codes "nodes: " ++ (decimal n ++ codes "\n")
+-- what is written of a tree in a form: the number of its nodes is told as far as a `usize` goes
+abbrev pub output_of : Form → Tree → List ℕ
+output_of form t = written form (flat default_text [] t) (min (nodes t) (2 ^ 64 - 1))
 
--- What is written of a tree: its report, and with `show_nodes` the number of its nodes, as far as a
--- `usize` goes.
-abbrev pub output_of : Bool → Tree → List ℕ
-output_of show_nodes t =
-    report_text (flat default_text [] t)
-    ++ (if show_nodes then nodes_line (min (nodes t) (2 ^ 64 - 1)) else [])
-
--- The output for an input, and its outcome: those of the one tree of the lines of the input.
-abbrev pub Reports : Bool → List ℕ → Outcome → List ℕ → Type 0
-Reports show_nodes input outcome output =
+-- The output in a form for an input, and its outcome: those of the one tree of the lines of the
+-- input.
+abbrev pub Reports : Form → List ℕ → Outcome → List ℕ → Type 0
+Reports form input outcome output =
     (lines : List (List ℕ)) × AreTheLines input lines
-    × (output ≡ output_of show_nodes (lines_tree 0 lines))
+    × (output ≡ output_of form (lines_tree 0 lines))
     × ((outcome ≡ Valid) ↔ (bears (lines_tree 0 lines) ≡ false))
 
 -- What a run leaves. `Gives` says which outcome and output belong to an input. `input` is what the

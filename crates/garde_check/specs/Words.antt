@@ -1,7 +1,7 @@
 -- The words of a command, the status of an answer and the line of a refusal.
 use Rattle.std.specs.Prelude.{ℕ, List, [], ◌∷◌, Result, Ok, Err, codes}
 use Rattle.garde_check.specs.declared.mode.Command.{Command}
-use Rattle.garde_check.specs.declared.mode.Command.TheVariants.{Text, Nodes}
+use Rattle.garde_check.specs.declared.mode.Command.TheVariants.{Text, Nodes, Json}
 use Rattle.garde_check.specs.declared.outcome.Outcome.{Outcome}
 use Rattle.garde_check.specs.declared.outcome.Outcome.TheVariants.{Valid, Faults}
 use Rattle.garde_check.specs.declared.outcome.RunError.{RunError}
@@ -11,6 +11,7 @@ use Rattle.garde_check.specs.declared.outcome.RunError.TheVariants.{NotUtf8, Rea
 abbrev pub words_of : Command → List (List ℕ)
 words_of Text = []
 words_of Nodes = codes "--nodes" ∷ []
+words_of Json = codes "--json" ∷ []
 
 -- 0 where no fault was found, 1 where one was, 2 for every refusal
 abbrev pub status_of : Result Outcome RunError → ℕ

@@ -1,6 +1,7 @@
 //! Reads lines on standard input, each the name of a user, and reports every fault at its path.
 #![tactic(auto)]
 
+mod form;
 mod lines;
 mod mode;
 mod outcome;
@@ -12,7 +13,7 @@ mod user;
 mod words;
 
 use crate::mode::Command;
-use crate::running::run;
+use crate::running::{run, run_json};
 use crate::transfer::Plain;
 use crate::words::{command, fault_line, status};
 use std::env;
@@ -35,13 +36,13 @@ fn main(rt: HostRuntime) -> ExitCode {
         let _ = eprintln!(rt; "garde_check: wrong arguments");
         return ExitCode::from(2);
     };
-    let show_nodes = match command {
-        Command::Text => false,
-        Command::Nodes => true,
-    };
     let mut reader = Plain::new(rt.stdin());
     let mut writer = Plain::new(rt.stdout());
-    let answer = run(rt.alloc(), &mut reader, &mut writer, show_nodes);
+    let answer = match command {
+        Command::Text => run(rt.alloc(), &mut reader, &mut writer, false),
+        Command::Nodes => run(rt.alloc(), &mut reader, &mut writer, true),
+        Command::Json => run_json(rt.alloc(), &mut reader, &mut writer),
+    };
     if let Err(error) = &answer {
         let line = fault_line(error);
         let _ = eprintln!(rt; "{line}");

@@ -7,4 +7,6 @@ pub enum Command {
     Text,
     /// The same, and then a line with the number of path nodes that were made.
     Nodes,
+    /// The report of the lines is written as JSON.
+    Json,
 }

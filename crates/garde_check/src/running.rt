@@ -5,11 +5,12 @@ ghost use Rattle.std.specs.Io.KnownBytes.{Appends, IsAtEnd};
 ghost use Rattle.garde_check.specs.Findings.{AreFindings};
 ghost use Rattle.garde_check.specs.Ran.{Reports, Leaves, TakeFails, OutputFails};
 
+use crate::form::{Form, write_report};
 use crate::lines::users_of;
 use crate::outcome::{Outcome, RunError};
 use crate::transfer::{Failed, Sink, Source};
 use crate::user::User;
-use garde::{DefaultI18n, Trail, Validate, ValidateError};
+use garde::{DefaultI18n, Report, Trail, Validate, ValidateError};
 use std::alloc::{AllocError, Global};
 use std::str;
 
@@ -51,19 +52,19 @@ fn give_all<W: Sink>(writer: &mut W, bytes: &[u8]) -> Result<(), Failed>
     Ok(())
 }
 
-// What the validation of users found: the outcome, the text of the report, and the number of path
-// nodes that were made.
+// What the validation of users found: the outcome, the report, which is empty where there is no
+// fault, and the number of path nodes that were made.
 #[derive(Drop)]
 struct Findings {
     outcome: Outcome,
-    report: String,
+    report: Report,
     nodes: usize,
 }
 
 // Validates the users.
 fn validate_users(alloc: Global, users: &Vec<Option<User>>) -> Result<Findings, AllocError>
     ensures { IfOk result (λ found.
-        AreFindings users.now.items found.outcome (string_bytes found.report) found.nodes) }
+        AreFindings users.now.items found.outcome found.report found.nodes) }
 {
     let mut trail = Trail::new(alloc);
     let answer = users.validate_on(alloc, &(), &mut trail, &DefaultI18n);
@@ -71,12 +72,12 @@ fn validate_users(alloc: Global, users: &Vec<Option<User>>) -> Result<Findings, 
     match answer {
         Ok(()) => Ok(Findings {
             outcome: Outcome::Valid,
-            report: String::new(alloc),
+            report: Report::new(alloc),
             nodes,
         }),
         Err(ValidateError::Report(report)) => Ok(Findings {
             outcome: Outcome::Faults,
-            report: report.to_string(alloc)?,
+            report,
             nodes,
         }),
         Err(ValidateError::Memory) => Err(AllocError),
@@ -91,25 +92,42 @@ struct Output {
 }
 
 // Makes the whole output for an input.
-fn make_output(alloc: Global, bytes: &[u8], show_nodes: bool) -> Result<Output, RunError>
+fn make_output(alloc: Global, bytes: &[u8], form: Form) -> Result<Output, RunError>
     ensures ok { IfOk result (λ output. IsUtf8 bytes.now
-        × Reports show_nodes bytes.now output.outcome (string_bytes output.text)) }
+        × Reports form bytes.now output.outcome (string_bytes output.text)) }
     ensures err { IfErr result (OutputFails bytes.now) }
 {
     let Ok(input) = str::from_utf8(bytes) else {
         return Err(RunError::NotUtf8);
     };
     let users = users_of(alloc, input)?;
-    let findings = validate_users(alloc, &users)?;
-    let Findings {
-        outcome,
-        report: mut text,
-        nodes,
-    } = findings;
-    if show_nodes {
-        writeln!(text, "nodes: {nodes}")?;
-    }
-    Ok(Output { outcome, text })
+    let found = validate_users(alloc, &users)?;
+    let text = write_report(alloc, &found.report, found.nodes, form)?;
+    Ok(Output {
+        outcome: found.outcome,
+        text,
+    })
+}
+
+// A run whose output has this form.
+fn run_as<S: Source, W: Sink>(
+    alloc: Global,
+    reader: &mut S,
+    writer: &mut W,
+    form: Form,
+) -> Result<Outcome, RunError>
+    requires fresh_reader { S.has_failed reader.old ≡ false }
+    requires fresh_writer { W.has_failed writer.old ≡ false }
+    ensures { Leaves (Reports form) (S.remaining reader.old) (S.remaining reader.new)
+        (W.contents writer.old) (W.contents writer.new)
+        (S.has_failed reader.new) (W.has_failed writer.new) result }
+{
+    let bytes = take_all(alloc, reader)?;
+    let output = make_output(alloc, &bytes, form)?;
+    let Ok(()) = give_all(writer, output.text.as_bytes()) else {
+        return Err(RunError::Write);
+    };
+    Ok(output.outcome)
 }
 
 /// Reads the reader to its end, validates the users of its lines and writes the report. With
@@ -126,14 +144,25 @@ pub fn run<S: Source, W: Sink>(
 ) -> Result<Outcome, RunError>
     requires fresh_reader { S.has_failed reader.old ≡ false }
     requires fresh_writer { W.has_failed writer.old ≡ false }
-    ensures { Leaves (Reports show_nodes) (S.remaining reader.old) (S.remaining reader.new)
+    ensures { Leaves (Reports (Form.Text show_nodes)) (S.remaining reader.old) (S.remaining reader.new)
         (W.contents writer.old) (W.contents writer.new)
         (S.has_failed reader.new) (W.has_failed writer.new) result }
 {
-    let bytes = take_all(alloc, reader)?;
-    let output = make_output(alloc, &bytes, show_nodes)?;
-    let Ok(()) = give_all(writer, output.text.as_bytes()) else {
-        return Err(RunError::Write);
-    };
-    Ok(output.outcome)
+    run_as(alloc, reader, writer, Form::Text(show_nodes))
+}
+
+/// As `run`, but it writes the compact JSON of the report, an empty one where there is no fault, and
+/// a line feed.
+pub fn run_json<S: Source, W: Sink>(
+    alloc: Global,
+    reader: &mut S,
+    writer: &mut W,
+) -> Result<Outcome, RunError>
+    requires fresh_reader { S.has_failed reader.old ≡ false }
+    requires fresh_writer { W.has_failed writer.old ≡ false }
+    ensures { Leaves (Reports Form.Json) (S.remaining reader.old) (S.remaining reader.new)
+        (W.contents writer.old) (W.contents writer.new)
+        (S.has_failed reader.new) (W.has_failed writer.new) result }
+{
+    run_as(alloc, reader, writer, Form::Json)
 }

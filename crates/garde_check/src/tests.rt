@@ -1,6 +1,7 @@
 //! Runs over memory: what is written, and how each run ends.
 mod devices;
 mod hog;
+mod json;
 
 use crate::mode::Command;
 use crate::outcome::{Outcome, RunError};
@@ -100,11 +101,12 @@ fn words_of(alloc: Global, words: &[&str]) -> Result<Vec<String>, AllocError> {
 
 #[test]
 fn refuses_words_that_ask_for_nothing(rt: HostRuntime) -> Result<(), Fail> {
-    let rows: [(&[&str], Option<Command>); 8] = [
+    let rows: [(&[&str], Option<Command>); 9] = [
         (&[], Some(Command::Text)),
         (&["--nodes"], Some(Command::Nodes)),
-        (&["--json"], None),
+        (&["--json"], Some(Command::Json)),
         (&["json"], None),
+        (&["--json", "--nodes"], None),
         (&[""], None),
         (&["--node"], None),
         (&["--nodes", "--nodes"], None),

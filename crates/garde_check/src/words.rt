@@ -15,6 +15,7 @@ pub fn command(words: &[String]) -> Option<Command>
         [] => Some(Command::Text),
         [word] => match word.as_str() {
             "--nodes" => Some(Command::Nodes),
+            "--json" => Some(Command::Json),
             _ => None,
         },
         _ => None,
