@@ -1,4 +1,5 @@
 pub mod Holds
+pub mod Inner
 pub mod Ip
 pub mod IpText
 pub mod Ipv4Reader

@@ -7,6 +7,7 @@ mod as_str;
 pub mod ascii;
 pub mod contains;
 pub mod credit_card;
+pub mod inner;
 pub mod ip;
 pub mod matches;
 pub mod pattern;
