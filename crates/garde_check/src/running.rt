@@ -144,15 +144,16 @@ pub fn run<S: Source, W: Sink>(
 ) -> Result<Outcome, RunError>
     requires fresh_reader { S.has_failed reader.old ≡ false }
     requires fresh_writer { W.has_failed writer.old ≡ false }
-    ensures { Leaves (Reports (Form.Text show_nodes)) (S.remaining reader.old) (S.remaining reader.new)
+    ensures { Leaves (Reports (Form.Text show_nodes))
+        (S.remaining reader.old) (S.remaining reader.new)
         (W.contents writer.old) (W.contents writer.new)
         (S.has_failed reader.new) (W.has_failed writer.new) result }
 {
     run_as(alloc, reader, writer, Form::Text(show_nodes))
 }
 
-/// As `run`, but it writes the compact JSON of the report, an empty one where there is no fault, and
-/// a line feed.
+/// As `run`, but it writes the compact JSON of the report, which is empty where there is no fault,
+/// and a line feed.
 pub fn run_json<S: Source, W: Sink>(
     alloc: Global,
     reader: &mut S,
