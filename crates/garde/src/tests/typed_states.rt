@@ -98,3 +98,12 @@ fn states_are_copied_and_shown(rt: HostRuntime) -> Result<(), Fail> {
     );
     Ok(())
 }
+
+#[test]
+fn the_unit_is_valid(rt: HostRuntime) -> Result<(), Fail> {
+    let Ok(valid) = Unvalidated::new(()).validate_with(rt.alloc(), &()) else {
+        return Err("the unit is refused".into());
+    };
+    assert!(rt; valid.clone().is_ok());
+    Ok(())
+}
