@@ -11,7 +11,8 @@
 //!     .visit(alloc, trail, report, h)
 //! ```
 //!
-//! and states `visits` by the words of `garde.specs.Author` in the same shape. Such an implementation needs no proof file.
+//! and states `visits` by the words of `garde.specs.Author` in the same shape. Such an
+//! implementation needs no proof file.
 
 mod check;
 mod each;

@@ -56,8 +56,9 @@ impl<T: Validate + Drop> Unvalidated<T> {
 
     /// Validates the value under a context, with the texts of `DefaultI18n`.
     ///
-    /// `Report` is answered exactly of a value with a fault, unless memory runs out. `Memory` is answered only of a value
-    /// with a fault, of one that goes below a depth of 8, or of one whose type states that its rules take memory.
+    /// `Report` is answered exactly of a value with a fault, unless memory runs out. `Memory` is
+    /// answered only of a value with a fault, of one that goes below a depth of 8, or of one whose
+    /// type states that its rules take memory.
     pub fn validate_with(
         self,
         alloc: Global,

@@ -12,8 +12,9 @@ use std::alloc::{AllocError, Global};
 
 /// A value that can be validated.
 ///
-/// An implementation states by `visits` which faults a value has at which paths, and `validate_into` is proved to tell
-/// just these. The other calls come with it. `garde::fields` lets an author state and write both as one expression.
+/// An implementation states by `visits` which faults a value has at which paths, and
+/// `validate_into` is proved to tell just these. The other calls come with it. `garde::fields` lets
+/// an author state and write both as one expression.
 pub trait Validate {
     /// What the rules of the type may ask for, as bounds that are known only at run time.
     type Context;
@@ -21,11 +22,13 @@ pub trait Validate {
     /// What a visit of a value under a context comes by: its trees of faults.
     ghost visits: { Self → Self.Context → Visits };
 
-    /// Appends the faults of the value to the report, each at a path that begins with the components of the trail.
+    /// Appends the faults of the value to the report, each at a path that begins with the
+    /// components of the trail.
     ///
-    /// Ok is answered whether or not there are faults, and the trail keeps its components. `AllocError` is answered where
-    /// memory runs out: the report then holds what it held and a beginning of what would have been appended, and the
-    /// trail has the components that it was handed.
+    /// Ok is answered whether or not there are faults, and the trail keeps its components.
+    /// `AllocError` is answered where memory runs out: the report then holds what it held and a
+    /// beginning of what would have been appended, and the trail has the components that it was
+    /// handed.
     fn validate_into<'a, H: I18n>(
         &'a self,
         alloc: Global,
@@ -34,13 +37,15 @@ pub trait Validate {
         report: &mut Report,
         h: &H,
     ) -> Result<(), AllocError>
-        ensures { Visited (visits self.now ctx.now) (H.text h.now) trail.old trail.new report.old report.new result };
+        ensures { Visited (visits self.now ctx.now) (H.text h.now)
+            trail.old trail.new report.old report.new result };
 
     /// Validates under the default context, with the texts of `DefaultI18n`.
     final fn validate(&self, alloc: Global) -> Result<(), ValidateError>
     where
         Self::Context: Default + Drop,
-        ensures { (c : Self.Context) × Self.Context.is_default c × Answers (visits self.now c) default_text result }
+        ensures { (c : Self.Context) × Self.Context.is_default c
+            × Answers (visits self.now c) default_text result }
     {
         let ctx = Self::Context::default();
         self.validate_with(alloc, &ctx)
@@ -66,12 +71,14 @@ pub trait Validate {
         self.validate_on(alloc, ctx, &mut trail, h)
     }
 
-    /// Validates a value that stands where the trail leads, under a context, with the texts of a handler.
+    /// Validates a value that stands where the trail leads, under a context, with the texts of a
+    /// handler.
     ///
-    /// On a new trail it answers Ok exactly if the value has no fault, and else a report of every fault in the order of the
-    /// walk; `Trail::nodes` then tells how many path nodes that took: one for each component with a fault at or beneath it.
-    /// `ValidateError::Memory` is answered only of a value with a fault, of one that goes below a depth of 8, or of one
-    /// whose type states that its rules take memory.
+    /// On a new trail it answers Ok exactly if the value has no fault, and else a report of every
+    /// fault in the order of the walk; `Trail::nodes` then tells how many path nodes that took: one
+    /// for each component with a fault at or beneath it. `ValidateError::Memory` is answered only
+    /// of a value with a fault, of one that goes below a depth of 8, or of one whose type states
+    /// that its rules take memory.
     final fn validate_on<'a, H: I18n>(
         &'a self,
         alloc: Global,
@@ -79,8 +86,10 @@ pub trait Validate {
         trail: &mut Trail<'a>,
         h: &H,
     ) -> Result<(), ValidateError>
-        ensures headline { trail.old ≡ new_trace → Headline (visits self.now ctx.now) (H.text h.now) trail.new.nodes result }
-        ensures on { AnswersOn (visits self.now ctx.now) (H.text h.now) trail.old trail.new result }
+        ensures headline { trail.old ≡ new_trace
+            → Headline (visits self.now ctx.now) (H.text h.now) trail.new.nodes result }
+        ensures on { AnswersOn (visits self.now ctx.now) (H.text h.now)
+            trail.old trail.new result }
     {
         let mut report = Report::new(alloc);
         match self.validate_into(alloc, ctx, trail, &mut report, h) {

@@ -28,8 +28,8 @@ trait Items<'a> {
     /// What a visit of the items under a context comes by.
     ghost visits: { Self → Self.Context → Visits };
 
-    /// Appends the faults of the items to the report, under the terms of `Validate::validate_into`. The tuple is passed for
-    /// its lifetime: the items live as long as it.
+    /// Appends the faults of the items to the report, under the terms of `Validate::validate_into`.
+    /// The tuple is passed for its lifetime: the items live as long as it.
     fn visit<W, H: I18n>(
         &self,
         alloc: Global,

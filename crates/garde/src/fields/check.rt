@@ -17,7 +17,8 @@ pub trait Check<'a, T> {
 
     /// Appends the faults that the check finds to the report.
     ///
-    /// `AllocError` is answered where memory runs out, under the terms of `Validate::validate_into`.
+    /// `AllocError` is answered where memory runs out, under the terms of
+    /// `Validate::validate_into`.
     fn check<H: I18n>(
         &self,
         alloc: Global,
@@ -26,7 +27,8 @@ pub trait Check<'a, T> {
         report: &mut Report,
         h: &H,
     ) -> Result<(), AllocError>
-        ensures { Visited (visits self.now value.now) (H.text h.now) trail.old trail.new report.old report.new result };
+        ensures { Visited (visits self.now value.now) (H.text h.now)
+            trail.old trail.new report.old report.new result };
 }
 
 /// The check that a rule holds of the value.
@@ -103,7 +105,8 @@ impl<'a, T, A: Check<'a, T>, B: Check<'a, T>> Check<'a, T> for (A, B) {
     }
 }
 
-/// Checks a value that stands beneath a component: the component is pushed, the value checked, the component popped.
+/// Checks a value that stands beneath a component: the component is pushed, the value checked, the
+/// component popped.
 ///
 /// `AllocError` is answered where memory runs out, under the terms of `Validate::validate_into`.
 pub fn check_under<'a, T, C: Check<'a, T>, H: I18n>(
@@ -115,8 +118,8 @@ pub fn check_under<'a, T, C: Check<'a, T>, H: I18n>(
     report: &mut Report,
     h: &H,
 ) -> Result<(), AllocError>
-    ensures { Visited (below (part_of component.entry) (C.visits check.now value.now)) (H.text h.now)
-        trail.old trail.new report.old report.new result }
+    ensures { Visited (below (part_of component.entry) (C.visits check.now value.now))
+        (H.text h.now) trail.old trail.new report.old report.new result }
 {
     trail.push(component)?;
     let checked = check.check(alloc, value, trail, report, h);

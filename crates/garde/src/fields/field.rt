@@ -7,15 +7,16 @@ use garde_i18n::I18n;
 use garde_report::{Component, Report, Trail};
 use std::alloc::{AllocError, Global};
 
-/// Fields that are checked in turn, each under its name. It is implemented for one `Field`, for tuples of fields and for
-/// `()`, which checks nothing.
+/// Fields that are checked in turn, each under its name. It is implemented for one `Field`, for
+/// tuples of fields and for `()`, which checks nothing.
 pub trait Fields<'a> {
     /// What a visit of the fields comes by.
     ghost visits: { Self → Visits };
 
     /// Appends the faults of the fields to the report.
     ///
-    /// `AllocError` is answered where memory runs out, under the terms of `Validate::validate_into`.
+    /// `AllocError` is answered where memory runs out, under the terms of
+    /// `Validate::validate_into`.
     fn visit<H: I18n>(
         &self,
         alloc: Global,
@@ -23,7 +24,8 @@ pub trait Fields<'a> {
         report: &mut Report,
         h: &H,
     ) -> Result<(), AllocError>
-        ensures { Visited (visits self.now) (H.text h.now) trail.old trail.new report.old report.new result };
+        ensures { Visited (visits self.now) (H.text h.now)
+            trail.old trail.new report.old report.new result };
 }
 
 /// A field: its name, its value, and what is checked of it.
@@ -110,7 +112,8 @@ impl<'a, A: Fields<'a>, B: Fields<'a>, C: Fields<'a>> Fields<'a> for (A, B, C) {
 }
 
 impl<'a, A: Fields<'a>, B: Fields<'a>, C: Fields<'a>, D: Fields<'a>> Fields<'a> for (A, B, C, D) {
-    ghost visits = { λ fields. A.visits fields.0 and B.visits fields.1 and C.visits fields.2 and D.visits fields.3 };
+    ghost visits = { λ fields.
+        A.visits fields.0 and B.visits fields.1 and C.visits fields.2 and D.visits fields.3 };
 
     fn visit<H: I18n>(
         &self,
