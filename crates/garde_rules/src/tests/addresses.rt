@@ -6,10 +6,10 @@ use std::test::Fail;
 
 /// Texts, each with the version of the address that it is, or `-` where it is none.
 ///
-/// They are made from the text forms of RFC 4291, section 2.2, with its examples and those of
-/// section 2.3: every place of `::`, with an IPv4 address at the end and without, groups of 1 to 5
-/// digits, either case; and from what RFC 6943, sections 3.1.1 and 3.1.2, says of forms that other
-/// programs take: leading zeros, octal and hexadecimal parts, missing parts, zones and brackets.
+/// They are made from the text forms and the examples of RFC 4291, sections 2.2 and 2.3: every
+/// place of `::`, with an IPv4 address at the end and without, groups of 1 to 5 digits, either
+/// case; and from what RFC 6943, sections 3.1.1 and 3.1.2, says of forms that other programs take:
+/// leading zeros, octal and hexadecimal parts, missing parts, zones and brackets.
 static ADDRESSES: [(char, &str); 253] = [
     ('4', "0.0.0.0"),
     ('4', "255.255.255.255"),
