@@ -6,20 +6,17 @@ mod handlers;
 mod hog;
 mod item;
 mod long;
-mod nested;
 mod profile;
 mod signup;
 mod span;
 mod typed_states;
 mod user;
 
-use crate::rules::pattern::regex::Regex;
 use crate::tests::contact::Contact;
 use crate::tests::couple::Couple;
 use crate::tests::handlers::{Labelled, Silent};
 use crate::tests::item::{Identifier, Item};
 use crate::tests::long::Long;
-use crate::tests::nested::{Account, Home, Person};
 use crate::tests::profile::Profile;
 use crate::tests::signup::{Address, Limits, Signup};
 use crate::tests::user::User;
@@ -200,69 +197,6 @@ fn each_rule_has_its_text(rt: HostRuntime) -> Result<(), Fail> {
     assert_eq!(rt;
         text.as_str(),
         "tag: not alphanumeric\naddress: value does not begin with \"https://\"\naddress: does not contain \".\"\naddress: does not end with \"/\"\nphone: not set\nhost: not a valid IP address\nsite: not a valid url: relative URL without a base\ndegrees: greater than 10\n"
-    );
-    Ok(())
-}
-
-/// A person of 200 years without a phone, whose texts are too short.
-fn account(alloc: Global) -> Result<Account, AllocError> {
-    Ok(Account {
-        user: Person {
-            name: String::from_str(alloc, "A")?,
-            age: 200,
-            phone: None,
-        },
-        address: Home {
-            street: String::from_str(alloc, "St")?,
-            city: String::from_str(alloc, "X")?,
-            zip_code: String::from_str(alloc, "123")?,
-        },
-        bio: String::from_str(alloc, "Short")?,
-    })
-}
-
-#[test]
-fn a_person_alone(rt: HostRuntime) -> Result<(), Fail> {
-    let alloc = rt.alloc();
-    let person = Person {
-        name: String::from_str(alloc, "Jo")?,
-        age: 15,
-        phone: None,
-    };
-    let text = told(alloc, person.validate(alloc))?;
-    assert_eq!(rt;
-        text.as_str(),
-        "name: length is lower than 3\nage: lower than 18\nphone: not set\n"
-    );
-    let text = told(
-        alloc,
-        person.validate_with_i18n(alloc, &(), &Labelled("at least ")),
-    )?;
-    assert_eq!(rt;
-        text.as_str(),
-        "name: at least 3\nage: at least \nphone: at least \n"
-    );
-    Ok(())
-}
-
-#[test]
-fn each_part_in_its_order(rt: HostRuntime) -> Result<(), Fail> {
-    let alloc = rt.alloc();
-    let account = account(alloc)?;
-    let Ok(code) = Regex::new(alloc, "^[0-9]{5}$") else {
-        return Err("the pattern is refused".into());
-    };
-    let mut trail = Trail::new(alloc);
-    let answer = account.validate_on(alloc, &code, &mut trail, &DefaultI18n);
-    assert_eq!(rt;
-        told(alloc, answer)?.as_str(),
-        "user.name: length is lower than 3\nuser.age: greater than 120\nuser.phone: not set\naddress.street: length is lower than 5\naddress.city: length is lower than 2\naddress.zip_code: does not match pattern /^[0-9]{5}$/\nbio: length is lower than 10\n"
-    );
-    assert_eq!(rt; trail.nodes(), 9);
-    let answer = account.validate_with_i18n(alloc, &code, &Labelled("at least "));
-    assert_eq!(rt;
-        told(alloc, answer)?.as_str(),
-        "user.name: at least 3\nuser.age: at least \nuser.phone: at least \naddress.street: at least 5\naddress.city: at least 2\naddress.zip_code: at least \nbio: at least 10\n"
     );
     Ok(())
 }

@@ -1,5 +1,4 @@
 //! Tests of handlers: each asks a handler, and a reference to it, for a table of texts.
-mod custom;
 mod czech;
 mod reasons;
 mod scope;

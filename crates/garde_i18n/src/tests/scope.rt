@@ -3,9 +3,8 @@ ghost use Rattle.std.specs.Prelude.{◌≡◌, IfOk};
 ghost use Rattle.std.specs.Cow.{cow_str_bytes};
 ghost use Rattle.garde_i18n.specs.Datum.{length_lower};
 
-use super::custom::Custom;
 use super::czech::Czech;
-use crate::{I18n, with_i18n};
+use crate::{DefaultI18n, I18n, with_i18n};
 use std::alloc::{AllocError, Global};
 use std::borrow::CowStr;
 use std::test::Fail;
@@ -32,7 +31,7 @@ fn hands_on_the_handler(rt: HostRuntime) -> Result<(), Fail> {
         length_text_under(alloc, &Czech, 1)?.as_str(),
         "délka je menší než 1 znak"
     );
-    let inner = with_i18n(Czech, |_| length_text_under(alloc, Custom, 3))?;
-    assert_eq!(rt; inner.as_str(), "custom: too short, need at least 3");
+    let inner = with_i18n(Czech, |_| length_text_under(alloc, DefaultI18n, 3))?;
+    assert_eq!(rt; inner.as_str(), "length is lower than 3");
     Ok(())
 }

@@ -2,9 +2,9 @@
 ghost use Rattle.std.specs.Prelude.{◌-◌, ◌^◌};
 ghost use Rattle.garde.specs.Author.{codes, length, string_bytes, ◌and◌, field, length_in, unsigned_in, required, pattern};
 
-use crate::fields::{Dive, Field, Fields, Is, IsInMemory, Length, Pattern, Range, Required};
-use crate::rules::pattern::regex::Regex;
-use crate::{I18n, Report, Trail, Validate};
+use garde::fields::{Dive, Field, Fields, Is, IsInMemory, Length, Pattern, Range, Required};
+use garde::rules::pattern::regex::Regex;
+use garde::{I18n, Report, Trail, Validate};
 use std::alloc::{AllocError, Global};
 
 /// A person.

@@ -4,11 +4,11 @@ ghost use Rattle.std.specs.Fmt.{decimal};
 ghost use Rattle.garde_i18n.specs.Datum as datum;
 ghost use Rattle.garde_i18n.specs.Reasons.{card_name, url_name, phone_name, ip_kind_text};
 
-use super::{Asked, assert_answers};
-use crate::{I18n, InvalidCreditCard, InvalidPhoneNumber, InvalidUrl, IpKind};
+use garde::I18n;
+use garde::i18n::{InvalidCreditCard, InvalidPhoneNumber, InvalidUrl, IpKind};
 use std::alloc::{AllocError, Global};
 use std::borrow::CowStr;
-use std::test::Fail;
+use std::process::Abort;
 
 /// A handler whose texts all begin with `custom: `.
 #[derive(Drop)]
@@ -128,54 +128,98 @@ impl I18n for Custom {
     }
 }
 
+// Asserts what a handler said.
+fn assert_says(rt: &impl Abort, said: Result<CowStr<'static>, AllocError>, text: &str) {
+    let same = match &said {
+        Ok(said) => said.as_str() == text,
+        Err(AllocError) => false,
+    };
+    assert!(rt; same, "at {text}");
+}
+
+// Asserts the texts of bounds, cards, patterns, URLs and parts of texts.
+fn assert_says_of_texts<H: I18n>(rt: &impl Abort, alloc: Global, h: &H) {
+    assert_says(
+        rt,
+        h.length_lower_than(alloc, 3),
+        "custom: too short, need at least 3",
+    );
+    assert_says(
+        rt,
+        h.length_greater_than(alloc, 20),
+        "custom: too long, maximum is 20",
+    );
+    assert_says(
+        rt,
+        h.range_lower_than(alloc, "1"),
+        "custom: value too small, minimum is 1",
+    );
+    assert_says(
+        rt,
+        h.range_greater_than(alloc, "99"),
+        "custom: value too large, maximum is 99",
+    );
+    let card = h.credit_card_invalid(alloc, InvalidCreditCard::InvalidLength);
+    assert_says(rt, card, "custom: invalid credit card - InvalidLength");
+    assert_says(
+        rt,
+        h.pattern_no_match(alloc, "[a-z]+"),
+        "custom: doesn't match /[a-z]+/",
+    );
+    assert_says(
+        rt,
+        h.contains_missing(alloc, "hello"),
+        "custom: missing required text 'hello'",
+    );
+    let url = h.url_invalid(alloc, InvalidUrl::Overflow);
+    assert_says(rt, url, "custom: bad URL - Overflow");
+    assert_says(
+        rt,
+        h.prefix_missing(alloc, "www."),
+        "custom: must start with 'www.'",
+    );
+    assert_says(
+        rt,
+        h.suffix_missing(alloc, ".org"),
+        "custom: must end with '.org'",
+    );
+}
+
+// Asserts the other texts.
+fn assert_says_of_others<H: I18n>(rt: &impl Abort, alloc: Global, h: &H) {
+    let phone = h.phone_number_invalid(alloc, InvalidPhoneNumber::Invalid);
+    assert_says(rt, phone, "custom: phone number error - Invalid");
+    let phone = h.phone_number_invalid(alloc, InvalidPhoneNumber::TooShortNsn);
+    assert_says(rt, phone, "custom: phone number error - TooShortNsn");
+    assert_says(
+        rt,
+        h.ip_invalid(alloc, IpKind::V6),
+        "custom: not a valid IPv6 IP",
+    );
+    let field = h.matches_field_mismatch(alloc, "confirm_password");
+    assert_says(rt, field, "custom: must match confirm_password");
+    assert_says(
+        rt,
+        h.ascii_invalid(alloc),
+        "custom: contains non-ASCII characters",
+    );
+    let letters = h.alphanumeric_invalid(alloc);
+    assert_says(rt, letters, "custom: only letters and numbers allowed");
+    assert_says(
+        rt,
+        h.required_not_set(alloc),
+        "custom: this field is required",
+    );
+}
+
 #[test]
-fn answers_custom_texts(rt: HostRuntime) -> Result<(), Fail> {
-    let rows = [
-        (Asked::LengthLower(3), "custom: too short, need at least 3"),
-        (Asked::LengthGreater(20), "custom: too long, maximum is 20"),
-        (
-            Asked::RangeLower("1"),
-            "custom: value too small, minimum is 1",
-        ),
-        (
-            Asked::RangeGreater("99"),
-            "custom: value too large, maximum is 99",
-        ),
-        (
-            Asked::Card(InvalidCreditCard::InvalidLength),
-            "custom: invalid credit card - InvalidLength",
-        ),
-        (Asked::Pattern("[a-z]+"), "custom: doesn't match /[a-z]+/"),
-        (
-            Asked::Contains("hello"),
-            "custom: missing required text 'hello'",
-        ),
-        (
-            Asked::Url(InvalidUrl::Overflow),
-            "custom: bad URL - Overflow",
-        ),
-        (Asked::Prefix("www."), "custom: must start with 'www.'"),
-        (Asked::Suffix(".org"), "custom: must end with '.org'"),
-        (
-            Asked::Phone(InvalidPhoneNumber::Invalid),
-            "custom: phone number error - Invalid",
-        ),
-        (
-            Asked::Phone(InvalidPhoneNumber::TooShortNsn),
-            "custom: phone number error - TooShortNsn",
-        ),
-        (Asked::Ip(IpKind::V6), "custom: not a valid IPv6 IP"),
-        (
-            Asked::Matches("confirm_password"),
-            "custom: must match confirm_password",
-        ),
-        (Asked::NotAscii, "custom: contains non-ASCII characters"),
-        (
-            Asked::NotAlphanumeric,
-            "custom: only letters and numbers allowed",
-        ),
-        (Asked::NotSet, "custom: this field is required"),
-    ];
-    assert_answers(&rt, rt.alloc(), &Custom, &rows)?;
-    Ok(())
+fn says_its_own_texts(rt: HostRuntime) {
+    assert_says_of_texts(&rt, rt.alloc(), &Custom);
+    assert_says_of_others(&rt, rt.alloc(), &Custom);
+}
+
+#[test]
+fn says_them_through_a_reference(rt: HostRuntime) {
+    assert_says_of_texts(&rt, rt.alloc(), &&Custom);
+    assert_says_of_others(&rt, rt.alloc(), &&Custom);
 }

@@ -1,0 +1,9 @@
+//! What tests of more than one crate share. Its own tests are those that need several crates:
+//! memory that runs out, hostile values, and handlers of an author's own.
+#![tactic(auto)]
+
+mod hog;
+#[cfg(test)]
+mod tests;
+
+pub use hog::Hog;

@@ -1,0 +1,13 @@
+//! Tests that need several crates.
+mod custom;
+mod hostile;
+mod nested;
+mod paths;
+mod people;
+mod refusals;
+mod reports;
+mod rules;
+mod scarce;
+mod texts;
+mod user;
+mod walks;

@@ -1,0 +1,97 @@
+//! Walks of users, also of nests of lists, where memory runs out.
+
+use super::reports::{report_of, tells};
+use super::scarce::{Met, Scarce};
+use super::user::User;
+use garde::{
+    Component, DefaultI18n, IntoValidError, Report, Trail, Unvalidated, Validate, ValidateError,
+};
+use std::alloc::{AllocError, Global};
+
+/// One user of this name.
+pub fn user(alloc: Global, name: &str) -> Result<User, AllocError> {
+    Ok(User {
+        username: String::from_str(alloc, name)?,
+    })
+}
+
+const FAULTS: &[&str] = &["old", "not ascii", "length is lower than 3"];
+
+// Whether a report has the first of the faults, and after it none or some of the others in turn.
+fn begins(report: &Report) -> bool {
+    (1..4usize).any(|count| tells(report, &FAULTS[..count]))
+}
+
+pub fn on_users(alloc: Global, memory: &mut Scarce) -> Result<Met, AllocError> {
+    let users = vec![in alloc; Some(user(alloc, "é")?)]?;
+    let mut report = report_of(alloc, &FAULTS[..1])?;
+    let mut trail = Trail::new(alloc);
+    trail.push(Component::key("users"))?;
+    memory.begin();
+    let answer = users.validate_into(alloc, &(), &mut trail, &mut report, &DefaultI18n);
+    memory.end();
+    let mut again = Report::new(alloc);
+    users.validate_into(alloc, &(), &mut trail, &mut again, &DefaultI18n)?;
+    let stands = trail.depth() == 1 && tells(&again, &FAULTS[1..]);
+    let text = again.to_string(alloc)?;
+    let same_place = text.as_str()
+        == "users[0].username: not ascii\nusers[0].username: length is lower than 3\n";
+    Ok(match answer {
+        Ok(()) if stands && same_place && tells(&report, FAULTS) => Met::Ample,
+        Err(AllocError) if stands && same_place && begins(&report) => Met::Want,
+        _ => Met::Wrong,
+    })
+}
+
+// Lists in lists, four deep.
+type Four<T> = Vec<Vec<Vec<Vec<T>>>>;
+
+// The list of one value.
+fn one<T: Drop>(alloc: Global, value: T) -> Result<Vec<T>, AllocError> {
+    let mut list = Vec::new(alloc);
+    match list.push(value) {
+        Ok(()) => Ok(list),
+        Err(_) => Err(AllocError),
+    }
+}
+
+/// A value in lists, four deep.
+pub fn four<T: Drop>(alloc: Global, value: T) -> Result<Four<T>, AllocError> {
+    one(alloc, one(alloc, one(alloc, one(alloc, value)?)?)?)
+}
+
+const NESTED: &str = "[0][0][0][0][0][0][0][0][0][0][0][0].username: length is lower than 3\n";
+
+pub fn nest(alloc: Global, memory: &mut Scarce) -> Result<Met, AllocError> {
+    let lists = four(alloc, four(alloc, four(alloc, user(alloc, "ab")?)?)?)?;
+    let mut trail = Trail::new(alloc);
+    memory.begin();
+    let answer = lists.validate_on(alloc, &(), &mut trail, &DefaultI18n);
+    memory.end();
+    let stands = trail.depth() == 0;
+    match answer {
+        Err(ValidateError::Report(report)) => {
+            let text = report.to_string(alloc)?;
+            let told = text.as_str() == NESTED && trail.nodes() == 13;
+            Ok(Met::Ample.when(stands && told))
+        }
+        Err(ValidateError::Memory) => Ok(Met::Want.when(stands)),
+        Ok(()) => Ok(Met::Wrong),
+    }
+}
+
+pub fn typed(alloc: Global, memory: &mut Scarce) -> Result<Met, AllocError> {
+    let users = Unvalidated::new(vec![in alloc; Some(user(alloc, "é")?)]?);
+    memory.begin();
+    let answer = users.validate(alloc);
+    memory.end();
+    match answer {
+        Err(IntoValidError::Report(report)) => Ok(Met::Ample.when(tells(&report, &FAULTS[1..]))),
+        Err(IntoValidError::Memory(back)) => {
+            let shown = format!(in alloc; "{back:?}")?;
+            let same = shown.as_str() == "[Some(User { username: \"é\" })]";
+            Ok(Met::Want.when(same))
+        }
+        Ok(_) => Ok(Met::Wrong),
+    }
+}
