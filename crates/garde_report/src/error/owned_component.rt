@@ -1,59 +1,92 @@
 //! A component as a path keeps it.
 ghost use Rattle.std.specs.Prelude.{◌≡◌, Some, IfOk, refl};
 ghost use Rattle.std.specs.Cmp.{partial_equiv_from_equiv, partial_order_from_agreeing_total};
-ghost use Rattle.garde_report.specs.Part.{part_of};
+ghost use Rattle.garde_report.specs.Part.{part, part_of};
+ghost use Rattle.garde_report.specs.Stored.{stored_part};
 ghost use Rattle.garde_report.specs.PartOrder.{part_cmp, part_eq, part_writes};
 ghost use Rattle.garde_report.specs.PartOrder.{part_eq-equiv, part_cmp-total, part_cmp-ties};
 ghost use Rattle.garde_report.specs.PartOrder.{part_writes-alike};
 
 use super::component::{Component, Kind};
+use crate::short::Short;
 use std::alloc::{AllocError, Global};
 use std::cmp::Ordering;
 use std::fmt;
 use std::hash::{Hash, Hasher};
 use std::marker::Model;
 
-/// A component with a text of its own.
+/// The most bytes of a text that lies in the component itself.
+const SHORT: usize = 22;
+
+/// A component with a text of its own. Of up to 22 bytes it takes no memory.
 #[derive(Drop)]
 pub(super) struct OwnedComponent {
-    kind: Kind,
-    name: String,
+    stored: Stored,
+}
+
+// A short text stands with its kind in the tag, so that the whole has 24 bytes.
+#[derive(Drop)]
+enum Stored {
+    Unnamed(Short<SHORT>),
+    Field(Short<SHORT>),
+    Place(Short<SHORT>),
+    Long(Kind, Box<String>),
 }
 
 impl Model for OwnedComponent {
-    ghost use Rattle.std.specs.String.{string_bytes};
-    ghost use Rattle.garde_report.specs.Part.{Part, part};
+    ghost use Rattle.garde_report.specs.Part.{Part};
+    ghost use Rattle.garde_report.specs.Stored.{stored_part};
 
     ghost Value = { Part };
 
-    ghost view = { λ a. part a.kind (string_bytes a.name) };
+    ghost view = { λ a. stored_part a.stored };
 }
 
 impl OwnedComponent {
     pub(super) fn new(alloc: Global, component: Component<'_>) -> Result<OwnedComponent, AllocError>
         ensures { IfOk result (λ owned. owned ≡ part_of component.entry) }
     {
-        let name = match component {
-            Component::Text(_, text) => String::from_str(alloc, text)?,
-            Component::Number(number) => format!(in alloc; "{number}")?,
+        let stored = match component {
+            Component::Text(kind, text) => store(alloc, kind, text)?,
+            Component::Number(number) => Stored::Place(Short::decimal(number)),
         };
-        Ok(OwnedComponent {
-            kind: component.kind(),
-            name,
-        })
+        Ok(OwnedComponent { stored })
     }
 
     pub(super) fn kind(&self) -> Kind
         ensures { result ≡ self.now.kind }
     {
-        self.kind
+        match &self.stored {
+            Stored::Unnamed(_) => Kind::None,
+            Stored::Field(_) => Kind::Key,
+            Stored::Place(_) => Kind::Index,
+            Stored::Long(kind, _) => *kind,
+        }
     }
 
     pub(super) fn text(&self) -> &str
         ensures { result.now ≡ self.now.text }
     {
-        self.name.as_str()
+        match &self.stored {
+            Stored::Unnamed(text) | Stored::Field(text) | Stored::Place(text) => text.as_str(),
+            Stored::Long(_, text) => text.as_str(),
+        }
     }
+}
+
+// A copy of a text, with its kind.
+fn store(alloc: Global, kind: Kind, text: &str) -> Result<Stored, AllocError>
+    ensures { IfOk result (λ stored. stored_part stored ≡ part kind text.now) }
+{
+    let Some(short) = Short::of(text) else {
+        let text = String::from_str(alloc, text)?;
+        return Ok(Stored::Long(kind, Box::new(alloc, text)?));
+    };
+    Ok(match kind {
+        Kind::None => Stored::Unnamed(short),
+        Kind::Key => Stored::Field(short),
+        Kind::Index => Stored::Place(short),
+    })
 }
 
 impl PartialEq for OwnedComponent {
@@ -62,7 +95,7 @@ impl PartialEq for OwnedComponent {
     ghost laws = { partial_equiv_from_equiv part_eq-equiv };
 
     fn eq(&self, other: &OwnedComponent) -> bool {
-        self.kind == other.kind && self.name == other.name
+        self.kind() == other.kind() && self.text() == other.text()
     }
 }
 
@@ -81,7 +114,7 @@ impl Ord for OwnedComponent {
     ghost matches_eq = { part_cmp-ties };
 
     fn cmp(&self, other: &OwnedComponent) -> Ordering {
-        self.kind.cmp(&other.kind).then(self.name.cmp(&other.name))
+        self.kind().cmp(&other.kind()).then(self.text().cmp(other.text()))
     }
 }
 
@@ -102,13 +135,13 @@ impl Hash for OwnedComponent {
     ghost respects_eq = { part_writes-alike };
 
     fn hash<H: Hasher>(&self, state: &mut H) {
-        self.kind.hash(state);
-        self.name.hash(state);
+        self.kind().hash(state);
+        self.text().hash(state);
     }
 }
 
 impl fmt::Debug for OwnedComponent {
     fn fmt<W: fmt::Write>(&self, f: &mut fmt::Formatter<W>) -> fmt::Result {
-        write!(f, "{:?}", (self.kind, self.text()))
+        write!(f, "{:?}", (self.kind(), self.text()))
     }
 }
