@@ -6,7 +6,7 @@ ghost use Rattle.garde_report.specs.Path.{path_text, root_text, part_text};
 
 use super::component::Kind;
 use super::owned_component::OwnedComponent;
-use crate::rc_list::List;
+use crate::rc_list::{Front, List};
 use std::fmt;
 
 // Writes the text of a path with these components.
@@ -20,13 +20,13 @@ pub(super) fn write_path<W: fmt::Write>(
         return Ok(());
     };
     write_root(root, f)?;
-    write_from(components, 1, f)
+    write_from(&components.front(), 1, f)
 }
 
 // Writes the components from `from` on, each as below another one. It goes down by halves, so
 // that a long path needs little of the stack, and takes no memory.
 fn write_from<W: fmt::Write>(
-    components: &List<OwnedComponent>,
+    components: &Front<'_, OwnedComponent>,
     from: usize,
     f: &mut fmt::Formatter<W>,
 ) -> fmt::Result
@@ -44,7 +44,7 @@ fn write_from<W: fmt::Write>(
         };
     }
     let middle = from + (len - from) / 2;
-    write_from(components.first(middle), from, f)?;
+    write_from(&components.first(middle), from, f)?;
     write_from(components, middle, f)
 }
 

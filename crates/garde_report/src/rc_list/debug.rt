@@ -1,14 +1,14 @@
 //! What a list prints for debugging.
 ghost use Rattle.std.specs.Prelude.{◌-◌, length};
 
-use super::List;
+use super::{Front, List};
 use std::fmt;
 
 /// The items from the first to the last.
 impl<T: fmt::Debug> fmt::Debug for List<T> {
     fn fmt<W: fmt::Write>(&self, f: &mut fmt::Formatter<W>) -> fmt::Result {
         let mut items = f.debug_list();
-        show_from(self, 0, &mut items);
+        show_from(&self.front(), 0, &mut items);
         items.finish()
     }
 }
@@ -16,7 +16,7 @@ impl<T: fmt::Debug> fmt::Debug for List<T> {
 // Shows the items from `from` on. It goes down by halves, so that a long list needs little of the
 // stack, and takes no memory.
 fn show_from<T: fmt::Debug, W: fmt::Write>(
-    list: &List<T>,
+    list: &Front<'_, T>,
     from: usize,
     items: &mut fmt::DebugList<'_, W>,
 ) {
@@ -31,6 +31,6 @@ fn show_from<T: fmt::Debug, W: fmt::Write>(
         return;
     }
     let middle = from + (len - from) / 2;
-    show_from(list.first(middle), from, items);
+    show_from(&list.first(middle), from, items);
     show_from(list, middle, items);
 }

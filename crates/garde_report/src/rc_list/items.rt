@@ -3,13 +3,13 @@ ghost use Rattle.std.specs.Prelude.{◌≡◌, length, reverse, IfSome};
 ghost use Rattle.std.specs.Iterator.SizeHint.{IsWithinCount, IsExactHint};
 ghost use Rattle.std.specs.Iterator.{UpTo, YieldsFirstRef, item_count};
 
-use super::List;
+use super::front::Front;
 use std::marker::Model;
 
 /// The items of a list, from the last to the first. A contract sees the list of those that are left.
 #[derive(Drop)]
 pub struct Iter<'a, T> {
-    rest: &'a List<T>,
+    rest: Front<'a, T>,
 }
 
 impl<'a, T> Model for Iter<'a, T> {
@@ -17,12 +17,12 @@ impl<'a, T> Model for Iter<'a, T> {
 
     ghost Value = { Items T };
 
-    ghost view = { λ it. reverse it.rest.now };
+    ghost view = { λ it. reverse it.rest };
 }
 
 impl<'a, T> Iter<'a, T> {
-    pub(super) fn new(rest: &'a List<T>) -> Self
-        ensures { result ≡ reverse rest.now }
+    pub(super) fn new(rest: Front<'a, T>) -> Self
+        ensures { result ≡ reverse rest.entry }
     {
         Iter { rest }
     }
@@ -36,10 +36,8 @@ impl<'a, T> Iterator for Iter<'a, T> {
     ghost remaining = { item_count (λ rest. rest) };
 
     fn next(&mut self) -> Option<&'a T> {
-        let list = self.rest;
-        let node = list.last.as_ref()?;
-        self.rest = &node.before;
-        Some(&node.value)
+        let last = self.rest.pop_last()?;
+        Some(last)
     }
 
     fn size_hint(&self) -> (usize, Option<usize>)
