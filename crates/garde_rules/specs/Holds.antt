@@ -11,3 +11,7 @@ unless holds datum = if holds then None else Some (rule datum)
 abbrev pub passes_option : {T : Type 0} → (T → Bool) → Option T → Bool
 passes_option passes None = true
 passes_option passes (Some value) = passes value
+
+-- what a rule found, which is asked only where a condition holds
+abbrev pub provided : Bool → Option Fault → Option Fault
+provided cond found = if cond then found else None

@@ -2,9 +2,11 @@
 //! hold.
 #![tactic(auto)]
 
+mod adapter;
 pub mod alphanumeric;
 mod as_str;
 pub mod ascii;
+mod condition;
 pub mod contains;
 pub mod credit_card;
 pub mod inner;
@@ -21,5 +23,7 @@ mod tests;
 pub mod url;
 pub mod values;
 
+pub use adapter::adapt;
 pub use as_str::AsStr;
+pub use condition::when;
 pub use garde_lengths::{Rule, length};

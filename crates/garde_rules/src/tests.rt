@@ -1,6 +1,7 @@
 //! Tests of the rules: each holds the answers on a table of values against texts that are written
 //! out.
 mod addresses;
+mod conditions;
 mod inner;
 mod numbers;
 mod options;

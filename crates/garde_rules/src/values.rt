@@ -1,5 +1,5 @@
 //! The rules as values, each named as the attribute of the Rust crate's derive that asks for it.
-ghost use Rattle.std.specs.Prelude.{Option, unwrap_or};
+ghost use Rattle.std.specs.Prelude.{◌≡◌, Option, unwrap_or};
 ghost use Rattle.garde_i18n.specs.Datum as datum;
 ghost use Rattle.garde_rules.specs.Holds.{unless};
 ghost use Rattle.garde_rules.specs.Memory.{AppliesInMemory};
@@ -10,7 +10,7 @@ ghost use Rattle.garde_lengths.specs.Applies.{Fault};
 use crate::ip::IpKind;
 use crate::pattern::Matcher;
 use crate::{
-    alphanumeric, ascii, contains, credit_card, ip, matches, pattern, phone_number, prefix, range,
+    adapt, alphanumeric, ascii, contains, credit_card, ip, matches, pattern, phone_number, prefix, range,
     required, suffix, url,
 };
 use garde_i18n::I18n;
@@ -168,6 +168,35 @@ impl<T: phone_number::PhoneNumber> Rule<T> for PhoneNumber {
     }
 }
 
+/// A view of a `T` as a value of another type, of which a rule can be asked.
+pub trait View<T> {
+    /// The type of the value that is seen.
+    type Seen;
+
+    /// The value that is seen.
+    ghost seen: { Self → T → Self.Seen };
+
+    /// Answers the value that is seen.
+    fn see<'v>(&self, value: &'v T) -> &'v Self::Seen
+        ensures { result.now ≡ seen self.now value.now };
+}
+
+/// The rule as a value: this rule holds of this view of the value.
+#[derive(Clone, Copy, Debug)]
+pub struct Adapt<V, R>(pub V, pub R);
+
+impl<T, V: View<T>, R: Rule<V::Seen>> Rule<T> for Adapt<V, R> {
+    ghost finds = { λ rule v. R.finds rule.1 (V.seen rule.0 v) };
+
+    fn find<H: I18n>(&self, alloc: Global, value: &T, h: &H) -> Result<(), RuleError> {
+        adapt(
+            value,
+            |value| self.0.see(value),
+            |seen| self.1.find(alloc, *seen, h),
+        )
+    }
+}
+
 /// A rule as a value that may want memory for its answer, as the search for a pattern does.
 pub trait MemoryRule<T> {
     /// What the rule finds in a value.
@@ -177,6 +206,18 @@ pub trait MemoryRule<T> {
     /// it finds. `RuleError::Memory` says nothing of the value.
     fn find_in_memory<H: I18n>(&self, alloc: Global, value: &T, h: &H) -> Result<(), RuleError>
         ensures { AppliesInMemory (finds self.now value.now) (H.text h.now) result };
+}
+
+impl<T, V: View<T>, R: MemoryRule<V::Seen>> MemoryRule<T> for Adapt<V, R> {
+    ghost finds = { λ rule v. R.finds rule.1 (V.seen rule.0 v) };
+
+    fn find_in_memory<H: I18n>(&self, alloc: Global, value: &T, h: &H) -> Result<(), RuleError> {
+        adapt(
+            value,
+            |value| self.0.see(value),
+            |seen| self.1.find_in_memory(alloc, *seen, h),
+        )
+    }
 }
 
 /// The rule as a value: the matcher's pattern matches anywhere in the text.
