@@ -1,5 +1,6 @@
 -- Lemmas on the answer of a whole walk.
-use Rattle.std.proofs.Common.{◌≡◌, ℕ, ◌-◌, ◌^◌, min, Bool, true, false, List, [], ◌∷◌, ◌++◌, length, Result, Ok, Err, refl, ap, sym, subst, ◌∙◌, arith}
+use Rattle.std.proofs.Common.{◌≡◌, ℕ, ◌-◌, ◌^◌, min, Bool, true, false, List, [], ◌∷◌, ◌++◌, length, Result, Ok, Err, refl, ap, sym, subst, ◌∙◌, inl, inr, arith}
+use Rattle.std.specs.Result.{IsOk}
 use Rattle.std.proofs.lemmas.Bool.{true≢false}
 use Rattle.std.specs.Prelude.{◌==◌}
 use Rattle.std.specs.Cmp.{unsigned_Decides}
@@ -12,7 +13,7 @@ use Rattle.garde.specs.declared.refusal.ValidateError.TheVariants as errors
 use Rattle.garde.specs.Tree.{Tree, bears, flat, nodes}
 use Rattle.garde.specs.Walk.{trace_after, Walked, MayRefuse}
 use Rattle.garde.specs.Visits.{Visits}
-use Rattle.garde.specs.Answers.{Headline, AnswersOn}
+use Rattle.garde.specs.Answers.{Headline, AnswersOn, NeedsNoMemory}
 use Rattle.garde.proofs.Flat.{flat_of_no_fault, no_fault_of_flat}
 use Rattle.garde.proofs.Counts.{trace_by, trace_after-none, nodes_of_no_fault}
 
@@ -55,6 +56,17 @@ headline visits text before after (Err (errors.Report r)) (t, v, b, is, trail) n
   b,
 )
 headline visits text before after (Err errors.Memory) told new = subst (λ w. MayRefuse visits.trees visits.takes (length w.components)) new told.0
+
+-- where no memory is needed there is no reason to want any, and no report
+pub never_refused : (visits : Visits) (depth : ℕ) → NeedsNoMemory visits depth → MayRefuse visits.trees visits.takes depth → ⊥
+never_refused visits depth needs (inl takes) = needs.takes_none takes
+never_refused visits depth needs (inr (t, v, inl bears)) = true≢false (sym bears ∙ needs.none_bears t v)
+never_refused visits depth needs (inr (t, v, inr deeper)) = let most = needs.none_deeper t v in omega arith
+
+pub surely : (visits : Visits) (text : Datum → List ℕ) (before after : Trace) (answer : Result Unit ValidateError) → AnswersOn visits text before after answer → NeedsNoMemory visits (length before.components) → IsOk answer
+surely visits text before after (Ok _) told needs = refl
+surely visits text before after (Err (errors.Report r)) (t, v, b, is, trail) needs = absurd (true≢false (sym b ∙ needs.none_bears t v))
+surely visits text before after (Err errors.Memory) told needs = absurd (never_refused visits (length before.components) needs told.0)
 
 -- an empty report, by its length
 pub empty_report : (r : List Entry) → (length r == 0) ≡ true → r ≡ []

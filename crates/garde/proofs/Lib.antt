@@ -4,5 +4,6 @@ mod Walks
 mod Refusals
 mod Selected
 pub mod Visiting
+pub mod Quiet
 mod Rest
 mod Answering

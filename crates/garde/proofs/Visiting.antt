@@ -1,9 +1,9 @@
 -- Lemmas on what a visit leaves and answers.
-use Rattle.std.proofs.Common.{◌≡◌, ℕ, ◌≤◌, List, [], ◌∷◌, length, Option, Result, Ok, Err, OnOk, OnErr, refl, ap, ◌∙◌, inl, inr, length-append}
+use Rattle.std.proofs.Common.{◌≡◌, Bool, true, false, sym, ℕ, ◌≤◌, List, [], ◌∷◌, length, Option, Result, Ok, Err, OnOk, OnErr, refl, ap, ◌∙◌, inl, inr, length-append}
 use Rattle.std.specs.List.{enumerate_from}
 use Rattle.std.proofs.lemmas.List.Sorted.{IsPermutation-refl}
 use Rattle.std.specs.Result.{IsErr, IsOk}
-use Rattle.std.proofs.lemmas.Bool.{false≢true}
+use Rattle.std.proofs.lemmas.Bool.{false≢true, true≢false}
 use Rattle.garde_i18n.specs.Datum.{Datum}
 use Rattle.garde_report.specs.Part.{Part, index_part}
 use Rattle.garde_report.specs.Report.{Entry}
@@ -15,7 +15,7 @@ use Rattle.garde_rules.specs.Memory.{AppliesInMemory}
 use Rattle.garde.specs.Laws.{Any-numbered, under_has_tree}
 use Rattle.garde.specs.Tree.{Tree, found_tree}
 use Rattle.garde.specs.Walk.{Walked}
-use Rattle.garde.specs.Visits.{Visits, Visited, taking, ◌and◌, below, found, only, none, items, entries, items_in_any_order, entries_in_any_order}
+use Rattle.garde.specs.Visits.{Visits, Visited, taking, when, ◌and◌, below, found, only, none, items, entries, items_in_any_order, entries_in_any_order}
 use Rattle.garde.proofs.Walks.{silent_partly, nothing_walked, under_walked, under_partly, rule_walked, rule_partly, rule_bears, both_walked, first_partly, second_partly, walked_as, partly_as, WalkedUpTo, up_to_partly, up_to_all}
 use Rattle.garde.proofs.Refusals.{refuses_under, refuses_under_full, refuses_first, refuses_second, refuses_as, depth_kept, refuses_next}
 
@@ -121,3 +121,14 @@ module _ {text : Datum → List ℕ} {E : Type 0} where
   pub visited_none : {walk : Trace} {old : List Entry} → Visited {E = E} none text walk walk old old (Ok tt)
   unfolding none only
   visited_none = record { ok = nothing_walked; err = tt; why = tt }
+
+  -- what is checked under a condition that holds, or does not
+  pub visited_when : (condition : Bool) (a : Visits) {before after : Trace} {old new : List Entry} {result : Result Unit E} → condition ≡ true → Visited a text before after old new result → Visited (when condition a) text before after old new result
+  unfolding when
+  visited_when true a holds told = told
+  visited_when false a holds told = absurd (true≢false (sym holds))
+
+  pub visited_unless : (condition : Bool) (a : Visits) {walk : Trace} {old : List Entry} → condition ≡ false → Visited {E = E} (when condition a) text walk walk old old (Ok tt)
+  unfolding when
+  visited_unless true a fails = absurd (true≢false fails)
+  visited_unless false a fails = visited_none

@@ -1,11 +1,11 @@
 -- What validation answers.
-use Rattle.std.specs.Prelude.{◌≡◌, ◌≤◌, ◌-◌, ◌^◌, ℕ, List, [], length, min, Result, Ok, Err, IsTrue}
+use Rattle.std.specs.Prelude.{◌≡◌, ◌≤◌, ◌+◌, ◌-◌, ◌^◌, ℕ, List, [], length, min, Result, Ok, Err, IsTrue}
 use Rattle.garde_i18n.specs.Datum.{Datum}
 use Rattle.garde_report.specs.Report.{Entry}
 use Rattle.garde_report.specs.Trace.{Trace}
 use Rattle.garde.specs.declared.refusal.ValidateError.{ValidateError}
 use Rattle.garde.specs.declared.refusal.ValidateError.TheVariants as errors
-use Rattle.garde.specs.Tree.{Tree, bears, flat, nodes}
+use Rattle.garde.specs.Tree.{Tree, bears, flat, nodes, height}
 use Rattle.garde.specs.Trees.{NoneBears}
 use Rattle.garde.specs.Visits.{Visits}
 use Rattle.garde.specs.Walk.{trace_after, MayRefuse}
@@ -39,3 +39,10 @@ AnswersOn visits text before after (Err errors.Memory) =
     MayRefuse visits.trees visits.takes (length before.components)
     × ((t : Tree) × visits.trees t × (after.components ≡ before.components) × (before.front ≤ after.front)
     × (before.nodes ≤ after.nodes) × (after.nodes ≤ (trace_after before t).nodes))
+
+-- A walk below so many components needs no memory: the value takes none, and none of its trees bears a fault or goes below
+-- the eighth component.
+pub record NeedsNoMemory (visits : Visits) (depth : ℕ) : Type 0 where
+  pub takes_none : visits.takes → ⊥
+  pub none_bears : NoneBears visits.trees
+  pub none_deeper : (t : Tree) → visits.trees t → depth + height t ≤ 8

@@ -1,7 +1,7 @@
 -- The words in which the author of a type says what a visit of it comes by.
 pub use Rattle.std.specs.Prelude.{codes, length, string_bytes}
 pub use Rattle.garde.specs.Visits.{Visits}
-unfoldable pub use Rattle.garde.specs.Visits.{none, only, found, taking, ◌and◌, below, items, optional}
+unfoldable pub use Rattle.garde.specs.Visits.{none, only, found, taking, ◌and◌, below, items, optional, when}
 pub use Rattle.garde_report.specs.Part.{key_part, index_part}
 pub use Rattle.garde_rules.specs.{Fault, rule, own}
 use Rattle.std.specs.Prelude.{ℕ, ℤ, List, Bool, Option, is_some}

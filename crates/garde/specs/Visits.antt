@@ -1,5 +1,5 @@
 -- What a visit of a value comes by, and how it is put together from smaller visits.
-use Rattle.std.specs.Prelude.{◌≡◌, ⊤, ℕ, List, length, Option, ◌⊎◌, IsTrue, Result, OnOk, OnErr, refl}
+use Rattle.std.specs.Prelude.{◌≡◌, ⊤, ℕ, Bool, true, false, List, length, Option, ◌⊎◌, IsTrue, Result, OnOk, OnErr, refl}
 use Rattle.std.specs.List.{Any}
 use Rattle.garde_i18n.specs.Datum.{Datum}
 use Rattle.garde_report.specs.Part.{Part, index_part}
@@ -110,6 +110,11 @@ optional each v = record {
   has_tree = option_has_tree (λ x. (each x).has_tree) v;
   alike = option_alike (λ x. (each x).alike) v;
 }
+
+-- the same where the condition holds, and else nothing
+unfoldable pub when : Bool → Visits → Visits
+when true a = a
+when false a = none
 
 -- What a visit leaves and answers. At an Ok all of one tree was walked. At a refusal, which is for want of memory, a
 -- beginning of one tree was walked, and there is a reason why memory was wanted.

@@ -15,15 +15,17 @@
 //! implementation needs no proof file.
 
 mod check;
+mod condition;
 mod each;
 mod field;
 mod source;
 
 pub use check::{Check, Dive, Is, IsInMemory, check_under};
+pub use condition::{Optional, When};
 pub use each::Each;
 pub use field::{Field, Fields};
 pub use garde_rules::values::{
-    Alphanumeric, Ascii, ByteLength, CharLength, Contains, CreditCard, GraphemeLength, Ip, Length,
-    Matches, Pattern, PhoneNumber, Prefix, Range, Required, Suffix, Url, Utf16Length,
+    Adapt, Alphanumeric, Ascii, ByteLength, CharLength, Contains, CreditCard, GraphemeLength, Ip,
+    Length, Matches, Pattern, PhoneNumber, Prefix, Range, Required, Suffix, Url, Utf16Length, View,
 };
 pub(crate) use source::{check_entries, check_items};

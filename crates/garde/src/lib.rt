@@ -5,6 +5,7 @@ mod containers;
 pub mod fields;
 pub mod laws;
 mod refusal;
+pub mod samples;
 #[cfg(test)]
 mod tests;
 mod unvalidated;

@@ -2,13 +2,16 @@
 mod contact;
 mod containers;
 mod couple;
+mod documents;
 mod handlers;
 mod hog;
 mod item;
 mod long;
 mod profile;
+mod promises;
 mod signup;
 mod span;
+mod starved;
 mod typed_states;
 mod user;
 

@@ -41,14 +41,18 @@ impl<T: Validate> Unvalidated<T> {
 
 impl<T: Validate + Drop> Unvalidated<T> {
     ghost use Rattle.garde_i18n.specs.DefaultText.{default_text};
+    ghost use Rattle.std.specs.Prelude.{IsOk};
+    ghost use Rattle.garde.specs.Answers.{NeedsNoMemory};
     ghost use Rattle.garde.specs.Validated.{AnswersFor};
 
     /// Validates the value under the default context, with the texts of `DefaultI18n`.
     pub fn validate(self, alloc: Global) -> Result<Valid<T>, IntoValidError<T>>
     where
         T::Context: Default + Drop,
-        ensures { (ctx : T.Context) × T.Context.is_default ctx
+        ensures told { (ctx : T.Context) × T.Context.is_default ctx
             × AnswersFor (T.visits self ctx) default_text self result }
+        ensures sure { ((ctx : T.Context) → T.Context.is_default ctx
+            → NeedsNoMemory (T.visits self ctx) 0) → IsOk result }
     {
         let ctx = T::Context::default();
         self.validate_with(alloc, &ctx)
@@ -64,7 +68,8 @@ impl<T: Validate + Drop> Unvalidated<T> {
         alloc: Global,
         ctx: &T::Context,
     ) -> Result<Valid<T>, IntoValidError<T>>
-        ensures { AnswersFor (T.visits self ctx.now) default_text self result }
+        ensures told { AnswersFor (T.visits self ctx.now) default_text self result }
+        ensures sure { NeedsNoMemory (T.visits self ctx.now) 0 → IsOk result }
     {
         match self.0.validate_with(alloc, ctx) {
             Ok(()) => {

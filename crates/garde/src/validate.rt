@@ -1,8 +1,8 @@
 //! The walk of a value.
-ghost use Rattle.std.specs.Prelude.{◌≡◌};
+ghost use Rattle.std.specs.Prelude.{◌≡◌, length, IsOk};
 ghost use Rattle.garde_i18n.specs.DefaultText.{default_text};
 ghost use Rattle.garde_report.specs.Trace.{new_trace};
-ghost use Rattle.garde.specs.Answers.{Headline, Answers, AnswersOn};
+ghost use Rattle.garde.specs.Answers.{Headline, Answers, AnswersOn, NeedsNoMemory};
 ghost use Rattle.garde.specs.Visits.{Visits, Visited};
 
 use crate::refusal::ValidateError;
@@ -44,8 +44,10 @@ pub trait Validate {
     final fn validate(&self, alloc: Global) -> Result<(), ValidateError>
     where
         Self::Context: Default + Drop,
-        ensures { (c : Self.Context) × Self.Context.is_default c
+        ensures told { (c : Self.Context) × Self.Context.is_default c
             × Answers (visits self.now c) default_text result }
+        ensures sure { ((c : Self.Context) → Self.Context.is_default c
+            → NeedsNoMemory (visits self.now c) 0) → IsOk result }
     {
         let ctx = Self::Context::default();
         self.validate_with(alloc, &ctx)
@@ -53,7 +55,8 @@ pub trait Validate {
 
     /// Validates under a context, with the texts of `DefaultI18n`.
     final fn validate_with(&self, alloc: Global, ctx: &Self::Context) -> Result<(), ValidateError>
-        ensures { Answers (visits self.now ctx.now) default_text result }
+        ensures told { Answers (visits self.now ctx.now) default_text result }
+        ensures sure { NeedsNoMemory (visits self.now ctx.now) 0 → IsOk result }
     {
         self.validate_with_i18n(alloc, ctx, &DefaultI18n)
     }
@@ -65,7 +68,8 @@ pub trait Validate {
         ctx: &Self::Context,
         h: &H,
     ) -> Result<(), ValidateError>
-        ensures { Answers (visits self.now ctx.now) (H.text h.now) result }
+        ensures told { Answers (visits self.now ctx.now) (H.text h.now) result }
+        ensures sure { NeedsNoMemory (visits self.now ctx.now) 0 → IsOk result }
     {
         let mut trail = Trail::new(alloc);
         self.validate_on(alloc, ctx, &mut trail, h)
@@ -90,6 +94,8 @@ pub trait Validate {
             → Headline (visits self.now ctx.now) (H.text h.now) trail.new.nodes result }
         ensures on { AnswersOn (visits self.now ctx.now) (H.text h.now)
             trail.old trail.new result }
+        ensures sure { NeedsNoMemory (visits self.now ctx.now) (length trail.old.components)
+            → IsOk result }
     {
         let mut report = Report::new(alloc);
         match self.validate_into(alloc, ctx, trail, &mut report, h) {

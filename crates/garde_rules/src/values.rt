@@ -10,8 +10,8 @@ ghost use Rattle.garde_lengths.specs.Applies.{Fault};
 use crate::ip::IpKind;
 use crate::pattern::Matcher;
 use crate::{
-    adapt, alphanumeric, ascii, contains, credit_card, ip, matches, pattern, phone_number, prefix, range,
-    required, suffix, url,
+    adapt, alphanumeric, ascii, contains, credit_card, ip, matches, pattern, phone_number, prefix,
+    range, required, suffix, url,
 };
 use garde_i18n::I18n;
 use garde_lengths::Rule;

@@ -6,10 +6,10 @@ ghost use Rattle.garde_rules.specs.Holds.{provided, unless};
 ghost use Rattle.garde_rules.specs.Text.{has_prefix, is_ascii_text};
 
 use super::assert_answer;
-use crate::{adapt, ascii, prefix, when};
+use crate::{adapt, ascii, inner, prefix, when};
 use garde_i18n::{DefaultI18n, I18n};
-use garde_report::RuleError;
-use std::alloc::Global;
+use garde_report::{Component, Report, RuleError, Trail};
+use std::alloc::{AllocError, Global};
 use std::test::Fail;
 
 /// The rule of ASCII, where it is asked for: the contract of `when` alone gives its datum.
@@ -79,6 +79,41 @@ fn asks_of_the_view(rt: HostRuntime) -> Result<(), Fail> {
         &rt,
         label_prefix(alloc, &label, "x", &DefaultI18n),
         Some("value does not begin with \"x\""),
+    );
+    Ok(())
+}
+
+/// Asks a word of less than three bytes for ASCII, beneath its component.
+fn check_word<'a>(
+    alloc: Global,
+    word: &str,
+    component: Component<'a>,
+    trail: &mut Trail<'a>,
+    report: &mut Report,
+) -> Result<(), AllocError> {
+    trail.push(component)?;
+    let put = trail.put(
+        report,
+        ascii_when(alloc, word.len() < 3, word, &DefaultI18n),
+    );
+    trail.pop();
+    put
+}
+
+#[test]
+fn asks_in_a_walk(rt: HostRuntime) -> Result<(), Fail> {
+    let alloc = rt.alloc();
+    let mut trail = Trail::new(alloc);
+    let mut report = Report::new(alloc);
+    inner::apply(
+        &["é", "ué", "ü"],
+        &mut trail,
+        &mut report,
+        |word: &&str, component, trail, report| check_word(alloc, word, component, trail, report),
+    )?;
+    assert_eq!(rt;
+        report.to_string(alloc)?.as_str(),
+        "[0]: not ascii\n[2]: not ascii\n"
     );
     Ok(())
 }

@@ -1,6 +1,6 @@
 use Rattle.std.proofs.Common.{Ok, Err, sym, ◌∙◌}
 use Rattle.garde.specs.declared.refusal.ValidateError.TheVariants.{Report}
-use Rattle.garde.proofs.Answering.{answers_valid, answers_faults, headline, empty_report, filled_report}
+use Rattle.garde.proofs.Answering.{answers_valid, answers_faults, headline, surely, empty_report, filled_report}
 use Rattle.garde.proofs.validate.Validate.validate_on.Goals as goal
 
 pub returns-then-is_empty-clause-on : goal.returns-then-is_empty-clause-on
@@ -18,3 +18,7 @@ returns-else-is_empty-clause-on g c =
 pub returns-else-is_empty-clause-headline : goal.returns-else-is_empty-clause-headline
 returns-else-is_empty-clause-headline g c =
     headline (g.Self.Validate.visits c.args.self.now c.args.ctx.now) _ _ _ (Err (Report c.validate_into.new.report)) (returns-else-is_empty-clause-on g c)
+
+pub returns-else-is_empty-clause-sure : goal.returns-else-is_empty-clause-sure
+returns-else-is_empty-clause-sure g c =
+    surely (g.Self.Validate.visits c.args.self.now c.args.ctx.now) _ _ _ (Err (Report c.validate_into.new.report)) (returns-else-is_empty-clause-on g c)

@@ -1,0 +1,73 @@
+//! Types as an author writes them.
+ghost use Rattle.garde.specs.Author.{codes, length, string_bytes, ◌and◌, optional, when, field, ascii, length_in, prefix, required};
+
+use crate::fields::{
+    Adapt, Ascii, Field, Fields, Is, Length, Optional, Prefix, Required, View, When,
+};
+use crate::{I18n, Report, Trail, Validate};
+use std::alloc::{AllocError, Global};
+
+/// A document, which says itself what is asked of its content.
+#[derive(Debug, Drop)]
+pub struct Document {
+    /// Whether the content has to be ASCII.
+    pub check_format: bool,
+    /// Whether the content has to have 10 to 100 bytes.
+    pub check_length: bool,
+    /// The content, which has to be there.
+    pub content: Option<String>,
+    /// The tag, whose text begins with `t-`.
+    pub tag: Tag,
+}
+
+/// A tag.
+#[derive(Debug, Drop)]
+pub struct Tag(pub String);
+
+/// The view of a tag as its text.
+#[derive(Clone, Copy)]
+struct TagText;
+
+impl View<Tag> for TagText {
+    type Seen = String;
+
+    ghost seen = { λ _ tag. tag.0 };
+
+    fn see<'v>(&self, tag: &'v Tag) -> &'v String {
+        &tag.0
+    }
+}
+
+impl Validate for Document {
+    type Context = ();
+
+    ghost visits = { λ v _.
+        field (codes "content") (
+        when v.check_format (optional (λ text. ascii (string_bytes text)) v.content)
+        and when v.check_length (optional (λ text. length_in 10 100 (length (string_bytes text))) v.content)
+        and required v.content)
+        and field (codes "tag") (prefix (codes "t-") (string_bytes v.tag.0)) };
+
+    fn validate_into<'a, H: I18n>(
+        &'a self,
+        alloc: Global,
+        _ctx: &(),
+        trail: &mut Trail<'a>,
+        report: &mut Report,
+        h: &H,
+    ) -> Result<(), AllocError> {
+        let length = Length { min: 10, max: 100 };
+        (
+            Field(
+                "content",
+                &self.content,
+                (
+                    When(self.check_format, Optional(Is(Ascii))),
+                    (When(self.check_length, Optional(Is(length))), Is(Required)),
+                ),
+            ),
+            Field("tag", &self.tag, Is(Adapt(TagText, Prefix("t-")))),
+        )
+            .visit(alloc, trail, report, h)
+    }
+}
