@@ -1,9 +1,10 @@
 -- The words in which the author of a type says what a visit of it comes by.
 pub use Rattle.std.specs.Prelude.{codes, length, string_bytes}
-pub use Rattle.garde.specs.Visits.{Visits}
-unfoldable pub use Rattle.garde.specs.Visits.{none, only, found, taking, ◌and◌, below, items, optional, when}
+pub use Rattle.garde.specs.Visits.{Visits, item, inside}
+unfoldable pub use Rattle.garde.specs.Visits.{none, only, found, taking, ◌and◌, below, items, entries, items_in_any_order, entries_in_any_order, optional, when}
 pub use Rattle.garde_report.specs.Part.{key_part, index_part}
-pub use Rattle.garde_rules.specs.{Fault, rule, own}
+pub use Rattle.garde_rules.specs.{Fault, rule, own, byte_count, char_count, unit_count, grapheme_count}
+pub use Rattle.garde_i18n.specs.declared.reasons.IpKind.TheVariants.{Any, V4, V6}
 use Rattle.std.specs.Prelude.{ℕ, ℤ, List, Bool, Option, is_some}
 use Rattle.std.specs.Fmt.{decimal, signed_decimal}
 use Rattle.garde_i18n.specs.Datum as datum

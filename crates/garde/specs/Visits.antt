@@ -2,7 +2,7 @@
 use Rattle.std.specs.Prelude.{◌≡◌, ⊤, ℕ, Bool, true, false, List, length, Option, ◌⊎◌, IsTrue, Result, OnOk, OnErr, refl}
 use Rattle.std.specs.List.{Any}
 use Rattle.garde_i18n.specs.Datum.{Datum}
-use Rattle.garde_report.specs.Part.{Part, index_part}
+use Rattle.garde_report.specs.Part.{Part, index_part, unnamed_part}
 use Rattle.garde_report.specs.Report.{Entry}
 use Rattle.garde_report.specs.Trace.{Trace}
 use Rattle.garde_rules.specs.{Fault}
@@ -110,6 +110,10 @@ optional each v = record {
   has_tree = option_has_tree (λ x. (each x).has_tree) v;
   alike = option_alike (λ x. (each x).alike) v;
 }
+
+-- the same, beneath the component without a name
+abbrev pub inside : {A : Type 0} → (A → Visits) → Option A → Visits
+inside each v = optional (λ x. below unnamed_part (each x)) v
 
 -- the same where the condition holds, and else nothing
 unfoldable pub when : Bool → Visits → Visits

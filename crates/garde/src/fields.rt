@@ -18,7 +18,9 @@ mod check;
 mod condition;
 mod each;
 mod field;
+mod if_some;
 mod source;
+mod tuples;
 
 pub use check::{Check, Dive, Is, IsInMemory, check_under};
 pub use condition::{Optional, When};
@@ -28,4 +30,4 @@ pub use garde_rules::values::{
     Adapt, Alphanumeric, Ascii, ByteLength, CharLength, Contains, CreditCard, GraphemeLength, Ip,
     Length, Matches, Pattern, PhoneNumber, Prefix, Range, Required, Suffix, Url, Utf16Length, View,
 };
-pub(crate) use source::{check_entries, check_items};
+pub use if_some::IfSome;

@@ -7,6 +7,8 @@ mod handlers;
 mod hog;
 mod item;
 mod long;
+mod many;
+mod names;
 mod profile;
 mod promises;
 mod signup;

@@ -2,7 +2,7 @@
 ghost use Rattle.garde_report.specs.Part.{part};
 ghost use Rattle.garde.specs.Visits.{entries, entries_in_any_order};
 
-use crate::fields::{Dive, check_entries};
+use crate::fields::{Check, Dive, Each};
 use crate::validate::Validate;
 use garde_i18n::I18n;
 use garde_report::{PathComponentKind, Report, Trail};
@@ -24,8 +24,7 @@ impl<K: Ord + PathComponentKind, V: Validate> Validate for BTreeMap<K, V> {
         report: &mut Report,
         h: &H,
     ) -> Result<(), AllocError> {
-        let ascending = self.iter();
-        check_entries(alloc, ascending, &Dive(ctx), trail, report, h)
+        Each(Dive(ctx)).check(alloc, self, trail, report, h)
     }
 }
 
@@ -44,7 +43,6 @@ impl<K: Eq + Hash + PathComponentKind, V: Validate, S: BuildHasher> Validate for
         report: &mut Report,
         h: &H,
     ) -> Result<(), AllocError> {
-        let some_order = self.iter();
-        check_entries(alloc, some_order, &Dive(ctx), trail, report, h)
+        Each(Dive(ctx)).check(alloc, self, trail, report, h)
     }
 }

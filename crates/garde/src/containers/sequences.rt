@@ -1,7 +1,7 @@
 //! Sequences, each item under its index.
 ghost use Rattle.garde.specs.Visits.{items};
 
-use crate::fields::{Check, Dive, Each, check_items};
+use crate::fields::{Check, Dive, Each};
 use crate::validate::Validate;
 use garde_i18n::I18n;
 use garde_report::{Report, Trail};
@@ -40,7 +40,7 @@ impl<T: Validate> Validate for &[T] {
         report: &mut Report,
         h: &H,
     ) -> Result<(), AllocError> {
-        check_items(alloc, self.iter(), &Dive(ctx), trail, report, h)
+        Each(Dive(ctx)).check(alloc, self, trail, report, h)
     }
 }
 
@@ -58,8 +58,7 @@ impl<T: Validate, const N: usize> Validate for [T; N] {
         report: &mut Report,
         h: &H,
     ) -> Result<(), AllocError> {
-        let items = self.iter();
-        check_items(alloc, items, &Dive(ctx), trail, report, h)
+        Each(Dive(ctx)).check(alloc, self, trail, report, h)
     }
 }
 
@@ -77,8 +76,7 @@ impl<T: Validate> Validate for VecDeque<T> {
         report: &mut Report,
         h: &H,
     ) -> Result<(), AllocError> {
-        let front_to_back = self.iter();
-        check_items(alloc, front_to_back, &Dive(ctx), trail, report, h)
+        Each(Dive(ctx)).check(alloc, self, trail, report, h)
     }
 }
 
@@ -96,7 +94,6 @@ impl<T: Validate> Validate for LinkedList<T> {
         report: &mut Report,
         h: &H,
     ) -> Result<(), AllocError> {
-        let head_to_tail = self.iter();
-        check_items(alloc, head_to_tail, &Dive(ctx), trail, report, h)
+        Each(Dive(ctx)).check(alloc, self, trail, report, h)
     }
 }

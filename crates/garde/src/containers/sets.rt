@@ -2,7 +2,7 @@
 ghost use Rattle.std.specs.BinaryHeap.{heap_items};
 ghost use Rattle.garde.specs.Visits.{items, items_in_any_order};
 
-use crate::fields::{Dive, check_items};
+use crate::fields::{Check, Dive, Each};
 use crate::validate::Validate;
 use garde_i18n::I18n;
 use garde_report::{Report, Trail};
@@ -24,8 +24,7 @@ impl<T: Validate + Ord> Validate for BTreeSet<T> {
         report: &mut Report,
         h: &H,
     ) -> Result<(), AllocError> {
-        let ascending = self.iter();
-        check_items(alloc, ascending, &Dive(ctx), trail, report, h)
+        Each(Dive(ctx)).check(alloc, self, trail, report, h)
     }
 }
 
@@ -43,8 +42,7 @@ impl<T: Validate + Eq + Hash, S: BuildHasher> Validate for HashSet<T, S> {
         report: &mut Report,
         h: &H,
     ) -> Result<(), AllocError> {
-        let some_order = self.iter();
-        check_items(alloc, some_order, &Dive(ctx), trail, report, h)
+        Each(Dive(ctx)).check(alloc, self, trail, report, h)
     }
 }
 
@@ -62,7 +60,6 @@ impl<T: Validate + Ord> Validate for BinaryHeap<T> {
         report: &mut Report,
         h: &H,
     ) -> Result<(), AllocError> {
-        let heap_order = self.iter();
-        check_items(alloc, heap_order, &Dive(ctx), trail, report, h)
+        Each(Dive(ctx)).check(alloc, self, trail, report, h)
     }
 }

@@ -105,6 +105,56 @@ impl<'a, T, A: Check<'a, T>, B: Check<'a, T>> Check<'a, T> for (A, B) {
     }
 }
 
+/// The check that is referred to.
+impl<'a, 'r, T, C: Check<'a, T>> Check<'a, T> for &'r C {
+    ghost visits = { λ check v. C.visits check.now v };
+
+    fn check<H: I18n>(
+        &self,
+        alloc: Global,
+        value: &'a T,
+        trail: &mut Trail<'a>,
+        report: &mut Report,
+        h: &H,
+    ) -> Result<(), AllocError> {
+        (**self).check(alloc, value, trail, report, h)
+    }
+}
+
+/// Three checks in turn.
+impl<'a, T, A: Check<'a, T>, B: Check<'a, T>, C: Check<'a, T>> Check<'a, T> for (A, B, C) {
+    ghost visits = { λ all v. A.visits all.0 v and B.visits all.1 v and C.visits all.2 v };
+
+    fn check<H: I18n>(
+        &self,
+        alloc: Global,
+        value: &'a T,
+        trail: &mut Trail<'a>,
+        report: &mut Report,
+        h: &H,
+    ) -> Result<(), AllocError> {
+        (&self.0, (&self.1, &self.2)).check(alloc, value, trail, report, h)
+    }
+}
+
+/// Four checks in turn.
+impl<'a, T, A: Check<'a, T>, B: Check<'a, T>, C: Check<'a, T>, D: Check<'a, T>> Check<'a, T>
+    for (A, B, C, D) {
+    ghost visits = { λ all v.
+        A.visits all.0 v and B.visits all.1 v and C.visits all.2 v and D.visits all.3 v };
+
+    fn check<H: I18n>(
+        &self,
+        alloc: Global,
+        value: &'a T,
+        trail: &mut Trail<'a>,
+        report: &mut Report,
+        h: &H,
+    ) -> Result<(), AllocError> {
+        (&self.0, (&self.1, (&self.2, &self.3))).check(alloc, value, trail, report, h)
+    }
+}
+
 /// Checks a value that stands beneath a component: the component is pushed, the value checked, the
 /// component popped.
 ///

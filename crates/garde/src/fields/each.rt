@@ -1,27 +1,37 @@
 //! A check of each item.
-ghost use Rattle.garde.specs.Visits.{items};
+ghost use Rattle.garde.specs.Visits.{inside};
 
-use super::check::Check;
-use super::source::check_items;
+mod maps;
+mod sequences;
+mod sets;
+
+use super::check::{Check, check_under};
 use garde_i18n::I18n;
-use garde_report::{Report, Trail};
+use garde_report::{Component, Report, Trail};
 use std::alloc::{AllocError, Global};
 
-/// The check of each item in turn, under its index.
+/// The check of each item of a value in turn: the items of a sequence, a set or a heap under their
+/// indexes, the values of a map under their keys, and what an option holds under the component
+/// without a name.
 #[derive(Clone, Copy, Debug)]
 pub struct Each<C>(pub C);
 
-impl<'a, T, C: Check<'a, T>> Check<'a, Vec<T>> for Each<C> {
-    ghost visits = { λ each v. items (λ x. C.visits each.0 x) v.items };
+/// What the option holds, under the component without a name; nothing of none.
+#[tactic(auto, unfolding(crate::specs::Visits::optional))]
+impl<'a, T, C: Check<'a, T>> Check<'a, Option<T>> for Each<C> {
+    ghost visits = { λ each v. inside (λ x. C.visits each.0 x) v };
 
     fn check<H: I18n>(
         &self,
         alloc: Global,
-        value: &'a Vec<T>,
+        value: &'a Option<T>,
         trail: &mut Trail<'a>,
         report: &mut Report,
         h: &H,
     ) -> Result<(), AllocError> {
-        check_items(alloc, value.iter(), &self.0, trail, report, h)
+        match value {
+            Some(item) => check_under(alloc, Component::unnamed(), &self.0, item, trail, report, h),
+            None => Ok(()),
+        }
     }
 }

@@ -1,6 +1,6 @@
 //! The fields of a value.
 ghost use Rattle.garde_report.specs.Part.{key_part};
-ghost use Rattle.garde.specs.Visits.{Visits, Visited, none, below, ◌and◌};
+ghost use Rattle.garde.specs.Visits.{Visits, Visited, none, below};
 
 use super::check::{Check, check_under};
 use garde_i18n::I18n;
@@ -26,6 +26,22 @@ pub trait Fields<'a> {
     ) -> Result<(), AllocError>
         ensures { Visited (visits self.now) (H.text h.now)
             trail.old trail.new report.old report.new result };
+
+    /// The same of the fields of a type with parameters. The whole value is passed for its
+    /// lifetime: its fields live as long.
+    final fn visit_of<W, H: I18n>(
+        &self,
+        _whole: &'a W,
+        alloc: Global,
+        trail: &mut Trail<'a>,
+        report: &mut Report,
+        h: &H,
+    ) -> Result<(), AllocError>
+        ensures { Visited (visits self.now) (H.text h.now)
+            trail.old trail.new report.old report.new result }
+    {
+        self.visit(alloc, trail, report, h)
+    }
 }
 
 /// A field: its name, its value, and what is checked of it.
@@ -79,49 +95,5 @@ impl<'a, 'r, F: Fields<'a>> Fields<'a> for &'r F {
         h: &H,
     ) -> Result<(), AllocError> {
         (**self).visit(alloc, trail, report, h)
-    }
-}
-
-impl<'a, A: Fields<'a>, B: Fields<'a>> Fields<'a> for (A, B) {
-    ghost visits = { λ fields. A.visits fields.0 and B.visits fields.1 };
-
-    fn visit<H: I18n>(
-        &self,
-        alloc: Global,
-        trail: &mut Trail<'a>,
-        report: &mut Report,
-        h: &H,
-    ) -> Result<(), AllocError> {
-        self.0.visit(alloc, trail, report, h)?;
-        self.1.visit(alloc, trail, report, h)
-    }
-}
-
-impl<'a, A: Fields<'a>, B: Fields<'a>, C: Fields<'a>> Fields<'a> for (A, B, C) {
-    ghost visits = { λ fields. A.visits fields.0 and B.visits fields.1 and C.visits fields.2 };
-
-    fn visit<H: I18n>(
-        &self,
-        alloc: Global,
-        trail: &mut Trail<'a>,
-        report: &mut Report,
-        h: &H,
-    ) -> Result<(), AllocError> {
-        (&self.0, (&self.1, &self.2)).visit(alloc, trail, report, h)
-    }
-}
-
-impl<'a, A: Fields<'a>, B: Fields<'a>, C: Fields<'a>, D: Fields<'a>> Fields<'a> for (A, B, C, D) {
-    ghost visits = { λ fields.
-        A.visits fields.0 and B.visits fields.1 and C.visits fields.2 and D.visits fields.3 };
-
-    fn visit<H: I18n>(
-        &self,
-        alloc: Global,
-        trail: &mut Trail<'a>,
-        report: &mut Report,
-        h: &H,
-    ) -> Result<(), AllocError> {
-        (&self.0, (&self.1, (&self.2, &self.3))).visit(alloc, trail, report, h)
     }
 }

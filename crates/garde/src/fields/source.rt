@@ -14,7 +14,7 @@ use std::alloc::{AllocError, Global};
 /// Checks the items in the order in which they come, each under its index in that order.
 ///
 /// `AllocError` is answered where memory runs out, under the terms of `Validate::validate_into`.
-pub(crate) fn check_items<'a, T: 'a, I: Iterator<Item = &'a T>, C: Check<'a, T>, H: I18n>(
+pub(super) fn check_items<'a, T: 'a, I: Iterator<Item = &'a T>, C: Check<'a, T>, H: I18n>(
     alloc: Global,
     source: I,
     check: &C,
@@ -47,7 +47,7 @@ pub(crate) fn check_items<'a, T: 'a, I: Iterator<Item = &'a T>, C: Check<'a, T>,
 /// Checks the values in the order in which they come, each under the component of its key.
 ///
 /// `AllocError` is answered where memory runs out, under the terms of `Validate::validate_into`.
-pub(crate) fn check_entries<
+pub(super) fn check_entries<
     'a,
     K: PathComponentKind + 'a,
     V: 'a,

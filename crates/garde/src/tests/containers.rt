@@ -1,5 +1,6 @@
 //! What is told of values that hold other values.
 use crate::tests::item::Identifier;
+use crate::tests::names::Names;
 use crate::tests::user::User;
 use crate::{DefaultI18n, Trail, Validate, ValidateError};
 use std::alloc::{AllocError, Global};
@@ -229,5 +230,47 @@ fn each_item_of_a_long_tuple(rt: HostRuntime) -> Result<(), Fail> {
     assert!(rt; tells_each(alloc, &(u, u, u, u, u, u, u, u, u, u), 10)?);
     assert!(rt; tells_each(alloc, &(u, u, u, u, u, u, u, u, u, u, u), 11)?);
     assert!(rt; tells_each(alloc, &(u, u, u, u, u, u, u, u, u, u, u, u), 12)?);
+    Ok(())
+}
+
+/// A name that is not set, one that is not ASCII, and an empty one.
+fn names(alloc: Global) -> Result<Names, AllocError> {
+    let accented = String::from_str(alloc, "é")?;
+    let empty = String::new(alloc);
+    Ok(Names {
+        items: vec![in alloc; None, Some(accented), Some(empty)]?,
+    })
+}
+
+#[test]
+fn two_walks_of_one_list(rt: HostRuntime) -> Result<(), Fail> {
+    let alloc = rt.alloc();
+    let text = told(alloc, &names(alloc)?)?;
+    assert_eq!(rt;
+        text.as_str(),
+        "items[0]: not set\nitems[1]: not ascii\nitems[2]: length is lower than 1\nnodes: 6"
+    );
+    let none = Names {
+        items: Vec::new(alloc),
+    };
+    let text = told(alloc, &none)?;
+    assert_eq!(rt; text.as_str(), "items: length is lower than 1\nnodes: 1");
+    Ok(())
+}
+
+#[test]
+fn a_walk_of_an_option_adds_a_component_without_a_name(rt: HostRuntime) -> Result<(), Fail> {
+    let alloc = rt.alloc();
+    let Err(ValidateError::Report(report)) = names(alloc)?.validate(alloc) else {
+        return Err("no report".into());
+    };
+    let mut paths = String::new(alloc);
+    for (path, _) in report.iter() {
+        paths.push_str(&format!(in alloc; "{path:?}\n")?)?;
+    }
+    assert_eq!(rt;
+        paths.as_str(),
+        "Path { components: [(Key, \"items\"), (Index, \"0\")] }\nPath { components: [(Key, \"items\"), (Index, \"1\"), (None, \"\")] }\nPath { components: [(Key, \"items\"), (Index, \"2\"), (None, \"\")] }\n"
+    );
     Ok(())
 }

@@ -1,8 +1,6 @@
 //! A type that asks each rule that the other types leave out.
 ghost use Rattle.std.specs.Prelude.{pos, negsuc};
-ghost use Rattle.garde.specs.Words.{char_count};
-ghost use Rattle.garde_i18n.specs.declared.reasons.IpKind.TheVariants.{Any};
-ghost use Rattle.garde.specs.Author.{codes, string_bytes, ◌and◌, field, alphanumeric, contains, prefix, suffix, required, signed_in, length_in, ip, url};
+ghost use Rattle.garde.specs.Author.{Any, codes, string_bytes, char_count, ◌and◌, field, alphanumeric, contains, prefix, suffix, required, signed_in, length_in, ip, url};
 
 use crate::fields::{
     Alphanumeric, CharLength, Contains, Field, Fields, Ip, Is, IsInMemory, Prefix, Range, Required,
@@ -28,7 +26,10 @@ impl Validate for Profile {
 
     ghost visits = { λ v _.
         field (codes "tag") (alphanumeric (string_bytes v.tag) and length_in 1 20 (char_count (string_bytes v.tag)))
-        and field (codes "address") (prefix (codes "https://") (string_bytes v.address) and (contains (codes ".") (string_bytes v.address) and suffix (codes "/") (string_bytes v.address)))
+        and field (codes "address")
+        (prefix (codes "https://") (string_bytes v.address)
+        and contains (codes ".") (string_bytes v.address)
+        and suffix (codes "/") (string_bytes v.address))
         and field (codes "phone") (required v.phone)
         and field (codes "host") (ip Any (string_bytes v.host))
         and field (codes "site") (url (string_bytes v.site))
@@ -42,7 +43,7 @@ impl Validate for Profile {
         report: &mut Report,
         h: &H,
     ) -> Result<(), AllocError> {
-        let address = (Is(Prefix("https://")), (Is(Contains(".")), Is(Suffix("/"))));
+        let address = (Is(Prefix("https://")), Is(Contains(".")), Is(Suffix("/")));
         (
             Field(
                 "tag",
@@ -51,19 +52,15 @@ impl Validate for Profile {
             ),
             Field("address", &self.address, address),
             Field("phone", &self.phone, Is(Required)),
-            (
-                Field("host", &self.host, Is(Ip(IpKind::Any))),
-                (
-                    Field("site", &self.site, IsInMemory(Url)),
-                    Field(
-                        "degrees",
-                        &self.degrees,
-                        Is(Range {
-                            min: Some(-10),
-                            max: Some(10),
-                        }),
-                    ),
-                ),
+            Field("host", &self.host, Is(Ip(IpKind::Any))),
+            Field("site", &self.site, IsInMemory(Url)),
+            Field(
+                "degrees",
+                &self.degrees,
+                Is(Range {
+                    min: Some(-10),
+                    max: Some(10),
+                }),
             ),
         )
             .visit(alloc, trail, report, h)

@@ -1,5 +1,0 @@
-use Rattle.std.proofs.lemmas.Iterator.Consumers.{YieldsList-from_rest}
-use Rattle.garde.proofs.containers.sequences.LinkedListValidate.validate_into.Goals as goal
-
-pub returns : goal.returns
-returns g c = c.check_items.ensures _ (YieldsList-from_rest _ c.iter-head_to_tail.ensures.rest)

@@ -1,0 +1,5 @@
+use Rattle.std.proofs.lemmas.Iterator.{YieldsList-from_slice}
+use Rattle.garde.proofs.fields.each.sequences.EachCheckArray.check.Goals as goal
+
+pub returns : goal.returns
+returns g c = c.check_items.ensures _ (YieldsList-from_slice _ c.iter-items.ensures.rest)

@@ -1,0 +1,31 @@
+//! A check of what an option holds.
+ghost use Rattle.garde.specs.Visits.{optional};
+
+use super::check::Check;
+use garde_i18n::I18n;
+use garde_report::{Report, Trail};
+use std::alloc::{AllocError, Global};
+
+/// The check of what an option holds, with no component of its own. An option without a value
+/// passes.
+#[derive(Clone, Copy, Debug)]
+pub struct IfSome<C>(pub C);
+
+#[tactic(auto, unfolding(crate::specs::Visits::optional))]
+impl<'a, T, C: Check<'a, T>> Check<'a, Option<T>> for IfSome<C> {
+    ghost visits = { λ check v. optional (λ x. C.visits check.0 x) v };
+
+    fn check<H: I18n>(
+        &self,
+        alloc: Global,
+        value: &'a Option<T>,
+        trail: &mut Trail<'a>,
+        report: &mut Report,
+        h: &H,
+    ) -> Result<(), AllocError> {
+        match value {
+            Some(item) => self.0.check(alloc, item, trail, report, h),
+            None => Ok(()),
+        }
+    }
+}
