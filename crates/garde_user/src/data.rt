@@ -1,0 +1,49 @@
+//! An enum, each variant with its own visit.
+ghost use Rattle.std.specs.Prelude.{pos, negsuc};
+ghost use Rattle.garde.specs.Author.{Visits, codes, field, item, signed_in};
+ghost use Rattle.garde_user.specs.declared.data.Data.TheVariants.{Struct, Tuple};
+
+use garde::fields::{Field, Fields, Is, Range, check_under};
+use garde::{Component, I18n, Report, Trail, Validate};
+use std::alloc::{AllocError, Global};
+
+/// A number from -10 to 10, with a name or with a place.
+#[derive(Clone, Copy, Debug)]
+pub enum Data {
+    /// The number is told of under `field`.
+    Struct { field: i32 },
+    /// The number is told of under its place.
+    Tuple(i32),
+}
+
+impl Validate for Data {
+    type Context = ();
+
+    ghost visits = { λ v _. elim v as (λ _. Visits) [
+      | Struct number ↦ field (codes "field") (signed_in (negsuc 9) (pos 10) number)
+      | Tuple number ↦ item 0 (signed_in (negsuc 9) (pos 10) number)
+    ] };
+
+    fn validate_into<'a, H: I18n>(
+        &'a self,
+        alloc: Global,
+        _ctx: &(),
+        trail: &mut Trail<'a>,
+        report: &mut Report,
+        h: &H,
+    ) -> Result<(), AllocError> {
+        let within = Is(Range {
+            min: Some(-10),
+            max: Some(10),
+        });
+        match self {
+            Data::Struct { field } => {
+                Field("field", field, within).visit(alloc, trail, report, h)
+            }
+            Data::Tuple(number) => {
+                let first = Component::index(0);
+                check_under(alloc, first, &within, number, trail, report, h)
+            }
+        }
+    }
+}

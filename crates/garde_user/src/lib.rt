@@ -1,0 +1,10 @@
+//! Types as a user of `garde` writes them, who lists that crate and no other.
+#![tactic(auto)]
+
+pub mod data;
+pub mod login;
+pub mod table;
+pub mod team;
+#[cfg(test)]
+mod tests;
+pub mod username;
