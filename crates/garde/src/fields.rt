@@ -23,7 +23,7 @@ mod source;
 mod tuples;
 
 pub use check::{Check, Dive, Is, IsInMemory, check_under};
-pub use condition::{Optional, When};
+pub use condition::When;
 pub use each::Each;
 pub use field::{Field, Fields};
 pub use garde_rules::values::{

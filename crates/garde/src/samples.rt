@@ -2,7 +2,7 @@
 ghost use Rattle.garde.specs.Author.{codes, length, string_bytes, ◌and◌, optional, when, field, ascii, length_in, prefix, required};
 
 use crate::fields::{
-    Adapt, Ascii, Field, Fields, Is, Length, Optional, Prefix, Required, View, When,
+    Adapt, Ascii, Field, Fields, Is, Length, IfSome, Prefix, Required, View, When,
 };
 use crate::{I18n, Report, Trail, Validate};
 use std::alloc::{AllocError, Global};
@@ -62,8 +62,9 @@ impl Validate for Document {
                 "content",
                 &self.content,
                 (
-                    When(self.check_format, Optional(Is(Ascii))),
-                    (When(self.check_length, Optional(Is(length))), Is(Required)),
+                    When(self.check_format, IfSome(Is(Ascii))),
+                    When(self.check_length, IfSome(Is(length))),
+                    Is(Required),
                 ),
             ),
             Field("tag", &self.tag, Is(Adapt(TagText, Prefix("t-")))),

@@ -1,4 +1,5 @@
 //! Types as an author writes them, and what is told of them.
+mod badge;
 mod contact;
 mod containers;
 mod couple;
@@ -17,6 +18,7 @@ mod starved;
 mod typed_states;
 mod user;
 
+use crate::tests::badge::Badge;
 use crate::tests::contact::Contact;
 use crate::tests::couple::Couple;
 use crate::tests::handlers::{Labelled, Silent};
@@ -87,6 +89,15 @@ fn couples_and_contacts(rt: HostRuntime) -> Result<(), Fail> {
     };
     let text = told(alloc, couple.validate_with_i18n(alloc, &(), &DefaultI18n))?;
     assert_eq!(rt; text.as_str(), "left.mail: not ascii\n");
+    Ok(())
+}
+
+#[test]
+fn a_path_made_by_hand(rt: HostRuntime) -> Result<(), Fail> {
+    let alloc = rt.alloc();
+    let text = told(alloc, Badge { number: 0 }.validate(alloc))?;
+    assert_eq!(rt; text.as_str(), "number: lower than 1\n");
+    assert!(rt; Badge { number: 1 }.validate(alloc).is_ok());
     Ok(())
 }
 

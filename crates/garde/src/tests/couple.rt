@@ -1,8 +1,8 @@
 //! A generic struct, whose two parts are checked one after the other.
 ghost use Rattle.garde.specs.Author.{codes, ◌and◌, field};
 
-use crate::fields::{Dive, check_under};
-use crate::{Component, I18n, Report, Trail, Validate};
+use crate::fields::{Dive, Field, Fields};
+use crate::{I18n, Report, Trail, Validate};
 use std::alloc::{AllocError, Global};
 
 /// Two values of one type.
@@ -15,7 +15,8 @@ pub struct Couple<T> {
 impl<T: Validate> Validate for Couple<T> {
     type Context = T::Context;
 
-    ghost visits = { λ v c. field (codes "left") (T.visits v.left c) and field (codes "right") (T.visits v.right c) };
+    ghost visits = { λ v c.
+        field (codes "left") (T.visits v.left c) and field (codes "right") (T.visits v.right c) };
 
     fn validate_into<'a, H: I18n>(
         &'a self,
@@ -25,24 +26,10 @@ impl<T: Validate> Validate for Couple<T> {
         report: &mut Report,
         h: &H,
     ) -> Result<(), AllocError> {
-        let check = Dive(ctx);
-        check_under(
-            alloc,
-            Component::key("left"),
-            &check,
-            &self.left,
-            trail,
-            report,
-            h,
-        )?;
-        check_under(
-            alloc,
-            Component::key("right"),
-            &check,
-            &self.right,
-            trail,
-            report,
-            h,
+        (
+            Field("left", &self.left, Dive(ctx)),
+            Field("right", &self.right, Dive(ctx)),
         )
+            .visit_of(self, alloc, trail, report, h)
     }
 }
