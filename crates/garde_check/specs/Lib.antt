@@ -1,8 +1,11 @@
 pub mod Lines
 pub mod User
+pub mod Numbered
 pub mod Users
-pub mod Findings
+pub mod Body
+pub mod Request
 pub mod Wrapped
 pub mod Form
+pub mod Tasks
 pub mod Ran
 pub mod Words

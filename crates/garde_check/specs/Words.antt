@@ -1,17 +1,18 @@
 -- The words of a command, the status of an answer and the line of a refusal.
 use Rattle.std.specs.Prelude.{ℕ, List, [], ◌∷◌, Result, Ok, Err, codes}
 use Rattle.garde_check.specs.declared.mode.Command.{Command}
-use Rattle.garde_check.specs.declared.mode.Command.TheVariants.{Text, Nodes, Json}
+use Rattle.garde_check.specs.declared.mode.Command.TheVariants.{Text, Nodes, Json, Body}
 use Rattle.garde_check.specs.declared.outcome.Outcome.{Outcome}
 use Rattle.garde_check.specs.declared.outcome.Outcome.TheVariants.{Valid, Faults}
 use Rattle.garde_check.specs.declared.outcome.RunError.{RunError}
-use Rattle.garde_check.specs.declared.outcome.RunError.TheVariants.{NotUtf8, Read, Write, Memory}
+use Rattle.garde_check.specs.declared.outcome.RunError.TheVariants.{NotUtf8, BadBody, Read, Write, Memory}
 
 -- the words that ask for a command
 abbrev pub words_of : Command → List (List ℕ)
 words_of Text = []
 words_of Nodes = codes "--nodes" ∷ []
 words_of Json = codes "--json" ∷ []
+words_of Body = codes "json" ∷ []
 
 -- 0 where no fault was found, 1 where one was, 2 for every refusal
 abbrev pub status_of : Result Outcome RunError → ℕ
@@ -22,6 +23,7 @@ status_of (Err _) = 2
 -- the line that tells of each refusal
 abbrev pub line_of : RunError → List ℕ
 line_of NotUtf8 = codes "garde_check: the input is not UTF-8"
+line_of BadBody = codes "garde_check: the body is not a request"
 line_of Read = codes "garde_check: the input could not be read"
 line_of Write = codes "garde_check: the output could not be written"
 line_of Memory = codes "garde_check: out of memory"

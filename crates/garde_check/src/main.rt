@@ -1,10 +1,13 @@
-//! Reads lines on standard input, each the name of a user, and reports every fault at its path.
+//! Reads lines on standard input, each the name of a user, or the body of a request, and reports
+//! every fault at its path.
 #![tactic(auto)]
 
+mod body;
 mod form;
 mod lines;
 mod mode;
 mod outcome;
+mod output;
 mod running;
 #[cfg(test)]
 mod tests;
@@ -13,7 +16,7 @@ mod user;
 mod words;
 
 use crate::mode::Command;
-use crate::running::{run, run_json};
+use crate::running::{run, run_body, run_json};
 use crate::transfer::Plain;
 use crate::words::{command, fault_line, status};
 use std::env;
@@ -42,6 +45,7 @@ fn main(rt: HostRuntime) -> ExitCode {
         Command::Text => run(rt.alloc(), &mut reader, &mut writer, false),
         Command::Nodes => run(rt.alloc(), &mut reader, &mut writer, true),
         Command::Json => run_json(rt.alloc(), &mut reader, &mut writer),
+        Command::Body => run_body(rt.alloc(), &mut reader, &mut writer),
     };
     if let Err(error) = &answer {
         let line = fault_line(error);

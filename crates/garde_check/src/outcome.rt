@@ -18,6 +18,8 @@ pub enum Outcome {
 pub enum RunError {
     /// The input is not UTF-8. Nothing was written.
     NotUtf8,
+    /// The input is read as a request, and is none. Nothing was written.
+    BadBody,
     /// The reader failed. Nothing was written.
     Read,
     /// The writer failed. What was written is a beginning of the output.

@@ -1,18 +1,16 @@
 //! A run, from a reader to a writer.
-ghost use Rattle.std.specs.Prelude.{◌≡◌, ℕ, false, true, IfOk, IfErr, OnOk, OnErr, IfSome, take, string_bytes};
-ghost use Rattle.std.specs.Str.{IsUtf8};
+ghost use Rattle.std.specs.Prelude.{◌≡◌, ℕ, false, true, IfOk, IfErr, OnOk, OnErr, IfSome, take};
 ghost use Rattle.std.specs.Io.KnownBytes.{Appends, IsAtEnd};
-ghost use Rattle.garde_check.specs.Findings.{AreFindings};
-ghost use Rattle.garde_check.specs.Ran.{Reports, Leaves, TakeFails, OutputFails};
+ghost use Rattle.garde_check.specs.Ran.{Leaves, TakeFails};
+ghost use Rattle.garde_check.specs.Request.{SpellsNothing};
+ghost use Rattle.garde_check.specs.Tasks.{Reports, BodyReports, Gives, Refuses, Never};
 
-use crate::form::{Form, write_report};
-use crate::lines::users_of;
+use crate::form::Form;
+use crate::mode::Task;
 use crate::outcome::{Outcome, RunError};
+use crate::output::make_output;
 use crate::transfer::{Failed, Sink, Source};
-use crate::user::User;
-use garde::{DefaultI18n, Report, Trail, Validate, ValidateError};
-use std::alloc::{AllocError, Global};
-use std::str;
+use std::alloc::Global;
 
 /// How many bytes are asked for at a time.
 const PART: usize = 4096;
@@ -52,78 +50,22 @@ fn give_all<W: Sink>(writer: &mut W, bytes: &[u8]) -> Result<(), Failed>
     Ok(())
 }
 
-// What the validation of users found: the outcome, the report, which is empty where there is no
-// fault, and the number of path nodes that were made.
-#[derive(Drop)]
-struct Findings {
-    outcome: Outcome,
-    report: Report,
-    nodes: usize,
-}
-
-// Validates the users.
-fn validate_users(alloc: Global, users: &Vec<Option<User>>) -> Result<Findings, AllocError>
-    ensures { IfOk result (λ found.
-        AreFindings users.now.items found.outcome found.report found.nodes) }
-{
-    let mut trail = Trail::new(alloc);
-    let answer = users.validate_on(alloc, &(), &mut trail, &DefaultI18n);
-    let nodes = trail.nodes();
-    match answer {
-        Ok(()) => Ok(Findings {
-            outcome: Outcome::Valid,
-            report: Report::new(alloc),
-            nodes,
-        }),
-        Err(ValidateError::Report(report)) => Ok(Findings {
-            outcome: Outcome::Faults,
-            report,
-            nodes,
-        }),
-        Err(ValidateError::Memory) => Err(AllocError),
-    }
-}
-
-// What is written for an input, and the outcome that goes with it.
-#[derive(Drop)]
-struct Output {
-    outcome: Outcome,
-    text: String,
-}
-
-// Makes the whole output for an input.
-fn make_output(alloc: Global, bytes: &[u8], form: Form) -> Result<Output, RunError>
-    ensures ok { IfOk result (λ output. IsUtf8 bytes.now
-        × Reports form bytes.now output.outcome (string_bytes output.text)) }
-    ensures err { IfErr result (OutputFails bytes.now) }
-{
-    let Ok(input) = str::from_utf8(bytes) else {
-        return Err(RunError::NotUtf8);
-    };
-    let users = users_of(alloc, input)?;
-    let found = validate_users(alloc, &users)?;
-    let text = write_report(alloc, &found.report, found.nodes, form)?;
-    Ok(Output {
-        outcome: found.outcome,
-        text,
-    })
-}
-
-// A run whose output has this form.
-fn run_as<S: Source, W: Sink>(
+// A run that does this.
+fn run_task<S: Source, W: Sink>(
     alloc: Global,
     reader: &mut S,
     writer: &mut W,
-    form: Form,
+    task: Task,
 ) -> Result<Outcome, RunError>
     requires fresh_reader { S.has_failed reader.old ≡ false }
     requires fresh_writer { W.has_failed writer.old ≡ false }
-    ensures { Leaves (Reports form) (S.remaining reader.old) (S.remaining reader.new)
+    ensures { Leaves (Gives task) (Refuses task)
+        (S.remaining reader.old) (S.remaining reader.new)
         (W.contents writer.old) (W.contents writer.new)
         (S.has_failed reader.new) (W.has_failed writer.new) result }
 {
     let bytes = take_all(alloc, reader)?;
-    let output = make_output(alloc, &bytes, form)?;
+    let output = make_output(alloc, &bytes, task)?;
     let Ok(()) = give_all(writer, output.text.as_bytes()) else {
         return Err(RunError::Write);
     };
@@ -144,12 +86,12 @@ pub fn run<S: Source, W: Sink>(
 ) -> Result<Outcome, RunError>
     requires fresh_reader { S.has_failed reader.old ≡ false }
     requires fresh_writer { W.has_failed writer.old ≡ false }
-    ensures { Leaves (Reports (Form.Text show_nodes))
+    ensures { Leaves (Reports (Form.Text show_nodes)) Never
         (S.remaining reader.old) (S.remaining reader.new)
         (W.contents writer.old) (W.contents writer.new)
         (S.has_failed reader.new) (W.has_failed writer.new) result }
 {
-    run_as(alloc, reader, writer, Form::Text(show_nodes))
+    run_task(alloc, reader, writer, Task::Lines(Form::Text(show_nodes)))
 }
 
 /// As `run`, but it writes the compact JSON of the report, which is empty where there is no fault,
@@ -161,9 +103,29 @@ pub fn run_json<S: Source, W: Sink>(
 ) -> Result<Outcome, RunError>
     requires fresh_reader { S.has_failed reader.old ≡ false }
     requires fresh_writer { W.has_failed writer.old ≡ false }
-    ensures { Leaves (Reports Form.Json) (S.remaining reader.old) (S.remaining reader.new)
+    ensures { Leaves (Reports Form.Json) Never
+        (S.remaining reader.old) (S.remaining reader.new)
         (W.contents writer.old) (W.contents writer.new)
         (S.has_failed reader.new) (W.has_failed writer.new) result }
 {
-    run_as(alloc, reader, writer, Form::Json)
+    run_task(alloc, reader, writer, Task::Lines(Form::Json))
+}
+
+/// As `run_json`, but it reads the whole input as the body of a request, which it validates.
+///
+/// `RunError::BadBody` is answered where `serde_json` reads no tree in the input, or where
+/// `Body::from_json` refuses that tree for its form. Nothing is written then.
+pub fn run_body<S: Source, W: Sink>(
+    alloc: Global,
+    reader: &mut S,
+    writer: &mut W,
+) -> Result<Outcome, RunError>
+    requires fresh_reader { S.has_failed reader.old ≡ false }
+    requires fresh_writer { W.has_failed writer.old ≡ false }
+    ensures { Leaves BodyReports SpellsNothing
+        (S.remaining reader.old) (S.remaining reader.new)
+        (W.contents writer.old) (W.contents writer.new)
+        (S.has_failed reader.new) (W.has_failed writer.new) result }
+{
+    run_task(alloc, reader, writer, Task::Body)
 }

@@ -1,4 +1,5 @@
 //! Runs over memory: what is written, and how each run ends.
+mod body;
 mod devices;
 mod hog;
 mod json;
@@ -78,6 +79,7 @@ fn tells_how_a_run_ended(rt: HostRuntime) {
     assert_eq!(rt; cut, Err(RunError::NotUtf8));
     let rows = [
         (RunError::NotUtf8, "garde_check: the input is not UTF-8"),
+        (RunError::BadBody, "garde_check: the body is not a request"),
         (RunError::Read, "garde_check: the input could not be read"),
         (
             RunError::Write,
@@ -101,12 +103,13 @@ fn words_of(alloc: Global, words: &[&str]) -> Result<Vec<String>, AllocError> {
 
 #[test]
 fn refuses_words_that_ask_for_nothing(rt: HostRuntime) -> Result<(), Fail> {
-    let rows: [(&[&str], Option<Command>); 9] = [
+    let rows: [(&[&str], Option<Command>); 10] = [
         (&[], Some(Command::Text)),
         (&["--nodes"], Some(Command::Nodes)),
         (&["--json"], Some(Command::Json)),
-        (&["json"], None),
+        (&["json"], Some(Command::Body)),
         (&["--json", "--nodes"], None),
+        (&["json", "json"], None),
         (&[""], None),
         (&["--node"], None),
         (&["--nodes", "--nodes"], None),

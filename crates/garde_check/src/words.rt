@@ -16,6 +16,7 @@ pub fn command(words: &[String]) -> Option<Command>
         [word] => match word.as_str() {
             "--nodes" => Some(Command::Nodes),
             "--json" => Some(Command::Json),
+            "json" => Some(Command::Body),
             _ => None,
         },
         _ => None,
@@ -40,6 +41,7 @@ pub fn fault_line(error: &RunError) -> &'static str
 {
     match error {
         RunError::NotUtf8 => "garde_check: the input is not UTF-8",
+        RunError::BadBody => "garde_check: the body is not a request",
         RunError::Read => "garde_check: the input could not be read",
         RunError::Write => "garde_check: the output could not be written",
         RunError::Memory => "garde_check: out of memory",

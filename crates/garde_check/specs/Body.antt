@@ -1,0 +1,85 @@
+-- What a visit of a request's body comes by, and the one tree that it has.
+use Rattle.std.specs.Prelude.{ℕ, List, [], ◌∷◌, Option, is_some, map, decimal, String}
+use Rattle.std.specs.declared.alloc.Global.{Global}
+use Rattle.std.specs.BTreeMap.{BTreeMap}
+use Rattle.garde.specs.Author.{Visits, codes, length, string_bytes, ◌and◌, field, required, found, length_in, items, alphanumeric, ip}
+use Rattle.garde.specs.Visits.{entries}
+use Rattle.garde.specs.Words as words
+use Rattle.garde.specs.Words.{Fault, Any, bounds_answer, char_count, key_part, unless, length_fault, range_fault, option_answer, is_alphanumeric_text, is_ip_text, not_alphanumeric, not_set}
+use Rattle.garde.specs.Tree.{Tree, nothing, under, ◌then◌, found_tree}
+use Rattle.garde_check.specs.declared.body.Address.{Address}
+use Rattle.garde_check.specs.declared.body.Body.{Body}
+use Rattle.garde_check.specs.Numbered.{items_tree}
+use Rattle.garde_check.specs.User.{user_visits, named_tree}
+
+-- the fault of an age that is there, and is below 18 or above 120
+abbrev pub age_fault : Option ℕ → Option Fault
+age_fault age = range_fault (decimal 18) (decimal 120) (option_answer (bounds_answer 18 120) age)
+
+-- the rule that the text is an IP address
+abbrev pub address_visits : Address → Visits
+address_visits address = ip Any (string_bytes address.0)
+
+-- The user, with no component of its own. Then under the key `age` the rules that there is an age, and
+-- that it is at least 18 and at most 120; under the key `tags` the rule that there are at most 5, and
+-- under the index of each the rules that its characters are letters or numbers, and that it has at
+-- least 1 and at most 20 of them; under the key `addresses` each address under its name.
+abbrev pub body_visits : Body → Visits
+body_visits body =
+    user_visits body.user
+    and field (codes "age") (required body.age and found (age_fault body.age))
+    and field (codes "tags") (length_in 0 5 (length body.tags.items)
+    and items (λ tag. alphanumeric (string_bytes tag) and length_in 1 20 (char_count (string_bytes tag))) body.tags.items)
+    and field (codes "addresses") (entries (λ name. key_part (string_bytes name)) address_visits body.addresses.entries)
+
+-- what a body says
+pub record Content : Type 0 where
+  pub username : List ℕ
+  pub age : Option ℕ
+  pub tags : List (List ℕ)
+  -- each name with its text
+  pub addresses : List (List ℕ × List ℕ)
+
+-- the names and texts of addresses
+abbrev pub entries_of : BTreeMap (String Global) Address → List (List ℕ × List ℕ)
+entries_of addresses = map (λ e. (string_bytes e.0, string_bytes e.1.0)) addresses.entries
+
+abbrev pub content : Body → Content
+content body = record {
+  username = string_bytes body.user.username;
+  age = body.age;
+  tags = map string_bytes body.tags.items;
+  addresses = entries_of body.addresses;
+}
+
+-- the fault `not set` of no age, or the fault of an age below 18 or above 120
+abbrev pub age_tree : Option ℕ → Tree
+age_tree age = found_tree (unless (is_some age) not_set) then found_tree (age_fault age)
+
+-- The fault `not alphanumeric` where some character of a tag is neither a letter nor a number, and then
+-- the fault of a tag of less than 1 or more than 20 characters.
+abbrev pub tag_tree : List ℕ → Tree
+tag_tree tag =
+    found_tree (unless (is_alphanumeric_text tag) not_alphanumeric)
+    then found_tree (length_fault 1 20 (bounds_answer 1 20 (char_count tag)))
+
+-- the fault of more than 5 tags, and then each tag under its number
+abbrev pub tags_tree : List (List ℕ) → Tree
+tags_tree tags = found_tree (length_fault 0 5 (bounds_answer 0 5 (length tags))) then items_tree tag_tree 0 tags
+
+-- the fault of a text that is no IP address
+abbrev pub address_tree : List ℕ → Tree
+address_tree text = found_tree (unless (is_ip_text Any text) (words.ip Any))
+
+-- each address under its name
+abbrev pub addresses_tree : List (List ℕ × List ℕ) → Tree
+addresses_tree [] = nothing
+addresses_tree (e ∷ es) = under (key_part e.0) (address_tree e.1) (addresses_tree es)
+
+-- the tree of a body: the step of its user, and then one for each of the keys `age`, `tags` and `addresses`
+abbrev pub body_tree : Content → Tree
+body_tree body =
+    named_tree body.username
+    then under (key_part (codes "age")) (age_tree body.age)
+    (under (key_part (codes "tags")) (tags_tree body.tags)
+    (under (key_part (codes "addresses")) (addresses_tree body.addresses) nothing))

@@ -1,0 +1,76 @@
+//! The body of a request: a user with an age, tags and addresses.
+ghost use Rattle.garde_check.specs.Body.{address_visits, body_visits};
+
+mod json;
+
+use crate::user::User;
+use garde::fields::{
+    Alphanumeric, CharLength, Check, Dive, Each, Field, Fields, Ip, Is, Length, Range, Required,
+};
+use garde::i18n::IpKind;
+use garde::{I18n, Report, Trail, Validate};
+use std::alloc::{AllocError, Global};
+use std::collections::BTreeMap;
+
+/// A text that must be an IP address of version 4 or 6.
+#[derive(Drop, Debug)]
+pub struct Address(pub String);
+
+impl Validate for Address {
+    type Context = ();
+
+    ghost visits = { λ address _. address_visits address };
+
+    fn validate_into<'a, H: I18n>(
+        &'a self,
+        alloc: Global,
+        _ctx: &(),
+        trail: &mut Trail<'a>,
+        report: &mut Report,
+        h: &H,
+    ) -> Result<(), AllocError> {
+        Is(Ip(IpKind::Any)).check(alloc, &self.0, trail, report, h)
+    }
+}
+
+/// The body of a request.
+#[derive(Drop, Debug)]
+pub struct Body {
+    /// Whose request it is. Its name has no component of the user's above it.
+    pub user: User,
+    /// The age in years, which must be there and be 18 to 120.
+    pub age: Option<u32>,
+    /// At most 5 tags, each of 1 to 20 characters that are letters or numbers.
+    pub tags: Vec<String>,
+    /// Addresses, each under its name.
+    pub addresses: BTreeMap<String, Address>,
+}
+
+impl Validate for Body {
+    type Context = ();
+
+    ghost visits = { λ body _. body_visits body };
+
+    fn validate_into<'a, H: I18n>(
+        &'a self,
+        alloc: Global,
+        ctx: &(),
+        trail: &mut Trail<'a>,
+        report: &mut Report,
+        h: &H,
+    ) -> Result<(), AllocError> {
+        let years = Range {
+            min: Some(18),
+            max: Some(120),
+        };
+        let tag = (Is(Alphanumeric), Is(CharLength { min: 1, max: 20 }));
+        let tags = (Is(Length { min: 0, max: 5 }), Each(tag));
+        self.user.validate_into(alloc, ctx, trail, report, h)?;
+        (
+            Field("age", &self.age, (Is(Required), Is(years))),
+            Field("tags", &self.tags, tags),
+            Field("addresses", &self.addresses, Dive(ctx)),
+        )
+            .visit(alloc, trail, report, h)
+    }
+}

@@ -1,0 +1,97 @@
+//! What is written for an input.
+ghost use Rattle.std.specs.Prelude.{◌≡◌, IfOk, IfErr, Err, string_bytes};
+ghost use Rattle.std.specs.Str.{IsUtf8};
+ghost use Rattle.garde_check.specs.Body.{content};
+ghost use Rattle.garde_check.specs.Request.{Spells, SpellsNothing};
+ghost use Rattle.garde_check.specs.Tasks.{Finds, Reports, BodyReports, Gives, Refuses, OutputFails};
+
+use crate::body::Body;
+use crate::form::{Form, write_report};
+use crate::lines::users_of;
+use crate::mode::Task;
+use crate::outcome::{Outcome, RunError};
+use garde::json::JsonRefused;
+use garde::{DefaultI18n, Report, Trail, Validate, ValidateError};
+use serde_json::Value;
+use std::alloc::{AllocError, Global};
+use std::str;
+
+/// What is written for an input, and the outcome that goes with it.
+#[derive(Drop)]
+pub struct Output {
+    /// What the validation found.
+    pub outcome: Outcome,
+    /// The whole text that is written.
+    pub text: String,
+}
+
+// Validates a value, and makes the output in this form.
+fn validate<T: Validate>(
+    alloc: Global,
+    value: &T,
+    ctx: &T::Context,
+    form: Form,
+) -> Result<Output, AllocError>
+    ensures { IfOk result (λ output.
+        Finds (T.visits value.now ctx.now) form output.outcome (string_bytes output.text)) }
+{
+    let mut trail = Trail::new(alloc);
+    let answer = value.validate_on(alloc, ctx, &mut trail, &DefaultI18n);
+    let (outcome, report) = match answer {
+        Ok(()) => (Outcome::Valid, Report::new(alloc)),
+        Err(ValidateError::Report(report)) => (Outcome::Faults, report),
+        Err(ValidateError::Memory) => return Err(AllocError),
+    };
+    let text = write_report(alloc, &report, trail.nodes(), form)?;
+    Ok(Output { outcome, text })
+}
+
+// The output for the users of the lines of a text.
+fn lines_output(alloc: Global, input: &str, form: Form) -> Result<Output, AllocError>
+    ensures { IfOk result (λ output.
+        Reports form input.now output.outcome (string_bytes output.text)) }
+{
+    let users = users_of(alloc, input)?;
+    validate(alloc, &users, &(), form)
+}
+
+// The body that a text spells. `Form` is answered only where it spells none.
+fn body_of(alloc: Global, input: &str) -> Result<Body, JsonRefused>
+    ensures ok { IfOk result (λ body. Spells input.now (content body)) }
+    ensures form { result ≡ Err JsonRefused.Form → SpellsNothing input.now }
+{
+    match Value::from_str(alloc, input) {
+        Ok(tree) => Body::from_json(alloc, &tree),
+        Err(error) if error.is_memory() => Err(JsonRefused::Memory),
+        Err(_) => Err(JsonRefused::Form),
+    }
+}
+
+// The output for the body that a text spells. `Form` is answered only where it spells none.
+fn body_output(alloc: Global, input: &str) -> Result<Output, JsonRefused>
+    ensures ok { IfOk result (λ output.
+        BodyReports input.now output.outcome (string_bytes output.text)) }
+    ensures form { result ≡ Err JsonRefused.Form → SpellsNothing input.now }
+{
+    let body = body_of(alloc, input)?;
+    Ok(validate(alloc, &body, &(), Form::Json)?)
+}
+
+/// Makes the whole output for an input.
+pub fn make_output(alloc: Global, bytes: &[u8], task: Task) -> Result<Output, RunError>
+    ensures ok { IfOk result (λ output. IsUtf8 bytes.now
+        × Gives task bytes.now output.outcome (string_bytes output.text)) }
+    ensures err { IfErr result (OutputFails (Refuses task) bytes.now) }
+{
+    let Ok(input) = str::from_utf8(bytes) else {
+        return Err(RunError::NotUtf8);
+    };
+    match task {
+        Task::Lines(form) => Ok(lines_output(alloc, input, form)?),
+        Task::Body => match body_output(alloc, input) {
+            Ok(output) => Ok(output),
+            Err(JsonRefused::Form) => Err(RunError::BadBody),
+            Err(JsonRefused::Memory) => Err(RunError::Memory),
+        },
+    }
+}
