@@ -4,23 +4,24 @@ use Rattle.std.specs.declared.alloc.Global.{Global}
 use Rattle.std.specs.Prelude.{String, Option, Some, None, string_bytes}
 use Rattle.std.specs.List.{AllByRecursion, enumerate_from}
 use Rattle.std.proofs.lemmas.List.{length-map}
-use Rattle.garde.specs.Author.{Visits, codes, only, found, ◌and◌, below, items, optional, alphanumeric, length_in}
+use Rattle.garde.specs.Author.{Visits, codes, only, found, ◌and◌, below, items, optional, length_in}
 use Rattle.garde.specs.Visits.{entries}
 use Rattle.garde.specs.Trees.{TreesEach}
 use Rattle.garde.specs.Tree.{Tree, nothing, under, ◌then◌, found_tree}
-use Rattle.garde.specs.Words.{Fault, bounds_answer, char_count, length_fault, index_part, key_part}
+use Rattle.garde.specs.Words.{Fault, bounds_answer, length_fault, index_part, key_part}
 use Rattle.garde_check.specs.declared.body.Address.{Address}
 use Rattle.garde_check.specs.declared.body.Body.{Body}
 use Rattle.garde_check.specs.declared.form.Form.{Form}
 use Rattle.garde_check.specs.declared.form.Form.TheVariants.{Json}
 use Rattle.garde_check.specs.declared.outcome.Outcome.{Outcome}
 use Rattle.garde_check.specs.declared.user.User.{User}
-use Rattle.garde_check.specs.Body.{address_visits, body_visits, content, tag_tree, address_tree, addresses_tree, body_tree}
+use Rattle.garde_check.specs.Body.{tag_visits, address_visits, body_visits, content, tag_tree, address_tree, addresses_tree, body_tree}
 use Rattle.garde_check.specs.Lines.{AreTheLines}
 use Rattle.garde_check.specs.Numbered.{items_tree}
 use Rattle.garde_check.specs.Request.{Spells}
 use Rattle.garde_check.specs.Tasks.{Finds, IsOutput, Reports, BodyReports}
 use Rattle.garde_check.specs.User.{user_visits, named_tree}
+use Rattle.garde_check.proofs.OneBody.{the_only_body}
 use Rattle.garde_check.specs.Users.{text_of, IsNamed, line_tree}
 
 -- the visits have no other tree than this
@@ -77,7 +78,7 @@ lines_reported form users bytes output outcome lines named (t, visited, is) =
 
 -- ---- bodies
 
-tags_one : (tags : List (String Global)) → AllByRecursion (λ tag. HasOnly (alphanumeric (string_bytes tag) and length_in 1 20 (char_count (string_bytes tag))) (tag_tree (string_bytes tag))) tags
+tags_one : (tags : List (String Global)) → AllByRecursion (λ tag. HasOnly (tag_visits tag) (tag_tree (string_bytes tag))) tags
 tags_one [] = tt
 tags_one (tag ∷ tags) = (and_one (found_one _) (found_one _), tags_one tags)
 
@@ -99,10 +100,10 @@ body_one : (body : Body) → HasOnly (body_visits body) (body_tree (content body
 body_one body =
     and_one (user_one body.user)
     (and_one (below_one (key_part (codes "age")) (and_one (found_one _) (found_one _)))
-    (and_one (below_one (key_part (codes "tags")) (and_one (fewer_one body.tags.items) (items_one _ string_bytes tag_tree body.tags.items (tags_one body.tags.items))))
+    (and_one (below_one (key_part (codes "tags")) (and_one (fewer_one body.tags.items) (items_one tag_visits string_bytes tag_tree body.tags.items (tags_one body.tags.items))))
     (below_one (key_part (codes "addresses")) (addresses_one body.addresses.entries))))
 
 -- what is found of a body is what is reported of the bytes that spell it
 pub body_reported : (body : Body) (bytes output : List ℕ) (outcome : Outcome) → Spells bytes (content body) → Finds (body_visits body) Json outcome output → BodyReports bytes outcome output
 body_reported body bytes output outcome spells (t, visited, is) =
-    (content body, spells, subst (λ s. IsOutput Json s outcome output) ((body_one body).same t visited) is)
+    (content body, the_only_body bytes (content body) spells, subst (λ s. IsOutput Json s outcome output) ((body_one body).same t visited) is)

@@ -20,17 +20,20 @@ age_fault age = range_fault (decimal 18) (decimal 120) (option_answer (bounds_an
 abbrev pub address_visits : Address → Visits
 address_visits address = ip Any (string_bytes address.0)
 
--- The user, with no component of its own. Then under the key `age` the rules that there is an age, and
--- that it is at least 18 and at most 120; under the key `tags` the rule that there are at most 5, and
--- under the index of each the rules that its characters are letters or numbers, and that it has at
--- least 1 and at most 20 of them; under the key `addresses` each address under its name.
+-- the rule that each character of a tag is a letter or a number, and then that there are 1 to 20
+abbrev pub tag_visits : String Global → Visits
+tag_visits tag = alphanumeric (string_bytes tag) and length_in 1 20 (char_count (string_bytes tag))
+
+-- The user, with no component of its own. Then under the key `age` the rules that there is an age,
+-- and that it is at least 18 and at most 120; under the key `tags` the rule that there are at most 5,
+-- and each tag under its index; under the key `addresses` each address under its name.
 abbrev pub body_visits : Body → Visits
 body_visits body =
     user_visits body.user
     and field (codes "age") (required body.age and found (age_fault body.age))
-    and field (codes "tags") (length_in 0 5 (length body.tags.items)
-    and items (λ tag. alphanumeric (string_bytes tag) and length_in 1 20 (char_count (string_bytes tag))) body.tags.items)
-    and field (codes "addresses") (entries (λ name. key_part (string_bytes name)) address_visits body.addresses.entries)
+    and field (codes "tags") (length_in 0 5 (length body.tags.items) and items tag_visits body.tags.items)
+    and field (codes "addresses")
+    (entries (λ name. key_part (string_bytes name)) address_visits body.addresses.entries)
 
 -- what a body says
 pub record Content : Type 0 where
@@ -56,8 +59,8 @@ content body = record {
 abbrev pub age_tree : Option ℕ → Tree
 age_tree age = found_tree (unless (is_some age) not_set) then found_tree (age_fault age)
 
--- The fault `not alphanumeric` where some character of a tag is neither a letter nor a number, and then
--- the fault of a tag of less than 1 or more than 20 characters.
+-- The fault `not alphanumeric` where some character of a tag is neither a letter nor a number, and
+-- then the fault of a tag of less than 1 or more than 20 characters.
 abbrev pub tag_tree : List ℕ → Tree
 tag_tree tag =
     found_tree (unless (is_alphanumeric_text tag) not_alphanumeric)
@@ -65,7 +68,8 @@ tag_tree tag =
 
 -- the fault of more than 5 tags, and then each tag under its number
 abbrev pub tags_tree : List (List ℕ) → Tree
-tags_tree tags = found_tree (length_fault 0 5 (bounds_answer 0 5 (length tags))) then items_tree tag_tree 0 tags
+tags_tree tags =
+    found_tree (length_fault 0 5 (bounds_answer 0 5 (length tags))) then items_tree tag_tree 0 tags
 
 -- the fault of a text that is no IP address
 abbrev pub address_tree : List ℕ → Tree
@@ -76,7 +80,8 @@ abbrev pub addresses_tree : List (List ℕ × List ℕ) → Tree
 addresses_tree [] = nothing
 addresses_tree (e ∷ es) = under (key_part e.0) (address_tree e.1) (addresses_tree es)
 
--- the tree of a body: the step of its user, and then one for each of the keys `age`, `tags` and `addresses`
+-- the tree of a body: the step of its user, and then one for each of the keys `age`, `tags` and
+-- `addresses`
 abbrev pub body_tree : Content → Tree
 body_tree body =
     named_tree body.username

@@ -34,7 +34,8 @@ members_json addresses age tags username =
 
 abbrev pub body_json : Content → Data
 body_json body =
-    members_json (entries_json body.addresses) (age_json body.age) (texts_json body.tags) (string body.username)
+    members_json
+    (entries_json body.addresses) (age_json body.age) (texts_json body.tags) (string body.username)
 
 -- the tree spells the body
 abbrev pub IsRequest : Data → Content → Type 0
@@ -43,6 +44,10 @@ IsRequest tree body = (tree ≡ body_json body) × IsAge body.age
 -- the bytes are read as a tree that spells the body
 abbrev pub Spells : List ℕ → Content → Type 0
 Spells bytes body = (tree : Data) × (read bytes ≡ Some tree) × IsRequest tree body
+
+-- the bytes spell this body, and no other
+abbrev pub SpellsJust : List ℕ → Content → Type 0
+SpellsJust bytes body = Spells bytes body × ((other : Content) → Spells bytes other → other ≡ body)
 
 -- the bytes are read as no tree, or as one that spells no body
 abbrev pub SpellsNothing : List ℕ → Type 0

@@ -15,7 +15,7 @@ use Rattle.garde_check.specs.declared.outcome.RunError.TheVariants.{NotUtf8, Bad
 use Rattle.garde_check.specs.Body.{Content, body_tree}
 use Rattle.garde_check.specs.Form.{written}
 use Rattle.garde_check.specs.Lines.{AreTheLines}
-use Rattle.garde_check.specs.Request.{Spells, SpellsNothing}
+use Rattle.garde_check.specs.Request.{SpellsJust, SpellsNothing}
 use Rattle.garde_check.specs.Users.{lines_tree}
 
 -- what is written of a tree in a form: the number of its nodes is told as far as a `usize` goes
@@ -36,11 +36,11 @@ abbrev pub Reports : Form → List ℕ → Outcome → List ℕ → Type 0
 Reports form input outcome output =
     (lines : List (List ℕ)) × AreTheLines input lines × IsOutput form (lines_tree 0 lines) outcome output
 
--- The output as JSON for an input, and its outcome: those of the tree of the body that the input
--- spells.
+-- The output as JSON for an input, and its outcome: those of the one tree of the body that the
+-- input spells.
 abbrev pub BodyReports : List ℕ → Outcome → List ℕ → Type 0
 BodyReports input outcome output =
-    (body : Content) × Spells input body × IsOutput form.Json (body_tree body) outcome output
+    (body : Content) × SpellsJust input body × IsOutput form.Json (body_tree body) outcome output
 
 -- which output and outcome belong to an input
 abbrev pub Gives : Task → List ℕ → Outcome → List ℕ → Type 0
@@ -56,7 +56,8 @@ abbrev pub Refuses : Task → List ℕ → Type 0
 Refuses (Lines form) = Never
 Refuses Body = SpellsNothing
 
--- why no output was made for these bytes: they are not UTF-8, or are refused for their form, or memory ran out
+-- why no output was made for these bytes: they are not UTF-8, or are refused for their form, or
+-- memory ran out
 abbrev pub OutputFails : (List ℕ → Type 0) → List ℕ → RunError → Type 0
 OutputFails Refused bytes NotUtf8 = IsUtf8 bytes → ⊥
 OutputFails Refused bytes BadBody = IsUtf8 bytes × Refused bytes
