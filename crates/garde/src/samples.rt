@@ -2,7 +2,7 @@
 ghost use Rattle.garde.specs.Author.{codes, length, string_bytes, ◌and◌, optional, when, field, ascii, length_in, prefix, required};
 
 use crate::fields::{
-    Adapt, Ascii, Field, Fields, Is, Length, IfSome, Prefix, Required, View, When,
+    Adapt, Ascii, Field, Fields, IfSome, Is, Length, Prefix, Required, View, When,
 };
 use crate::{I18n, Report, Trail, Validate};
 use std::alloc::{AllocError, Global};

@@ -5,7 +5,6 @@ mod containers;
 mod couple;
 mod documents;
 mod handlers;
-mod hog;
 mod item;
 mod long;
 mod many;
@@ -14,7 +13,6 @@ mod profile;
 mod promises;
 mod signup;
 mod span;
-mod starved;
 mod typed_states;
 mod user;
 
@@ -141,6 +139,18 @@ fn the_inner_handler_speaks_inside(rt: HostRuntime) -> Result<(), Fail> {
     assert_eq!(rt; inside?.as_str(), "s: INNER:5\n");
     assert_eq!(rt; again?.as_str(), "s: OUTER:5\n");
     assert_eq!(rt; told(alloc, long.validate(alloc))?.as_str(), by_default);
+    Ok(())
+}
+
+#[test]
+fn a_handler_says_what_it_likes(rt: HostRuntime) -> Result<(), Fail> {
+    let alloc = rt.alloc();
+    let long = two_bytes(alloc)?;
+    let text = said(alloc, &long, &Labelled("a\nb "))?;
+    assert_eq!(rt; text.as_str(), "s: a\nb 5\n");
+    let megabyte = "m".repeat(alloc, 1_000_000)?;
+    let text = said(alloc, &long, &Labelled(megabyte.as_str()))?;
+    assert_eq!(rt; text.len(), 1_000_000 + "s: 5\n".len());
     Ok(())
 }
 

@@ -1,8 +1,8 @@
 //! Runs over memory: what is written, and how each run ends.
 mod body;
 mod devices;
-mod hog;
 mod json;
+mod refusals;
 
 use crate::mode::Command;
 use crate::outcome::{Outcome, RunError};
@@ -10,9 +10,8 @@ use crate::running::run;
 use crate::transfer::Plain;
 use crate::user::User;
 use crate::words::{command, fault_line, status};
-use devices::{Endless, Narrow, OneByOne};
+use devices::{Narrow, OneByOne};
 use garde::{Component, DefaultI18n, Trail, Validate, ValidateError};
-use hog::Hog;
 use std::alloc::{AllocError, Global};
 use std::test::Fail;
 
@@ -162,47 +161,6 @@ fn a_writer_that_fails_holds_a_beginning(rt: HostRuntime) {
         assert_eq!(rt; answer, want, "at {k}");
         assert_eq!(rt; writer.taken.as_slice(), &REPORT[..k], "at {k}");
     }
-}
-
-// What a run on the lines may answer where memory may be refused.
-fn is_answer(answer: Result<Outcome, RunError>, written: &[u8]) -> bool {
-    match answer {
-        Ok(outcome) => outcome == Outcome::Faults && written == REPORT_WITH_NODES,
-        Err(error) => error == RunError::Memory && written.is_empty(),
-    }
-}
-
-// The rest grows until a run meets no refusal. The writer has its room before.
-#[test]
-fn want_of_memory_leaves_nothing_written(rt: HostRuntime) -> Result<(), Fail> {
-    let mut hog = Hog::new(rt.alloc())?;
-    for rest in (0..400usize).map(|k| 16 * k) {
-        let room = Vec::with_capacity(rt.alloc(), REPORT_WITH_NODES.len())?;
-        let mut reader = Plain::new(LINES);
-        let mut writer = Plain::new(room);
-        hog.leave(rest);
-        let answer = run(rt.alloc(), &mut reader, &mut writer, true);
-        hog.release();
-        let written = writer.into_inner();
-        assert!(rt; is_answer(answer, written.as_slice()), "at {rest}");
-        assert!(rt; rest > 0 || answer.is_err(), "memory did not run out");
-        if answer.is_ok() {
-            return Ok(());
-        }
-    }
-    Err("memory was never ample".into())
-}
-
-#[test]
-fn an_input_without_end_ends_in_want_of_memory(rt: HostRuntime) -> Result<(), Fail> {
-    let mut hog = Hog::new(rt.alloc())?;
-    let mut writer = Plain::new(Vec::new(rt.alloc()));
-    hog.leave(1 << 15);
-    let answer = run(rt.alloc(), &mut Endless, &mut writer, false);
-    hog.release();
-    assert_eq!(rt; answer, Err(RunError::Memory));
-    assert!(rt; writer.into_inner().is_empty());
-    Ok(())
 }
 
 #[test]

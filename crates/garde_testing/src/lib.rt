@@ -3,7 +3,9 @@
 #![tactic(auto)]
 
 mod hog;
+mod scarce;
 #[cfg(test)]
 mod tests;
 
 pub use hog::Hog;
+pub use scarce::{Calls, Met, Scarce};

@@ -7,7 +7,7 @@ mod people;
 mod refusals;
 mod reports;
 mod rules;
-mod scarce;
+mod starved;
 mod texts;
 mod user;
 mod walks;

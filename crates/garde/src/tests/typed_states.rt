@@ -1,6 +1,5 @@
 //! Values before and after they are validated.
 
-use crate::tests::hog::Hog;
 use crate::tests::span::Span;
 use crate::tests::user::User;
 use crate::{IntoValidError, Unvalidated, Valid};
@@ -34,42 +33,6 @@ fn a_value_with_faults_leaves_its_report(rt: HostRuntime) -> Result<(), Fail> {
         return Err("it has faults".into());
     };
     assert_eq!(rt; report.to_string(rt.alloc())?.as_str(), FAULTS);
-    Ok(())
-}
-
-// The rest grows until all of the report is made. Each refusal hands back the value, which is
-// validated again.
-#[test]
-fn want_of_memory_hands_the_value_back(rt: HostRuntime) -> Result<(), Fail> {
-    let mut value = users(rt.alloc(), "é")?;
-    let mut hog = Hog::new(rt.alloc())?;
-    for rest in (0..400usize).map(|k| 16 * k) {
-        hog.leave(rest);
-        let answer = value.validate(rt.alloc());
-        hog.release();
-        match answer {
-            Err(IntoValidError::Memory(back)) => value = back,
-            Err(IntoValidError::Report(report)) => {
-                assert!(rt; rest > 0, "memory did not run out");
-                assert_eq!(rt; report.to_string(rt.alloc())?.as_str(), FAULTS);
-                return Ok(());
-            }
-            Ok(_) => return Err("it has faults".into()),
-        }
-        let shown = "[Some(User { username: \"é\" }), None]";
-        assert_eq!(rt; format!(in rt.alloc(); "{value:?}")?.as_str(), shown);
-    }
-    Err("memory was never ample".into())
-}
-
-#[test]
-fn a_valid_value_takes_no_memory(rt: HostRuntime) -> Result<(), Fail> {
-    let value = users(rt.alloc(), "test")?;
-    let mut hog = Hog::new(rt.alloc())?;
-    hog.leave(0);
-    let answer = value.validate(rt.alloc());
-    hog.release();
-    assert!(rt; answer.is_ok());
     Ok(())
 }
 

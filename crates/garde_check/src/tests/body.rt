@@ -4,7 +4,6 @@ use crate::body::Body;
 use crate::outcome::{Outcome, RunError};
 use crate::running::run_body;
 use crate::tests::devices::{Narrow, OneByOne};
-use crate::tests::hog::Hog;
 use crate::transfer::Plain;
 use crate::words::status;
 use garde::json::JsonRefused;
@@ -12,10 +11,12 @@ use serde_json::Value;
 use std::alloc::Global;
 use std::test::Fail;
 
-const BODY: &[u8] =
+/// The body of a request with four faults.
+pub const BODY: &[u8] =
     br#"{"username":"ab","age":17,"tags":["ok","a b"],"addresses":{"work":"1.2.3","home":"::1"}}"#;
 
-const JSON: &[u8] =
+/// Its faults.
+pub const BODY_JSON: &[u8] =
     b"{\"errors\":[[[[\"key\",\"username\"]],{\"message\":\"length is lower than 3\"}],[[[\"key\",\"age\"]],{\"message\":\"lower than 18\"}],[[[\"key\",\"tags\"],[\"index\",\"1\"]],{\"message\":\"not alphanumeric\"}],[[[\"key\",\"addresses\"],[\"key\",\"work\"]],{\"message\":\"not a valid IP address\"}]]}\n";
 
 // What a run on an input answers, and what it writes.
@@ -29,7 +30,7 @@ fn ran(alloc: Global, input: &[u8]) -> (Result<Outcome, RunError>, Vec<u8>) {
 #[test]
 fn writes_the_faults_of_a_body(rt: HostRuntime) {
     let rows: [(&[u8], u8, &[u8]); 5] = [
-        (BODY, 1, JSON),
+        (BODY, 1, BODY_JSON),
         (
             br#"{"username":"test","age":null,"tags":[],"addresses":{}}"#,
             1,
@@ -117,7 +118,7 @@ fn a_failing_reader_leaves_nothing_of_a_body(rt: HostRuntime) {
 
 #[test]
 fn a_failing_writer_holds_a_beginning_of_the_faults(rt: HostRuntime) {
-    for k in 0..JSON.len() + 1 {
+    for k in 0..BODY_JSON.len() + 1 {
         let mut reader = Plain::new(BODY);
         let mut writer = Narrow {
             taken: Vec::new(rt.alloc()),
@@ -125,34 +126,12 @@ fn a_failing_writer_holds_a_beginning_of_the_faults(rt: HostRuntime) {
             failed: false,
         };
         let answer = run_body(rt.alloc(), &mut reader, &mut writer);
-        let want = if k < JSON.len() {
+        let want = if k < BODY_JSON.len() {
             Err(RunError::Write)
         } else {
             Ok(Outcome::Faults)
         };
         assert_eq!(rt; answer, want, "at {k}");
-        assert_eq!(rt; writer.taken.as_slice(), &JSON[..k], "at {k}");
+        assert_eq!(rt; writer.taken.as_slice(), &BODY_JSON[..k], "at {k}");
     }
-}
-
-// The rest grows until a run meets no refusal. The writer has its room before.
-#[test]
-fn want_of_memory_leaves_nothing_of_a_body(rt: HostRuntime) -> Result<(), Fail> {
-    let mut hog = Hog::new(rt.alloc())?;
-    for rest in (0..800usize).map(|k| 16 * k) {
-        let mut reader = Plain::new(BODY);
-        let mut writer = Plain::new(Vec::with_capacity(rt.alloc(), JSON.len())?);
-        hog.leave(rest);
-        let answer = run_body(rt.alloc(), &mut reader, &mut writer);
-        hog.release();
-        let written = writer.into_inner();
-        if answer == Ok(Outcome::Faults) {
-            assert!(rt; rest > 0, "memory did not run out");
-            assert_eq!(rt; written.as_slice(), JSON);
-            return Ok(());
-        }
-        assert_eq!(rt; answer, Err(RunError::Memory), "at {rest}");
-        assert!(rt; written.is_empty(), "at {rest}");
-    }
-    Err("memory was never ample".into())
 }

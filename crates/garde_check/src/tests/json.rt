@@ -4,13 +4,13 @@ use crate::outcome::{Outcome, RunError};
 use crate::running::run_json;
 use crate::tests::LINES;
 use crate::tests::devices::{Narrow, OneByOne};
-use crate::tests::hog::Hog;
 use crate::transfer::Plain;
 use crate::words::status;
 use std::alloc::Global;
 use std::test::Fail;
 
-const JSON: &[u8] =
+/// The faults of the lines.
+pub const JSON: &[u8] =
     b"{\"errors\":[[[[\"index\",\"1\"],[\"key\",\"username\"]],{\"message\":\"not ascii\"}],[[[\"index\",\"3\"],[\"key\",\"username\"]],{\"message\":\"length is lower than 3\"}]]}\n";
 
 // What a run on an input answers, and what it writes.
@@ -67,26 +67,4 @@ fn a_failing_writer_holds_a_beginning_of_the_json(rt: HostRuntime) {
         assert_eq!(rt; answer, want, "at {k}");
         assert_eq!(rt; writer.taken.as_slice(), &JSON[..k], "at {k}");
     }
-}
-
-// The rest grows until a run meets no refusal. The writer has its room before.
-#[test]
-fn want_of_memory_leaves_no_json(rt: HostRuntime) -> Result<(), Fail> {
-    let mut hog = Hog::new(rt.alloc())?;
-    for rest in (0..800usize).map(|k| 16 * k) {
-        let mut reader = Plain::new(LINES);
-        let mut writer = Plain::new(Vec::with_capacity(rt.alloc(), JSON.len())?);
-        hog.leave(rest);
-        let answer = run_json(rt.alloc(), &mut reader, &mut writer);
-        hog.release();
-        let written = writer.into_inner();
-        if answer == Ok(Outcome::Faults) {
-            assert!(rt; rest > 0, "memory did not run out");
-            assert_eq!(rt; written.as_slice(), JSON);
-            return Ok(());
-        }
-        assert_eq!(rt; answer, Err(RunError::Memory), "at {rest}");
-        assert!(rt; written.is_empty(), "at {rest}");
-    }
-    Err("memory was never ample".into())
 }

@@ -93,20 +93,11 @@ fn a_computed_key_is_kept(rt: HostRuntime) -> Result<(), Fail> {
     Ok(())
 }
 
-// A text of a megabyte.
-fn megabyte(alloc: Global) -> Result<String, AllocError> {
-    let mut text = String::new(alloc);
-    for _ in 0..1_000_000usize {
-        text.push('m')?;
-    }
-    Ok(text)
-}
-
 #[test]
 fn a_key_of_a_megabyte(rt: HostRuntime) -> Result<(), Fail> {
     let alloc = rt.alloc();
     let mut users = BTreeMap::new(alloc);
-    users.insert(megabyte(alloc)?, user(alloc, "ab")?)?;
+    users.insert("m".repeat(alloc, 1_000_000)?, user(alloc, "ab")?)?;
     let (text, nodes) = walked(alloc, &users, &(), &Custom)?;
     let after = ".username: custom: too short, need at least 3\n";
     assert_eq!(rt; text.len(), 1_000_000 + after.len());

@@ -1,6 +1,6 @@
 //! Lists and paths where memory runs out.
 
-use super::scarce::{Met, Scarce};
+use crate::{Met, Scarce};
 use garde::Path;
 use garde::rc_list::{JoinError, List};
 use std::alloc::{AllocError, Global};

@@ -1,6 +1,6 @@
 //! Reports where memory runs out, and their written form.
 
-use super::scarce::{Met, Scarce};
+use crate::{Met, Scarce};
 use garde::json::{JsonRefused, report_from_json, report_to_json};
 use garde::{Error, Path, Report};
 use serde_json::Value;

@@ -3,7 +3,7 @@ ghost use Rattle.std.specs.Prelude.{Err};
 ghost use Rattle.garde_i18n.specs.declared.reasons.InvalidCreditCard.TheVariants as card;
 ghost use Rattle.garde_i18n.specs.declared.reasons.InvalidPhoneNumber.TheVariants as phone;
 
-use super::scarce::{Met, Scarce};
+use crate::{Met, Scarce};
 use garde::i18n::{InvalidCreditCard, InvalidPhoneNumber, IpKind};
 use garde::rules::credit_card::CreditCard;
 use garde::rules::pattern::regex::{PatternRefused, Regex};

@@ -1,6 +1,6 @@
 //! The default handler's texts where memory runs out.
 
-use super::scarce::{Met, Scarce};
+use crate::{Met, Scarce};
 use garde::i18n::{InvalidCreditCard, InvalidPhoneNumber, InvalidUrl, IpKind};
 use garde::{DefaultI18n, I18n};
 use std::alloc::{AllocError, Global};

@@ -1,8 +1,8 @@
 //! Walks of users, also of nests of lists, where memory runs out.
 
 use super::reports::{report_of, tells};
-use super::scarce::{Met, Scarce};
 use super::user::User;
+use crate::{Met, Scarce};
 use garde::{
     Component, DefaultI18n, IntoValidError, Report, Trail, Unvalidated, Validate, ValidateError,
 };
@@ -46,8 +46,8 @@ pub fn on_users(alloc: Global, memory: &mut Scarce) -> Result<Met, AllocError> {
 // Lists in lists, four deep.
 type Four<T> = Vec<Vec<Vec<Vec<T>>>>;
 
-// The list of one value.
-fn one<T: Drop>(alloc: Global, value: T) -> Result<Vec<T>, AllocError> {
+/// The list of one value.
+pub fn one<T: Drop>(alloc: Global, value: T) -> Result<Vec<T>, AllocError> {
     let mut list = Vec::new(alloc);
     match list.push(value) {
         Ok(()) => Ok(list),

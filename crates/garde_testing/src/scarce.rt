@@ -1,6 +1,6 @@
 //! Memory of which a call gets little, and what the call comes to.
 
-use crate::Hog;
+use crate::hog::Hog;
 use std::alloc::{AllocError, Global};
 
 /// What a call came to.
@@ -15,7 +15,7 @@ pub enum Met {
 }
 
 impl Met {
-    /// This, where the objects of the call stand as they should.
+    /// This, where the objects of the call stand as they should, and else `Wrong`.
     pub fn when(self, stands: bool) -> Met {
         if stands { self } else { Met::Wrong }
     }
@@ -26,6 +26,15 @@ impl Met {
             (Met::Wrong, _) | (_, Met::Wrong) => Met::Wrong,
             (Met::Want, _) | (_, Met::Want) => Met::Want,
             (Met::Ample, Met::Ample) => Met::Ample,
+        }
+    }
+
+    /// Ok of the answer of ample memory, and else what came in its place.
+    pub fn ample(self) -> Result<(), &'static str> {
+        match self {
+            Met::Ample => Ok(()),
+            Met::Want => Err("memory was refused"),
+            Met::Wrong => Err("another answer"),
         }
     }
 }
@@ -51,11 +60,6 @@ impl Scarce {
         })
     }
 
-    /// From the next `begin` on there is one piece of `rest` bytes.
-    pub fn leave(&mut self, rest: usize) {
-        self.rest = rest;
-    }
-
     /// From here on requests are served from one piece of memory alone.
     pub fn begin(&mut self) {
         if let Some(hog) = &mut self.hog {
@@ -68,5 +72,30 @@ impl Scarce {
         if let Some(hog) = &mut self.hog {
             hog.release();
         }
+    }
+}
+
+/// Calls whose requests for memory are refused, with the objects that they are made on.
+pub trait Calls {
+    /// Makes the objects, then the calls between `begin` and `end` of `memory`, and says what the
+    /// calls came to. `AllocError` is answered where the objects could not be made.
+    fn meet(&self, alloc: Global, memory: &mut Scarce) -> Result<Met, AllocError>;
+
+    /// What the calls come to where memory is as ample as the system has it.
+    final fn once(&self, alloc: Global) -> Result<Met, AllocError> {
+        self.meet(alloc, &mut Scarce::ample())
+    }
+
+    /// `Ample`, where the calls come to want of memory if there is none, and then, with more and
+    /// more of it, to want of memory or the answers of ample memory, and at last to those.
+    final fn in_turn(&self, alloc: Global, memory: &mut Scarce) -> Result<Met, AllocError> {
+        for rest in (0..1024usize).map(|k| 16 * k) {
+            memory.rest = rest;
+            match self.meet(alloc, memory)? {
+                Met::Want => {}
+                other => return Ok(other.when(rest > 0)),
+            }
+        }
+        Ok(Met::Want)
     }
 }
