@@ -11,7 +11,7 @@ mod report;
 #[cfg(test)]
 mod tests;
 
-pub use path::{path_from_json, path_to_json};
+pub use path::{kind_name, path_from_json, path_to_json};
 pub use report::{report_from_json, report_to_json};
 use std::alloc::AllocError;
 

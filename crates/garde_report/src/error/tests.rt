@@ -44,8 +44,11 @@ fn the_root_has_no_parent(rt: HostRuntime) -> Result<(), Fail> {
 
 #[test]
 fn each_component_prints_after_those_above(rt: HostRuntime) -> Result<(), Fail> {
-    let rows: [(&[(Kind, &str)], &str); 6] = [
+    let rows: [(&[(Kind, &str)], &str); 8] = [
         (&[A, B], "a.b"),
+        // A text of 22 bytes, and one of 23.
+        (&[(Kind::Key, "abcdefghijklmnopqrstuv"), B], "abcdefghijklmnopqrstuv.b"),
+        (&[(Kind::Index, "abcdefghijklmnopqrstuvw")], "[abcdefghijklmnopqrstuvw]"),
         (&[(Kind::Key, "a.b")], "a.b"),
         (&[UNNAMED, (Kind::Key, "k")], ".k"),
         (&[A, UNNAMED, B], "a.b"),
@@ -179,10 +182,24 @@ fn select_takes_what_stands_beneath(rt: HostRuntime) -> Result<(), Fail> {
 
 #[test]
 fn a_rule_error_keeps_the_text(rt: HostRuntime) -> Result<(), Fail> {
-    let RuleError::Fault(error) = RuleError::of(rt.alloc(), Ok(CowStr::Borrowed("not set"))) else {
-        return Err("no fault")?;
-    };
-    assert_eq!(rt; error.to_string(rt.alloc())?.as_str(), "not set");
+    // The last three have 30, 31 and 31 bytes.
+    let rows = [
+        "",
+        "not set",
+        "abcdefghijklmnopqrstuvwxyz0123",
+        "abcdefghijklmnopqrstuvwxyz01234",
+        "abcdefghijklmnopqrstuvwxyz012\u{e9}",
+    ];
+    for text in rows {
+        let owned = String::from_str(rt.alloc(), text)?;
+        for handed in [CowStr::Borrowed(text), CowStr::Owned(owned)] {
+            let RuleError::Fault(error) = RuleError::of(rt.alloc(), Ok(handed)) else {
+                return Err("no fault")?;
+            };
+            assert_eq!(rt; error.message(), text);
+            assert!(rt; error.clone()? == error);
+        }
+    }
     Ok(())
 }
 

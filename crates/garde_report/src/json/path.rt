@@ -13,7 +13,8 @@ use crate::rc_list::JoinError;
 use serde_json::{Value, json};
 use std::alloc::{AllocError, Global};
 
-fn kind_name(kind: Kind) -> &'static str
+/// The name of a kind in written forms.
+pub fn kind_name(kind: Kind) -> &'static str
     ensures { result.now ≡ kind_text kind }
 {
     match kind {
