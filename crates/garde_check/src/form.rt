@@ -3,7 +3,7 @@ ghost use Rattle.std.specs.Prelude.{◌≡◌, IfOk, string_bytes};
 ghost use Rattle.garde_check.specs.Form.{report_lines, json_line, written};
 
 use garde::Report;
-use garde::json::report_to_json;
+use garde_json::report_to_json_text;
 use std::alloc::{AllocError, Global};
 
 /// The form in which a report is written.
@@ -36,7 +36,7 @@ fn write_text(
 fn write_json(alloc: Global, report: &Report) -> Result<String, AllocError>
     ensures { IfOk result (λ text. string_bytes text ≡ json_line report.now) }
 {
-    let mut text = report_to_json(alloc, report)?.to_string(alloc)?;
+    let mut text = report_to_json_text(alloc, report)?;
     text.push('\n')?;
     Ok(text)
 }
