@@ -63,3 +63,17 @@ fn vectors_arrays_boxes_and_options(rt: HostRuntime) -> Result<(), Fail> {
     assert!(rt; left(alloc, &None::<u8>)?.0);
     Ok(())
 }
+
+#[test]
+fn the_method_walks_as_the_function(rt: HostRuntime) -> Result<(), Fail> {
+    let items = [1u8, 2];
+    let mut trail = Trail::new(rt.alloc());
+    let mut report = Report::new(rt.alloc());
+    items.validate_inner(
+        &mut trail,
+        &mut report,
+        |_item: &u8, component, trail, _report| trail.push(component),
+    )?;
+    assert_eq!(rt; trail.path()?.to_string(rt.alloc())?.as_str(), "[0][1]");
+    Ok(())
+}
