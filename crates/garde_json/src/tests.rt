@@ -16,7 +16,8 @@ fn the_text_is_that_of_the_tree(rt: HostRuntime) -> Result<(), Fail> {
     report.append(Path::new(alloc, NoKey::default())?, Error::new(alloc, "x")?)?;
     report.append(Path::empty(), Error::new(alloc, "")?)?;
     let text = report_to_json_text(alloc, &report)?;
-    let want = "{\"errors\":[[[[\"index\",\"7\"],[\"key\",\"a\\\"b\"]],{\"message\":\"not ASCII: \u{e9}\\n\"}],[[[\"none\",\"\"]],{\"message\":\"x\"}],[[],{\"message\":\"\"}]]}";
+    let want =
+        "{\"errors\":[[[[\"index\",\"7\"],[\"key\",\"a\\\"b\"]],{\"message\":\"not ASCII: \u{e9}\\n\"}],[[[\"none\",\"\"]],{\"message\":\"x\"}],[[],{\"message\":\"\"}]]}";
     assert_eq!(rt; text.as_str(), want);
     let tree = report_to_json(alloc, &report)?.to_string(alloc)?;
     assert!(rt; tree == text);

@@ -114,7 +114,9 @@ impl Ord for OwnedComponent {
     ghost matches_eq = { part_cmp-ties };
 
     fn cmp(&self, other: &OwnedComponent) -> Ordering {
-        self.kind().cmp(&other.kind()).then(self.text().cmp(other.text()))
+        self.kind()
+            .cmp(&other.kind())
+            .then(self.text().cmp(other.text()))
     }
 }
 

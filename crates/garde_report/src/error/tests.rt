@@ -47,8 +47,14 @@ fn each_component_prints_after_those_above(rt: HostRuntime) -> Result<(), Fail> 
     let rows: [(&[(Kind, &str)], &str); 8] = [
         (&[A, B], "a.b"),
         // A text of 22 bytes, and one of 23.
-        (&[(Kind::Key, "abcdefghijklmnopqrstuv"), B], "abcdefghijklmnopqrstuv.b"),
-        (&[(Kind::Index, "abcdefghijklmnopqrstuvw")], "[abcdefghijklmnopqrstuvw]"),
+        (
+            &[(Kind::Key, "abcdefghijklmnopqrstuv"), B],
+            "abcdefghijklmnopqrstuv.b",
+        ),
+        (
+            &[(Kind::Index, "abcdefghijklmnopqrstuvw")],
+            "[abcdefghijklmnopqrstuvw]",
+        ),
         (&[(Kind::Key, "a.b")], "a.b"),
         (&[UNNAMED, (Kind::Key, "k")], ".k"),
         (&[A, UNNAMED, B], "a.b"),

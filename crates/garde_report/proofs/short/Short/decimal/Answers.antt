@@ -10,5 +10,5 @@ from_utf8_unchecked-text-requires g c =
     let n = c.args.number in
     let e = c.write_digits-start in
     let same : take (20 - e.result) (drop e.result e.new.digits) ≡ decimal n =
-        take_all (20 - e.result) _ (omega (arith, length-drop e.result e.new.digits, e.array_long)) ∙ e.ensures.written in
+    take_all (20 - e.result) _ (omega (arith, length-drop e.result e.new.digits, e.array_long)) ∙ e.ensures.written in
     subst IsUtf8 (sym same) (IsUtf8-from_ascii _ (IsAscii-decimal n c.ranges.number.fits))
