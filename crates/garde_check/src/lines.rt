@@ -1,11 +1,15 @@
 //! The users of a text, one a line.
 ghost use Rattle.std.specs.List.{AllByRecursion};
-ghost use Rattle.std.specs.Prelude.{◌≡◌, IfOk, map};
-ghost use Rattle.garde_check.specs.Lines.{AreTheLines};
-ghost use Rattle.garde_check.specs.Users.{text_of, IsNamed};
+ghost use Rattle.std.specs.Prelude.{◌≡◌, IfOk, drop, map, string_bytes};
+ghost use Rattle.std.specs.Str.{IsCharBoundary, IsUtf8};
+ghost use Rattle.garde_check.specs.Lines.{AreTheLines, IsLine};
+ghost use Rattle.garde_check.specs.Users.{text_of, IsNamed, IsCut};
 
 use crate::user::User;
 use std::alloc::{AllocError, Global};
+
+/// A text of more bytes is cut half by half.
+const HALVED: usize = 1 << 16;
 
 // The user that a line names, or nothing where the line is empty.
 fn user_of(alloc: Global, line: &str) -> Result<Option<User>, AllocError>
@@ -19,23 +23,60 @@ fn user_of(alloc: Global, line: &str) -> Result<Option<User>, AllocError>
     Ok(Some(User { username }))
 }
 
-/// The users of a text that is cut at line feeds: an empty line is no user, and every other line is
-/// the name of one.
-///
-/// What stands after the last line feed is a line only if it is not empty. A carriage return is an
-/// ordinary character.
-pub fn users_of(alloc: Global, text: &str) -> Result<Vec<Option<User>>, AllocError>
-    ensures lines { IfOk result (λ users. AreTheLines text.now (map text_of users.items)) }
-    ensures named { IfOk result (λ users. AllByRecursion IsNamed users.items) }
+// Cuts off the lines that end in a text, and appends their users. What is left stands after the last
+// line feed.
+fn cut_lines<'t>(
+    alloc: Global,
+    text: &'t str,
+    users: &mut Vec<Option<User>>,
+) -> Result<&'t str, AllocError>
+    ensures cut { IfOk result (λ rest.
+        IsCut text.now users.old.items users.new.items rest.now) }
+    ensures line { IfOk result (λ rest. IsLine rest.now) }
+    ensures text { IfOk result (λ rest. IsUtf8 rest.now) }
 {
-    let mut users = Vec::new(alloc);
     let mut rest = text;
     while let Some((line, after)) = rest.split_once('\n') {
         users.push(user_of(alloc, line)?)?;
         rest = after;
     }
-    if !rest.is_empty() {
-        users.push(user_of(alloc, rest)?)?;
+    Ok(rest)
+}
+
+// Cuts off the lines that end in the first half of a text, appends their users, and tells how many
+// bytes were cut off.
+fn cut_half(alloc: Global, text: &str, users: &mut Vec<Option<User>>) -> Result<usize, AllocError>
+    ensures cut { IfOk result (λ n. IsCut text.now users.old.items users.new.items (drop n text.now)) }
+    ensures place { IfOk result (λ n. IsCharBoundary text.now n) }
+{
+    let half = text.floor_char_boundary(text.len() / 2);
+    let left = cut_lines(alloc, &text[..half], users)?;
+    Ok(half - left.len())
+}
+
+/// The users of a text that is cut at line feeds: an empty line is no user, and every other line is
+/// the name of one.
+///
+/// What stands after the last line feed is a line only if it is not empty. A carriage return is an
+/// ordinary character. The memory of a long text is given back half by half.
+pub fn users_of(alloc: Global, text: String) -> Result<Vec<Option<User>>, AllocError>
+    ensures lines { IfOk result (λ users.
+        AreTheLines (string_bytes text) (map text_of users.items)) }
+    ensures named { IfOk result (λ users. AllByRecursion IsNamed users.items) }
+{
+    let mut users = Vec::new(alloc);
+    let mut rest = text;
+    while rest.len() > HALVED {
+        let cut = cut_half(alloc, rest.as_str(), &mut users)?;
+        if cut == 0 {
+            break;
+        }
+        rest.replace_range(..cut, "")?;
+        rest.shrink_to_fit();
+    }
+    let last = cut_lines(alloc, rest.as_str(), &mut users)?;
+    if !last.is_empty() {
+        users.push(user_of(alloc, last)?)?;
     }
     Ok(users)
 }

@@ -14,7 +14,6 @@ use garde::json::JsonRefused;
 use garde::{DefaultI18n, Report, Trail, Validate, ValidateError};
 use serde_json::Value;
 use std::alloc::{AllocError, Global};
-use std::str;
 
 /// What is written for an input, and the outcome that goes with it.
 #[derive(Drop)]
@@ -47,9 +46,9 @@ fn validate<T: Validate>(
 }
 
 // The output for the users of the lines of a text.
-fn lines_output(alloc: Global, input: &str, form: Form) -> Result<Output, AllocError>
+fn lines_output(alloc: Global, input: String, form: Form) -> Result<Output, AllocError>
     ensures { IfOk result (λ output.
-        Reports form input.now output.outcome (string_bytes output.text)) }
+        Reports form (string_bytes input) output.outcome (string_bytes output.text)) }
 {
     let users = users_of(alloc, input)?;
     validate(alloc, &users, &(), form)
@@ -78,17 +77,17 @@ fn body_output(alloc: Global, input: &str) -> Result<Output, JsonRefused>
 }
 
 /// Makes the whole output for an input.
-pub fn make_output(alloc: Global, bytes: &[u8], task: Task) -> Result<Output, RunError>
-    ensures ok { IfOk result (λ output. IsUtf8 bytes.now
-        × Gives task bytes.now output.outcome (string_bytes output.text)) }
-    ensures err { IfErr result (OutputFails (Refuses task) bytes.now) }
+pub fn make_output(alloc: Global, bytes: Vec<u8>, task: Task) -> Result<Output, RunError>
+    ensures ok { IfOk result (λ output. IsUtf8 bytes.items
+        × Gives task bytes.items output.outcome (string_bytes output.text)) }
+    ensures err { IfErr result (OutputFails (Refuses task) bytes.items) }
 {
-    let Ok(input) = str::from_utf8(bytes) else {
+    let Ok(input) = String::from_utf8(bytes) else {
         return Err(RunError::NotUtf8);
     };
     match task {
         Task::Lines(form) => Ok(lines_output(alloc, input, form)?),
-        Task::Body => match body_output(alloc, input) {
+        Task::Body => match body_output(alloc, input.as_str()) {
             Ok(output) => Ok(output),
             Err(JsonRefused::Form) => Err(RunError::BadBody),
             Err(JsonRefused::Memory) => Err(RunError::Memory),

@@ -65,7 +65,7 @@ fn run_task<S: Source, W: Sink>(
         (S.has_failed reader.new) (W.has_failed writer.new) result }
 {
     let bytes = take_all(alloc, reader)?;
-    let output = make_output(alloc, &bytes, task)?;
+    let output = make_output(alloc, bytes, task)?;
     let Ok(()) = give_all(writer, output.text.as_bytes()) else {
         return Err(RunError::Write);
     };

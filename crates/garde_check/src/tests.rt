@@ -70,6 +70,36 @@ fn writes_the_faults_of_each_line(rt: HostRuntime) {
     }
 }
 
+// A text of more than 64 KiB is cut half by half, and one line of that length is not.
+#[test]
+fn cuts_a_long_text_as_a_short_one(rt: HostRuntime) -> Result<(), Fail> {
+    let alloc = rt.alloc();
+    let rows: [(&str, usize, &[u8]); 3] = [
+        (
+            "test\n",
+            30_000,
+            b"[30000].username: length is lower than 3\n",
+        ),
+        (
+            "\n",
+            100_000,
+            b"[100000].username: length is lower than 3\n",
+        ),
+        ("x", 100_000, b"[0].username: length is greater than 25\n"),
+    ];
+    for (line, times, want) in rows {
+        let mut text = String::new(alloc);
+        for _ in 0..times {
+            text.push_str(line)?;
+        }
+        text.push_str("ab")?;
+        let (answer, written) = ran(alloc, text.as_bytes(), false);
+        assert_eq!(rt; status(&answer), 1);
+        assert_eq!(rt; written.as_slice(), want);
+    }
+    Ok(())
+}
+
 #[test]
 fn tells_how_a_run_ended(rt: HostRuntime) {
     assert_eq!(rt; status(&Ok(Outcome::Valid)), 0);
