@@ -57,6 +57,10 @@ impl Hog {
     fn take_all(&mut self) {
         take_blocks(self.alloc, &mut self.large, 1 << 46, LARGE);
         take_blocks(self.alloc, &mut self.small, LARGE / 2, 8);
+        // The allocator keeps pieces that were given back apart by their size, up to a kilobyte.
+        for size in (0..65usize).map(|k| 8 + 16 * k) {
+            take_blocks(self.alloc, &mut self.small, size, size);
+        }
     }
 
     /// Leaves `rest` bytes in one piece, and nothing else. With 0 each request is refused.
