@@ -8,8 +8,8 @@ ghost use Rattle.garde_check.specs.Users.{text_of, IsNamed, IsCut};
 use crate::user::User;
 use std::alloc::{AllocError, Global};
 
-/// A text of more bytes is cut half by half.
-const HALVED: usize = 1 << 16;
+/// A text of more bytes is cut part by part.
+const LONG: usize = 1 << 16;
 
 // The user that a line names, or nothing where the line is empty.
 fn user_of(alloc: Global, line: &str) -> Result<Option<User>, AllocError>
@@ -43,22 +43,22 @@ fn cut_lines<'t>(
     Ok(rest)
 }
 
-// Cuts off the lines that end in the first half of a text, appends their users, and tells how many
-// bytes were cut off.
-fn cut_half(alloc: Global, text: &str, users: &mut Vec<Option<User>>) -> Result<usize, AllocError>
+// Cuts off the lines that end in the first three quarters of a text, appends their users, and tells
+// how many bytes were cut off.
+fn cut_front(alloc: Global, text: &str, users: &mut Vec<Option<User>>) -> Result<usize, AllocError>
     ensures cut { IfOk result (λ n. IsCut text.now users.old.items users.new.items (drop n text.now)) }
     ensures place { IfOk result (λ n. IsCharBoundary text.now n) }
 {
-    let half = text.floor_char_boundary(text.len() / 2);
-    let left = cut_lines(alloc, &text[..half], users)?;
-    Ok(half - left.len())
+    let front = text.floor_char_boundary(text.len() / 4 * 3);
+    let left = cut_lines(alloc, &text[..front], users)?;
+    Ok(front - left.len())
 }
 
 /// The users of a text that is cut at line feeds: an empty line is no user, and every other line is
 /// the name of one.
 ///
 /// What stands after the last line feed is a line only if it is not empty. A carriage return is an
-/// ordinary character. The memory of a long text is given back half by half.
+/// ordinary character. The memory of a long text is given back part by part.
 pub fn users_of(alloc: Global, text: String) -> Result<Vec<Option<User>>, AllocError>
     ensures lines { IfOk result (λ users.
         AreTheLines (string_bytes text) (map text_of users.items)) }
@@ -66,8 +66,8 @@ pub fn users_of(alloc: Global, text: String) -> Result<Vec<Option<User>>, AllocE
 {
     let mut users = Vec::new(alloc);
     let mut rest = text;
-    while rest.len() > HALVED {
-        let cut = cut_half(alloc, rest.as_str(), &mut users)?;
+    while rest.len() > LONG {
+        let cut = cut_front(alloc, rest.as_str(), &mut users)?;
         if cut == 0 {
             break;
         }

@@ -10,6 +10,7 @@ use crate::form::{Form, write_report};
 use crate::lines::users_of;
 use crate::mode::Task;
 use crate::outcome::{Outcome, RunError};
+use crate::user::User;
 use garde::json::JsonRefused;
 use garde::{DefaultI18n, Report, Trail, Validate, ValidateError};
 use serde_json::Value;
@@ -22,6 +23,9 @@ pub struct Output {
     pub outcome: Outcome,
     /// The whole text that is written.
     pub text: String,
+    /// The users that were validated, and none of a body. They are freed after the text: freeing a
+    /// large piece of memory, the allocator joins the small ones that were freed before.
+    pub users: Vec<Option<User>>,
 }
 
 // Validates a value, and makes the output in this form.
@@ -42,7 +46,12 @@ fn validate<T: Validate>(
         Err(ValidateError::Memory) => return Err(AllocError),
     };
     let text = write_report(alloc, &report, trail.nodes(), form)?;
-    Ok(Output { outcome, text })
+    let users = Vec::new(alloc);
+    Ok(Output {
+        outcome,
+        text,
+        users,
+    })
 }
 
 // The output for the users of the lines of a text.
@@ -51,7 +60,9 @@ fn lines_output(alloc: Global, input: String, form: Form) -> Result<Output, Allo
         Reports form (string_bytes input) output.outcome (string_bytes output.text)) }
 {
     let users = users_of(alloc, input)?;
-    validate(alloc, &users, &(), form)
+    let mut output = validate(alloc, &users, &(), form)?;
+    output.users = users;
+    Ok(output)
 }
 
 // The body that a text spells. `Form` is answered only where it spells none.

@@ -13,7 +13,7 @@ use crate::transfer::{Failed, Sink, Source};
 use std::alloc::Global;
 
 /// How many bytes are asked for at a time.
-const PART: usize = 4096;
+const PART: usize = 8192;
 
 // Takes all that is left in a reader.
 fn take_all<S: Source>(alloc: Global, reader: &mut S) -> Result<Vec<u8>, RunError>

@@ -70,7 +70,7 @@ fn writes_the_faults_of_each_line(rt: HostRuntime) {
     }
 }
 
-// A text of more than 64 KiB is cut half by half, and one line of that length is not.
+// A text of more than 64 KiB is cut part by part, and one line of that length is not.
 #[test]
 fn cuts_a_long_text_as_a_short_one(rt: HostRuntime) -> Result<(), Fail> {
     let alloc = rt.alloc();

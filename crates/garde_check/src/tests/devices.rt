@@ -1,7 +1,11 @@
 //! Readers and writers that fail, or do not end.
 ghost use Rattle.std.specs.Prelude.{None, Some, false};
 
-use crate::transfer::{Failed, Sink, Source};
+use crate::outcome::RunError;
+use crate::running::run;
+use crate::transfer::{Failed, Plain, Sink, Source};
+use garde_testing::Hog;
+use std::test::Fail;
 
 /// A reader that gives one byte a call, and fails once it has given as many as `whole` says.
 #[derive(Drop)]
@@ -65,4 +69,16 @@ impl Sink for Narrow {
         }
         Ok(1)
     }
+}
+
+#[test]
+fn an_input_without_end_ends_in_want_of_memory(rt: HostRuntime) -> Result<(), Fail> {
+    let mut hog = Hog::new(rt.alloc())?;
+    let mut writer = Plain::new(Vec::new(rt.alloc()));
+    hog.leave(1 << 15);
+    let answer = run(rt.alloc(), &mut Endless, &mut writer, false);
+    hog.release();
+    assert_eq!(rt; answer, Err(RunError::Memory));
+    assert!(rt; writer.into_inner().is_empty());
+    Ok(())
 }

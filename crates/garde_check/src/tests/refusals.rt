@@ -1,13 +1,12 @@
 //! Runs whose requests for memory are refused in turn. The writer has its room before.
 
 use super::body::{BODY, BODY_JSON};
-use super::devices::Endless;
 use super::json::JSON;
 use super::{LINES, REPORT_WITH_NODES};
 use crate::outcome::{Outcome, RunError};
 use crate::running::{run, run_body, run_json};
 use crate::transfer::Plain;
-use garde_testing::{Calls, Hog, Met, Scarce};
+use garde_testing::{Calls, Met, Scarce};
 use std::alloc::{AllocError, Global};
 use std::test::Fail;
 
@@ -74,16 +73,4 @@ fn run_as_json(rt: HostRuntime) -> Result<(), Fail> {
 #[test]
 fn run_on_a_body(rt: HostRuntime) -> Result<(), Fail> {
     Ok(Run::Body.once(rt.alloc())?.ample()?)
-}
-
-#[test]
-fn an_input_without_end_ends_in_want_of_memory(rt: HostRuntime) -> Result<(), Fail> {
-    let mut hog = Hog::new(rt.alloc())?;
-    let mut writer = Plain::new(Vec::new(rt.alloc()));
-    hog.leave(1 << 15);
-    let answer = run(rt.alloc(), &mut Endless, &mut writer, false);
-    hog.release();
-    assert_eq!(rt; answer, Err(RunError::Memory));
-    assert!(rt; writer.into_inner().is_empty());
-    Ok(())
 }
