@@ -8,8 +8,6 @@
 mod form;
 mod path;
 mod report;
-#[cfg(test)]
-mod tests;
 
 pub use path::{kind_name, path_from_json, path_to_json};
 pub use report::{report_from_json, report_to_json};

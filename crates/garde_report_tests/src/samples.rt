@@ -1,7 +1,7 @@
 //! Values of the tests.
 
-use crate::error::{Component, Error, Kind, Path, Report};
-use crate::rc_list::{JoinError, List};
+use garde_report::rc_list::{JoinError, List};
+use garde_report::{Component, Error, Kind, Path, Report, Trail};
 use std::alloc::{AllocError, Global};
 use std::hash::{DefaultHasher, Hash, Hasher};
 use std::test::Fail;
@@ -16,12 +16,12 @@ pub(crate) fn list_of(alloc: Global, items: &[char]) -> Result<List<char>, JoinE
 }
 
 /// The path of components of these kinds and texts.
-pub(crate) fn path_of(alloc: Global, components: &[(Kind, &str)]) -> Result<Path, JoinError> {
-    let mut path = Path::empty();
+pub(crate) fn path_of(alloc: Global, components: &[(Kind, &str)]) -> Result<Path, AllocError> {
+    let mut trail = Trail::new(alloc);
     for (kind, text) in components {
-        path = path.join_component(alloc, Component::text(*kind, text))?;
+        trail.push(Component::text(*kind, text))?;
     }
-    Ok(path)
+    trail.path()
 }
 
 /// The path of these keys.

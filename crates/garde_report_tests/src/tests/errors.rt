@@ -1,7 +1,7 @@
 //! Paths, errors and reports.
 
-use super::{Error, Kind, NoKey, Path, PathComponentKind, Report, RuleError, select};
 use crate::samples::{add, four_faults, hash_of, keys, path_of};
+use garde_report::{Error, Kind, NoKey, Path, PathComponentKind, Report, RuleError, select};
 use std::borrow::CowStr;
 use std::cmp::Ordering;
 use std::test::Fail;

@@ -1,8 +1,10 @@
 //! Written forms, and trees that are none.
 
-use super::{JsonRefused, path_from_json, path_to_json, report_from_json, report_to_json};
-use crate::error::{Error, Kind, Report};
 use crate::samples::path_of;
+use garde_report::json::{
+    JsonRefused, path_from_json, path_to_json, report_from_json, report_to_json,
+};
+use garde_report::{Error, Kind, Report};
 use serde_json::Value;
 use std::alloc::Global;
 use std::test::Fail;

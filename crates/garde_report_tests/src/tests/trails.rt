@@ -1,7 +1,6 @@
 //! Ways down and up, with the paths that are asked for and the nodes made so far.
 
-use super::Trail;
-use crate::error::{Component, Error, Report, RuleError};
+use garde_report::{Component, Error, Report, RuleError, Trail};
 use std::alloc::Global;
 use std::process::Abort;
 use std::test::Fail;

@@ -1,7 +1,7 @@
 //! Lists of letters, and a long list.
 
-use super::List;
 use crate::samples::{hash_of, list_of};
+use garde_report::rc_list::List;
 use std::cmp::Ordering;
 use std::test::Fail;
 
