@@ -1,11 +1,12 @@
 //! The users of a text, one a line.
 ghost use Rattle.std.specs.List.{AllByRecursion};
-ghost use Rattle.std.specs.Prelude.{◌≡◌, IfOk, drop, map, string_bytes};
+ghost use Rattle.std.specs.Prelude.{◌≡◌, ◌∷◌, ◌++◌, MatchOption, IfOk, drop, map, string_bytes};
 ghost use Rattle.std.specs.Str.{IsCharBoundary, IsUtf8};
 ghost use Rattle.garde_check.specs.Lines.{AreTheLines, IsLine};
 ghost use Rattle.garde_check.specs.Users.{text_of, IsNamed, IsCut};
 
 use crate::user::User;
+use memchr::memchr;
 use std::alloc::{AllocError, Global};
 
 /// A text of more bytes is cut part by part.
@@ -23,6 +24,15 @@ fn user_of(alloc: Global, line: &str) -> Result<Option<User>, AllocError>
     Ok(Some(User { username }))
 }
 
+// The line that ends first in a text, and what stands after its line feed.
+fn split_line<'t>(text: &'t str) -> Option<(&'t str, &'t str)>
+    ensures parts { MatchOption result (IsLine text.now) (λ parts.
+        (text.now ≡ parts.0.now ++ 10 ∷ parts.1.now) × IsLine parts.0.now) }
+{
+    let end = memchr(b'\n', text.as_bytes())?;
+    Some((&text[..end], &text[end + 1..]))
+}
+
 // Cuts off the lines that end in a text, and appends their users. What is left stands after the last
 // line feed.
 fn cut_lines<'t>(
@@ -36,7 +46,7 @@ fn cut_lines<'t>(
     ensures text { IfOk result (λ rest. IsUtf8 rest.now) }
 {
     let mut rest = text;
-    while let Some((line, after)) = rest.split_once('\n') {
+    while let Some((line, after)) = split_line(rest) {
         users.push(user_of(alloc, line)?)?;
         rest = after;
     }
