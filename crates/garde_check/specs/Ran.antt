@@ -38,3 +38,13 @@ abbrev pub TakeFails : Bool → RunError → Type 0
 TakeFails failed Read = failed ≡ true
 TakeFails failed Memory = Unit {0}
 TakeFails failed _ = ⊥
+
+-- why no output was made of what a reader had: the reader is at its end, and what it had is not
+-- UTF-8 or refused for its form; or the reader failed, or memory ran out
+abbrev pub MakeFails : (List ℕ → Type 0) → Option (List ℕ) → Option (List ℕ) → Bool → RunError → Type 0
+MakeFails Refuses input left failed NotUtf8 = IsAtEnd left × IfSome input (λ bytes. IsUtf8 bytes → ⊥)
+MakeFails Refuses input left failed BadBody =
+    IsAtEnd left × ((bytes : List ℕ) × IfSome input (λ all. bytes ≡ all) × IsUtf8 bytes × Refuses bytes)
+MakeFails Refuses input left failed Read = failed ≡ true
+MakeFails Refuses input left failed Write = ⊥
+MakeFails Refuses input left failed Memory = Unit {0}

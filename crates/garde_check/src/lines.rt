@@ -1,16 +1,16 @@
 //! The users of a text, one a line.
 ghost use Rattle.std.specs.List.{AllByRecursion};
-ghost use Rattle.std.specs.Prelude.{◌≡◌, ◌∷◌, ◌++◌, MatchOption, IfOk, drop, map, string_bytes};
-ghost use Rattle.std.specs.Str.{IsCharBoundary, IsUtf8};
-ghost use Rattle.garde_check.specs.Lines.{AreTheLines, IsLine};
+ghost use Rattle.std.specs.Prelude.{◌≡◌, ℕ, List, [], ◌∷◌, ◌++◌, MatchOption, IfOk, IfErr, OnOk};
+ghost use Rattle.std.specs.Prelude.{map, string_bytes};
+ghost use Rattle.std.specs.Str.{IsUtf8};
+ghost use Rattle.garde_check.specs.Lines.{AreTheLines, EndsInLineFeed, IsLine};
+ghost use Rattle.garde_check.specs.Tasks.{Never, OutputFails};
 ghost use Rattle.garde_check.specs.Users.{text_of, IsNamed, IsCut};
 
+use crate::outcome::RunError;
 use crate::user::User;
-use memchr::memchr;
+use memchr::{memchr, memrchr};
 use std::alloc::{AllocError, Global};
-
-/// A text of more bytes is cut part by part.
-const LONG: usize = 1 << 16;
 
 // The user that a line names, or nothing where the line is empty.
 fn user_of(alloc: Global, line: &str) -> Result<Option<User>, AllocError>
@@ -43,7 +43,6 @@ fn cut_lines<'t>(
     ensures cut { IfOk result (λ rest.
         IsCut text.now users.old.items users.new.items rest.now) }
     ensures line { IfOk result (λ rest. IsLine rest.now) }
-    ensures text { IfOk result (λ rest. IsUtf8 rest.now) }
 {
     let mut rest = text;
     while let Some((line, after)) = split_line(rest) {
@@ -53,40 +52,97 @@ fn cut_lines<'t>(
     Ok(rest)
 }
 
-// Cuts off the lines that end in the first three quarters of a text, appends their users, and tells
-// how many bytes were cut off.
-fn cut_front(alloc: Global, text: &str, users: &mut Vec<Option<User>>) -> Result<usize, AllocError>
-    ensures cut { IfOk result (λ n. IsCut text.now users.old.items users.new.items (drop n text.now)) }
-    ensures place { IfOk result (λ n. IsCharBoundary text.now n) }
+// Cuts off all lines of what is left of a text, and appends their users.
+fn cut_last(alloc: Global, rest: &str, users: &mut Vec<Option<User>>) -> Result<(), AllocError>
+    ensures { OnOk result ((text : List ℕ) → IsCut text [] users.old.items rest.now
+        → AreTheLines text (map text_of users.new.items) × AllByRecursion IsNamed users.new.items) }
 {
-    let front = text.floor_char_boundary(text.len() / 4 * 3);
-    let left = cut_lines(alloc, &text[..front], users)?;
-    Ok(front - left.len())
-}
-
-/// The users of a text that is cut at line feeds: an empty line is no user, and every other line is
-/// the name of one.
-///
-/// What stands after the last line feed is a line only if it is not empty. A carriage return is an
-/// ordinary character. The memory of a long text is given back part by part.
-pub fn users_of(alloc: Global, text: String) -> Result<Vec<Option<User>>, AllocError>
-    ensures lines { IfOk result (λ users.
-        AreTheLines (string_bytes text) (map text_of users.items)) }
-    ensures named { IfOk result (λ users. AllByRecursion IsNamed users.items) }
-{
-    let mut users = Vec::new(alloc);
-    let mut rest = text;
-    while rest.len() > LONG {
-        let cut = cut_front(alloc, rest.as_str(), &mut users)?;
-        if cut == 0 {
-            break;
-        }
-        rest.replace_range(..cut, "")?;
-        rest.shrink_to_fit();
-    }
-    let last = cut_lines(alloc, rest.as_str(), &mut users)?;
+    let last = cut_lines(alloc, rest, users)?;
     if !last.is_empty() {
         users.push(user_of(alloc, last)?)?;
     }
-    Ok(users)
+    Ok(())
+}
+
+/// The lines of a text that is read part by part.
+///
+/// The text is cut at line feeds: an empty line is no user, and every other line is the name of one.
+/// What stands after the last line feed is a line only if it is not empty. A carriage return is an
+/// ordinary character.
+#[derive(Drop)]
+pub struct Lines {
+    /// The users of the lines that were cut off so far.
+    pub users: Vec<Option<User>>,
+    /// What was added and stands after them.
+    pub rest: Vec<u8>,
+    // What was found to be no text is not searched again.
+    is_text: bool,
+}
+
+impl Lines {
+    /// The lines of the empty text.
+    pub fn new(alloc: Global) -> Lines
+        ensures users { result.users.items ≡ [] }
+        ensures rest { result.rest.items ≡ [] }
+    {
+        Lines {
+            users: Vec::new(alloc),
+            rest: Vec::new(alloc),
+            is_text: true,
+        }
+    }
+
+    /// Adds a part at the end of the text, and cuts off lines that end in it.
+    pub fn add(&mut self, alloc: Global, part: &[u8]) -> Result<(), AllocError>
+        ensures { OnOk result (IsCut (self.old.rest.items ++ part.now)
+            self.old.users.items self.new.users.items self.new.rest.items) }
+    {
+        if !self.is_text {
+            return self.rest.extend_from_slice(part);
+        }
+        let Some(feed) = memrchr(b'\n', part) else {
+            return self.rest.extend_from_slice(part);
+        };
+        let (front, back) = part.split_at(feed + 1);
+        self.rest.extend_from_slice(front)?;
+        self.cut_rest(alloc)?;
+        self.rest.extend_from_slice(back)?;
+        Ok(())
+    }
+
+    // Cuts off all lines of a rest that ends in a line feed, where it is text.
+    fn cut_rest(&mut self, alloc: Global) -> Result<(), AllocError>
+        requires { EndsInLineFeed self.old.rest.items }
+        ensures { OnOk result (IsCut self.old.rest.items
+            self.old.users.items self.new.users.items self.new.rest.items) }
+    {
+        if let Ok(text) = str::from_utf8(self.rest.as_slice()) {
+            cut_lines(alloc, text, &mut self.users)?;
+            self.rest.clear();
+        } else {
+            self.is_text = false;
+        }
+        Ok(())
+    }
+
+    /// The users of all lines. Ok is answered only where the text is UTF-8, and `NotUtf8` only where
+    /// it is not.
+    pub fn finish(self, alloc: Global) -> Result<Vec<Option<User>>, RunError>
+        ensures lines { IfOk result (λ users. (text : List ℕ)
+            → IsCut text [] self.users.items self.rest.items
+            → IsUtf8 text × AreTheLines text (map text_of users.items) × AllByRecursion IsNamed users.items) }
+        ensures err { IfErr result (λ e. (text : List ℕ)
+            → IsCut text [] self.users.items self.rest.items → OutputFails Never text e) }
+    {
+        let Lines {
+            mut users,
+            rest,
+            is_text: _,
+        } = self;
+        let Ok(text) = str::from_utf8(rest.as_slice()) else {
+            return Err(RunError::NotUtf8);
+        };
+        cut_last(alloc, text, &mut users)?;
+        Ok(users)
+    }
 }

@@ -1,14 +1,14 @@
 //! What is written for an input.
-ghost use Rattle.std.specs.Prelude.{◌≡◌, IfOk, IfErr, Err, string_bytes};
+ghost use Rattle.std.specs.Prelude.{◌≡◌, ℕ, List, [], IfOk, IfErr, Err, string_bytes};
 ghost use Rattle.std.specs.Str.{IsUtf8};
 ghost use Rattle.garde_check.specs.Body.{content};
 ghost use Rattle.garde_check.specs.Request.{Spells, SpellsNothing};
-ghost use Rattle.garde_check.specs.Tasks.{Finds, Reports, BodyReports, Gives, Refuses, OutputFails};
+ghost use Rattle.garde_check.specs.Tasks.{Finds, Reports, BodyReports, Never, OutputFails};
+ghost use Rattle.garde_check.specs.Users.{IsCut};
 
 use crate::body::Body;
 use crate::form::{Form, write_report};
-use crate::lines::users_of;
-use crate::mode::Task;
+use crate::lines::Lines;
 use crate::outcome::{Outcome, RunError};
 use crate::user::User;
 use garde::json::JsonRefused;
@@ -54,12 +54,15 @@ fn validate<T: Validate>(
     })
 }
 
-// The output for the users of the lines of a text.
-fn lines_output(alloc: Global, input: String, form: Form) -> Result<Output, AllocError>
-    ensures { IfOk result (λ output.
-        Reports form (string_bytes input) output.outcome (string_bytes output.text)) }
+/// Makes the whole output for the lines of a text.
+pub fn lines_output(alloc: Global, lines: Lines, form: Form) -> Result<Output, RunError>
+    ensures ok { IfOk result (λ output. (text : List ℕ)
+        → IsCut text [] lines.users.items lines.rest.items
+        → IsUtf8 text × Reports form text output.outcome (string_bytes output.text)) }
+    ensures err { IfErr result (λ e. (text : List ℕ)
+        → IsCut text [] lines.users.items lines.rest.items → OutputFails Never text e) }
 {
-    let users = users_of(alloc, input)?;
+    let users = lines.finish(alloc)?;
     let mut output = validate(alloc, &users, &(), form)?;
     output.users = users;
     Ok(output)
@@ -77,31 +80,18 @@ fn body_of(alloc: Global, input: &str) -> Result<Body, JsonRefused>
     }
 }
 
-// The output for the body that a text spells. `Form` is answered only where it spells none.
-fn body_output(alloc: Global, input: &str) -> Result<Output, JsonRefused>
-    ensures ok { IfOk result (λ output.
-        BodyReports input.now output.outcome (string_bytes output.text)) }
-    ensures form { result ≡ Err JsonRefused.Form → SpellsNothing input.now }
-{
-    let body = body_of(alloc, input)?;
-    Ok(validate(alloc, &body, &(), Form::Json)?)
-}
-
-/// Makes the whole output for an input.
-pub fn make_output(alloc: Global, bytes: Vec<u8>, task: Task) -> Result<Output, RunError>
+/// Makes the whole output for the bytes of a body.
+pub fn body_output(alloc: Global, bytes: Vec<u8>) -> Result<Output, RunError>
     ensures ok { IfOk result (λ output. IsUtf8 bytes.items
-        × Gives task bytes.items output.outcome (string_bytes output.text)) }
-    ensures err { IfErr result (OutputFails (Refuses task) bytes.items) }
+        × BodyReports bytes.items output.outcome (string_bytes output.text)) }
+    ensures err { IfErr result (OutputFails SpellsNothing bytes.items) }
 {
-    let Ok(input) = String::from_utf8(bytes) else {
+    let Ok(input) = str::from_utf8(bytes.as_slice()) else {
         return Err(RunError::NotUtf8);
     };
-    match task {
-        Task::Lines(form) => Ok(lines_output(alloc, input, form)?),
-        Task::Body => match body_output(alloc, input.as_str()) {
-            Ok(output) => Ok(output),
-            Err(JsonRefused::Form) => Err(RunError::BadBody),
-            Err(JsonRefused::Memory) => Err(RunError::Memory),
-        },
+    match body_of(alloc, input) {
+        Ok(body) => Ok(validate(alloc, &body, &(), Form::Json)?),
+        Err(JsonRefused::Form) => Err(RunError::BadBody),
+        Err(JsonRefused::Memory) => Err(RunError::Memory),
     }
 }

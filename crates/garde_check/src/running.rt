@@ -1,14 +1,18 @@
 //! A run, from a reader to a writer.
-ghost use Rattle.std.specs.Prelude.{◌≡◌, ℕ, false, true, IfOk, IfErr, OnOk, OnErr, IfSome, take};
+ghost use Rattle.std.specs.Prelude.{◌≡◌, ℕ, List, [], false, true, IfOk, IfErr, OnOk, OnErr, IfSome, take};
+ghost use Rattle.std.specs.Prelude.{string_bytes};
 ghost use Rattle.std.specs.Io.KnownBytes.{Appends, IsAtEnd};
-ghost use Rattle.garde_check.specs.Ran.{Leaves, TakeFails};
+ghost use Rattle.std.specs.Str.{IsUtf8};
+ghost use Rattle.garde_check.specs.Ran.{Leaves, TakeFails, MakeFails};
 ghost use Rattle.garde_check.specs.Request.{SpellsNothing};
 ghost use Rattle.garde_check.specs.Tasks.{Reports, BodyReports, Gives, Refuses, Never};
+ghost use Rattle.garde_check.specs.Users.{IsCut};
 
 use crate::form::Form;
+use crate::lines::Lines;
 use crate::mode::Task;
 use crate::outcome::{Outcome, RunError};
-use crate::output::make_output;
+use crate::output::{Output, body_output, lines_output};
 use crate::transfer::{Failed, Sink, Source};
 use std::alloc::Global;
 
@@ -30,6 +34,42 @@ fn take_all<S: Source>(alloc: Global, reader: &mut S) -> Result<Vec<u8>, RunErro
             Ok(n) => bytes.extend_from_slice(&part[..n])?,
             Err(Failed) => return Err(RunError::Read),
         }
+    }
+}
+
+// Takes all that is left in a reader, and cuts off lines on the way.
+fn take_lines<S: Source>(alloc: Global, reader: &mut S) -> Result<Lines, RunError>
+    requires { S.has_failed reader.old ≡ false }
+    ensures ok { IfOk result (λ lines. (text : List ℕ)
+        × IfSome (S.remaining reader.old) (λ all. text ≡ all)
+        × IsCut text [] lines.users.items lines.rest.items) }
+    ensures end { OnOk result (IsAtEnd (S.remaining reader.new)) }
+    ensures err { IfErr result (λ e. TakeFails (S.has_failed reader.new) e) }
+{
+    let mut lines = Lines::new(alloc);
+    let mut part = [0; PART];
+    loop {
+        match reader.take(&mut part) {
+            Ok(0) => return Ok(lines),
+            Ok(n) => lines.add(alloc, &part[..n])?,
+            Err(Failed) => return Err(RunError::Read),
+        }
+    }
+}
+
+// Takes all that is left in a reader, and makes the whole output for it.
+fn take_output<S: Source>(alloc: Global, reader: &mut S, task: Task) -> Result<Output, RunError>
+    requires { S.has_failed reader.old ≡ false }
+    ensures ok { IfOk result (λ output. (bytes : List ℕ)
+        × IfSome (S.remaining reader.old) (λ all. bytes ≡ all)
+        × IsUtf8 bytes × Gives task bytes output.outcome (string_bytes output.text)) }
+    ensures end { OnOk result (IsAtEnd (S.remaining reader.new)) }
+    ensures err { IfErr result (MakeFails (Refuses task)
+        (S.remaining reader.old) (S.remaining reader.new) (S.has_failed reader.new)) }
+{
+    match task {
+        Task::Lines(form) => lines_output(alloc, take_lines(alloc, reader)?, form),
+        Task::Body => body_output(alloc, take_all(alloc, reader)?),
     }
 }
 
@@ -64,8 +104,7 @@ fn run_task<S: Source, W: Sink>(
         (W.contents writer.old) (W.contents writer.new)
         (S.has_failed reader.new) (W.has_failed writer.new) result }
 {
-    let bytes = take_all(alloc, reader)?;
-    let output = make_output(alloc, bytes, task)?;
+    let output = take_output(alloc, reader, task)?;
     let Ok(()) = give_all(writer, output.text.as_bytes()) else {
         return Err(RunError::Write);
     };

@@ -32,7 +32,7 @@ fn ran(alloc: Global, input: &[u8], show_nodes: bool) -> (Result<Outcome, RunErr
 
 #[test]
 fn writes_the_faults_of_each_line(rt: HostRuntime) {
-    let rows: [(&[u8], bool, u8, &[u8]); 14] = [
+    let rows: [(&[u8], bool, u8, &[u8]); 15] = [
         (b"test\n", false, 0, b""),
         (b"test\n", true, 0, b"nodes: 0\n"),
         (b"", false, 0, b""),
@@ -62,6 +62,7 @@ fn writes_the_faults_of_each_line(rt: HostRuntime) {
         ),
         (b"ab\n\xf0\x9f\x98", false, 2, b""),
         (b"ab\n\xf0\x9f\x98", true, 2, b""),
+        (b"\xff\nab\n", true, 2, b""),
     ];
     for (input, show_nodes, want, text) in rows {
         let (answer, written) = ran(rt.alloc(), input, show_nodes);
@@ -70,7 +71,29 @@ fn writes_the_faults_of_each_line(rt: HostRuntime) {
     }
 }
 
-// A text of more than 64 KiB is cut part by part, and one line of that length is not.
+// The reader gives a byte at a time.
+#[test]
+fn finds_bad_text_in_each_part(rt: HostRuntime) {
+    let texts: [&[u8]; 4] = [
+        b"\xff\nab\n",
+        b"ab\n\xc3\nab\nab\n",
+        b"ab\n\xc3",
+        b"\xc3\xa9\n\xa9",
+    ];
+    for bytes in texts {
+        let mut reader = OneByOne {
+            bytes,
+            whole: usize::MAX,
+            failed: false,
+        };
+        let mut writer = Plain::new(Vec::new(rt.alloc()));
+        let answer = run(rt.alloc(), &mut reader, &mut writer, false);
+        assert_eq!(rt; answer, Err(RunError::NotUtf8), "at {bytes:?}");
+        assert!(rt; writer.into_inner().is_empty(), "at {bytes:?}");
+    }
+}
+
+// Lines are cut while a text is read, and a line that is longer than a part is not.
 #[test]
 fn cuts_a_long_text_as_a_short_one(rt: HostRuntime) -> Result<(), Fail> {
     let alloc = rt.alloc();

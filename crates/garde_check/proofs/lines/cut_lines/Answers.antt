@@ -15,6 +15,3 @@ loop-line-preserved c =
 
 pub returns-clause-line : goal.returns-clause-line
 returns-clause-line c = (c.in_default.ensures {u = tt}).parts
-
-pub returns-clause-text : goal.returns-clause-text
-returns-clause-text c = c.loop-line.invariant.0

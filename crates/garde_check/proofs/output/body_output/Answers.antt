@@ -1,16 +1,22 @@
-use Rattle.std.proofs.Common.{rules}
-use Rattle.std.proofs.lemmas.Result.{err_from_is_err_and}
+use Rattle.std.proofs.Common.{◌≡◌, ◌∙◌, Err, ap, rules, subst}
+use Rattle.std.specs.Str.{IsUtf8}
+use Rattle.garde_check.specs.Body.{content}
+use Rattle.garde_check.specs.Request.{Spells, SpellsNothing}
 use Rattle.garde_check.proofs.OneTree.{body_reported}
 use Rattle.garde_check.proofs.output.body_output.Goals as goal
 
-pub returns-clause-ok : goal.returns-clause-ok
-returns-clause-ok c = body_reported c.in_ok-body.body _ _ _ c.in_ok-body.ensures.ok (search rules)
+pub returns-in-Ok-body_of-clause-ok : goal.returns-in-Ok-body_of-clause-ok
+returns-in-Ok-body_of-clause-ok c =
+    let body = c.in-Ok-body_of.body in
+    let told = (c.in-Ok.ensures {u = tt}).cases in
+    let same : c.in-Ok.input.now ≡ c.args.bytes.items = told.0 ∙ c.as_slice.ensures.value in
+    let spells = subst (λ t. Spells t (content body)) same (c.in-Ok-body_of.ensures {u = tt}).ok in
+    (subst IsUtf8 c.as_slice.ensures.value told.1, body_reported body _ _ _ spells (search rules))
 
--- no body was read
-pub returns-in_err-body-clause-form : goal.returns-in_err-body-clause-form
-returns-in_err-body-clause-form c = λ refused.
-    let refusal = err_from_is_err_and c.from_residual.result c.from_residual.ensures.1 in
-    let gave = refusal.1 in
-    let passed = refusal.2 in
-    let clauses = c.in_err-body.ensures {u = tt} in
-    clauses.form (cc)
+pub returns-in-Err-Form-clause-err : goal.returns-in-Err-Form-clause-err
+returns-in-Err-Form-clause-err c =
+    let told = (c.in-Ok.ensures {u = tt}).cases in
+    let same : c.in-Ok.input.now ≡ c.args.bytes.items = told.0 ∙ c.as_slice.ensures.value in (
+      subst IsUtf8 c.as_slice.ensures.value told.1,
+      subst SpellsNothing same ((c.in-Err-Form.ensures {u = tt}).form (ap Err c.in-Err-Form.field-0-is)),
+    )
