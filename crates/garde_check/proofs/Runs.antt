@@ -1,9 +1,8 @@
--- What a run wrote, of all that its reader held.
-use Rattle.std.proofs.Common.{◌≡◌, ℕ, List, [], ◌++◌, None, Some, IfSome, IfOk, IfErr, Ok, Err, Bool, take, refl, sym, ap, ◌∙◌, append_assoc, append-nil, subst}
+-- What a run makes of all that its reader held.
+use Rattle.std.proofs.Common.{◌≡◌, ℕ, List, [], ◌++◌, None, Some, IfSome, IfOk, IfErr, Ok, Err, Bool, refl, sym, ap, ◌∙◌, append_assoc, append-nil, subst}
 use Rattle.std.specs.Prelude.{Option, Result}
 use Rattle.std.specs.Str.{IsUtf8}
-use Rattle.std.specs.Io.KnownBytes.{Appends, Consumes, IsAtEnd}
-use Rattle.garde_check.specs.declared.outcome.Outcome.{Outcome}
+use Rattle.std.specs.Io.KnownBytes.{Consumes, IsAtEnd}
 use Rattle.garde_check.specs.declared.outcome.RunError.{RunError}
 use Rattle.garde_check.specs.declared.outcome.RunError.TheVariants.{NotUtf8, BadBody, Read, Write, Memory}
 use Rattle.garde_check.specs.Ran.{MakeFails}
@@ -13,20 +12,6 @@ use Rattle.garde_check.specs.Tasks.{OutputFails}
 of_all : (P : List ℕ → Type 0) (bytes : List ℕ) (input : Option (List ℕ)) → IfSome input (λ all. bytes ≡ all) → P bytes → IfSome input P
 of_all P bytes None same p = tt
 of_all P bytes (Some all) same p = subst P same p
-
-module _ (Gives : List ℕ → Outcome → List ℕ → Type 0) (input before after : Option (List ℕ)) (bytes : List ℕ) (outcome : Outcome) (output : List ℕ) where
-  -- the output of the bytes that the reader held was written
-  pub written_whole : IfSome input (λ all. bytes ≡ all) → IsUtf8 bytes → Gives bytes outcome output → Appends before after output
-      → IfSome input (λ all. IsUtf8 all × ((out : List ℕ) × Gives all outcome out × Appends before after out))
-  written_whole same text gives written =
-      of_all (λ all. IsUtf8 all × ((out : List ℕ) × Gives all outcome out × Appends before after out)) bytes input same (text, (output, gives, written))
-
-  -- a beginning of it was written
-  pub written_in_part : (k : ℕ) → IfSome input (λ all. bytes ≡ all) → IsUtf8 bytes → Gives bytes outcome output → Appends before after (take k output)
-      → IfSome input (λ all. IsUtf8 all × ((o : Outcome) × (out : List ℕ) × Gives all o out × ((n : ℕ) × Appends before after (take n out))))
-  written_in_part k same text gives written =
-      of_all (λ all. IsUtf8 all × ((o : Outcome) × (out : List ℕ) × Gives all o out × ((n : ℕ) × Appends before after (take n out)))) bytes input same
-      (text, (outcome, output, gives, (k, written)))
 
 -- what holds of an answer has this for a consequence
 pub if_ok : {T E : Type 0} {P Q : T → Type 0} (r : Result T E) → IfOk r P → ((x : T) → P x → Q x) → IfOk r Q

@@ -115,8 +115,9 @@ fn run_task<S: Source, W: Sink>(
 /// `show_nodes` a line `nodes: n` follows, which tells how many path nodes were made.
 ///
 /// The whole output is made in memory before its first byte is written, and each byte is written
-/// once. All that is read is kept, so a reader that never ends leads to `RunError::Memory`. After
-/// `RunError::Write` a beginning of the output was written, and after each other refusal nothing.
+/// once. All lines that are read are kept, so a reader that never ends leads to `RunError::Memory`.
+/// After `RunError::Write` a beginning of the output was written, and after each other refusal
+/// nothing.
 pub fn run<S: Source, W: Sink>(
     alloc: Global,
     reader: &mut S,
