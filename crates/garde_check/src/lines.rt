@@ -92,7 +92,8 @@ impl Lines {
         }
     }
 
-    /// Adds a part at the end of the text, and cuts off lines that end in it.
+    /// Adds a part at the end of the text, and cuts off lines that end in it. Where memory runs out,
+    /// some of it may have been added, and the text is of no further use.
     pub fn add(&mut self, alloc: Global, part: &[u8]) -> Result<(), AllocError>
         ensures { OnOk result (IsCut (self.old.rest.items ++ part.now)
             self.old.users.items self.new.users.items self.new.rest.items) }
