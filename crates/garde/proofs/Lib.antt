@@ -3,6 +3,7 @@ mod Counts
 mod Walks
 mod Refusals
 mod Selected
+mod Read
 pub mod Visiting
 pub mod Quiet
 mod Rest

@@ -7,20 +7,10 @@ use Rattle.garde_report.specs.Part.{Part}
 use Rattle.garde_report.specs.Report.{Entry, has_text, begins_with, selected}
 use Rattle.garde_rules.specs.{fault_text}
 use Rattle.garde.specs.Tree.{Tree, nothing, fault, under, ◌then◌, flat}
+use Rattle.garde.specs.Reading.{beneath}
 use Rattle.garde.specs.Select.{part, messages, SelectGivesPart}
 use Rattle.garde.proofs.Flat.{flat-then}
-
--- the same faults further down
-abbrev below : List Part → Entry → Entry
-below p e = (p ++ e.0, e.1)
-
-flat_below : (text : Datum → List ℕ) (p q : List Part) (t : Tree) → flat text (p ++ q) t ≡ map (below p) (flat text q t)
-flat_below text p q nothing = refl
-flat_below text p q (fault f t) = ap (λ l. (p ++ q, fault_text text f) ∷ l) (flat_below text p q t)
-flat_below text p q (under k s t) =
-    (λ i. flat text (append_assoc p q (k ∷ []) i) s ++ flat text (p ++ q) t)
-    ∙ (λ i. flat_below text p (q ++ k ∷ []) s i ++ flat_below text p q t i)
-    ∙ sym (map-append (below p) (flat text (q ++ k ∷ []) s) (flat text q t))
+use Rattle.garde.proofs.Read.{flat_beneath}
 
 messages_then : (text : Datum → List ℕ) (a b : Tree) → messages (flat text [] (a then b)) ≡ messages (flat text [] a) ++ messages (flat text [] b)
 messages_then text a b = ap messages (flat-then text [] a b) ∙ map-append (λ (e : Entry). e.1) (flat text [] a) (flat text [] b)
@@ -63,10 +53,10 @@ none_named : (a : Bool) → [] ≡ if_named a []
 none_named true = refl
 none_named false = refl
 
-selected_below : (text : List ℕ) (way : List (List ℕ)) (k : Part) (es : List Entry) → selected (text ∷ way) (map (below (k ∷ [])) es) ≡ if_named (has_text text (Some k)) (selected way es)
+selected_below : (text : List ℕ) (way : List (List ℕ)) (k : Part) (es : List Entry) → selected (text ∷ way) (map (beneath (k ∷ [])) es) ≡ if_named (has_text text (Some k)) (selected way es)
 selected_below text way k [] = none_named (has_text text (Some k))
 selected_below text way k (e ∷ es) =
-    selected_cons (text ∷ way) (below (k ∷ []) e) (map (below (k ∷ [])) es)
+    selected_cons (text ∷ way) (beneath (k ∷ []) e) (map (beneath (k ∷ [])) es)
     ∙ ap (kept (has_text text (Some k) && begins_with way e.0) e.1) (selected_below text way k es)
     ∙ kept_named (has_text text (Some k)) (begins_with way e.0) e.1 (selected way es)
     ∙ ap (if_named (has_text text (Some k))) (sym (selected_cons way e es))
@@ -82,7 +72,7 @@ select_gives_part (fault f t) (x ∷ way) text = select_gives_part t (x ∷ way)
 select_gives_part (under k s t) (x ∷ way) text =
     let named = has_text x (Some k) in
     selected_append (x ∷ way) (flat text (k ∷ []) s) (flat text [] t)
-    ∙ (λ i. selected (x ∷ way) (flat_below text (k ∷ []) [] s i) ++ select_gives_part t (x ∷ way) text i)
+    ∙ (λ i. selected (x ∷ way) (flat_beneath text (k ∷ []) [] s i) ++ select_gives_part t (x ∷ way) text i)
     ∙ ap (λ l. l ++ messages (flat text [] (part (x ∷ way) t)))
     (selected_below x way k (flat text [] s) ∙ ap (if_named named) (select_gives_part s way text) ∙ messages_named text named (part way s))
     ∙ sym (messages_then text (if named then part way s else nothing) (part (x ∷ way) t))

@@ -13,7 +13,7 @@ use Rattle.garde_rules.specs.{bounds_answer, length_fault}
 use Rattle.garde_rules.specs.Holds.{unless}
 use Rattle.garde_rules.specs.Range.{range_fault, int_bounds_answer}
 use Rattle.garde_rules.specs.IpText.{is_ip_text}
-use Rattle.garde_rules.specs.Reasons.{url_fault}
+use Rattle.garde_rules.specs.Reasons.{url_fault, read_answer}
 use Rattle.garde_rules.specs.{matches_source, url_answer}
 use Rattle.garde_i18n.specs.declared.reasons.IpKind.{IpKind}
 use Rattle.garde_rules.specs.Text.{is_ascii_text, is_alphanumeric_text, has_part, has_prefix, has_suffix}
@@ -70,4 +70,4 @@ abbrev pub pattern : List ℕ → List ℕ → Visits
 pattern source text = taking (found (unless (matches_source source text) (datum.pattern source)))
 
 abbrev pub url : List ℕ → Visits
-url text = taking (found (url_fault (url_answer text)))
+url text = taking (found (url_fault (read_answer (url_answer text))))

@@ -6,6 +6,7 @@ pub mod Visits
 pub mod Answers
 pub mod Refusal
 pub mod Select
+pub mod Reading
 pub mod Author
 pub mod Words
 pub mod Validated

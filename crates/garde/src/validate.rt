@@ -5,7 +5,9 @@ ghost use Rattle.garde_report.specs.Trace.{new_trace};
 ghost use Rattle.garde.specs.Answers.{Headline, Answers, AnswersOn, NeedsNoMemory};
 ghost use Rattle.garde.specs.Visits.{Visits, Visited};
 
-use crate::refusal::ValidateError;
+pub use crate::refusal::ValidateError;
+pub use crate::unvalidated::{IntoValidError, Unvalidated};
+pub use crate::valid::Valid;
 use garde_i18n::{DefaultI18n, I18n};
 use garde_report::{Report, Trail};
 use std::alloc::{AllocError, Global};

@@ -1,5 +1,5 @@
 -- Which texts are URLs, by the definition that `url` has of the parser of the URL Standard.
-use Rattle.std.specs.Prelude.{◌≡◌, ℕ, List, Option, Some, None, Result, Ok, Err, unwrap_or}
+use Rattle.std.specs.Prelude.{◌≡◌, ℕ, List, Option, Some, None, Result, Ok, Err, option_map}
 use Rattle.url.specs.Parser.{parse_url, Parsed}
 use Rattle.url.specs.Parts.{Parts}
 use Rattle.url.specs.declared.error.ParseError.{ParseError}
@@ -32,11 +32,11 @@ abbrev pub IsNoUrl : List ℕ → InvalidUrl → Type 0
 IsNoUrl text reason =
     (error : ParseError) × (parse_url None text ≡ Err error) × (reason_of error ≡ Some reason)
 
--- Ok of a URL, and else the reason of the error; an error without a reason is read as `Overflow`
-abbrev pub answer_of : Parsed Parts → Result (Unit {0}) InvalidUrl
-answer_of (Ok url) = Ok tt
-answer_of (Err error) = Err (unwrap_or (reason_of error) reason.Overflow)
+-- Ok of a URL, and else the reason of the error; nothing of an error without a reason
+abbrev pub answer_of : Parsed Parts → Option (Result (Unit {0}) InvalidUrl)
+answer_of (Ok url) = Some (Ok tt)
+answer_of (Err error) = option_map Err (reason_of error)
 
 -- whether the text is a URL, and the reason where it is none
-abbrev pub url_answer : List ℕ → Result (Unit {0}) InvalidUrl
+abbrev pub url_answer : List ℕ → Option (Result (Unit {0}) InvalidUrl)
 url_answer text = answer_of (parse_url None text)

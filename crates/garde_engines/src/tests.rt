@@ -63,6 +63,8 @@ fn says_why_a_text_is_no_url(rt: HostRuntime) -> Result<(), Fail> {
         ("http://a:65536/", Err(InvalidUrl::InvalidPort)),
         ("http://1.2.3.256/", Err(InvalidUrl::InvalidIpv4Address)),
         ("http://[::g]/", Err(InvalidUrl::InvalidIpv6Address)),
+        ("x://a:1\\", Err(InvalidUrl::InvalidPort)),
+        ("x://@", Err(InvalidUrl::EmptyHost)),
         ("ssh://a b/", Err(InvalidUrl::InvalidDomainCharacter)),
         ("https://\u{FFFD}/", Err(InvalidUrl::IdnaError)),
     ];

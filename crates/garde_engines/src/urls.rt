@@ -1,5 +1,5 @@
 //! Texts that may be URLs.
-ghost use Rattle.std.specs.Prelude.{◌≡◌, IfOk, MatchResult};
+ghost use Rattle.std.specs.Prelude.{◌≡◌, IfOk, MatchResult, Some};
 ghost use Rattle.garde_engines.specs.Urls.{reason_of, url_answer, IsUrl, IsNoUrl};
 
 use garde_i18n::InvalidUrl;
@@ -34,7 +34,7 @@ pub fn reason(error: &ParseError) -> Option<InvalidUrl>
 /// `AllocError` is answered where there is no memory for the parts of the URL, or they come to 4
 /// GB; it says nothing of the text.
 pub fn check_url(alloc: Global, text: &str) -> Result<Result<(), InvalidUrl>, AllocError>
-    ensures value { IfOk result (λ answer. answer ≡ url_answer text.now) }
+    ensures value { IfOk result (λ answer. url_answer text.now ≡ Some answer) }
     ensures parsed { IfOk result (λ answer. MatchResult answer
         (λ _. IsUrl text.now)
         (λ reason. IsNoUrl text.now reason)) }

@@ -7,7 +7,7 @@ use Rattle.std.specs.Str.Parse.{AllDigits, digits_value_after}
 use Rattle.std.proofs.lemmas.Bool.Decides.{nat_tests}
 use Rattle.std.proofs.lemmas.Str.Parse.{digit_from_value}
 use Rattle.garde_rules.specs.Ip.{IsOctet, IsIpv4}
-use Rattle.garde_rules.specs.Ipv4Reader.{read_ipv4, read_dot, read_digit, accepts_ipv4, is_ipv4_text}
+use Rattle.garde_rules.specs.Ipv4Reader.{read_ipv4, read_dot, read_digit, accepts_ipv4, start_ipv4}
 use Rattle.garde_rules.specs.declared.ip.v4.Ipv4Reader.{Ipv4Reader}
 
 -- ---- one byte
@@ -298,7 +298,7 @@ of_whole t (a, b, c, d, (ia, ib, ic, id), e) = record {
   is = e;
 }
 
-pub ipv4_decides : (t : List ℕ) → Decides (is_ipv4_text t) (IsIpv4 t)
+pub ipv4_decides : (t : List ℕ) → Decides (accepts_ipv4 start_ipv4 t) (IsIpv4 t)
 ipv4_decides t =
     let fit : Fitting start = record { few = omega arith; small = omega arith; none = λ _. refl } in
     ((λ h. whole_of t (forward t start fit h)), (λ g. backward t start (of_whole t g)))

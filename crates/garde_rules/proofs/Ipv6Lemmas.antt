@@ -7,7 +7,7 @@ use Rattle.std.proofs.lemmas.Bool.{or_cases, or_left, or_right, and_parts, and_f
 use Rattle.std.proofs.lemmas.Bool.Decides.{nat_tests}
 use Rattle.garde_rules.specs.Ip.{IsIpv6}
 use Rattle.garde_rules.specs.Ipv4Reader.{start_ipv4, read_ipv4, accepts_ipv4}
-use Rattle.garde_rules.specs.Ipv6Reader.{ends_octets, read_octets, is_full, count_digit, read_piece, is_group_len, read_colon, read_other, read_ipv6, ends_at, accepts_ipv6, is_ipv6_text}
+use Rattle.garde_rules.specs.Ipv6Reader.{ends_octets, read_octets, is_full, count_digit, read_piece, is_group_len, read_colon, read_other, read_ipv6, ends_at, accepts_ipv6, start_ipv6}
 use Rattle.garde_rules.specs.declared.ip.v4.Ipv4Reader.{Ipv4Reader}
 use Rattle.garde_rules.specs.declared.ip.v6.Place.{Place}
 use Rattle.garde_rules.specs.declared.ip.v6.Place.TheVariants.{Start, Lead, Colon, Double, Piece}
@@ -258,8 +258,7 @@ means_of (c ∷ t) s =
     let d = next_of t (read_ipv6 s c) (means_of t) in
     ((λ h. byte_bwd s c t (d.0 h)), (λ h. d.1 (byte_fwd s c t h)))
 
-pub ipv6_decides : (t : List ℕ) → Decides (is_ipv6_text t) (IsIpv6 t)
+pub ipv6_decides : (t : List ℕ) → Decides (accepts_ipv6 start_ipv6 t) (IsIpv6 t)
 ipv6_decides t =
-    let start : Ipv6Reader = record { groups = 0; compressed = false; place = Start } in
-    let d = means_of t start in
+    let d = means_of t start_ipv6 in
     ((λ h. opens_ipv6 t (d.0 h)), (λ h. d.1 (ipv6_opens t h)))

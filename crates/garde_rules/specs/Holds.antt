@@ -1,5 +1,5 @@
 -- When a rule holds, and the fault where it does not.
-use Rattle.std.specs.Prelude.{Bool, true, Option, Some, None, if◌then◌else◌}
+use Rattle.std.specs.Prelude.{Bool, true, Option, Some, None, IsSomeAnd, if◌then◌else◌}
 use Rattle.garde_i18n.specs.Datum.{Datum}
 use Rattle.garde_lengths.specs.Applies.{Fault, rule}
 
@@ -11,6 +11,10 @@ unless holds datum = if holds then None else Some (rule datum)
 abbrev pub passes_option : {T : Type 0} → (T → Bool) → Option T → Bool
 passes_option passes None = true
 passes_option passes (Some value) = passes value
+
+-- an option is refused with an error where what it holds is
+abbrev pub refused_option : {T E : Type 0} → (T → E → Type 0) → Option T → E → Type 0
+refused_option refused v error = IsSomeAnd v (λ value. refused value error)
 
 -- what a rule found, which is asked only where a condition holds
 abbrev pub provided : Bool → Option Fault → Option Fault

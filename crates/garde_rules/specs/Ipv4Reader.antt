@@ -38,7 +38,3 @@ abbrev pub accepts_ipv4 : Ipv4Reader → List ℕ → Bool
 accepts_ipv4 reader [] = ends_ipv4 reader
 accepts_ipv4 reader (byte ∷ text) =
     elim (read_ipv4 reader byte) [ None ↦ false | Some next ↦ accepts_ipv4 next text ]
-
--- whether the reader accepts the text from its start
-abbrev pub is_ipv4_text : List ℕ → Bool
-is_ipv4_text text = accepts_ipv4 start_ipv4 text

@@ -8,6 +8,10 @@ use Rattle.garde_rules.specs.declared.ip.v6.Place.{Place}
 use Rattle.garde_rules.specs.declared.ip.v6.Place.TheVariants.{Start, Lead, Colon, Double, Piece}
 use Rattle.garde_rules.specs.declared.ip.v6.Ipv6Reader.{Ipv6Reader}
 
+-- at the start of a text
+abbrev pub start_ipv6 : Ipv6Reader
+start_ipv6 = record { groups = 0; compressed = false; place = Start }
+
 -- a piece between colons may be an IPv4 text that ends here
 abbrev pub ends_octets : Option Ipv4Reader → Bool
 ends_octets None = false
@@ -80,7 +84,3 @@ abbrev pub accepts_ipv6 : Ipv6Reader → List ℕ → Bool
 accepts_ipv6 reader [] = ends_ipv6 reader
 accepts_ipv6 reader (byte ∷ text) =
     elim (read_ipv6 reader byte) [ None ↦ false | Some next ↦ accepts_ipv6 next text ]
-
--- whether the reader accepts the text from its start
-abbrev pub is_ipv6_text : List ℕ → Bool
-is_ipv6_text text = accepts_ipv6 (record { groups = 0; compressed = false; place = Start }) text

@@ -4,7 +4,7 @@ ghost use Rattle.garde_i18n.specs.Datum as datum;
 ghost use Rattle.garde_i18n.specs.Reasons.{ip_kind_text};
 ghost use Rattle.garde_i18n.specs.declared.reasons.IpKind.{IpKind};
 ghost use Rattle.garde_lengths.specs.Applies.{Applies};
-ghost use Rattle.garde_rules.specs.Holds.{unless, passes_option};
+ghost use Rattle.garde_rules.specs.Holds.{unless, passes_option, refused_option};
 ghost use Rattle.garde_rules.specs.Ip.{IsIp};
 ghost use Rattle.garde_rules.specs.IpText.{is_ip_text};
 
@@ -66,16 +66,22 @@ pub trait Ip {
     /// Whether the value is an address of the kind.
     ghost passes: { IpKind → Self → Bool };
 
-    /// Answers Ok where the value is an IP address of the kind, and else an error. An option
-    /// without a value passes.
+    /// Which errors say why the value is no address of the kind.
+    ghost refused: { IpKind → Self → Self.Error → Type 0 };
+
+    /// Answers Ok where the value is an IP address of the kind, and else an error that says why it
+    /// is none. An option without a value passes, and one with a value answers as that value.
     fn validate_ip(&self, kind: IpKind) -> Result<(), Self::Error>
-        ensures { is_ok result ≡ passes kind self.now };
+        ensures value { is_ok result ≡ passes kind self.now }
+        ensures error { IfErr result (refused kind self.now) };
 }
 
 impl<T: AsStr> Ip for T {
     type Error = AddrParseError;
 
     ghost passes = { λ kind v. is_ip_text kind (T.text v) };
+
+    ghost refused = { λ kind _ error. error ≡ kind };
 
     fn validate_ip(&self, kind: IpKind) -> Result<(), AddrParseError>
         ensures value { is_ok result ≡ is_ip_text kind (T.text self.now) }
@@ -94,6 +100,8 @@ impl<T: Ip> Ip for Option<T> {
     type Error = T::Error;
 
     ghost passes = { λ kind. passes_option (T.passes kind) };
+
+    ghost refused = { λ kind. refused_option (T.refused kind) };
 
     fn validate_ip(&self, kind: IpKind) -> Result<(), T::Error> {
         match self {

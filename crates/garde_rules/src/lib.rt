@@ -11,6 +11,7 @@ pub mod contains;
 pub mod credit_card;
 pub mod inner;
 pub mod ip;
+pub mod laws;
 pub mod matches;
 pub mod pattern;
 pub mod phone_number;

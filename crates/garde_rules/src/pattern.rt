@@ -1,5 +1,5 @@
 //! Texts that match a pattern.
-ghost use Rattle.std.specs.Prelude.{◌≡◌, ℕ, List, Bool, IfOk};
+ghost use Rattle.std.specs.Prelude.{◌≡◌, ℕ, List, Bool, IfOk, IsOk, None};
 ghost use Rattle.garde_i18n.specs.Datum as datum;
 ghost use Rattle.garde_rules.specs.Holds.{unless, passes_option};
 ghost use Rattle.garde_rules.specs.Memory.{AppliesInMemory};
@@ -27,9 +27,9 @@ pub trait Pattern {
     ghost passes: { (List ℕ → Bool) → Self → Bool };
 
     /// Whether the matcher says that its pattern matches anywhere in the text. An option without a
-    /// value passes.
+    /// value passes, whatever memory there is.
     ///
-    /// `AllocError` says nothing of the value.
+    /// Else `AllocError` says nothing of the value.
     fn validate_pattern<M: Matcher>(&self, alloc: Global, matcher: &M) -> Result<bool, AllocError>
         ensures { IfOk result (λ found. found ≡ passes (M.matches matcher.now) self.now) };
 }
@@ -45,7 +45,10 @@ impl<T: AsStr> Pattern for T {
 impl<T: Pattern> Pattern for Option<T> {
     ghost passes = { λ matches. passes_option (T.passes matches) };
 
-    fn validate_pattern<M: Matcher>(&self, alloc: Global, matcher: &M) -> Result<bool, AllocError> {
+    fn validate_pattern<M: Matcher>(&self, alloc: Global, matcher: &M) -> Result<bool, AllocError>
+        ensures value { IfOk result (λ found. found ≡ passes_option (T.passes (M.matches matcher.now)) self.now) }
+        ensures none { self.now ≡ None → IsOk result }
+    {
         match self {
             None => Ok(true),
             Some(v) => v.validate_pattern(alloc, matcher),

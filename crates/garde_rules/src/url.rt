@@ -1,9 +1,9 @@
 //! Texts that are URLs.
-ghost use Rattle.std.specs.Prelude.{◌≡◌, IfOk, MatchResult, Result};
+ghost use Rattle.std.specs.Prelude.{◌≡◌, IfOk, IsOk, MatchResult, None, Some, Option, Result, option_map};
 ghost use Rattle.garde_engines.specs.Urls.{url_answer, IsUrl, IsNoUrl};
 ghost use Rattle.garde_i18n.specs.declared.reasons.InvalidUrl.{InvalidUrl};
-ghost use Rattle.garde_rules.specs.Memory.{AppliesInMemory};
-ghost use Rattle.garde_rules.specs.Reasons.{url_fault, option_reason};
+ghost use Rattle.garde_rules.specs.Memory.{AppliesIfKnown};
+ghost use Rattle.garde_rules.specs.Reasons.{url_fault, option_if_known};
 
 use crate::as_str::AsStr;
 use garde_engines::urls::check_url;
@@ -15,23 +15,23 @@ use std::alloc::{AllocError, Global};
 
 /// A value that may be a URL. Every text may, and an option of one.
 pub trait Url {
-    /// Ok of a URL, and else why the value is none.
-    ghost answer: { Self → Result (Unit {0}) InvalidUrl };
+    /// Ok of a URL, and else why the value is none, where that is known.
+    ghost answer: { Self → Option (Result (Unit {0}) InvalidUrl) };
 
     /// Answers Ok where the text is an absolute URL, as the crate `url` parses it, and else why it
-    /// is none. An option without a value passes.
+    /// is none. An option without a value passes, whatever memory there is.
     ///
-    /// `AllocError` is answered where there is no memory for the parts of the URL, or they come to
+    /// Else `AllocError` is answered where there is no memory for the parts of the URL, or they come to
     /// 4 GB; it says nothing of the text.
     fn validate_url(&self, alloc: Global) -> Result<Result<(), InvalidUrl>, AllocError>
-        ensures { IfOk result (λ given. given ≡ answer self.now) };
+        ensures { IfOk result (λ given. answer self.now ≡ Some given) };
 }
 
 impl<T: AsStr> Url for T {
     ghost answer = { λ v. url_answer (T.text v) };
 
     fn validate_url(&self, alloc: Global) -> Result<Result<(), InvalidUrl>, AllocError>
-        ensures value { IfOk result (λ given. given ≡ url_answer (T.text self.now)) }
+        ensures value { IfOk result (λ given. url_answer (T.text self.now) ≡ Some given) }
         ensures parsed { IfOk result (λ given. MatchResult given
             (λ _. IsUrl (T.text self.now))
             (λ reason. IsNoUrl (T.text self.now) reason)) }
@@ -41,9 +41,12 @@ impl<T: AsStr> Url for T {
 }
 
 impl<T: Url> Url for Option<T> {
-    ghost answer = { option_reason T.answer };
+    ghost answer = { option_if_known T.answer };
 
-    fn validate_url(&self, alloc: Global) -> Result<Result<(), InvalidUrl>, AllocError> {
+    fn validate_url(&self, alloc: Global) -> Result<Result<(), InvalidUrl>, AllocError>
+        ensures value { IfOk result (λ given. option_if_known T.answer self.now ≡ Some given) }
+        ensures none { self.now ≡ None → IsOk result }
+    {
         match self {
             None => Ok(Ok(())),
             Some(v) => v.validate_url(alloc),
@@ -57,7 +60,7 @@ impl<T: Url> Url for Option<T> {
 /// `RuleError::Memory` is answered where there is no memory for the parts of the URL or the fault;
 /// it says nothing of the text.
 pub fn apply<T: Url, H: I18n>(alloc: Global, v: &T, _args: (), h: &H) -> Result<(), RuleError>
-    ensures { AppliesInMemory (url_fault (T.answer v.now)) (H.text h.now) result }
+    ensures { AppliesIfKnown (option_map url_fault (T.answer v.now)) (H.text h.now) result }
 {
     match v.validate_url(alloc) {
         Ok(Ok(())) => Ok(()),

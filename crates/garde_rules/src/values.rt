@@ -1,10 +1,10 @@
 //! The rules as values, each named as the attribute of the Rust crate's derive that asks for it.
-ghost use Rattle.std.specs.Prelude.{◌≡◌, Option, unwrap_or};
+ghost use Rattle.std.specs.Prelude.{◌≡◌, Option, option_map, unwrap_or};
 ghost use Rattle.garde_i18n.specs.Datum as datum;
 ghost use Rattle.garde_rules.specs.Holds.{unless};
-ghost use Rattle.garde_rules.specs.Memory.{AppliesInMemory};
+ghost use Rattle.garde_rules.specs.Memory.{AppliesInMemory, AppliesIfKnown};
 ghost use Rattle.garde_rules.specs.Range.{range_fault};
-ghost use Rattle.garde_rules.specs.Reasons.{card_fault, phone_fault, url_fault};
+ghost use Rattle.garde_rules.specs.Reasons.{card_fault, phone_fault, url_fault, read_answer};
 ghost use Rattle.garde_lengths.specs.Applies.{Fault};
 
 use crate::ip::IpKind;
@@ -238,9 +238,12 @@ impl<T: pattern::Pattern, M: Matcher> MemoryRule<T> for Pattern<'_, M> {
 pub struct Url;
 
 impl<T: url::Url> MemoryRule<T> for Url {
-    ghost finds = { λ _ v. url_fault (T.answer v) };
+    ghost finds = { λ _ v. url_fault (read_answer (T.answer v)) };
 
-    fn find_in_memory<H: I18n>(&self, alloc: Global, value: &T, h: &H) -> Result<(), RuleError> {
+    fn find_in_memory<H: I18n>(&self, alloc: Global, value: &T, h: &H) -> Result<(), RuleError>
+        ensures found { AppliesInMemory (url_fault (read_answer (T.answer value.now))) (H.text h.now) result }
+        ensures known { AppliesIfKnown (option_map url_fault (T.answer value.now)) (H.text h.now) result }
+    {
         url::apply(alloc, value, (), h)
     }
 }

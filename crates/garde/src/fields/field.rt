@@ -7,8 +7,8 @@ use garde_i18n::I18n;
 use garde_report::{Component, Report, Trail};
 use std::alloc::{AllocError, Global};
 
-/// Fields that are checked in turn, each under its name. It is implemented for one `Field`, for
-/// tuples of fields and for `()`, which checks nothing.
+/// Fields that are checked in turn, each under its name. It is implemented for one `Field`, for one
+/// `Transparent`, for tuples of fields and for `()`, which checks nothing.
 pub trait Fields<'a> {
     /// What a visit of the fields comes by.
     ghost visits: { Self → Visits };
@@ -67,6 +67,25 @@ impl<'a, T, C: Check<'a, T>> Fields<'a> for Field<'a, T, C> {
             report,
             h,
         )
+    }
+}
+
+/// A value that is checked with no component of its own: its faults stand where those of the whole do.
+/// In a derive of the Rust crate the attribute `transparent` asks for this.
+#[derive(Clone, Copy, Debug)]
+pub struct Transparent<'a, T, C>(pub &'a T, pub C);
+
+impl<'a, T, C: Check<'a, T>> Fields<'a> for Transparent<'a, T, C> {
+    ghost visits = { λ field. C.visits field.1 field.0.now };
+
+    fn visit<H: I18n>(
+        &self,
+        alloc: Global,
+        trail: &mut Trail<'a>,
+        report: &mut Report,
+        h: &H,
+    ) -> Result<(), AllocError> {
+        self.1.check(alloc, self.0, trail, report, h)
     }
 }
 

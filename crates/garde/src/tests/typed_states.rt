@@ -2,7 +2,7 @@
 
 use crate::tests::span::Span;
 use crate::tests::user::User;
-use crate::{IntoValidError, Unvalidated, Valid};
+use crate::validate::{IntoValidError, Unvalidated, Valid};
 use std::alloc::{AllocError, Global};
 use std::test::Fail;
 

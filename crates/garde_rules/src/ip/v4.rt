@@ -1,7 +1,8 @@
 //! The reader of IPv4 texts.
 ghost use Rattle.std.specs.Prelude.{◌≡◌, ◌↔◌, ◌<◌, IsTrue};
 ghost use Rattle.garde_rules.specs.Ip.{IsIpv4};
-ghost use Rattle.garde_rules.specs.Ipv4Reader.{is_ipv4_text, start_ipv4, ends_ipv4, read_dot, read_digit, read_ipv4};
+ghost use Rattle.garde_rules.specs.IpText.{is_ipv4_text};
+ghost use Rattle.garde_rules.specs.Ipv4Reader.{accepts_ipv4, start_ipv4, ends_ipv4, read_dot, read_digit, read_ipv4};
 
 // What was read of an address: how many dots are to come, how many digits of this octet were read,
 // and their value.
@@ -75,7 +76,7 @@ impl Ipv4Reader {
 }
 
 fn reads_ipv4(text: &str) -> bool
-    ensures { result ≡ is_ipv4_text text.now }
+    ensures { result ≡ accepts_ipv4 start_ipv4 text.now }
 {
     let mut reader = Ipv4Reader::new();
     for byte in text.as_bytes() {

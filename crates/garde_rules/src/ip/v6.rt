@@ -2,7 +2,8 @@
 ghost use Rattle.std.specs.Prelude.{◌≡◌, ◌↔◌, ◌+◌, ◌≤◌, IsTrue, None};
 ghost use Rattle.garde_rules.specs.Ip.{IsIpv6};
 ghost use Rattle.garde_rules.specs.declared.ip.v6.Place.TheVariants.{Piece};
-ghost use Rattle.garde_rules.specs.Ipv6Reader.{is_ipv6_text, read_ipv6, read_colon, read_other, ends_ipv6, read_piece, read_double, count_digit, read_octets, ends_octets, is_full, is_group_len};
+ghost use Rattle.garde_rules.specs.IpText.{is_ipv6_text};
+ghost use Rattle.garde_rules.specs.Ipv6Reader.{accepts_ipv6, start_ipv6, read_ipv6, read_colon, read_other, ends_ipv6, read_piece, read_double, count_digit, read_octets, ends_octets, is_full, is_group_len};
 
 use crate::ip::v4::Ipv4Reader;
 
@@ -166,7 +167,7 @@ impl Ipv6Reader {
 }
 
 fn reads_ipv6(text: &str) -> bool
-    ensures { result ≡ is_ipv6_text text.now }
+    ensures { result ≡ accepts_ipv6 start_ipv6 text.now }
 {
     let mut reader = Ipv6Reader {
         groups: 0,

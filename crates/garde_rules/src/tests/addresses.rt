@@ -312,6 +312,24 @@ fn prints_the_kind_that_was_asked_for(rt: HostRuntime) -> Result<(), Fail> {
 }
 
 #[test]
+fn prints_the_kind_through_an_option(rt: HostRuntime) -> Result<(), Fail> {
+    let rows = [
+        (IpKind::Any, "zzz", "invalid IP address syntax"),
+        (IpKind::V4, "zzz", "invalid IPv4 address syntax"),
+        (IpKind::V6, "zzz", "invalid IPv6 address syntax"),
+        (IpKind::V4, "::", "invalid IPv4 address syntax"),
+        (IpKind::V6, "0.0.0.0", "invalid IPv6 address syntax"),
+    ];
+    for (kind, text, printed) in rows {
+        match Some(Some(text)).validate_ip(kind) {
+            Ok(()) => assert!(rt; false, "a fault is missing"),
+            Err(error) => assert_eq!(rt; error.to_string(rt.alloc())?.as_str(), printed),
+        }
+    }
+    Ok(())
+}
+
+#[test]
 fn passes_an_option_without_an_address(rt: HostRuntime) {
     for (option, passes) in [
         (None, true),
