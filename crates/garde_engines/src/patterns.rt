@@ -1,8 +1,10 @@
 //! Compiled patterns.
-ghost use Rattle.std.specs.Prelude.{◌≡◌, IfOk, IfErr, OnOk};
+ghost use Rattle.std.specs.Prelude.{◌≡◌, IfOk, IfErr, OnOk, IsTrue};
+ghost use Rattle.regex.specs.Strings.{regex_source};
 ghost use Rattle.garde_engines.specs.Patterns.{IsPattern, IsNoPattern, matches_source};
 
 use std::alloc::{AllocError, Global};
+use std::cell::RefCell;
 use std::marker::Model;
 
 /// Why a pattern was not compiled.
@@ -69,4 +71,89 @@ impl Regex {
         let mut matcher = self.compiled.matcher(alloc)?;
         Ok(matcher.is_match(text))
     }
+
+    /// The pattern with the memory that its searches write to, which is taken once.
+    ///
+    /// `AllocError` is answered where there is no such memory.
+    pub fn searcher(&self, alloc: Global) -> Result<Searcher<'_>, AllocError>
+        ensures { IfOk result (λ searcher. searcher ≡ self.now) }
+    {
+        let compiled = &self.compiled;
+        let matcher = compiled.matcher(alloc)?;
+        Ok(Searcher {
+            regex: self,
+            ready: RefCell::new(Ready { compiled, matcher }),
+        })
+    }
+}
+
+/// A compiled pattern with the memory that its searches write to, so that a search takes none.
+#[derive(Drop)]
+pub struct Searcher<'r> {
+    regex: &'r Regex,
+    ready: RefCell<Ready<'r>>,
+}
+
+// Contracts see a searcher as the text of its pattern.
+impl<'r> Model for Searcher<'r> {
+    ghost use Rattle.std.specs.Prelude.{ℕ, List};
+
+    ghost Value = { List ℕ };
+
+    ghost view = { λ searcher. searcher.regex.now };
+}
+
+impl<'r> Searcher<'r> {
+    /// The text that the pattern was compiled from.
+    pub fn as_str(&self) -> &str
+        ensures { result.now ≡ self.now }
+    {
+        self.regex.as_str()
+    }
+
+    /// Whether the pattern matches anywhere in the text.
+    ///
+    /// Memory is wanted, and `AllocError` answered where there is none, only by a search that begins
+    /// while another one of the same searcher runs.
+    pub fn is_match(&self, alloc: Global, text: &str) -> Result<bool, AllocError>
+        ensures { IfOk result (λ found. found ≡ matches_source self.now text.now) }
+    {
+        if let Ok(mut ready) = self.ready.try_borrow_mut() {
+            let ready = &mut *ready;
+            if has_source(ready.compiled, self.regex) {
+                return Ok(ready.matcher.is_match(text));
+            }
+        }
+        self.regex.is_match(alloc, text)
+    }
+}
+
+// A matcher, and the pattern that it was made for.
+#[derive(Drop)]
+struct Ready<'r> {
+    compiled: &'r regex::Regex,
+    matcher: regex::Matcher<'r>,
+}
+
+impl<'r> Model for Ready<'r> {
+    ghost use Rattle.std.specs.Prelude.{◌≡◌, ℕ, List};
+    ghost use Rattle.regex.specs.Strings.{matcher_pattern, regex_pattern, regex_source};
+    ghost use Rattle.garde_engines.specs.Compiled.{IsCompiled};
+
+    ghost Value = { List ℕ };
+
+    ghost view = { λ ready. regex_source ready.compiled.now };
+
+    ghost invariant = { λ ready. record {
+      made : matcher_pattern ready.matcher ≡ regex_pattern ready.compiled.now;
+      compiled : IsCompiled ready.compiled.now;
+    } };
+}
+
+// Whether the pattern was compiled from the text of the other. Of what lies in a cell only that is
+// known which holds of each value of its type.
+fn has_source(compiled: &regex::Regex, regex: &Regex) -> bool
+    ensures { IsTrue result → regex_source compiled.now ≡ regex.now }
+{
+    compiled.as_str() == regex.as_str()
 }

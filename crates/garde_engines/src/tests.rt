@@ -35,6 +35,27 @@ fn keeps_the_source_of_a_pattern(rt: HostRuntime) -> Result<(), Fail> {
     Ok(())
 }
 
+/// A text of a hundred bytes and more, with the match of `b+c$` at its end.
+const LONG: &str =
+    "abbc abbc abbc abbc abbc abbc abbc abbc abbc abbc abbc abbc abbc abbc abbc abbc abbc abbc abbc abbc abbbbc";
+
+#[test]
+fn searches_again_by_one_searcher(rt: HostRuntime) -> Result<(), Fail> {
+    let pattern = Regex::new(rt.alloc(), "b+c$")?;
+    let searcher = pattern.searcher(rt.alloc())?;
+    assert_eq!(rt; searcher.as_str(), "b+c$");
+    for (text, found) in [
+        ("abbc", true),
+        ("bca", false),
+        ("", false),
+        (LONG, true),
+        ("abbc", true),
+    ] {
+        assert_eq!(rt; searcher.is_match(rt.alloc(), text)?, found, "{text}");
+    }
+    Ok(())
+}
+
 #[test]
 fn says_why_a_pattern_is_refused(rt: HostRuntime) {
     let rows = [

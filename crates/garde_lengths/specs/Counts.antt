@@ -1,5 +1,5 @@
 -- What is counted of a text, whose bytes these are.
-use Rattle.std.specs.Prelude.{◌≤◌, ℕ, ◌+◌, List, length, true, count_by, nat_lt}
+use Rattle.std.specs.Prelude.{◌≤◌, ℕ, ◌+◌, List, length, true, count_by, nat_lt, nat_le, Bool, ◌||◌}
 use Rattle.std.specs.Str.{chars, IsUtf8}
 use Rattle.unicode_segmentation.specs.Grapheme.{graphemes}
 
@@ -27,3 +27,7 @@ grapheme_count bytes = length (graphemes true bytes)
 abbrev pub UnitsLaw : Type 0
 UnitsLaw =
     (bytes : List ℕ) → IsUtf8 bytes → (char_count bytes ≤ unit_count bytes) × (unit_count bytes ≤ byte_count bytes)
+
+-- the byte is below the first, or not below the second
+abbrev pub is_outside : ℕ → ℕ → ℕ → Bool
+is_outside low high byte = nat_lt byte low || nat_le high byte

@@ -9,7 +9,7 @@ ghost use Rattle.garde_lengths.specs.Counts.{char_count};
 ghost use Rattle.garde_lengths.specs.declared.bounds.OutOfBounds.{OutOfBounds};
 
 use crate::bounds::{OutOfBounds, check_bounds};
-use crate::count::count_chars;
+use crate::count::{check_chars, count_chars};
 use crate::rule::Rule;
 use garde_i18n::I18n;
 use garde_report::RuleError;
@@ -27,6 +27,13 @@ pub trait HasChars {
     /// How many characters the value has.
     fn num_chars(&self) -> usize
         ensures { result ≡ char_len self.now };
+
+    /// Holds the number of characters against bounds, as `OutOfBounds` says.
+    fn check_num_chars(&self, min: usize, max: usize) -> Result<(), OutOfBounds>
+        ensures { result ≡ bounds_answer min max (char_len self.now) }
+    {
+        check_bounds(self.num_chars(), min, max)
+    }
 }
 
 impl HasChars for String {
@@ -34,6 +41,10 @@ impl HasChars for String {
 
     fn num_chars(&self) -> usize {
         count_chars(self.as_str())
+    }
+
+    fn check_num_chars(&self, min: usize, max: usize) -> Result<(), OutOfBounds> {
+        check_chars(self.as_str(), min, max)
     }
 }
 
@@ -43,6 +54,10 @@ impl HasChars for &String {
     fn num_chars(&self) -> usize {
         count_chars(self.as_str())
     }
+
+    fn check_num_chars(&self, min: usize, max: usize) -> Result<(), OutOfBounds> {
+        check_chars(self.as_str(), min, max)
+    }
 }
 
 impl HasChars for &str {
@@ -50,6 +65,10 @@ impl HasChars for &str {
 
     fn num_chars(&self) -> usize {
         count_chars(self)
+    }
+
+    fn check_num_chars(&self, min: usize, max: usize) -> Result<(), OutOfBounds> {
+        check_chars(self, min, max)
     }
 }
 
@@ -59,6 +78,10 @@ impl HasChars for CowStr<'_> {
     fn num_chars(&self) -> usize {
         count_chars(self.as_str())
     }
+
+    fn check_num_chars(&self, min: usize, max: usize) -> Result<(), OutOfBounds> {
+        check_chars(self.as_str(), min, max)
+    }
 }
 
 impl HasChars for RcStr {
@@ -67,6 +90,10 @@ impl HasChars for RcStr {
     fn num_chars(&self) -> usize {
         count_chars(self.as_str())
     }
+
+    fn check_num_chars(&self, min: usize, max: usize) -> Result<(), OutOfBounds> {
+        check_chars(self.as_str(), min, max)
+    }
 }
 
 impl HasChars for BoxedStr {
@@ -74,6 +101,10 @@ impl HasChars for BoxedStr {
 
     fn num_chars(&self) -> usize {
         count_chars(self.as_str())
+    }
+
+    fn check_num_chars(&self, min: usize, max: usize) -> Result<(), OutOfBounds> {
+        check_chars(self.as_str(), min, max)
     }
 }
 
@@ -126,7 +157,7 @@ impl<T: HasChars> Chars for T {
     ghost answer = { λ min max v. bounds_answer min max (T.char_len v) };
 
     fn validate_num_chars(&self, min: usize, max: usize) -> Result<(), OutOfBounds> {
-        check_bounds(self.num_chars(), min, max)
+        self.check_num_chars(min, max)
     }
 }
 

@@ -9,7 +9,7 @@ ghost use Rattle.garde_lengths.specs.Counts.{unit_count};
 ghost use Rattle.garde_lengths.specs.declared.bounds.OutOfBounds.{OutOfBounds};
 
 use crate::bounds::{OutOfBounds, check_bounds};
-use crate::count::count_units;
+use crate::count::{check_units, count_units};
 use crate::rule::Rule;
 use garde_i18n::I18n;
 use garde_report::RuleError;
@@ -28,6 +28,13 @@ pub trait HasUtf16CodeUnits {
     /// How many code units of UTF-16 the value has.
     fn num_code_units(&self) -> usize
         ensures { result ≡ unit_len self.now };
+
+    /// Holds the number of code units against bounds, as `OutOfBounds` says.
+    fn check_num_code_units(&self, min: usize, max: usize) -> Result<(), OutOfBounds>
+        ensures { result ≡ bounds_answer min max (unit_len self.now) }
+    {
+        check_bounds(self.num_code_units(), min, max)
+    }
 }
 
 impl HasUtf16CodeUnits for String {
@@ -35,6 +42,10 @@ impl HasUtf16CodeUnits for String {
 
     fn num_code_units(&self) -> usize {
         count_units(self.as_str())
+    }
+
+    fn check_num_code_units(&self, min: usize, max: usize) -> Result<(), OutOfBounds> {
+        check_units(self.as_str(), min, max)
     }
 }
 
@@ -44,6 +55,10 @@ impl HasUtf16CodeUnits for &String {
     fn num_code_units(&self) -> usize {
         count_units(self.as_str())
     }
+
+    fn check_num_code_units(&self, min: usize, max: usize) -> Result<(), OutOfBounds> {
+        check_units(self.as_str(), min, max)
+    }
 }
 
 impl HasUtf16CodeUnits for &str {
@@ -51,6 +66,10 @@ impl HasUtf16CodeUnits for &str {
 
     fn num_code_units(&self) -> usize {
         count_units(self)
+    }
+
+    fn check_num_code_units(&self, min: usize, max: usize) -> Result<(), OutOfBounds> {
+        check_units(self, min, max)
     }
 }
 
@@ -60,6 +79,10 @@ impl HasUtf16CodeUnits for CowStr<'_> {
     fn num_code_units(&self) -> usize {
         count_units(self.as_str())
     }
+
+    fn check_num_code_units(&self, min: usize, max: usize) -> Result<(), OutOfBounds> {
+        check_units(self.as_str(), min, max)
+    }
 }
 
 impl HasUtf16CodeUnits for RcStr {
@@ -68,6 +91,10 @@ impl HasUtf16CodeUnits for RcStr {
     fn num_code_units(&self) -> usize {
         count_units(self.as_str())
     }
+
+    fn check_num_code_units(&self, min: usize, max: usize) -> Result<(), OutOfBounds> {
+        check_units(self.as_str(), min, max)
+    }
 }
 
 impl HasUtf16CodeUnits for BoxedStr {
@@ -75,6 +102,10 @@ impl HasUtf16CodeUnits for BoxedStr {
 
     fn num_code_units(&self) -> usize {
         count_units(self.as_str())
+    }
+
+    fn check_num_code_units(&self, min: usize, max: usize) -> Result<(), OutOfBounds> {
+        check_units(self.as_str(), min, max)
     }
 }
 
@@ -95,7 +126,7 @@ impl<T: HasUtf16CodeUnits> Utf16CodeUnits for T {
     ghost answer = { λ min max v. bounds_answer min max (T.unit_len v) };
 
     fn validate_num_code_units(&self, min: usize, max: usize) -> Result<(), OutOfBounds> {
-        check_bounds(self.num_code_units(), min, max)
+        self.check_num_code_units(min, max)
     }
 }
 

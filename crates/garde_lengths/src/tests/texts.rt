@@ -1,6 +1,5 @@
 //! Tests of the counts of texts.
 use super::assert_answer;
-use crate::Rule;
 use crate::laws::units;
 use crate::length::bytes::{self, ByteLength};
 use crate::length::chars::{self, CharLength};
@@ -8,6 +7,7 @@ use crate::length::graphemes::{self, GraphemeLength};
 use crate::length::simple::Length;
 use crate::length::utf16::{self, Utf16Length};
 use crate::length::{HasBytes, HasChars, HasGraphemes, HasSimpleLength, HasUtf16CodeUnits};
+use crate::{OutOfBounds, Rule};
 use garde_i18n::DefaultI18n;
 use std::alloc::Global;
 use std::borrow::CowStr;
@@ -57,6 +57,25 @@ fn counts_every_type_of_text_alike(rt: HostRuntime) -> Result<(), Fail> {
     assert_eq!(rt; counts(&CowStr::Owned(owned)), wanted);
     assert_eq!(rt; counts(&RcStr::from_str(alloc, FACE)?), wanted);
     assert_eq!(rt; counts(&BoxedStr::from_str(alloc, FACE)?), wanted);
+    Ok(())
+}
+
+#[test]
+fn counts_a_text_of_many_blocks(rt: HostRuntime) -> Result<(), Fail> {
+    let mut text = String::new(rt.alloc());
+    for _ in 0..100 {
+        text.push_str("aé日😂")?;
+    }
+    assert_eq!(rt; counts(&text), [1000, 400, 400, 1000, 500]);
+    for (min, max, chars, units) in [
+        (0, 1000, Ok(()), Ok(())),
+        (400, 400, Ok(()), Err(OutOfBounds::Upper)),
+        (500, 500, Err(OutOfBounds::Lower), Ok(())),
+        (1001, 9, Err(OutOfBounds::Lower), Err(OutOfBounds::Lower)),
+    ] {
+        assert_eq!(rt; text.check_num_chars(min, max), chars);
+        assert_eq!(rt; text.check_num_code_units(min, max), units);
+    }
     Ok(())
 }
 

@@ -1,12 +1,13 @@
-use Rattle.std.proofs.Common.{◌≡◌, length, rules}
+use Rattle.std.proofs.Common.{◌≡◌, ◌∙◌}
 use Rattle.std.specs.Str.{chars}
-use Rattle.std.proofs.lemmas.Str.{chars_from_encodes}
-use Rattle.std.proofs.lemmas.List.Sums.{length-filter}
-use Rattle.garde_lengths.specs.Counts.{astral_count}
+use Rattle.garde_lengths.specs.Counts.{astral_count, char_count}
+use Rattle.garde_lengths.proofs.Starts.{start_count, tall_count}
 use Rattle.garde_lengths.proofs.count.count_units.Goals as goal
 
 pub returns : goal.returns
 returns c =
-    let all : c.count-all.result ≡ length (chars c.args.text.now) = search (rules, chars_from_encodes) in
-    let astral : c.count-astral.result ≡ astral_count (chars c.args.text.now) = search (rules, chars_from_encodes, length-filter) in
+    let all : c.count_outside-all.result ≡ char_count c.args.text.now =
+    rw c.as_bytes.ensures.value at c.count_outside-all.ensures ∙ start_count c.args.text.now c.utf8.text in
+    let astral : c.count_outside-astral.result ≡ astral_count (chars c.args.text.now) =
+    rw c.as_bytes-2.ensures.value at c.count_outside-astral.ensures ∙ tall_count c.args.text.now c.utf8.text in
     cc
