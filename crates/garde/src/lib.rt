@@ -6,8 +6,6 @@ pub mod fields;
 pub mod laws;
 mod refusal;
 pub mod samples;
-#[cfg(test)]
-mod tests;
 mod unvalidated;
 mod valid;
 pub mod validate;

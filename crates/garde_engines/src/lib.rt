@@ -6,6 +6,4 @@
 #![tactic(auto)]
 
 pub mod patterns;
-#[cfg(test)]
-mod tests;
 pub mod urls;

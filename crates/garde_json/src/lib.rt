@@ -4,8 +4,6 @@
 //! the name of one of its modules.
 #![tactic(auto)]
 
-#[cfg(test)]
-mod tests;
 mod text;
 
 pub use text::report_to_json_text;

@@ -6,8 +6,6 @@ mod count;
 pub mod laws;
 pub mod length;
 mod rule;
-#[cfg(test)]
-mod tests;
 mod urls;
 
 pub use bounds::OutOfBounds;

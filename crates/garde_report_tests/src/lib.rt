@@ -1,5 +1,5 @@
-//! The tests of `garde_report`, by its public calls. They stand in a crate of their own, since the
-//! tests within a crate prove all of it once more.
+//! The tests of `garde_report` and `garde_json`, by their public calls. They stand in a crate of
+//! their own, since the tests within a crate prove all of it once more.
 #![tactic(auto)]
 
 #[cfg(test)]

@@ -2,5 +2,6 @@
 
 mod errors;
 mod json;
+mod json_text;
 mod lists;
 mod trails;

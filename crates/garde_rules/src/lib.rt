@@ -19,8 +19,6 @@ pub mod prefix;
 pub mod range;
 pub mod required;
 pub mod suffix;
-#[cfg(test)]
-mod tests;
 pub mod url;
 pub mod values;
 

@@ -4,7 +4,7 @@ ghost use Rattle.std.specs.Prelude.{None, Some, false};
 use crate::outcome::RunError;
 use crate::running::run;
 use crate::transfer::{Failed, Plain, Sink, Source};
-use garde_testing::Hog;
+use garde_hog::Hog;
 use std::test::Fail;
 
 /// A reader that gives one byte a call, and fails once it has given as many as `whole` says.

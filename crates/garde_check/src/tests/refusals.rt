@@ -6,7 +6,7 @@ use super::{LINES, REPORT_WITH_NODES};
 use crate::outcome::{Outcome, RunError};
 use crate::running::{run, run_body, run_json};
 use crate::transfer::Plain;
-use garde_testing::{Calls, Met, Scarce};
+use garde_hog::{Calls, Met, Scarce};
 use std::alloc::{AllocError, Global};
 use std::test::Fail;
 

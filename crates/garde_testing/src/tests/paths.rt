@@ -1,8 +1,8 @@
 //! Lists and paths where memory runs out.
 
-use crate::{Met, Scarce};
 use garde::Path;
 use garde::rc_list::{JoinError, List};
+use garde_hog::{Met, Scarce};
 use std::alloc::{AllocError, Global};
 
 // The list of `a`, `c` and `d`.

@@ -2,7 +2,7 @@
 //! memory by its name, or to the answer of ample memory, and the objects stand.
 
 use super::{paths, reports, rules, texts, walks};
-use crate::{Calls, Met, Scarce};
+use garde_hog::{Calls, Met, Scarce};
 use std::alloc::{AllocError, Global};
 use std::test::Fail;
 

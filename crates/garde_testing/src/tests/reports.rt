@@ -1,8 +1,8 @@
 //! Reports where memory runs out, and their written form.
 
-use crate::{Met, Scarce};
 use garde::json::{JsonRefused, report_from_json, report_to_json};
 use garde::{Error, Path, Report};
+use garde_hog::{Met, Scarce};
 use serde_json::Value;
 use std::alloc::{AllocError, Global};
 

@@ -3,7 +3,6 @@ ghost use Rattle.std.specs.Prelude.{Err};
 ghost use Rattle.garde_i18n.specs.declared.reasons.InvalidCreditCard.TheVariants as card;
 ghost use Rattle.garde_i18n.specs.declared.reasons.InvalidPhoneNumber.TheVariants as phone;
 
-use crate::{Met, Scarce};
 use garde::i18n::{InvalidCreditCard, InvalidPhoneNumber, IpKind};
 use garde::rules::credit_card::CreditCard;
 use garde::rules::pattern::regex::{PatternRefused, Regex};
@@ -13,6 +12,7 @@ use garde::rules::{
     range, required, suffix, url,
 };
 use garde::{DefaultI18n, RuleError};
+use garde_hog::{Met, Scarce};
 use std::alloc::{AllocError, Global};
 
 /// A number that is neither a card's nor a phone's.

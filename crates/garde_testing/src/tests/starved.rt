@@ -2,9 +2,9 @@
 
 use super::user::User;
 use super::walks::{four, one, user};
-use crate::Scarce;
 use garde::samples::{Document, Tag};
 use garde::{DefaultI18n, Trail, Unvalidated, Validate, ValidateError};
+use garde_hog::Scarce;
 use std::alloc::{AllocError, Global};
 use std::test::Fail;
 

@@ -1,8 +1,8 @@
 //! The default handler's texts where memory runs out.
 
-use crate::{Met, Scarce};
 use garde::i18n::{InvalidCreditCard, InvalidPhoneNumber, InvalidUrl, IpKind};
 use garde::{DefaultI18n, I18n};
+use garde_hog::{Met, Scarce};
 use std::alloc::{AllocError, Global};
 use std::borrow::CowStr;
 

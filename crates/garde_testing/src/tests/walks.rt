@@ -2,10 +2,10 @@
 
 use super::reports::{report_of, tells};
 use super::user::User;
-use crate::{Met, Scarce};
 use garde::{
     Component, DefaultI18n, IntoValidError, Report, Trail, Unvalidated, Validate, ValidateError,
 };
+use garde_hog::{Met, Scarce};
 use std::alloc::{AllocError, Global};
 
 /// One user of this name.

@@ -1,0 +1,41 @@
+//! Tests of the lengths: each holds the answers on a table of values against texts that are written
+//! out.
+mod collections;
+mod handlers;
+mod options;
+mod texts;
+mod urls;
+
+use garde_i18n::DefaultI18n;
+use garde_lengths::length::simple;
+use garde_report::RuleError;
+use std::process::Abort;
+
+/// What an answer tells: nothing where it is Ok.
+fn message(answer: &Result<(), RuleError>) -> Option<&str> {
+    match answer {
+        Ok(()) => None,
+        Err(RuleError::Fault(error)) => Some(error.message()),
+        Err(RuleError::Memory) => Some("out of memory"),
+    }
+}
+
+/// Asserts that the answer is Ok where no text is given, and else the fault with this text.
+fn assert_answer(rt: &impl Abort, answer: Result<(), RuleError>, text: Option<&str>) {
+    assert_eq!(rt; message(&answer), text);
+}
+
+#[test]
+fn asks_the_lower_bound_first(rt: HostRuntime) {
+    let rows = [
+        ("abc", 5, 2, Some("length is lower than 5")),
+        ("abcde", 5, 2, Some("length is greater than 2")),
+        ("abcdef", 5, 2, Some("length is greater than 2")),
+        ("ab", 3, 25, Some("length is lower than 3")),
+        ("abc", 3, 3, None),
+    ];
+    for (text, min, max, fault) in rows {
+        let answer = simple::apply(rt.alloc(), &text, (min, max), &DefaultI18n);
+        assert_answer(&rt, answer, fault);
+    }
+}

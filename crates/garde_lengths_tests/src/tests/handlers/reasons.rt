@@ -1,0 +1,171 @@
+//! What the reasons and the IP kinds print.
+use garde_i18n::{InvalidCreditCard, InvalidPhoneNumber, InvalidUrl, IpKind};
+use std::alloc::{AllocError, Global};
+use std::fmt::{Debug, Display};
+use std::process::Abort;
+use std::test::Fail;
+
+/// Whether a value prints this text by `{}`.
+fn is_printed<T: Display>(alloc: Global, value: &T, text: &str) -> Result<bool, AllocError> {
+    Ok(format!(in alloc; "{value}")?.as_str() == text)
+}
+
+/// Whether a value prints this text by `{:?}`.
+fn is_shown<T: Debug>(alloc: Global, value: &T, text: &str) -> Result<bool, AllocError> {
+    Ok(format!(in alloc; "{value:?}")?.as_str() == text)
+}
+
+/// Asserts that each row's reason prints that text by `{}` and that name by `{:?}`.
+fn assert_prints<T: Display + Debug>(
+    rt: &impl Abort,
+    alloc: Global,
+    rows: &[(T, &str, &str)],
+) -> Result<(), AllocError> {
+    for (reason, text, name) in rows {
+        assert!(rt; is_printed(alloc, reason, text)?, "{text}");
+        assert!(rt; is_shown(alloc, reason, name)?, "{name}");
+    }
+    Ok(())
+}
+
+#[test]
+fn prints_the_reasons_of_urls(rt: HostRuntime) -> Result<(), Fail> {
+    let rows = [
+        (InvalidUrl::EmptyHost, "empty host", "EmptyHost"),
+        (
+            InvalidUrl::IdnaError,
+            "invalid international domain name",
+            "IdnaError",
+        ),
+        (
+            InvalidUrl::InvalidPort,
+            "invalid port number",
+            "InvalidPort",
+        ),
+        (
+            InvalidUrl::InvalidIpv4Address,
+            "invalid IPv4 address",
+            "InvalidIpv4Address",
+        ),
+        (
+            InvalidUrl::InvalidIpv6Address,
+            "invalid IPv6 address",
+            "InvalidIpv6Address",
+        ),
+        (
+            InvalidUrl::InvalidDomainCharacter,
+            "invalid domain character",
+            "InvalidDomainCharacter",
+        ),
+        (
+            InvalidUrl::RelativeUrlWithoutBase,
+            "relative URL without a base",
+            "RelativeUrlWithoutBase",
+        ),
+        (
+            InvalidUrl::RelativeUrlWithCannotBeABaseBase,
+            "relative URL with a cannot-be-a-base base",
+            "RelativeUrlWithCannotBeABaseBase",
+        ),
+        (
+            InvalidUrl::SetHostOnCannotBeABaseUrl,
+            "a cannot-be-a-base URL doesn’t have a host to set",
+            "SetHostOnCannotBeABaseUrl",
+        ),
+        (
+            InvalidUrl::Overflow,
+            "URLs more than 4 GB are not supported",
+            "Overflow",
+        ),
+        (InvalidUrl::Other, "invalid url", "Other"),
+    ];
+    assert_prints(&rt, rt.alloc(), &rows)?;
+    assert_ne!(rt; InvalidUrl::EmptyHost, InvalidUrl::IdnaError);
+    Ok(())
+}
+
+#[test]
+fn prints_the_reasons_of_credit_cards(rt: HostRuntime) -> Result<(), Fail> {
+    let rows = [
+        (
+            InvalidCreditCard::InvalidFormat,
+            "invalid format",
+            "InvalidFormat",
+        ),
+        (
+            InvalidCreditCard::InvalidLength,
+            "invalid length",
+            "InvalidLength",
+        ),
+        (
+            InvalidCreditCard::InvalidLuhn,
+            "invalid luhn",
+            "InvalidLuhn",
+        ),
+        (
+            InvalidCreditCard::UnknownType,
+            "unknown type",
+            "UnknownType",
+        ),
+        (InvalidCreditCard::Other, "invalid credit card", "Other"),
+    ];
+    assert_prints(&rt, rt.alloc(), &rows)?;
+    assert_ne!(rt;
+        InvalidCreditCard::InvalidFormat,
+        InvalidCreditCard::InvalidLength
+    );
+    Ok(())
+}
+
+#[test]
+fn prints_the_reasons_of_phone_numbers(rt: HostRuntime) -> Result<(), Fail> {
+    let rows = [
+        (
+            InvalidPhoneNumber::Invalid,
+            "not a valid phone number",
+            "Invalid",
+        ),
+        (InvalidPhoneNumber::NotANumber, "not a number", "NotANumber"),
+        (
+            InvalidPhoneNumber::InvalidCountryCode,
+            "invalid country code",
+            "InvalidCountryCode",
+        ),
+        (
+            InvalidPhoneNumber::TooShortAfterIdd,
+            "the number is too short after IDD",
+            "TooShortAfterIdd",
+        ),
+        (
+            InvalidPhoneNumber::TooShortNsn,
+            "the number is too short after the country code",
+            "TooShortNsn",
+        ),
+        (
+            InvalidPhoneNumber::TooLong,
+            "the number is too long",
+            "TooLong",
+        ),
+        (
+            InvalidPhoneNumber::MalformedInteger,
+            "malformed integer part in phone number",
+            "MalformedInteger",
+        ),
+        (InvalidPhoneNumber::Other, "invalid phone number", "Other"),
+    ];
+    assert_prints(&rt, rt.alloc(), &rows)?;
+    assert_ne!(rt; InvalidPhoneNumber::Invalid, InvalidPhoneNumber::NotANumber);
+    Ok(())
+}
+
+#[test]
+fn prints_the_ip_kinds(rt: HostRuntime) -> Result<(), Fail> {
+    for (kind, text) in [
+        (IpKind::Any, "IP"),
+        (IpKind::V4, "IPv4"),
+        (IpKind::V6, "IPv6"),
+    ] {
+        assert!(rt; is_printed(rt.alloc(), &kind, text)?, "{text}");
+    }
+    Ok(())
+}

@@ -1,0 +1,134 @@
+//! Tests of the counts of texts.
+use super::assert_answer;
+use garde_i18n::DefaultI18n;
+use garde_lengths::laws::units;
+use garde_lengths::length::bytes::{self, ByteLength};
+use garde_lengths::length::chars::{self, CharLength};
+use garde_lengths::length::graphemes::{self, GraphemeLength};
+use garde_lengths::length::simple::Length;
+use garde_lengths::length::utf16::{self, Utf16Length};
+use garde_lengths::length::{HasBytes, HasChars, HasGraphemes, HasSimpleLength, HasUtf16CodeUnits};
+use garde_lengths::{OutOfBounds, Rule};
+use std::alloc::Global;
+use std::borrow::CowStr;
+use std::boxed::BoxedStr;
+use std::process::Abort;
+use std::rc::RcStr;
+use std::test::Fail;
+
+/// A face (U+1F602), and an `e` with a mark of its own (U+0301).
+const FACE: &str = "😂";
+
+const MARKED: &str = "e\u{301}";
+
+/// The five lengths, in the order of the modules' names: bytes, characters, clusters, simple, code
+/// units.
+pub fn counts<T: HasBytes + HasChars + HasGraphemes + HasSimpleLength + HasUtf16CodeUnits>(
+    text: &T,
+) -> [usize; 5] {
+    [
+        text.num_bytes(),
+        text.num_chars(),
+        text.num_graphemes(),
+        text.length(),
+        text.num_code_units(),
+    ]
+}
+
+#[test]
+fn counts_a_text_by_each_unit(rt: HostRuntime) {
+    for (text, wanted) in [
+        (FACE, [4, 1, 1, 4, 2]),
+        (MARKED, [3, 2, 1, 3, 2]),
+        ("", [0; 5]),
+    ] {
+        assert_eq!(rt; counts(&text), wanted, "{text}");
+    }
+    units();
+}
+
+/// Asserts that a text has the lengths of the face.
+fn assert_counts_of_the_face<
+    T: HasBytes + HasChars + HasGraphemes + HasSimpleLength + HasUtf16CodeUnits + Drop,
+>(rt: &impl Abort, text: T) {
+    assert_eq!(rt; counts(&text), [4, 1, 1, 4, 2]);
+}
+
+#[test]
+fn counts_every_type_of_text_alike(rt: HostRuntime) -> Result<(), Fail> {
+    let alloc = rt.alloc();
+    let owned = String::from_str(alloc, FACE)?;
+    assert_counts_of_the_face(&rt, &owned);
+    assert_counts_of_the_face(&rt, CowStr::Owned(owned));
+    assert_counts_of_the_face(&rt, String::from_str(alloc, FACE)?);
+    assert_counts_of_the_face(&rt, RcStr::from_str(alloc, FACE)?);
+    assert_counts_of_the_face(&rt, BoxedStr::from_str(alloc, FACE)?);
+    Ok(())
+}
+
+#[test]
+fn counts_a_text_of_many_blocks(rt: HostRuntime) -> Result<(), Fail> {
+    let mut text = String::new(rt.alloc());
+    for _ in 0..100 {
+        text.push_str("aé日😂")?;
+    }
+    assert_eq!(rt; counts(&text), [1000, 400, 400, 1000, 500]);
+    for (min, max, chars, units) in [
+        (0, 1000, Ok(()), Ok(())),
+        (400, 400, Ok(()), Err(OutOfBounds::Upper)),
+        (500, 500, Err(OutOfBounds::Lower), Ok(())),
+        (1001, 9, Err(OutOfBounds::Lower), Err(OutOfBounds::Lower)),
+    ] {
+        assert_eq!(rt; text.check_num_chars(min, max), chars);
+        assert_eq!(rt; text.check_num_code_units(min, max), units);
+    }
+    Ok(())
+}
+
+#[test]
+fn holds_each_count_against_its_bounds(rt: HostRuntime) {
+    let alloc = rt.alloc();
+    let h = DefaultI18n;
+    let low = Some("length is lower than 3");
+    assert_answer(&rt, bytes::apply(alloc, &MARKED, (3, 3), &h), None);
+    assert_answer(&rt, chars::apply(alloc, &MARKED, (3, 3), &h), low);
+    assert_answer(&rt, graphemes::apply(alloc, &MARKED, (1, 1), &h), None);
+    assert_answer(&rt, graphemes::apply(alloc, &MARKED, (3, 3), &h), low);
+    assert_answer(&rt, utf16::apply(alloc, &FACE, (2, 2), &h), None);
+    assert_answer(&rt, utf16::apply(alloc, &FACE, (3, 3), &h), low);
+}
+
+/// Asserts what a rule as a value finds in the face.
+fn assert_finds<R: Rule<&'static str> + Drop>(
+    rt: &impl Abort,
+    alloc: Global,
+    rule: R,
+    fault: Option<&str>,
+) {
+    assert_answer(rt, rule.find(alloc, &FACE, &DefaultI18n), fault);
+}
+
+#[test]
+fn finds_the_same_by_rules_as_values(rt: HostRuntime) {
+    let alloc = rt.alloc();
+    assert_finds(
+        &rt,
+        alloc,
+        Length { min: 0, max: 3 },
+        Some("length is greater than 3"),
+    );
+    assert_finds(&rt, alloc, ByteLength { min: 4, max: 4 }, None);
+    assert_finds(
+        &rt,
+        alloc,
+        CharLength { min: 2, max: 4 },
+        Some("length is lower than 2"),
+    );
+    assert_finds(&rt, alloc, GraphemeLength { min: 1, max: 1 }, None);
+    assert_finds(
+        &rt,
+        alloc,
+        Utf16Length { min: 0, max: 1 },
+        Some("length is greater than 1"),
+    );
+}

@@ -1,0 +1,79 @@
+//! Tests of walks over items.
+use garde_report::{Report, Trail};
+use garde_rules::inner::{self, Inner};
+use std::alloc::{AllocError, Global};
+use std::test::Fail;
+
+/// Pushes the component of each item, and so leaves it on the trail. Refuses the item 9.
+fn push_all<'a, C: Inner<u8>>(
+    field: &'a C,
+    trail: &mut Trail<'a>,
+    report: &mut Report,
+) -> Result<(), AllocError> {
+    inner::apply(
+        field,
+        trail,
+        report,
+        |item: &u8, component, trail, _report| {
+            if *item == 9 {
+                return Err(AllocError);
+            }
+            trail.push(component)
+        },
+    )
+}
+
+/// Whether the walk came to its end, and the path that it left.
+fn left<C: Inner<u8>>(alloc: Global, field: &C) -> Result<(bool, String), AllocError> {
+    let mut trail = Trail::new(alloc);
+    let mut report = Report::new(alloc);
+    let answer = push_all(field, &mut trail, &mut report);
+    let path = trail.path()?;
+    Ok((answer.is_ok(), path.to_string(alloc)?))
+}
+
+#[test]
+fn each_item_until_a_refusal(rt: HostRuntime) -> Result<(), Fail> {
+    let alloc = rt.alloc();
+    let rows: [(&[u8], bool, &str); 3] = [
+        (&[1, 2], true, "[0][1]"),
+        (&[1, 9, 2], false, "[0]"),
+        (&[], true, ""),
+    ];
+    for (items, done, path) in rows {
+        let found = left(alloc, &items)?;
+        assert_eq!(rt; found.0, done);
+        assert_eq!(rt; found.1.as_str(), path);
+    }
+    Ok(())
+}
+
+#[test]
+fn vectors_arrays_boxes_and_options(rt: HostRuntime) -> Result<(), Fail> {
+    let alloc = rt.alloc();
+    let items = vec![in alloc; 1u8, 2]?;
+    assert_eq!(rt; left(alloc, &items)?.1.as_str(), "[0][1]");
+    assert_eq!(rt;
+        left(alloc, &items.into_boxed_slice())?.1.as_str(),
+        "[0][1]"
+    );
+    assert_eq!(rt; left(alloc, &[1u8])?.1.as_str(), "[0]");
+    let option = left(alloc, &Some(9u8))?;
+    assert!(rt; !option.0);
+    assert!(rt; left(alloc, &None::<u8>)?.0);
+    Ok(())
+}
+
+#[test]
+fn the_method_walks_as_the_function(rt: HostRuntime) -> Result<(), Fail> {
+    let items = [1u8, 2];
+    let mut trail = Trail::new(rt.alloc());
+    let mut report = Report::new(rt.alloc());
+    items.validate_inner(
+        &mut trail,
+        &mut report,
+        |_item: &u8, component, trail, _report| trail.push(component),
+    )?;
+    assert_eq!(rt; trail.path()?.to_string(rt.alloc())?.as_str(), "[0][1]");
+    Ok(())
+}

@@ -1,0 +1,33 @@
+//! A value whose path is made by hand: push the component, ask the rule, pop.
+ghost use Rattle.garde.specs.Author.{codes, field, unsigned_in};
+
+use garde::rules::range;
+use garde::{Component, I18n, Report, Trail, Validate};
+use std::alloc::{AllocError, Global};
+
+/// A number of at least 1.
+#[derive(Clone, Copy, Debug)]
+pub struct Badge {
+    pub number: u8,
+}
+
+impl Validate for Badge {
+    type Context = ();
+
+    ghost visits = { λ v _. field (codes "number") (unsigned_in 1 255 v.number) };
+
+    fn validate_into<'a, H: I18n>(
+        &'a self,
+        alloc: Global,
+        _ctx: &(),
+        trail: &mut Trail<'a>,
+        report: &mut Report,
+        h: &H,
+    ) -> Result<(), AllocError> {
+        trail.push(Component::key("number"))?;
+        let answer = range::apply(alloc, &self.number, (Some(1), None), h);
+        let told = trail.put(report, answer);
+        trail.pop();
+        told
+    }
+}

@@ -1,0 +1,35 @@
+//! A generic struct, whose two parts are checked one after the other.
+ghost use Rattle.garde.specs.Author.{codes, ◌and◌, field};
+
+use garde::fields::{Dive, Field, Fields};
+use garde::{I18n, Report, Trail, Validate};
+use std::alloc::{AllocError, Global};
+
+/// Two values of one type.
+#[derive(Debug, Drop)]
+pub struct Couple<T> {
+    pub left: T,
+    pub right: T,
+}
+
+impl<T: Validate> Validate for Couple<T> {
+    type Context = T::Context;
+
+    ghost visits = { λ v c.
+        field (codes "left") (T.visits v.left c) and field (codes "right") (T.visits v.right c) };
+
+    fn validate_into<'a, H: I18n>(
+        &'a self,
+        alloc: Global,
+        ctx: &T::Context,
+        trail: &mut Trail<'a>,
+        report: &mut Report,
+        h: &H,
+    ) -> Result<(), AllocError> {
+        (
+            Field("left", &self.left, Dive(ctx)),
+            Field("right", &self.right, Dive(ctx)),
+        )
+            .visit_of(self, alloc, trail, report, h)
+    }
+}

@@ -1,0 +1,75 @@
+//! A type with a list of parts.
+ghost use Rattle.std.specs.Prelude.{◌-◌, ◌^◌};
+ghost use Rattle.garde.specs.Author.{codes, length, string_bytes, ◌and◌, items, field, ascii, length_in, unsigned_in};
+
+use garde::fields::{Ascii, Dive, Each, Field, Fields, Is, Length, Range};
+use garde::{I18n, Report, Trail, Validate};
+use std::alloc::{AllocError, Global};
+
+/// A number of at most 4, under the key `id`.
+#[derive(Clone, Copy, Debug)]
+pub struct Identifier {
+    pub id: u64,
+}
+
+impl Validate for Identifier {
+    type Context = ();
+
+    ghost visits = { λ v _. field (codes "id") (unsigned_in 0 4 v.id) };
+
+    fn validate_into<'a, H: I18n>(
+        &'a self,
+        alloc: Global,
+        _ctx: &(),
+        trail: &mut Trail<'a>,
+        report: &mut Report,
+        h: &H,
+    ) -> Result<(), AllocError> {
+        Field(
+            "id",
+            &self.id,
+            Is(Range {
+                min: None,
+                max: Some(4),
+            }),
+        )
+        .visit(alloc, trail, report, h)
+    }
+}
+
+/// A name of 10 bytes of ASCII at least, and numbers.
+#[derive(Debug, Drop)]
+pub struct Item {
+    pub name: String,
+    pub identifiers: Vec<Identifier>,
+}
+
+impl Validate for Item {
+    type Context = ();
+
+    ghost visits = { λ v c.
+        field (codes "name") (ascii (string_bytes v.name) and length_in 10 (2 ^ 64 - 1) (length (string_bytes v.name)))
+        and field (codes "identifiers") (items (λ part. ⟦<Identifier as Validate>⟧.visits part c) v.identifiers.items) };
+
+    fn validate_into<'a, H: I18n>(
+        &'a self,
+        alloc: Global,
+        ctx: &(),
+        trail: &mut Trail<'a>,
+        report: &mut Report,
+        h: &H,
+    ) -> Result<(), AllocError> {
+        let name = (
+            Is(Ascii),
+            Is(Length {
+                min: 10,
+                max: usize::MAX,
+            }),
+        );
+        (
+            Field("name", &self.name, name),
+            Field("identifiers", &self.identifiers, Each(Dive(ctx))),
+        )
+            .visit(alloc, trail, report, h)
+    }
+}

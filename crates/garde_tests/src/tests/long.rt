@@ -1,0 +1,38 @@
+//! One text under one rule.
+ghost use Rattle.std.specs.Prelude.{◌-◌, ◌^◌};
+ghost use Rattle.garde.specs.Author.{codes, length, string_bytes, field, length_in};
+
+use garde::fields::{Field, Fields, Is, Length};
+use garde::{I18n, Report, Trail, Validate};
+use std::alloc::{AllocError, Global};
+
+/// A text of 5 bytes at least, under the key `s`.
+#[derive(Debug, Drop)]
+pub struct Long {
+    pub s: String,
+}
+
+impl Validate for Long {
+    type Context = ();
+
+    ghost visits = { λ v _. field (codes "s") (length_in 5 (2 ^ 64 - 1) (length (string_bytes v.s))) };
+
+    fn validate_into<'a, H: I18n>(
+        &'a self,
+        alloc: Global,
+        _ctx: &(),
+        trail: &mut Trail<'a>,
+        report: &mut Report,
+        h: &H,
+    ) -> Result<(), AllocError> {
+        Field(
+            "s",
+            &self.s,
+            Is(Length {
+                min: 5,
+                max: usize::MAX,
+            }),
+        )
+        .visit(alloc, trail, report, h)
+    }
+}

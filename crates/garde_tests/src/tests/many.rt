@@ -1,0 +1,66 @@
+//! Tuples of fields and of checks.
+use garde::fields::{Ascii, Each, Field, Fields, Is, Length};
+use garde::{DefaultI18n, Report, Trail};
+use std::alloc::{AllocError, Global};
+use std::test::Fail;
+
+/// A field that is not ASCII.
+fn accented<'a>(name: &'a str, text: &'a &'static str) -> Field<'a, &'static str, Is<Ascii>> {
+    Field(name, text, Is(Ascii))
+}
+
+/// What is told of fields.
+fn told<'a, F: Fields<'a>>(alloc: Global, fields: &F) -> Result<String, AllocError> {
+    let mut trail = Trail::new(alloc);
+    let mut report = Report::new(alloc);
+    fields.visit(alloc, &mut trail, &mut report, &DefaultI18n)?;
+    report.to_string(alloc)
+}
+
+/// What is told of so many fields in the order of the alphabet, none of which is ASCII.
+fn each_of(alloc: Global, names: &[&str]) -> Result<String, AllocError> {
+    let mut text = String::new(alloc);
+    for name in names {
+        text.push_str(&format!(in alloc; "{name}: not ascii\n")?)?;
+    }
+    Ok(text)
+}
+
+#[test]
+fn each_field_of_a_tuple(rt: HostRuntime) -> Result<(), Fail> {
+    let alloc = rt.alloc();
+    let e = "é";
+    let [a, b, c, d] = [
+        accented("a", &e),
+        accented("b", &e),
+        accented("c", &e),
+        accented("d", &e),
+    ];
+    assert_eq!(rt;
+        told(alloc, &(a, b, c, d, a, b, c, d, a, b, c, d))?,
+        each_of(
+            alloc,
+            &["a", "b", "c", "d", "a", "b", "c", "d", "a", "b", "c", "d"]
+        )?
+    );
+    assert_eq!(rt;
+        told(alloc, &(a, b, c, d, c))?,
+        each_of(alloc, &["a", "b", "c", "d", "c"])?
+    );
+    Ok(())
+}
+
+#[test]
+fn each_check_of_a_tuple(rt: HostRuntime) -> Result<(), Fail> {
+    let alloc = rt.alloc();
+    let texts = vec![in alloc; "é"]?.into_boxed_slice();
+    let long = Is(Length { min: 3, max: 9 });
+    let short = Is(Length { min: 0, max: 1 });
+    let checks = Each((Is(Ascii), long, short, Is(Ascii)));
+    let text = told(alloc, &Field("texts", &texts, checks))?;
+    assert_eq!(rt;
+        text.as_str(),
+        "texts[0]: not ascii\ntexts[0]: length is lower than 3\ntexts[0]: length is greater than 1\ntexts[0]: not ascii\n"
+    );
+    Ok(())
+}

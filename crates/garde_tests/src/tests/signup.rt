@@ -1,0 +1,129 @@
+//! A form with a context, a rule of its own, and a part that validates itself.
+ghost use Rattle.std.specs.Prelude.{◌≡◌, None, Some, if◌then◌else◌, nat_lt};
+ghost use Rattle.garde.specs.Author.{codes, length, string_bytes, ◌and◌, items, found, own, field, ascii, length_in};
+
+use garde::fields::{Ascii, Dive, Each, Field, Fields, Is, Length};
+use garde::rules::Rule;
+use garde::{I18n, Report, RuleError, Trail, Validate};
+use std::alloc::{AllocError, Global};
+use std::borrow::CowStr;
+
+/// How many tags a form may have, and how many bytes a city.
+#[derive(Debug, Drop)]
+pub struct Limits {
+    pub most: usize,
+}
+
+impl Default for Limits {
+    ghost is_default = { λ limits. limits.most ≡ 9 };
+
+    fn default() -> Limits {
+        Limits { most: 9 }
+    }
+}
+
+/// The rule that a password has 12 bytes at least, with a message of its own.
+#[derive(Clone, Copy, Debug)]
+pub struct Strong;
+
+impl Rule<String> for Strong {
+    ghost finds = { λ _ v. if nat_lt (length (string_bytes v)) 12 then Some (own (codes "weak")) else None };
+
+    fn find<H: I18n>(&self, alloc: Global, value: &String, _h: &H) -> Result<(), RuleError> {
+        if value.len() < 12 {
+            Err(RuleError::of(alloc, Ok(CowStr::Borrowed("weak"))))
+        } else {
+            Ok(())
+        }
+    }
+}
+
+/// A part of the form.
+#[derive(Debug, Drop)]
+pub struct Address {
+    pub street: String,
+    pub city: String,
+    pub code: String,
+}
+
+impl Validate for Address {
+    type Context = Limits;
+
+    ghost visits = { λ v c.
+        field (codes "street") (ascii (string_bytes v.street))
+        and field (codes "city") (length_in 1 c.most (length (string_bytes v.city)))
+        and field (codes "code") (length_in 5 5 (length (string_bytes v.code))) };
+
+    fn validate_into<'a, H: I18n>(
+        &'a self,
+        alloc: Global,
+        ctx: &Limits,
+        trail: &mut Trail<'a>,
+        report: &mut Report,
+        h: &H,
+    ) -> Result<(), AllocError> {
+        (
+            Field("street", &self.street, Is(Ascii)),
+            Field(
+                "city",
+                &self.city,
+                Is(Length {
+                    min: 1,
+                    max: ctx.most,
+                }),
+            ),
+            Field("code", &self.code, Is(Length { min: 5, max: 5 })),
+        )
+            .visit(alloc, trail, report, h)
+    }
+}
+
+/// A form.
+#[derive(Debug, Drop)]
+pub struct Signup {
+    pub name: String,
+    pub password: String,
+    pub tags: Vec<String>,
+    pub address: Address,
+}
+
+impl Validate for Signup {
+    type Context = Limits;
+
+    ghost visits = { λ v c.
+        field (codes "name") (ascii (string_bytes v.name) and length_in 3 25 (length (string_bytes v.name)))
+        and field (codes "password") (found (if nat_lt (length (string_bytes v.password)) 12 then Some (own (codes "weak")) else None))
+        and field (codes "tags") (length_in 0 c.most (length v.tags.items) and items (λ tag. ascii (string_bytes tag)) v.tags.items)
+        and field (codes "address") (⟦<Address as Validate>⟧.visits v.address c) };
+
+    fn validate_into<'a, H: I18n>(
+        &'a self,
+        alloc: Global,
+        ctx: &Limits,
+        trail: &mut Trail<'a>,
+        report: &mut Report,
+        h: &H,
+    ) -> Result<(), AllocError> {
+        (
+            Field(
+                "name",
+                &self.name,
+                (Is(Ascii), Is(Length { min: 3, max: 25 })),
+            ),
+            Field("password", &self.password, Is(Strong)),
+            Field(
+                "tags",
+                &self.tags,
+                (
+                    Is(Length {
+                        min: 0,
+                        max: ctx.most,
+                    }),
+                    Each(Is(Ascii)),
+                ),
+            ),
+            Field("address", &self.address, Dive(ctx)),
+        )
+            .visit(alloc, trail, report, h)
+    }
+}

@@ -1,0 +1,32 @@
+//! Users, as sets, heaps and maps can hold them.
+ghost use Rattle.garde.specs.Author.{codes, length, string_bytes, ◌and◌, field, ascii, length_in};
+
+use garde::fields::{Ascii, Field, Fields, Is, Length};
+use garde::{I18n, Report, Trail, Validate};
+use std::alloc::{AllocError, Global};
+
+/// A user, whose name has 3 to 25 bytes, all of them ASCII.
+#[derive(Debug, Drop, PartialEq, Eq, PartialOrd, Ord, Hash)]
+pub struct User {
+    pub username: String,
+}
+
+impl Validate for User {
+    type Context = ();
+
+    ghost visits = { λ user _.
+        field (codes "username")
+        (ascii (string_bytes user.username) and length_in 3 25 (length (string_bytes user.username))) };
+
+    fn validate_into<'a, H: I18n>(
+        &'a self,
+        alloc: Global,
+        _ctx: &(),
+        trail: &mut Trail<'a>,
+        report: &mut Report,
+        h: &H,
+    ) -> Result<(), AllocError> {
+        let rules = (Is(Ascii), Is(Length { min: 3, max: 25 }));
+        Field("username", &self.username, rules).visit(alloc, trail, report, h)
+    }
+}
