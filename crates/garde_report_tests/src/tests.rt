@@ -1,5 +1,6 @@
 //! Tests by what they are of.
 
+mod ample;
 mod errors;
 mod json;
 mod json_text;
