@@ -1,5 +1,5 @@
 -- What a run leaves.
-use Rattle.std.specs.Prelude.{◌≡◌, ℕ, List, Bool, true, Option, IfSome, Result, Ok, Err, take}
+use Rattle.std.specs.Prelude.{◌≡◌, ℕ, List, Bool, true, false, Option, IfSome, Result, Ok, Err, take}
 use Rattle.std.specs.Str.{IsUtf8}
 use Rattle.std.specs.Io.KnownBytes.{Appends, IsAtEnd, Keeps}
 use Rattle.garde_check.specs.declared.outcome.Outcome.{Outcome}
@@ -13,8 +13,8 @@ use Rattle.garde_check.specs.declared.outcome.RunError.TheVariants.{NotUtf8, Bad
 module _ (Gives : List ℕ → Outcome → List ℕ → Type 0) (Refuses : List ℕ → Type 0)
     (input left before after : Option (List ℕ)) (reader_failed writer_failed : Bool) where
   abbrev pub Leaves : Result Outcome RunError → Type 0
-  -- the reader is at its end, what it had is UTF-8, and its output was written
-  Leaves (Ok outcome) = IsAtEnd left × IfSome input (λ bytes.
+  -- neither has failed, the reader is at its end, what it had is UTF-8, and its output was written
+  Leaves (Ok outcome) = (reader_failed ≡ false) × (writer_failed ≡ false) × IsAtEnd left × IfSome input (λ bytes.
       IsUtf8 bytes × ((output : List ℕ) × Gives bytes outcome output × Appends before after output))
   -- the reader is at its end, nothing was written, and what the reader had is not UTF-8
   Leaves (Err NotUtf8) =

@@ -16,28 +16,39 @@ mod user;
 mod words;
 
 use crate::mode::Command;
+use crate::outcome::RunError;
 use crate::running::{run, run_body, run_json};
 use crate::transfer::Plain;
 use crate::words::{command, fault_line, status};
+use std::alloc::AllocError;
 use std::env;
+use std::io::ErrorKind;
 use std::process::ExitCode;
 
-// What the words after the program's name ask for, or `None` where they are wrong or cannot be had.
-fn command_of(rt: &HostRuntime) -> Option<Command> {
-    let Ok(mut all) = env::args(rt) else {
-        return None;
+// What the words after the program's name ask for, or `None` where they are wrong. A word that is
+// not UTF-8 asks for nothing.
+fn command_of(rt: &HostRuntime) -> Result<Option<Command>, AllocError> {
+    let mut all = match env::args(rt) {
+        Ok(all) => all,
+        Err(error) if error.kind() == ErrorKind::OutOfMemory => return Err(AllocError),
+        Err(_) => return Ok(None),
     };
     let _program = all.next();
-    let Ok(words) = all.collect::<Vec<String>>(rt.alloc()) else {
-        return None;
-    };
-    command(&words)
+    let words = all.collect::<Vec<String>>(rt.alloc())?;
+    Ok(command(&words))
+}
+
+// Tells in a line why nothing was run, and gives the exit status of that.
+fn refused(rt: &HostRuntime, line: &str) -> ExitCode {
+    let _ = eprintln!(rt; "{line}");
+    ExitCode::from(2)
 }
 
 fn main(rt: HostRuntime) -> ExitCode {
-    let Some(command) = command_of(&rt) else {
-        let _ = eprintln!(rt; "garde_check: wrong arguments");
-        return ExitCode::from(2);
+    let command = match command_of(&rt) {
+        Ok(Some(command)) => command,
+        Ok(None) => return refused(&rt, "garde_check: wrong arguments"),
+        Err(AllocError) => return refused(&rt, fault_line(&RunError::Memory)),
     };
     let mut reader = Plain::new(rt.stdin());
     let mut writer = Plain::new(rt.stdout());

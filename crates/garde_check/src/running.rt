@@ -24,6 +24,7 @@ fn take_all<S: Source>(alloc: Global, reader: &mut S) -> Result<Vec<u8>, RunErro
     requires { S.has_failed reader.old ≡ false }
     ensures ok { IfOk result (λ bytes. IfSome (S.remaining reader.old) (λ all. bytes.items ≡ all)) }
     ensures end { OnOk result (IsAtEnd (S.remaining reader.new)) }
+    ensures sound { OnOk result (S.has_failed reader.new ≡ false) }
     ensures err { IfErr result (λ e. TakeFails (S.has_failed reader.new) e) }
 {
     let mut bytes = Vec::new(alloc);
@@ -44,6 +45,7 @@ fn take_lines<S: Source>(alloc: Global, reader: &mut S) -> Result<Lines, RunErro
         × IfSome (S.remaining reader.old) (λ all. text ≡ all)
         × IsCut text [] lines.users.items lines.rest.items) }
     ensures end { OnOk result (IsAtEnd (S.remaining reader.new)) }
+    ensures sound { OnOk result (S.has_failed reader.new ≡ false) }
     ensures err { IfErr result (λ e. TakeFails (S.has_failed reader.new) e) }
 {
     let mut lines = Lines::new(alloc);
@@ -64,6 +66,7 @@ fn take_output<S: Source>(alloc: Global, reader: &mut S, task: Task) -> Result<O
         × IfSome (S.remaining reader.old) (λ all. bytes ≡ all)
         × IsUtf8 bytes × Gives task bytes output.outcome (string_bytes output.text)) }
     ensures end { OnOk result (IsAtEnd (S.remaining reader.new)) }
+    ensures sound { OnOk result (S.has_failed reader.new ≡ false) }
     ensures err { IfErr result (MakeFails (Refuses task)
         (S.remaining reader.old) (S.remaining reader.new) (S.has_failed reader.new)) }
 {
@@ -77,6 +80,7 @@ fn take_output<S: Source>(alloc: Global, reader: &mut S, task: Task) -> Result<O
 fn give_all<W: Sink>(writer: &mut W, bytes: &[u8]) -> Result<(), Failed>
     requires { W.has_failed writer.old ≡ false }
     ensures ok { OnOk result (Appends (W.contents writer.old) (W.contents writer.new) bytes.now) }
+    ensures sound { OnOk result (W.has_failed writer.new ≡ false) }
     ensures err { OnErr result ((k : ℕ)
         × Appends (W.contents writer.old) (W.contents writer.new) (take k bytes.now)) }
     ensures failed { OnErr result (W.has_failed writer.new ≡ true) }
