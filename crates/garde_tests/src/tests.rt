@@ -28,7 +28,6 @@ use crate::tests::user::User;
 use garde::{DefaultI18n, I18n, Report, Trail, Validate, ValidateError, select, with_i18n};
 use garde_report::Component;
 use std::alloc::{AllocError, Global};
-use std::process::Abort;
 use std::test::Fail;
 
 fn address(alloc: Global, city: &str) -> Result<Address, AllocError> {
@@ -47,19 +46,33 @@ fn told(alloc: Global, answer: Result<(), ValidateError>) -> Result<String, Allo
     }
 }
 
-#[test]
-fn each_field_under_its_name(rt: HostRuntime) -> Result<(), Fail> {
-    let alloc = rt.alloc();
-    let signup = Signup {
+/// What is told of a value under a context.
+fn told_with<V: Validate>(
+    alloc: Global,
+    value: &V,
+    ctx: &V::Context,
+) -> Result<String, AllocError> {
+    told(alloc, value.validate_with(alloc, ctx))
+}
+
+/// A form whose name and password are wrong, with these tags and this city.
+fn wrong_form(alloc: Global, tags: &[&str], city: &str) -> Result<Signup, AllocError> {
+    let mut kept = Vec::new(alloc);
+    for tag in tags {
+        kept.push(String::from_str(alloc, tag)?)?;
+    }
+    Ok(Signup {
         name: String::from_str(alloc, "é")?,
         password: String::from_str(alloc, "short")?,
-        tags: vec![in alloc;
-            String::from_str(alloc, "ok")?,
-            String::from_str(alloc, "ü")?,
-        ]?,
-        address: address(alloc, "")?,
-    };
-    let text = told(alloc, signup.validate_with(alloc, &Limits { most: 1 }))?;
+        tags: kept,
+        address: address(alloc, city)?,
+    })
+}
+
+#[test]
+fn each_field_under_its_name(rt: HostRuntime) -> Result<(), Fail> {
+    let signup = wrong_form(rt.alloc(), &["ok", "ü"], "")?;
+    let text = told_with(rt.alloc(), &signup, &Limits { most: 1 })?;
     assert_eq!(rt;
         text.as_str(),
         "name: not ascii\nname: length is lower than 3\npassword: weak\ntags: length is greater than 1\ntags[1]: not ascii\naddress.city: length is lower than 1\n"
@@ -142,15 +155,19 @@ fn the_inner_handler_speaks_inside(rt: HostRuntime) -> Result<(), Fail> {
     Ok(())
 }
 
+/// What a reference to a handler of this label says.
+fn said_by(alloc: Global, label: &str) -> Result<String, AllocError> {
+    let handler = Labelled(label);
+    said(alloc, &two_bytes(alloc)?, &&handler)
+}
+
 #[test]
 fn a_handler_says_what_it_likes(rt: HostRuntime) -> Result<(), Fail> {
     let alloc = rt.alloc();
-    let long = two_bytes(alloc)?;
-    let text = said(alloc, &long, &Labelled("a\nb "))?;
-    assert_eq!(rt; text.as_str(), "s: a\nb 5\n");
+    assert_eq!(rt; said_by(alloc, "a\nb ")?.as_str(), "s: a\nb 5\n");
     let megabyte = "m".repeat(alloc, 1_000_000)?;
-    let text = said(alloc, &long, &Labelled(megabyte.as_str()))?;
-    assert_eq!(rt; text.len(), 1_000_000 + "s: 5\n".len());
+    let length = said_by(alloc, megabyte.as_str())?.len();
+    assert_eq!(rt; length, 1_000_000 + "s: 5\n".len());
     Ok(())
 }
 
@@ -158,8 +175,7 @@ fn a_handler_says_what_it_likes(rt: HostRuntime) -> Result<(), Fail> {
 fn a_handler_borrows_its_label(rt: HostRuntime) -> Result<(), Fail> {
     let alloc = rt.alloc();
     let label = String::from_str(alloc, "[cs-CZ] ")?;
-    let handler = Labelled(label.as_str());
-    let text = said(alloc, &two_bytes(alloc)?, &&handler)?;
+    let text = said_by(alloc, label.as_str())?;
     assert_eq!(rt; text.as_str(), "s: [cs-CZ] 5\n");
     Ok(())
 }
@@ -167,44 +183,37 @@ fn a_handler_borrows_its_label(rt: HostRuntime) -> Result<(), Fail> {
 #[test]
 fn own_messages_stay(rt: HostRuntime) -> Result<(), Fail> {
     let alloc = rt.alloc();
-    let signup = Signup {
-        name: String::from_str(alloc, "é")?,
-        password: String::from_str(alloc, "short")?,
-        tags: Vec::new(alloc),
-        address: address(alloc, "Brno")?,
-    };
+    let signup = wrong_form(alloc, &[], "Brno")?;
     let answer = signup.validate_with_i18n(alloc, &Limits { most: 9 }, &Silent);
     let text = told(alloc, answer)?;
     assert_eq!(rt; text.as_str(), "name: \nname: \npassword: weak\n");
     Ok(())
 }
 
-/// Asserts that these are the messages at and beneath a way.
-fn assert_selects(rt: &impl Abort, report: &Report, way: &[&str], messages: &[&str]) {
-    let mut wanted = messages.iter();
-    for error in select(report, way) {
-        assert_eq!(rt; Some(&error.message()), wanted.next());
-    }
-    assert!(rt; wanted.next().is_none());
+/// Whether these are the messages at and beneath a way.
+fn is_selected(report: &Report, way: &[&str], messages: &[&str]) -> bool {
+    let found = select(report, way).map(|error| error.message());
+    found.eq(messages.iter().copied())
 }
 
-#[test]
-fn selects_the_faults_of_a_part(rt: HostRuntime) -> Result<(), Fail> {
-    let alloc = rt.alloc();
+/// The report of an item with a wrong name and two wrong identifiers.
+fn report_of_an_item(alloc: Global) -> Result<Report, Fail> {
     let item = Item {
         name: String::from_str(alloc, "😂")?,
         identifiers: vec![in alloc; Identifier { id: 10 }, Identifier { id: 20 }]?,
     };
-    let Err(ValidateError::Report(report)) = item.validate(alloc) else {
-        return Err("no report".into());
-    };
-    assert_selects(
-        &rt,
-        &report,
-        &["name"],
-        &["not ascii", "length is lower than 10"],
-    );
-    assert_selects(&rt, &report, &["identifiers", "0"], &["greater than 4"]);
+    match item.validate(alloc) {
+        Err(ValidateError::Report(report)) => Ok(report),
+        _ => Err("no report".into()),
+    }
+}
+
+#[test]
+fn selects_the_faults_of_a_part(rt: HostRuntime) -> Result<(), Fail> {
+    let report = report_of_an_item(rt.alloc())?;
+    let name = ["not ascii", "length is lower than 10"];
+    assert!(rt; is_selected(&report, &["name"], &name));
+    assert!(rt; is_selected(&report, &["identifiers", "0"], &["greater than 4"]));
     Ok(())
 }
 

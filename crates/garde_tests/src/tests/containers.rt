@@ -2,10 +2,11 @@
 use crate::tests::item::Identifier;
 use crate::tests::names::Names;
 use crate::tests::user::User;
-use garde::{DefaultI18n, Trail, Validate, ValidateError};
+use garde::{DefaultI18n, Report, Trail, Validate, ValidateError};
 use std::alloc::{AllocError, Global};
 use std::borrow::Cow;
 use std::collections::{BTreeMap, BTreeSet, BinaryHeap, HashMap, HashSet, LinkedList, VecDeque};
+use std::process::Abort;
 use std::rc::Rc;
 use std::test::Fail;
 
@@ -78,28 +79,33 @@ fn ordered_map(alloc: Global) -> Result<BTreeMap<String, User>, AllocError> {
     Ok(users)
 }
 
+/// Asserts what is told of a value, and the number of nodes that it took.
+pub fn assert_told<V: Validate<Context = ()> + Drop>(
+    rt: &impl Abort,
+    alloc: Global,
+    value: V,
+    text: &str,
+) -> Result<(), AllocError> {
+    assert_eq!(rt; told(alloc, &value)?.as_str(), text);
+    Ok(())
+}
+
 #[test]
 fn sequences_under_indexes(rt: HostRuntime) -> Result<(), Fail> {
     let alloc = rt.alloc();
     let users = [user(alloc, "ab")?];
-    let text = told(alloc, &users)?;
-    assert_eq!(rt; text.as_str(), FIRST_TOO_SHORT);
-    let text = told(alloc, &users.as_slice())?;
-    assert_eq!(rt; text.as_str(), FIRST_TOO_SHORT);
-    let text = told(alloc, &deque(alloc)?)?;
-    assert_eq!(rt; text.as_str(), FIRST_TOO_SHORT);
-    let text = told(alloc, &linked_list(alloc)?)?;
-    assert_eq!(rt; text.as_str(), FIRST_TOO_SHORT);
+    assert_told(&rt, alloc, users.as_slice(), FIRST_TOO_SHORT)?;
+    assert_told(&rt, alloc, users, FIRST_TOO_SHORT)?;
+    assert_told(&rt, alloc, deque(alloc)?, FIRST_TOO_SHORT)?;
+    assert_told(&rt, alloc, linked_list(alloc)?, FIRST_TOO_SHORT)?;
     Ok(())
 }
 
 #[test]
 fn sets_and_heaps_under_indexes(rt: HostRuntime) -> Result<(), Fail> {
     let alloc = rt.alloc();
-    let text = told(alloc, &ordered_set(alloc)?)?;
-    assert_eq!(rt; text.as_str(), FIRST_TOO_SHORT);
-    let text = told(alloc, &heap(alloc)?)?;
-    assert_eq!(rt; text.as_str(), FIRST_TOO_SHORT);
+    assert_told(&rt, alloc, ordered_set(alloc)?, FIRST_TOO_SHORT)?;
+    assert_told(&rt, alloc, heap(alloc)?, FIRST_TOO_SHORT)?;
     Ok(())
 }
 
@@ -134,16 +140,11 @@ fn a_hash_set_numbers_its_items_as_they_come(rt: HostRuntime) -> Result<(), Fail
 #[test]
 fn values_of_maps_under_their_keys(rt: HostRuntime) -> Result<(), Fail> {
     let alloc = rt.alloc();
-    let text = told(alloc, &hash_map(alloc)?)?;
-    assert_eq!(rt;
-        text.as_str(),
-        "x.y.username: length is lower than 3\nnodes: 2"
-    );
-    let text = told(alloc, &ordered_map(alloc)?)?;
-    assert_eq!(rt;
-        text.as_str(),
-        "a.username: length is lower than 3\nb.username: length is lower than 3\nnodes: 4"
-    );
+    let hashed = "x.y.username: length is lower than 3\nnodes: 2";
+    assert_told(&rt, alloc, hash_map(alloc)?, hashed)?;
+    let ordered =
+        "a.username: length is lower than 3\nb.username: length is lower than 3\nnodes: 4";
+    assert_told(&rt, alloc, ordered_map(alloc)?, ordered)?;
     Ok(())
 }
 
@@ -151,29 +152,21 @@ fn values_of_maps_under_their_keys(rt: HostRuntime) -> Result<(), Fail> {
 fn wrappers_add_nothing(rt: HostRuntime) -> Result<(), Fail> {
     let alloc = rt.alloc();
     let mut named = user(alloc, "ab")?;
-    let text = told(alloc, &&named)?;
-    assert_eq!(rt; text.as_str(), TOO_SHORT);
-    let text = told(alloc, &&mut named)?;
-    assert_eq!(rt; text.as_str(), TOO_SHORT);
-    let boxed = Box::new(alloc, named)?;
-    let text = told(alloc, &boxed)?;
-    assert_eq!(rt; text.as_str(), TOO_SHORT);
-    let text = told(alloc, &())?;
-    assert_eq!(rt; text.as_str(), "nodes: 0");
+    assert_told(&rt, alloc, &named, TOO_SHORT)?;
+    assert_told(&rt, alloc, &mut named, TOO_SHORT)?;
+    assert_told(&rt, alloc, Box::new(alloc, named)?, TOO_SHORT)?;
+    assert_told(&rt, alloc, (), "nodes: 0")?;
     Ok(())
 }
 
 #[test]
 fn shared_and_borrowed_values_add_nothing(rt: HostRuntime) -> Result<(), Fail> {
     let alloc = rt.alloc();
-    let shared = Rc::new(alloc, user(alloc, "ab")?)?;
-    let text = told(alloc, &shared)?;
-    assert_eq!(rt; text.as_str(), TOO_SHORT);
+    assert_told(&rt, alloc, Rc::new(alloc, user(alloc, "ab")?)?, TOO_SHORT)?;
     let numbered = Identifier { id: 10 };
-    let text = told(alloc, &Cow::Borrowed(&numbered))?;
-    assert_eq!(rt; text.as_str(), "id: greater than 4\nnodes: 1");
-    let text = told(alloc, &Cow::<Identifier>::Owned(numbered))?;
-    assert_eq!(rt; text.as_str(), "id: greater than 4\nnodes: 1");
+    let too_great = "id: greater than 4\nnodes: 1";
+    assert_told(&rt, alloc, Cow::Borrowed(&numbered), too_great)?;
+    assert_told(&rt, alloc, Cow::<Identifier>::Owned(numbered), too_great)?;
     Ok(())
 }
 
@@ -181,11 +174,9 @@ fn shared_and_borrowed_values_add_nothing(rt: HostRuntime) -> Result<(), Fail> {
 fn tuples_in_tuples(rt: HostRuntime) -> Result<(), Fail> {
     let alloc = rt.alloc();
     let users = (user(alloc, "ab")?, (user(alloc, "é")?,));
-    let text = told(alloc, &users)?;
-    assert_eq!(rt;
-        text.as_str(),
-        "[0].username: length is lower than 3\n[1][0].username: not ascii\n[1][0].username: length is lower than 3\nnodes: 5"
-    );
+    let text =
+        "[0].username: length is lower than 3\n[1][0].username: not ascii\n[1][0].username: length is lower than 3\nnodes: 5";
+    assert_told(&rt, alloc, users, text)?;
     Ok(())
 }
 
@@ -198,38 +189,43 @@ fn each_too_short(alloc: Global, count: usize) -> Result<String, AllocError> {
     format!(in alloc; "{text}nodes: {}", count.saturating_mul(2))
 }
 
-/// Whether just this is told of a tuple.
-fn tells_each<V: Validate<Context = ()>>(
+/// Asserts that just this is told of a tuple.
+fn assert_each<V: Validate<Context = ()> + Drop>(
+    rt: &impl Abort,
     alloc: Global,
-    tuple: &V,
+    tuple: V,
     count: usize,
-) -> Result<bool, AllocError> {
-    Ok(told(alloc, tuple)? == each_too_short(alloc, count)?)
+) -> Result<(), AllocError> {
+    assert_told(rt, alloc, tuple, each_too_short(alloc, count)?.as_str())
+}
+
+/// Asserts it of the tuples of 3 to 7 items.
+fn assert_each_of_few(rt: &impl Abort, alloc: Global, u: &User) -> Result<(), AllocError> {
+    assert_each(rt, alloc, (u, u, u), 3)?;
+    assert_each(rt, alloc, (u, u, u, u), 4)?;
+    assert_each(rt, alloc, (u, u, u, u, u), 5)?;
+    assert_each(rt, alloc, (u, u, u, u, u, u), 6)?;
+    assert_each(rt, alloc, (u, u, u, u, u, u, u), 7)
 }
 
 #[test]
 fn each_item_of_a_short_tuple(rt: HostRuntime) -> Result<(), Fail> {
-    let alloc = rt.alloc();
-    let user = user(alloc, "ab")?;
-    let u = &user;
-    assert!(rt; tells_each(alloc, &(u, u, u), 3)?);
-    assert!(rt; tells_each(alloc, &(u, u, u, u), 4)?);
-    assert!(rt; tells_each(alloc, &(u, u, u, u, u), 5)?);
-    assert!(rt; tells_each(alloc, &(u, u, u, u, u, u), 6)?);
-    assert!(rt; tells_each(alloc, &(u, u, u, u, u, u, u), 7)?);
+    assert_each_of_few(&rt, rt.alloc(), &user(rt.alloc(), "ab")?)?;
     Ok(())
+}
+
+/// Asserts it of the tuples of 8 to 12 items.
+fn assert_each_of_many(rt: &impl Abort, alloc: Global, u: &User) -> Result<(), AllocError> {
+    assert_each(rt, alloc, (u, u, u, u, u, u, u, u), 8)?;
+    assert_each(rt, alloc, (u, u, u, u, u, u, u, u, u), 9)?;
+    assert_each(rt, alloc, (u, u, u, u, u, u, u, u, u, u), 10)?;
+    assert_each(rt, alloc, (u, u, u, u, u, u, u, u, u, u, u), 11)?;
+    assert_each(rt, alloc, (u, u, u, u, u, u, u, u, u, u, u, u), 12)
 }
 
 #[test]
 fn each_item_of_a_long_tuple(rt: HostRuntime) -> Result<(), Fail> {
-    let alloc = rt.alloc();
-    let user = user(alloc, "ab")?;
-    let u = &user;
-    assert!(rt; tells_each(alloc, &(u, u, u, u, u, u, u, u), 8)?);
-    assert!(rt; tells_each(alloc, &(u, u, u, u, u, u, u, u, u), 9)?);
-    assert!(rt; tells_each(alloc, &(u, u, u, u, u, u, u, u, u, u), 10)?);
-    assert!(rt; tells_each(alloc, &(u, u, u, u, u, u, u, u, u, u, u), 11)?);
-    assert!(rt; tells_each(alloc, &(u, u, u, u, u, u, u, u, u, u, u, u), 12)?);
+    assert_each_of_many(&rt, rt.alloc(), &user(rt.alloc(), "ab")?)?;
     Ok(())
 }
 
@@ -245,17 +241,22 @@ fn names(alloc: Global) -> Result<Names, AllocError> {
 #[test]
 fn two_walks_of_one_list(rt: HostRuntime) -> Result<(), Fail> {
     let alloc = rt.alloc();
-    let text = told(alloc, &names(alloc)?)?;
-    assert_eq!(rt;
-        text.as_str(),
-        "items[0]: not set\nitems[1]: not ascii\nitems[2]: length is lower than 1\nnodes: 6"
-    );
+    let text = "items[0]: not set\nitems[1]: not ascii\nitems[2]: length is lower than 1\nnodes: 6";
+    assert_told(&rt, alloc, names(alloc)?, text)?;
     let none = Names {
         items: Vec::new(alloc),
     };
-    let text = told(alloc, &none)?;
-    assert_eq!(rt; text.as_str(), "items: length is lower than 1\nnodes: 1");
+    assert_told(&rt, alloc, none, "items: length is lower than 1\nnodes: 1")?;
     Ok(())
+}
+
+/// The paths of a report, a line each.
+fn paths_of(alloc: Global, report: &Report) -> Result<String, AllocError> {
+    let mut paths = String::new(alloc);
+    for (path, _) in report.iter() {
+        paths.push_str(&format!(in alloc; "{path:?}\n")?)?;
+    }
+    Ok(paths)
 }
 
 #[test]
@@ -264,12 +265,8 @@ fn a_walk_of_an_option_adds_a_component_without_a_name(rt: HostRuntime) -> Resul
     let Err(ValidateError::Report(report)) = names(alloc)?.validate(alloc) else {
         return Err("no report".into());
     };
-    let mut paths = String::new(alloc);
-    for (path, _) in report.iter() {
-        paths.push_str(&format!(in alloc; "{path:?}\n")?)?;
-    }
     assert_eq!(rt;
-        paths.as_str(),
+        paths_of(alloc, &report)?.as_str(),
         "Path { components: [(Key, \"items\"), (Index, \"0\")] }\nPath { components: [(Key, \"items\"), (Index, \"1\"), (None, \"\")] }\nPath { components: [(Key, \"items\"), (Index, \"2\"), (None, \"\")] }\n"
     );
     Ok(())

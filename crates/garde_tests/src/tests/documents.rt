@@ -1,7 +1,6 @@
 //! A document, of which it depends on its switches what is asked.
-use crate::tests::told;
+use crate::tests::containers::assert_told;
 use garde::samples::{Document, Tag};
-use garde::{DefaultI18n, Trail, Validate};
 use std::alloc::{AllocError, Global};
 use std::test::Fail;
 
@@ -26,30 +25,25 @@ pub fn document(
 
 #[test]
 fn each_rule_under_its_condition(rt: HostRuntime) -> Result<(), Fail> {
-    let alloc = rt.alloc();
     let rows = [
         (
-            document(alloc, (true, true), Some("é"), "t-1")?,
-            "content: not ascii\ncontent: length is lower than 10\n",
-            1,
+            (true, true),
+            Some("é"),
+            "t-1",
+            "content: not ascii\ncontent: length is lower than 10\nnodes: 1",
         ),
-        (document(alloc, (false, false), Some("é"), "t-1")?, "", 0),
+        ((false, false), Some("é"), "t-1", "nodes: 0"),
+        ((true, true), None, "t-1", "content: not set\nnodes: 1"),
         (
-            document(alloc, (true, true), None, "t-1")?,
-            "content: not set\n",
-            1,
-        ),
-        (
-            document(alloc, (false, true), Some("é"), "x")?,
-            "content: length is lower than 10\ntag: value does not begin with \"t-\"\n",
-            2,
+            (false, true),
+            Some("é"),
+            "x",
+            "content: length is lower than 10\ntag: value does not begin with \"t-\"\nnodes: 2",
         ),
     ];
-    for (document, text, nodes) in rows {
-        let mut trail = Trail::new(alloc);
-        let answer = document.validate_on(alloc, &(), &mut trail, &DefaultI18n);
-        assert_eq!(rt; told(alloc, answer)?.as_str(), text);
-        assert_eq!(rt; trail.nodes(), nodes);
+    for (switches, content, tag, text) in rows {
+        let document = document(rt.alloc(), switches, content, tag)?;
+        assert_told(&rt, rt.alloc(), document, text)?;
     }
     Ok(())
 }

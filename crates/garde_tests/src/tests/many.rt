@@ -2,6 +2,7 @@
 use garde::fields::{Ascii, Each, Field, Fields, Is, Length};
 use garde::{DefaultI18n, Report, Trail};
 use std::alloc::{AllocError, Global};
+use std::process::Abort;
 use std::test::Fail;
 
 /// A field that is not ASCII.
@@ -26,27 +27,30 @@ fn each_of(alloc: Global, names: &[&str]) -> Result<String, AllocError> {
     Ok(text)
 }
 
+/// Asserts that of these fields each is told.
+fn assert_each<'a, F: Fields<'a>>(
+    rt: &impl Abort,
+    alloc: Global,
+    fields: &F,
+    names: &[&str],
+) -> Result<(), AllocError> {
+    let text = each_of(alloc, names)?;
+    assert_eq!(rt; told(alloc, fields)?.as_str(), text.as_str());
+    Ok(())
+}
+
 #[test]
 fn each_field_of_a_tuple(rt: HostRuntime) -> Result<(), Fail> {
-    let alloc = rt.alloc();
     let e = "é";
-    let [a, b, c, d] = [
-        accented("a", &e),
-        accented("b", &e),
-        accented("c", &e),
-        accented("d", &e),
-    ];
-    assert_eq!(rt;
-        told(alloc, &(a, b, c, d, a, b, c, d, a, b, c, d))?,
-        each_of(
-            alloc,
-            &["a", "b", "c", "d", "a", "b", "c", "d", "a", "b", "c", "d"]
-        )?
-    );
-    assert_eq!(rt;
-        told(alloc, &(a, b, c, d, c))?,
-        each_of(alloc, &["a", "b", "c", "d", "c"])?
-    );
+    let a = accented("a", &e);
+    let b = accented("b", &e);
+    let c = accented("c", &e);
+    let d = accented("d", &e);
+    let all = ["a", "b", "c", "d", "a", "b", "c", "d", "a", "b", "c", "d"];
+    let fields = (a, b, c, d, a, b, c, d, a, b, c, d);
+    assert_each(&rt, rt.alloc(), &fields, &all)?;
+    let some = ["a", "b", "c", "d", "c"];
+    assert_each(&rt, rt.alloc(), &(a, b, c, d, c), &some)?;
     Ok(())
 }
 
