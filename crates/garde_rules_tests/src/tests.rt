@@ -15,11 +15,16 @@ mod values;
 use garde_report::RuleError;
 use std::process::Abort;
 
+/// What an answer tells: nothing where it is Ok.
+fn message(answer: &Result<(), RuleError>) -> Option<&str> {
+    match answer {
+        Ok(()) => None,
+        Err(RuleError::Fault(error)) => Some(error.message()),
+        Err(RuleError::Memory) => Some("out of memory"),
+    }
+}
+
 /// Asserts that the answer is Ok where no text is given, and else the fault with this text.
 fn assert_answer(rt: &impl Abort, answer: Result<(), RuleError>, text: Option<&str>) {
-    match answer {
-        Ok(()) => assert!(rt; text.is_none(), "a fault is missing"),
-        Err(RuleError::Fault(error)) => assert_eq!(rt; Some(error.message()), text),
-        Err(RuleError::Memory) => assert!(rt; false, "out of memory"),
-    }
+    assert_eq!(rt; message(&answer), text);
 }

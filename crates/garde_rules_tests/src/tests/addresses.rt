@@ -2,6 +2,7 @@
 use super::assert_answer;
 use garde_i18n::DefaultI18n;
 use garde_rules::ip::{self, Ip, IpKind, is_ipv4, is_ipv6};
+use std::alloc::Global;
 use std::test::Fail;
 
 /// Texts, each with the version of the address that it is, or `-` where it is none.
@@ -266,11 +267,16 @@ static ADDRESSES: [(char, &str); 253] = [
     ('-', "1.2.3.4::"),
 ];
 
+/// Whether a text is an address of version 4, and whether it is one of version 6.
+fn versions(text: &str) -> (bool, bool) {
+    (is_ipv4(text), is_ipv6(text))
+}
+
 #[test]
 fn tells_addresses_by_their_version(rt: HostRuntime) {
     for (version, text) in &ADDRESSES {
-        assert_eq!(rt; is_ipv4(text), *version == '4', "{text}");
-        assert_eq!(rt; is_ipv6(text), *version == '6', "{text}");
+        let wanted = (*version == '4', *version == '6');
+        assert_eq!(rt; versions(text), wanted, "{text}");
     }
 }
 
@@ -295,6 +301,14 @@ fn asks_for_an_address_of_a_kind(rt: HostRuntime) {
     }
 }
 
+/// What the refusal of a text prints, which is no address.
+fn refused(alloc: Global, kind: IpKind) -> Result<String, Fail> {
+    match "1.2.3".validate_ip(kind) {
+        Ok(()) => Err("a fault is missing".into()),
+        Err(error) => Ok(error.to_string(alloc)?),
+    }
+}
+
 #[test]
 fn prints_the_kind_that_was_asked_for(rt: HostRuntime) -> Result<(), Fail> {
     let rows = [
@@ -303,10 +317,7 @@ fn prints_the_kind_that_was_asked_for(rt: HostRuntime) -> Result<(), Fail> {
         (IpKind::V6, "invalid IPv6 address syntax"),
     ];
     for (kind, printed) in rows {
-        match "1.2.3".validate_ip(kind) {
-            Ok(()) => assert!(rt; false, "a fault is missing"),
-            Err(error) => assert_eq!(rt; error.to_string(rt.alloc())?.as_str(), printed),
-        }
+        assert_eq!(rt; refused(rt.alloc(), kind)?.as_str(), printed);
     }
     Ok(())
 }

@@ -2,6 +2,7 @@
 use garde_report::{Report, Trail};
 use garde_rules::inner::{self, Inner};
 use std::alloc::{AllocError, Global};
+use std::process::Abort;
 use std::test::Fail;
 
 /// Pushes the component of each item, and so leaves it on the trail. Refuses the item 9.
@@ -32,6 +33,20 @@ fn left<C: Inner<u8>>(alloc: Global, field: &C) -> Result<(bool, String), AllocE
     Ok((answer.is_ok(), path.to_string(alloc)?))
 }
 
+/// Asserts whether the walk comes to its end, and the path that it leaves.
+fn assert_left<C: Inner<u8> + Drop>(
+    rt: &impl Abort,
+    alloc: Global,
+    field: C,
+    done: bool,
+    path: &str,
+) -> Result<(), AllocError> {
+    let found = left(alloc, &field)?;
+    assert_eq!(rt; found.0, done);
+    assert_eq!(rt; found.1.as_str(), path);
+    Ok(())
+}
+
 #[test]
 fn each_item_until_a_refusal(rt: HostRuntime) -> Result<(), Fail> {
     let alloc = rt.alloc();
@@ -41,9 +56,7 @@ fn each_item_until_a_refusal(rt: HostRuntime) -> Result<(), Fail> {
         (&[], true, ""),
     ];
     for (items, done, path) in rows {
-        let found = left(alloc, &items)?;
-        assert_eq!(rt; found.0, done);
-        assert_eq!(rt; found.1.as_str(), path);
+        assert_left(&rt, alloc, items, done, path)?;
     }
     Ok(())
 }
@@ -51,29 +64,31 @@ fn each_item_until_a_refusal(rt: HostRuntime) -> Result<(), Fail> {
 #[test]
 fn vectors_arrays_boxes_and_options(rt: HostRuntime) -> Result<(), Fail> {
     let alloc = rt.alloc();
-    let items = vec![in alloc; 1u8, 2]?;
-    assert_eq!(rt; left(alloc, &items)?.1.as_str(), "[0][1]");
-    assert_eq!(rt;
-        left(alloc, &items.into_boxed_slice())?.1.as_str(),
-        "[0][1]"
-    );
-    assert_eq!(rt; left(alloc, &[1u8])?.1.as_str(), "[0]");
-    let option = left(alloc, &Some(9u8))?;
-    assert!(rt; !option.0);
-    assert!(rt; left(alloc, &None::<u8>)?.0);
+    assert_left(&rt, alloc, vec![in alloc; 1u8, 2]?, true, "[0][1]")?;
+    let boxed = vec![in alloc; 1u8, 2]?.into_boxed_slice();
+    assert_left(&rt, alloc, boxed, true, "[0][1]")?;
+    assert_left(&rt, alloc, [1u8], true, "[0]")?;
+    assert_left(&rt, alloc, Some(9u8), false, "")?;
+    assert_left(&rt, alloc, None::<u8>, true, "")?;
     Ok(())
 }
 
-#[test]
-fn the_method_walks_as_the_function(rt: HostRuntime) -> Result<(), Fail> {
-    let items = [1u8, 2];
-    let mut trail = Trail::new(rt.alloc());
-    let mut report = Report::new(rt.alloc());
-    items.validate_inner(
+/// The path that a walk by the method leaves.
+fn left_by_the_method<C: Inner<u8>>(alloc: Global, field: &C) -> Result<String, AllocError> {
+    let mut trail = Trail::new(alloc);
+    let mut report = Report::new(alloc);
+    field.validate_inner(
         &mut trail,
         &mut report,
         |_item: &u8, component, trail, _report| trail.push(component),
     )?;
-    assert_eq!(rt; trail.path()?.to_string(rt.alloc())?.as_str(), "[0][1]");
+    let path = trail.path()?;
+    path.to_string(alloc)
+}
+
+#[test]
+fn the_method_walks_as_the_function(rt: HostRuntime) -> Result<(), Fail> {
+    let path = left_by_the_method(rt.alloc(), &[1u8, 2])?;
+    assert_eq!(rt; path.as_str(), "[0][1]");
     Ok(())
 }

@@ -2,6 +2,7 @@
 use super::assert_answer;
 use garde_i18n::DefaultI18n;
 use garde_rules::url::{self, InvalidUrl, ParseError, Url, reason};
+use std::alloc::{AllocError, Global};
 use std::test::Fail;
 
 #[test]
@@ -27,6 +28,11 @@ fn asks_for_a_url(rt: HostRuntime) {
     );
 }
 
+/// Whether a text is a URL, or why it is none.
+fn checked(alloc: Global, text: &str) -> Result<Result<(), InvalidUrl>, AllocError> {
+    text.validate_url(alloc)
+}
+
 #[test]
 fn says_why_a_text_is_no_url(rt: HostRuntime) -> Result<(), Fail> {
     let rows = [
@@ -34,7 +40,7 @@ fn says_why_a_text_is_no_url(rt: HostRuntime) -> Result<(), Fail> {
         ("abc", Err(InvalidUrl::RelativeUrlWithoutBase)),
     ];
     for (text, answer) in rows {
-        assert_eq!(rt; text.validate_url(rt.alloc())?, answer);
+        assert_eq!(rt; checked(rt.alloc(), text)?, answer);
     }
     assert_eq!(rt;
         reason(&ParseError::InvalidPort),
