@@ -7,4 +7,5 @@ mod Read
 pub mod Visiting
 pub mod Quiet
 mod Rest
+pub mod Stated
 mod Answering

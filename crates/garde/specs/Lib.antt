@@ -10,3 +10,9 @@ pub mod Reading
 pub mod Author
 pub mod Words
 pub mod Validated
+pub mod Finds
+pub mod Fields
+pub mod Handlers
+pub mod Cards
+pub mod Phones
+pub mod IntoValid

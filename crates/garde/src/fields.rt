@@ -26,8 +26,10 @@ pub use check::{Check, Dive, Is, IsInMemory, check_under};
 pub use condition::When;
 pub use each::Each;
 pub use field::{Field, Fields, Transparent};
+pub use garde_rules::Rule;
 pub use garde_rules::values::{
     Adapt, Alphanumeric, Ascii, ByteLength, CharLength, Contains, CreditCard, GraphemeLength, Ip,
     Length, Matches, Pattern, PhoneNumber, Prefix, Range, Required, Suffix, Url, Utf16Length, View,
+    WithMessage,
 };
 pub use if_some::IfSome;

@@ -7,6 +7,7 @@ pub mod laws;
 mod refusal;
 pub mod samples;
 mod unvalidated;
+mod unvalidated_refusal;
 mod valid;
 pub mod validate;
 

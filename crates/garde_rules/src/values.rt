@@ -1,11 +1,11 @@
 //! The rules as values, each named as the attribute of the Rust crate's derive that asks for it.
-ghost use Rattle.std.specs.Prelude.{◌≡◌, Option, option_map, unwrap_or};
+ghost use Rattle.std.specs.Prelude.{◌≡◌, Option, Some, None, option_map, unwrap_or};
 ghost use Rattle.garde_i18n.specs.Datum as datum;
 ghost use Rattle.garde_rules.specs.Holds.{unless};
 ghost use Rattle.garde_rules.specs.Memory.{AppliesInMemory, AppliesIfKnown};
 ghost use Rattle.garde_rules.specs.Range.{range_fault};
 ghost use Rattle.garde_rules.specs.Reasons.{card_fault, phone_fault, url_fault, read_answer};
-ghost use Rattle.garde_lengths.specs.Applies.{Fault};
+ghost use Rattle.garde_lengths.specs.Applies.{Fault, own};
 
 use crate::ip::IpKind;
 use crate::pattern::Matcher;
@@ -20,7 +20,7 @@ pub use garde_lengths::length::chars::CharLength;
 pub use garde_lengths::length::graphemes::GraphemeLength;
 pub use garde_lengths::length::simple::Length;
 pub use garde_lengths::length::utf16::Utf16Length;
-use garde_report::RuleError;
+use garde_report::{Error, RuleError};
 use std::alloc::Global;
 
 /// The rule as a value: every byte is below 128.
@@ -110,6 +110,42 @@ pub struct Range<S> {
     pub max: Option<S>,
 }
 
+impl<S> Range<S> {
+    /// The value is at least `min`.
+    pub const fn min(min: S) -> Range<S>
+        ensures { result ≡ record { min = Some min; max = None } }
+    {
+        let (min, max) = (Some(min), None);
+        Range { min, max }
+    }
+
+    /// The value is at most `max`.
+    pub const fn max(max: S) -> Range<S>
+        ensures { result ≡ record { min = None; max = Some max } }
+    {
+        let (min, max) = (None, Some(max));
+        Range { min, max }
+    }
+
+    /// The value is at least `min` and at most `max`.
+    pub const fn between(min: S, max: S) -> Range<S>
+        ensures { result ≡ record { min = Some min; max = Some max } }
+    {
+        let (min, max) = (Some(min), Some(max));
+        Range { min, max }
+    }
+}
+
+impl<S: Copy> Range<S> {
+    /// The value is just this one.
+    pub const fn equal(value: S) -> Range<S>
+        ensures { result ≡ record { min = Some value; max = Some value } }
+    {
+        let (min, max) = (Some(value), Some(value));
+        Range { min, max }
+    }
+}
+
 impl<T: range::Bounds> Rule<T> for Range<T::Size> {
     ghost finds = { λ rule v.
         let lo = unwrap_or rule.min T.MIN in let hi = unwrap_or rule.max T.MAX in
@@ -165,6 +201,28 @@ impl<T: phone_number::PhoneNumber> Rule<T> for PhoneNumber {
 
     fn find<H: I18n>(&self, alloc: Global, value: &T, h: &H) -> Result<(), RuleError> {
         phone_number::apply(alloc, value, (), h)
+    }
+}
+
+/// The rule as a value: this rule holds of the value. What it finds is told by this message, which
+/// no handler changes.
+///
+/// The handler's text is not used, and yet it is made: where there is no memory for it,
+/// `RuleError::Memory` is answered.
+#[derive(Clone, Copy, Debug)]
+pub struct WithMessage<'a, R>(pub R, pub &'a str);
+
+impl<T, R: Rule<T>> Rule<T> for WithMessage<'_, R> {
+    ghost finds = { λ rule v. option_map (λ _. own rule.1.now) (R.finds rule.0 v) };
+
+    fn find<H: I18n>(&self, alloc: Global, value: &T, h: &H) -> Result<(), RuleError> {
+        match self.0.find(alloc, value, h) {
+            Err(RuleError::Fault(_)) => match Error::new(alloc, self.1) {
+                Ok(error) => Err(RuleError::Fault(error)),
+                Err(_) => Err(RuleError::Memory),
+            },
+            answer => answer,
+        }
     }
 }
 

@@ -1,6 +1,5 @@
 //! An enum, each variant with its own visit.
-ghost use Rattle.std.specs.Prelude.{pos, negsuc};
-ghost use Rattle.garde.specs.Author.{Visits, codes, field, item, signed_in};
+ghost use Rattle.garde.specs.Fields.{Visits, field, item, signed_between, minus, pos};
 ghost use Rattle.garde_user.specs.declared.data.Data.TheVariants.{Struct, Tuple};
 
 use garde::fields::{Field, Fields, Is, Range, check_under};
@@ -20,8 +19,8 @@ impl Validate for Data {
     type Context = ();
 
     ghost visits = { λ v _. elim v as (λ _. Visits) [
-      | Struct number ↦ field (codes "field") (signed_in (negsuc 9) (pos 10) number)
-      | Tuple number ↦ item 0 (signed_in (negsuc 9) (pos 10) number)
+      | Struct number ↦ field "field" (signed_between (minus 10) (pos 10) number)
+      | Tuple number ↦ item 0 (signed_between (minus 10) (pos 10) number)
     ] };
 
     fn validate_into<'a, H: I18n>(
@@ -32,10 +31,7 @@ impl Validate for Data {
         report: &mut Report,
         h: &H,
     ) -> Result<(), AllocError> {
-        let within = Is(Range {
-            min: Some(-10),
-            max: Some(10),
-        });
+        let within = Is(Range::between(-10, 10));
         match self {
             Data::Struct { field } => {
                 Field("field", field, within).visit(alloc, trail, report, h)

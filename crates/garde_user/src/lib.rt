@@ -3,7 +3,12 @@
 
 pub mod data;
 pub mod login;
+pub mod order;
+pub mod payment;
+pub mod signup;
+pub mod stock;
 pub mod table;
+pub mod tag;
 pub mod team;
 #[cfg(test)]
 mod tests;

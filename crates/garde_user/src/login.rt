@@ -1,6 +1,5 @@
 //! Two texts, each under the rules of its field.
-ghost use Rattle.std.specs.Prelude.{◌-◌, ◌^◌};
-ghost use Rattle.garde.specs.Author.{codes, length, string_bytes, ◌and◌, field, ascii, length_in};
+ghost use Rattle.garde.specs.Fields.{◌and◌, field, ascii, length_between, length_min};
 
 use garde::fields::{Ascii, Field, Fields, Is, Length};
 use garde::{I18n, Report, Trail, Validate};
@@ -11,14 +10,16 @@ use std::alloc::{AllocError, Global};
 pub struct Login {
     pub username: String,
     pub password: String,
+    /// Whether the login is to be kept. Nothing is asked of it.
+    pub remember: bool,
 }
 
 impl Validate for Login {
     type Context = ();
 
     ghost visits = { λ v _.
-        field (codes "username") (ascii (string_bytes v.username) and length_in 3 25 (length (string_bytes v.username)))
-        and field (codes "password") (length_in 15 (2 ^ 64 - 1) (length (string_bytes v.password))) };
+        field "username" (ascii v.username and length_between 3 25 v.username)
+        and field "password" (length_min 15 v.password) };
 
     fn validate_into<'a, H: I18n>(
         &'a self,
@@ -28,14 +29,18 @@ impl Validate for Login {
         report: &mut Report,
         h: &H,
     ) -> Result<(), AllocError> {
-        let username = (Is(Ascii), Is(Length { min: 3, max: 25 }));
-        let long = Length {
-            min: 15,
-            max: usize::MAX,
-        };
+        let Self {
+            username,
+            password,
+            remember: _,
+        } = self;
         (
-            Field("username", &self.username, username),
-            Field("password", &self.password, Is(long)),
+            Field(
+                "username",
+                username,
+                (Is(Ascii), Is(Length::between(3, 25))),
+            ),
+            Field("password", password, Is(Length::min(15))),
         )
             .visit(alloc, trail, report, h)
     }

@@ -1,6 +1,5 @@
 //! Items in items, each level under rules of its own.
-ghost use Rattle.std.specs.Prelude.{◌-◌, ◌^◌, vec_len};
-ghost use Rattle.garde.specs.Author.{codes, length, string_bytes, ◌and◌, items, field, ascii, length_in};
+ghost use Rattle.garde.specs.Fields.{◌and◌, field, ascii, length_min, items_min, each};
 
 use garde::fields::{Ascii, Each, Field, Fields, Is, Length};
 use garde::{I18n, Report, Trail, Validate};
@@ -15,10 +14,9 @@ pub struct Table {
 impl Validate for Table {
     type Context = ();
 
-    ghost visits = { λ v _. field (codes "rows")
-        (items (λ row. length_in 1 (2 ^ 64 - 1) (vec_len row)
-        and items (λ cell. ascii (string_bytes cell) and length_in 1 (2 ^ 64 - 1) (length (string_bytes cell))) row.items)
-        v.rows.items) };
+    ghost visits = { λ v _. field "rows"
+        (each (λ row. items_min 1 row
+        and each (λ cell. ascii cell and length_min 1 cell) row) v.rows) };
 
     fn validate_into<'a, H: I18n>(
         &'a self,
@@ -28,11 +26,12 @@ impl Validate for Table {
         report: &mut Report,
         h: &H,
     ) -> Result<(), AllocError> {
+        let Self { rows } = self;
         let not_empty = Is(Length {
             min: 1,
             max: usize::MAX,
         });
         let cells = Each((Is(Ascii), not_empty));
-        Field("rows", &self.rows, Each((not_empty, cells))).visit(alloc, trail, report, h)
+        Field("rows", rows, Each((not_empty, cells))).visit(alloc, trail, report, h)
     }
 }

@@ -1,5 +1,5 @@
 //! A value with parts: items, a part of a type of its own, and an option.
-ghost use Rattle.garde.specs.Author.{codes, length, string_bytes, char_count, ◌and◌, items, optional, field, ascii, length_in, unsigned_in};
+ghost use Rattle.garde.specs.Fields.{◌and◌, field, ascii, length_between, chars_between, u8_min, items_between, each, optional};
 
 use garde::fields::{Ascii, CharLength, Dive, Each, Field, Fields, IfSome, Is, Length, Range};
 use garde::{I18n, Report, Trail, Validate};
@@ -25,8 +25,8 @@ impl Validate for Member {
     type Context = League;
 
     ghost visits = { λ v league.
-        field (codes "nickname") (length_in 1 20 (char_count (string_bytes v.nickname)))
-        and field (codes "age") (unsigned_in league.least_age 255 v.age) };
+        field "nickname" (chars_between 1 20 v.nickname)
+        and field "age" (u8_min league.least_age v.age) };
 
     fn validate_into<'a, H: I18n>(
         &'a self,
@@ -36,17 +36,10 @@ impl Validate for Member {
         report: &mut Report,
         h: &H,
     ) -> Result<(), AllocError> {
-        let old_enough = Range {
-            min: Some(ctx.least_age),
-            max: None,
-        };
+        let Self { nickname, age } = self;
         (
-            Field(
-                "nickname",
-                &self.nickname,
-                Is(CharLength { min: 1, max: 20 }),
-            ),
-            Field("age", &self.age, Is(old_enough)),
+            Field("nickname", nickname, Is(CharLength::between(1, 20))),
+            Field("age", age, Is(Range::min(ctx.least_age))),
         )
             .visit(alloc, trail, report, h)
     }
@@ -65,11 +58,11 @@ impl Validate for Team {
     type Context = League;
 
     ghost visits = { λ v league.
-        field (codes "name") (ascii (string_bytes v.name) and length_in 3 25 (length (string_bytes v.name)))
-        and field (codes "members") (length_in 1 league.most_members (length v.members.items)
-        and items (λ member. ⟦<Member as Validate>⟧.visits member league) v.members.items)
-        and field (codes "captain") (⟦<Member as Validate>⟧.visits v.captain league)
-        and field (codes "motto") (optional (λ text. length_in 1 40 (char_count (string_bytes text))) v.motto) };
+        field "name" (ascii v.name and length_between 3 25 v.name)
+        and field "members" (items_between 1 league.most_members v.members
+        and each (λ member. ⟦<Member as Validate>⟧.visits member league) v.members)
+        and field "captain" (⟦<Member as Validate>⟧.visits v.captain league)
+        and field "motto" (optional (λ text. chars_between 1 40 text) v.motto) };
 
     fn validate_into<'a, H: I18n>(
         &'a self,
@@ -79,17 +72,18 @@ impl Validate for Team {
         report: &mut Report,
         h: &H,
     ) -> Result<(), AllocError> {
-        let name = (Is(Ascii), Is(Length { min: 3, max: 25 }));
-        let few = Length {
-            min: 1,
-            max: ctx.most_members,
-        };
-        let motto = IfSome(Is(CharLength { min: 1, max: 40 }));
+        let Self {
+            name,
+            members,
+            captain,
+            motto,
+        } = self;
+        let few = Length::between(1, ctx.most_members);
         (
-            Field("name", &self.name, name),
-            Field("members", &self.members, (Is(few), Each(Dive(ctx)))),
-            Field("captain", &self.captain, Dive(ctx)),
-            Field("motto", &self.motto, motto),
+            Field("name", name, (Is(Ascii), Is(Length::between(3, 25)))),
+            Field("members", members, (Is(few), Each(Dive(ctx)))),
+            Field("captain", captain, Dive(ctx)),
+            Field("motto", motto, IfSome(Is(CharLength { min: 1, max: 40 }))),
         )
             .visit(alloc, trail, report, h)
     }

@@ -1,4 +1,6 @@
 //! What is told of the types, and the calls of each module that `garde` passes on.
+mod bounds;
+mod guide;
 mod modules;
 
 use crate::data::Data;
@@ -22,6 +24,7 @@ fn login(alloc: Global, username: &str, password: &str) -> Result<Login, AllocEr
     Ok(Login {
         username: String::from_str(alloc, username)?,
         password: String::from_str(alloc, password)?,
+        remember: false,
     })
 }
 

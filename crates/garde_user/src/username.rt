@@ -1,16 +1,9 @@
 //! New types round a text, and a value that holds one of them.
-ghost use Rattle.std.specs.Prelude.{◌-◌, ◌^◌};
-ghost use Rattle.garde.specs.Author.{codes, length, string_bytes, field, item, length_in};
+ghost use Rattle.garde.specs.Fields.{field, item, length_min};
 
 use garde::fields::{Check, Dive, Field, Fields, Is, Length, check_under};
 use garde::{Component, I18n, Report, Trail, Validate};
 use std::alloc::{AllocError, Global};
-
-/// The rule of a name: 3 bytes at least.
-const LONG: Is<Length> = Is(Length {
-    min: 3,
-    max: usize::MAX,
-});
 
 /// A name that is transparent: what is told of it stands where the name stands.
 #[derive(Debug, Drop)]
@@ -19,7 +12,7 @@ pub struct Username(pub String);
 impl Validate for Username {
     type Context = ();
 
-    ghost visits = { λ v _. length_in 3 (2 ^ 64 - 1) (length (string_bytes v.0)) };
+    ghost visits = { λ v _. length_min 3 v.0 };
 
     fn validate_into<'a, H: I18n>(
         &'a self,
@@ -29,7 +22,8 @@ impl Validate for Username {
         report: &mut Report,
         h: &H,
     ) -> Result<(), AllocError> {
-        LONG.check(alloc, &self.0, trail, report, h)
+        let Self(name) = self;
+        Is(Length::min(3)).check(alloc, name, trail, report, h)
     }
 }
 
@@ -40,7 +34,7 @@ pub struct NumberedUsername(pub String);
 impl Validate for NumberedUsername {
     type Context = ();
 
-    ghost visits = { λ v _. item 0 (length_in 3 (2 ^ 64 - 1) (length (string_bytes v.0))) };
+    ghost visits = { λ v _. item 0 (length_min 3 v.0) };
 
     fn validate_into<'a, H: I18n>(
         &'a self,
@@ -50,8 +44,9 @@ impl Validate for NumberedUsername {
         report: &mut Report,
         h: &H,
     ) -> Result<(), AllocError> {
-        let first = Component::index(0);
-        check_under(alloc, first, &LONG, &self.0, trail, report, h)
+        let Self(name) = self;
+        let long = Is(Length::min(3));
+        check_under(alloc, Component::index(0), &long, name, trail, report, h)
     }
 }
 
@@ -64,7 +59,7 @@ pub struct User<N> {
 impl<N: Validate> Validate for User<N> {
     type Context = N::Context;
 
-    ghost visits = { λ v c. field (codes "username") (N.visits v.username c) };
+    ghost visits = { λ v c. field "username" (N.visits v.username c) };
 
     fn validate_into<'a, H: I18n>(
         &'a self,
@@ -74,6 +69,7 @@ impl<N: Validate> Validate for User<N> {
         report: &mut Report,
         h: &H,
     ) -> Result<(), AllocError> {
-        Field("username", &self.username, Dive(ctx)).visit_of(self, alloc, trail, report, h)
+        let Self { username } = self;
+        Field("username", username, Dive(ctx)).visit_of(self, alloc, trail, report, h)
     }
 }

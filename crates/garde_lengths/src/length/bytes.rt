@@ -1,5 +1,5 @@
 //! The length in bytes.
-ghost use Rattle.std.specs.Prelude.{◌≡◌, ℕ, string_bytes, length, vec_len, Result};
+ghost use Rattle.std.specs.Prelude.{◌≡◌, ◌-◌, ◌^◌, ℕ, string_bytes, length, vec_len, Result};
 ghost use Rattle.std.specs.Box.{boxed_str_bytes, boxed_slice_len};
 ghost use Rattle.std.specs.Cow.{cow_str_bytes};
 ghost use Rattle.std.specs.Rc.{rc_str_bytes, rc_slice_items};
@@ -174,6 +174,42 @@ pub struct ByteLength {
     pub min: usize,
     /// The greatest number of bytes.
     pub max: usize,
+}
+
+impl ByteLength {
+    /// There are at least `min` bytes.
+    pub const fn min(min: usize) -> ByteLength
+        ensures { result ≡ record { min = min; max = 2 ^ 64 - 1 } }
+    {
+        ByteLength {
+            min,
+            max: usize::MAX,
+        }
+    }
+
+    /// There are at most `max` bytes.
+    pub const fn max(max: usize) -> ByteLength
+        ensures { result ≡ record { min = 0; max = max } }
+    {
+        ByteLength { min: 0, max }
+    }
+
+    /// There are just so many bytes.
+    pub const fn equal(length: usize) -> ByteLength
+        ensures { result ≡ record { min = length; max = length } }
+    {
+        ByteLength {
+            min: length,
+            max: length,
+        }
+    }
+
+    /// There are at least `min` bytes and at most `max`.
+    pub const fn between(min: usize, max: usize) -> ByteLength
+        ensures { result ≡ record { min = min; max = max } }
+    {
+        ByteLength { min, max }
+    }
 }
 
 impl<T: Bytes> Rule<T> for ByteLength {

@@ -1,5 +1,5 @@
 //! The length in characters.
-ghost use Rattle.std.specs.Prelude.{◌≡◌, ℕ, string_bytes, length, vec_len, Result};
+ghost use Rattle.std.specs.Prelude.{◌≡◌, ◌-◌, ◌^◌, ℕ, string_bytes, length, vec_len, Result};
 ghost use Rattle.std.specs.Box.{boxed_str_bytes, boxed_slice_len};
 ghost use Rattle.std.specs.Cow.{cow_str_bytes};
 ghost use Rattle.std.specs.Rc.{rc_str_bytes, rc_slice_items};
@@ -200,6 +200,42 @@ pub struct CharLength {
     pub min: usize,
     /// The greatest number of characters.
     pub max: usize,
+}
+
+impl CharLength {
+    /// There are at least `min` characters.
+    pub const fn min(min: usize) -> CharLength
+        ensures { result ≡ record { min = min; max = 2 ^ 64 - 1 } }
+    {
+        CharLength {
+            min,
+            max: usize::MAX,
+        }
+    }
+
+    /// There are at most `max` characters.
+    pub const fn max(max: usize) -> CharLength
+        ensures { result ≡ record { min = 0; max = max } }
+    {
+        CharLength { min: 0, max }
+    }
+
+    /// There are just so many characters.
+    pub const fn equal(length: usize) -> CharLength
+        ensures { result ≡ record { min = length; max = length } }
+    {
+        CharLength {
+            min: length,
+            max: length,
+        }
+    }
+
+    /// There are at least `min` characters and at most `max`.
+    pub const fn between(min: usize, max: usize) -> CharLength
+        ensures { result ≡ record { min = min; max = max } }
+    {
+        CharLength { min, max }
+    }
 }
 
 impl<T: Chars> Rule<T> for CharLength {

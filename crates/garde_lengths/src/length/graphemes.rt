@@ -1,5 +1,5 @@
 //! The length in grapheme clusters.
-ghost use Rattle.std.specs.Prelude.{◌≡◌, ℕ, string_bytes, Result};
+ghost use Rattle.std.specs.Prelude.{◌≡◌, ◌-◌, ◌^◌, ℕ, string_bytes, Result};
 ghost use Rattle.std.specs.Box.{boxed_str_bytes};
 ghost use Rattle.std.specs.Cow.{cow_str_bytes};
 ghost use Rattle.std.specs.Rc.{rc_str_bytes};
@@ -138,6 +138,42 @@ pub struct GraphemeLength {
     pub min: usize,
     /// The greatest number of clusters.
     pub max: usize,
+}
+
+impl GraphemeLength {
+    /// There are at least `min` clusters.
+    pub const fn min(min: usize) -> GraphemeLength
+        ensures { result ≡ record { min = min; max = 2 ^ 64 - 1 } }
+    {
+        GraphemeLength {
+            min,
+            max: usize::MAX,
+        }
+    }
+
+    /// There are at most `max` clusters.
+    pub const fn max(max: usize) -> GraphemeLength
+        ensures { result ≡ record { min = 0; max = max } }
+    {
+        GraphemeLength { min: 0, max }
+    }
+
+    /// There are just so many clusters.
+    pub const fn equal(length: usize) -> GraphemeLength
+        ensures { result ≡ record { min = length; max = length } }
+    {
+        GraphemeLength {
+            min: length,
+            max: length,
+        }
+    }
+
+    /// There are at least `min` clusters and at most `max`.
+    pub const fn between(min: usize, max: usize) -> GraphemeLength
+        ensures { result ≡ record { min = min; max = max } }
+    {
+        GraphemeLength { min, max }
+    }
 }
 
 impl<T: Graphemes> Rule<T> for GraphemeLength {

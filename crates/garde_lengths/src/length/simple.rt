@@ -1,5 +1,5 @@
 //! The length as the type counts it: the bytes of a text, the items of a collection.
-ghost use Rattle.std.specs.Prelude.{◌≡◌, ℕ, Result};
+ghost use Rattle.std.specs.Prelude.{◌≡◌, ◌-◌, ◌^◌, ℕ, Result};
 ghost use Rattle.garde_lengths.specs.Applies.{Applies};
 ghost use Rattle.garde_lengths.specs.Bounds.{bounds_answer, length_fault, option_answer};
 ghost use Rattle.garde_lengths.specs.declared.bounds.OutOfBounds.{OutOfBounds};
@@ -99,6 +99,42 @@ pub struct Length {
     pub min: usize,
     /// The greatest length.
     pub max: usize,
+}
+
+impl Length {
+    /// The length is at least `min`.
+    pub const fn min(min: usize) -> Length
+        ensures { result ≡ record { min = min; max = 2 ^ 64 - 1 } }
+    {
+        Length {
+            min,
+            max: usize::MAX,
+        }
+    }
+
+    /// The length is at most `max`.
+    pub const fn max(max: usize) -> Length
+        ensures { result ≡ record { min = 0; max = max } }
+    {
+        Length { min: 0, max }
+    }
+
+    /// The length is just this one.
+    pub const fn equal(length: usize) -> Length
+        ensures { result ≡ record { min = length; max = length } }
+    {
+        Length {
+            min: length,
+            max: length,
+        }
+    }
+
+    /// The length is at least `min` and at most `max`.
+    pub const fn between(min: usize, max: usize) -> Length
+        ensures { result ≡ record { min = min; max = max } }
+    {
+        Length { min, max }
+    }
 }
 
 impl<T: Simple> Rule<T> for Length {

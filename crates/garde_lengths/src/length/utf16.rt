@@ -1,5 +1,5 @@
 //! The length in code units of UTF-16.
-ghost use Rattle.std.specs.Prelude.{◌≡◌, ℕ, string_bytes, Result};
+ghost use Rattle.std.specs.Prelude.{◌≡◌, ◌-◌, ◌^◌, ℕ, string_bytes, Result};
 ghost use Rattle.std.specs.Box.{boxed_str_bytes};
 ghost use Rattle.std.specs.Cow.{cow_str_bytes};
 ghost use Rattle.std.specs.Rc.{rc_str_bytes};
@@ -169,6 +169,42 @@ pub struct Utf16Length {
     pub min: usize,
     /// The greatest number of code units.
     pub max: usize,
+}
+
+impl Utf16Length {
+    /// There are at least `min` code units.
+    pub const fn min(min: usize) -> Utf16Length
+        ensures { result ≡ record { min = min; max = 2 ^ 64 - 1 } }
+    {
+        Utf16Length {
+            min,
+            max: usize::MAX,
+        }
+    }
+
+    /// There are at most `max` code units.
+    pub const fn max(max: usize) -> Utf16Length
+        ensures { result ≡ record { min = 0; max = max } }
+    {
+        Utf16Length { min: 0, max }
+    }
+
+    /// There are just so many code units.
+    pub const fn equal(length: usize) -> Utf16Length
+        ensures { result ≡ record { min = length; max = length } }
+    {
+        Utf16Length {
+            min: length,
+            max: length,
+        }
+    }
+
+    /// There are at least `min` code units and at most `max`.
+    pub const fn between(min: usize, max: usize) -> Utf16Length
+        ensures { result ≡ record { min = min; max = max } }
+    {
+        Utf16Length { min, max }
+    }
 }
 
 impl<T: Utf16CodeUnits> Rule<T> for Utf16Length {

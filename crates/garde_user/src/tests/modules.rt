@@ -15,6 +15,7 @@ fn login(alloc: Global, password: &str) -> Result<Login, AllocError> {
     Ok(Login {
         username: String::from_str(alloc, "test")?,
         password: String::from_str(alloc, password)?,
+        remember: false,
     })
 }
 

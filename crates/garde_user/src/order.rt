@@ -1,0 +1,78 @@
+//! A type of seven fields.
+ghost use Rattle.garde.specs.Fields.{◌and◌, field, ascii, length_between, chars_between, range_between, each, optional};
+
+use garde::fields::{Ascii, CharLength, Each, Field, Fields, IfSome, Is, Length, Range};
+use garde::{I18n, Report, Trail, Validate};
+use std::alloc::{AllocError, Global};
+
+/// What is sent, to whom and where.
+#[derive(Debug, Drop)]
+pub struct Order {
+    pub number: u32,
+    pub customer: String,
+    pub street: String,
+    pub town: String,
+    pub lines: Vec<String>,
+    pub note: Option<String>,
+    pub parcels: u32,
+}
+
+impl Validate for Order {
+    type Context = ();
+
+    ghost visits = { λ v _.
+        field "number" (range_between 1 99999 v.number)
+        and field "customer" (ascii v.customer and length_between 3 25 v.customer)
+        and field "street" (length_between 1 60 v.street)
+        and field "town" (length_between 1 40 v.town)
+        and field "lines" (each (λ line. length_between 1 80 line) v.lines)
+        and field "note" (optional (λ text. chars_between 1 200 text) v.note)
+        and field "parcels" (range_between 1 20 v.parcels) };
+
+    fn validate_into<'a, H: I18n>(
+        &'a self,
+        alloc: Global,
+        _ctx: &(),
+        trail: &mut Trail<'a>,
+        report: &mut Report,
+        h: &H,
+    ) -> Result<(), AllocError> {
+        let Self {
+            number,
+            customer,
+            street,
+            town,
+            lines,
+            note,
+            parcels,
+        } = self;
+        (
+            Field(
+                "number",
+                number,
+                Is(Range {
+                    min: Some(1),
+                    max: Some(99999),
+                }),
+            ),
+            Field(
+                "customer",
+                customer,
+                (Is(Ascii), Is(Length { min: 3, max: 25 })),
+            ),
+            Field("street", street, Is(Length { min: 1, max: 60 })),
+            Field("town", town, Is(Length { min: 1, max: 40 })),
+            Field("lines", lines, Each(Is(Length { min: 1, max: 80 }))),
+            Field("note", note, IfSome(Is(CharLength { min: 1, max: 200 }))),
+            Field(
+                "parcels",
+                parcels,
+                Is(Range {
+                    min: Some(1),
+                    max: Some(20),
+                }),
+            ),
+        )
+            .visit(alloc, trail, report, h)
+    }
+}

@@ -1,0 +1,73 @@
+//! Numbers of cards and phones, whose types say themselves what is one.
+ghost use Rattle.garde.specs.Fields.{◌and◌, ◌==◌, nat_le, Ok, Err, if◌then◌else◌, byte_count, string_bytes, field, credit_card, phone_number};
+ghost use Rattle.garde.specs.Cards.{InvalidLength};
+ghost use Rattle.garde.specs.Phones.{TooLong};
+
+use garde::fields::{CreditCard, Field, Fields, Is, PhoneNumber};
+use garde::i18n::{InvalidCreditCard, InvalidPhoneNumber};
+use garde::rules::{credit_card, phone_number};
+use garde::{I18n, Report, Trail, Validate};
+use std::alloc::{AllocError, Global};
+
+/// A card's number, of 16 bytes.
+#[derive(Debug, Drop)]
+pub struct CardText(pub String);
+
+impl credit_card::CreditCard for CardText {
+    ghost answer = { λ v. if byte_count (string_bytes v.0) == 16 then Ok tt else Err InvalidLength };
+
+    fn validate_credit_card(&self) -> Result<(), InvalidCreditCard> {
+        if self.0.len() == 16 {
+            Ok(())
+        } else {
+            Err(InvalidCreditCard::InvalidLength)
+        }
+    }
+}
+
+/// A phone's number, of 15 bytes at most.
+#[derive(Debug, Drop)]
+pub struct PhoneText(pub String);
+
+impl phone_number::PhoneNumber for PhoneText {
+    ghost answer = { λ v. if nat_le (byte_count (string_bytes v.0)) 15 then Ok tt else Err TooLong };
+
+    fn validate_phone_number(&self) -> Result<(), InvalidPhoneNumber> {
+        if self.0.len() <= 15 {
+            Ok(())
+        } else {
+            Err(InvalidPhoneNumber::TooLong)
+        }
+    }
+}
+
+/// What is paid with, and whom to call.
+#[derive(Debug, Drop)]
+pub struct Payment {
+    pub card: CardText,
+    pub phone: PhoneText,
+}
+
+impl Validate for Payment {
+    type Context = ();
+
+    ghost visits = { λ v _.
+        field "card" (credit_card (⟦<CardText as credit_card::CreditCard>⟧.answer v.card))
+        and field "phone" (phone_number (⟦<PhoneText as phone_number::PhoneNumber>⟧.answer v.phone)) };
+
+    fn validate_into<'a, H: I18n>(
+        &'a self,
+        alloc: Global,
+        _ctx: &(),
+        trail: &mut Trail<'a>,
+        report: &mut Report,
+        h: &H,
+    ) -> Result<(), AllocError> {
+        let Self { card, phone } = self;
+        (
+            Field("card", card, Is(CreditCard)),
+            Field("phone", phone, Is(PhoneNumber)),
+        )
+            .visit(alloc, trail, report, h)
+    }
+}

@@ -1,0 +1,54 @@
+//! Maps and a set: values under keys that are texts or numbers.
+ghost use Rattle.garde.specs.Fields.{◌and◌, field, ascii, length_max, range_between, map_between, each_value, each_numbered, set_max, each_of_set};
+
+use garde::fields::{Ascii, Each, Field, Fields, Is, Length, Range};
+use garde::{I18n, Report, Trail, Validate};
+use std::alloc::{AllocError, Global};
+use std::collections::{BTreeMap, BTreeSet};
+
+/// What a store has: the number of pieces by the name of an article, the shelves by their numbers,
+/// and marks.
+#[derive(Debug, Drop)]
+pub struct Stock {
+    pub pieces: BTreeMap<String, u32>,
+    pub shelves: BTreeMap<usize, String>,
+    pub marks: BTreeSet<String>,
+}
+
+impl Validate for Stock {
+    type Context = ();
+
+    ghost visits = { λ v _.
+        field "pieces" (map_between 1 100 v.pieces and each_value (λ count. range_between 1 999 count) v.pieces)
+        and field "shelves" (each_numbered (λ name. ascii name) v.shelves)
+        and field "marks" (set_max 9 v.marks and each_of_set (λ mark. length_max 8 mark) v.marks) };
+
+    fn validate_into<'a, H: I18n>(
+        &'a self,
+        alloc: Global,
+        _ctx: &(),
+        trail: &mut Trail<'a>,
+        report: &mut Report,
+        h: &H,
+    ) -> Result<(), AllocError> {
+        let Self {
+            pieces,
+            shelves,
+            marks,
+        } = self;
+        let counts = Each(Is(Range {
+            min: Some(1),
+            max: Some(999),
+        }));
+        (
+            Field("pieces", pieces, (Is(Length::between(1, 100)), counts)),
+            Field("shelves", shelves, Each(Is(Ascii))),
+            Field(
+                "marks",
+                marks,
+                (Is(Length::max(9)), Each(Is(Length { min: 0, max: 8 }))),
+            ),
+        )
+            .visit(alloc, trail, report, h)
+    }
+}

@@ -1,0 +1,121 @@
+//! The whole reports of the guide's types.
+use super::told;
+use crate::order::Order;
+use crate::payment::{CardText, Payment, PhoneText};
+use crate::signup::Signup;
+use crate::stock::Stock;
+use crate::tag::Tag;
+use garde::Validate;
+use std::alloc::{AllocError, Global};
+use std::collections::{BTreeMap, BTreeSet};
+use std::test::Fail;
+
+fn text(alloc: Global, text: &str) -> Result<String, AllocError> {
+    String::from_str(alloc, text)
+}
+
+/// A stock of two articles, two shelves and a mark.
+fn stock(alloc: Global, pears: u32, shelf: &str, mark: &str) -> Result<Stock, AllocError> {
+    let mut pieces = BTreeMap::new(alloc);
+    pieces.insert(text(alloc, "apples")?, 1)?;
+    pieces.insert(text(alloc, "pears")?, pears)?;
+    let mut shelves = BTreeMap::new(alloc);
+    shelves.insert(7, text(alloc, "left")?)?;
+    shelves.insert(4_000_000_000, text(alloc, shelf)?)?;
+    let mut marks = BTreeSet::new(alloc);
+    marks.insert(text(alloc, mark)?)?;
+    Ok(Stock {
+        pieces,
+        shelves,
+        marks,
+    })
+}
+
+#[test]
+fn keys_that_are_texts_and_numbers(rt: HostRuntime) -> Result<(), Fail> {
+    let alloc = rt.alloc();
+    let good = stock(alloc, 999, "right", "12345678")?;
+    assert!(rt; good.validate(alloc).is_ok());
+    let bad = stock(alloc, 1000, "é", "123456789")?;
+    let told = told(alloc, bad.validate(alloc))?;
+    assert_eq!(rt;
+        told.as_str(),
+        "pieces.pears: greater than 999\nshelves[4000000000]: not ascii\nmarks[0]: length is greater than 8\n"
+    );
+    Ok(())
+}
+
+/// Who signs up, under a name and from a host.
+fn signup(alloc: Global, name: &str, host: &str, terms: bool) -> Result<Signup, AllocError> {
+    Ok(Signup {
+        name: text(alloc, name)?,
+        password: text(alloc, "analytical engine")?,
+        again: text(alloc, "analytical")?,
+        age: None,
+        host: text(alloc, host)?,
+        terms,
+    })
+}
+
+#[test]
+fn messages_of_ones_own(rt: HostRuntime) -> Result<(), Fail> {
+    let alloc = rt.alloc();
+    let bad = signup(alloc, "é", "example.com", false)?;
+    let told = told(alloc, bad.validate(alloc))?;
+    assert_eq!(rt;
+        told.as_str(),
+        "name: choose a longer name\nagain: does not match password field\nage: not set\nhost: does not end with \".org\"\nterms: accept the terms\n"
+    );
+    Ok(())
+}
+
+#[test]
+fn texts_that_are_borrowed(rt: HostRuntime) -> Result<(), Fail> {
+    let alloc = rt.alloc();
+    let also = ["b", "é"];
+    let tag = Tag {
+        name: "0123456789",
+        also: &also,
+    };
+    let told = told(alloc, tag.validate(alloc))?;
+    assert_eq!(rt;
+        told.as_str(),
+        "name: length is greater than 9\nalso[1]: not ascii\n"
+    );
+    Ok(())
+}
+
+#[test]
+fn seven_fields(rt: HostRuntime) -> Result<(), Fail> {
+    let alloc = rt.alloc();
+    let order = Order {
+        number: 0,
+        customer: text(alloc, "é")?,
+        street: text(alloc, "")?,
+        town: text(alloc, "")?,
+        lines: vec![in alloc; text(alloc, "")?]?,
+        note: Some(text(alloc, "")?),
+        parcels: 21,
+    };
+    let told = told(alloc, order.validate(alloc))?;
+    assert_eq!(rt;
+        told.as_str(),
+        "number: lower than 1\ncustomer: not ascii\ncustomer: length is lower than 3\nstreet: length is lower than 1\ntown: length is lower than 1\nlines[0]: length is lower than 1\nnote: length is lower than 1\nparcels: greater than 20\n"
+    );
+    Ok(())
+}
+
+#[test]
+fn numbers_of_cards_and_phones(rt: HostRuntime) -> Result<(), Fail> {
+    let alloc = rt.alloc();
+    let bad = Payment {
+        card: CardText(text(alloc, "4111")?),
+        phone: PhoneText(text(alloc, "+420 123 456 789")?),
+    };
+    let told = told(alloc, bad.validate(alloc))?;
+    assert_eq!(rt;
+        told.as_str(),
+        "card: not a valid credit card number: invalid length\nphone: not a valid phone number: the number is too long\n"
+    );
+    Ok(())
+}
