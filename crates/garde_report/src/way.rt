@@ -1,0 +1,131 @@
+//! A stack whose first items lie in the value itself.
+ghost use Rattle.std.specs.Prelude.{◌≡◌, ◌-◌, ◌<◌, ◌≤◌, [], ◌∷◌, ◌++◌, length, take, vec_len, vec_capacity, OnOk, OnErr};
+ghost use Rattle.garde_report.specs.Way.{way_items, IsWay};
+
+use std::alloc::{AllocError, Global};
+use std::marker::Model;
+
+/// A stack that takes memory only where it has more than 8 items.
+pub(crate) struct Way<T> {
+    depth: usize,
+    // The first items, of which the first `depth` count where there are at most 8.
+    near: [T; 8],
+    // All items, where there are more than 8.
+    far: Vec<T>,
+}
+
+impl<T> Model for Way<T> {
+    ghost use Rattle.std.specs.Prelude.{List};
+    ghost use Rattle.garde_report.specs.Way.{way_items, IsWay};
+
+    ghost Value = { List T };
+
+    ghost view = { λ w. way_items w.depth w.near w.far.items };
+
+    ghost invariant = { λ w. IsWay w.depth w.near w.far.items };
+}
+
+impl<T: Drop> Drop for Way<T> {
+    fn drop(self) {
+        let Way {
+            depth: _,
+            near: _near,
+            far: _far,
+        } = self;
+    }
+}
+
+impl<T: Copy> Way<T> {
+    /// A stack without an item. `blank` stands where an item is missing.
+    #[inline]
+    pub(crate) fn new(alloc: Global, blank: T) -> Self
+        ensures { result ≡ [] }
+    {
+        Way {
+            depth: 0,
+            near: [blank; 8],
+            far: Vec::new(alloc),
+        }
+    }
+
+    /// The number of items.
+    #[inline]
+    pub(crate) fn len(&self) -> usize
+        ensures { result ≡ length self.now }
+    {
+        self.depth
+    }
+
+    /// The items.
+    #[inline]
+    pub(crate) fn as_slice(&self) -> &[T]
+        ensures { result.now ≡ self.now }
+    {
+        if self.depth > 8 {
+            self.far.as_slice()
+        } else {
+            &self.near[..self.depth]
+        }
+    }
+
+    /// Puts an item on the stack. Below 8 items this takes no memory. Where there is none, the stack
+    /// stays as it was.
+    #[inline(always)]
+    pub(crate) fn push(&mut self, item: T) -> Result<(), AllocError>
+        ensures ok { OnOk result (self.new ≡ self.old ++ item ∷ []) }
+        ensures err { OnErr result (self.new ≡ self.old) }
+        ensures full { OnErr result (8 ≤ length self.old) }
+    {
+        if self.depth < 8 {
+            self.near[self.depth] = item;
+            self.depth += 1;
+        } else {
+            make_room(self.depth, &self.near, &mut self.far)?;
+            self.far.push_reserved(item);
+            self.depth = self.far.len();
+        }
+        Ok(())
+    }
+
+    /// Takes the last item from the stack.
+    #[inline(always)]
+    pub(crate) fn pop(&mut self)
+        requires { 0 < length self.old }
+        ensures { self.new ≡ take (length self.old - 1) self.old }
+    {
+        if self.depth > 8 {
+            self.pop_far();
+        } else {
+            self.depth -= 1;
+        }
+    }
+
+    // `pop` where there are more than 8 items.
+    #[inline(never)]
+    fn pop_far(&mut self)
+        requires { 8 < length self.old }
+        ensures { self.new ≡ take (length self.old - 1) self.old }
+    {
+        self.far.pop();
+        self.depth -= 1;
+    }
+}
+
+// Puts all items where the far ones are, with room for one more. There are 8 at least.
+#[inline(never)]
+fn make_room<T: Copy>(depth: usize, near: &[T; 8], far: &mut Vec<T>) -> Result<(), AllocError>
+    requires full { 8 ≤ depth }
+    requires way { IsWay depth near.now far.old.items }
+    ensures ok { OnOk result (far.new.items ≡ way_items depth near.now far.old.items) }
+    ensures room { OnOk result (vec_len far.new < vec_capacity far.new) }
+    ensures way { OnErr result (IsWay depth near.now far.new.items) }
+    ensures same { OnErr result (way_items depth near.now far.new.items
+        ≡ way_items depth near.now far.old.items) }
+{
+    if depth == 8 {
+        far.clear();
+        far.extend_from_slice(near)?;
+    }
+    far.reserve(1)?;
+    Ok(())
+}
