@@ -1,5 +1,7 @@
 //! Texts of letters and numbers alone.
 ghost use Rattle.std.specs.Prelude.{◌≡◌, Bool};
+ghost use Rattle.std.specs.Char.{is_ascii_alphanumeric};
+ghost use Rattle.std.specs.List.{list_all};
 ghost use Rattle.garde_i18n.specs.Datum as datum;
 ghost use Rattle.garde_lengths.specs.Applies.{Applies};
 ghost use Rattle.garde_rules.specs.Holds.{unless, passes_option};
@@ -24,6 +26,21 @@ fn is_alphanumeric(c: char) -> bool
         )
 }
 
+// Whether every byte is a letter or a digit of ASCII.
+fn are_ascii_alphanumeric(bytes: &[u8]) -> bool
+    ensures { result ≡ list_all is_ascii_alphanumeric bytes.now }
+{
+    bytes.iter().all(|byte| byte.is_ascii_alphanumeric())
+}
+
+// Whether every character of the text is a letter or a number. A text of ASCII is told by its bytes.
+#[tactic(auto, using(crate::proofs::AlphanumericLemmas::ascii_alphanumeric_text))]
+fn all_alphanumeric(text: &str) -> bool
+    ensures { result ≡ is_alphanumeric_text text.now }
+{
+    are_ascii_alphanumeric(text.as_bytes()) || text.chars().all(is_alphanumeric)
+}
+
 /// A value that may be alphanumeric. Every text may, and an option of one.
 pub trait Alphanumeric {
     /// Whether the value passes.
@@ -39,7 +56,7 @@ impl<T: AsStr> Alphanumeric for T {
     ghost passes = { λ v. is_alphanumeric_text (T.text v) };
 
     fn validate_alphanumeric(&self) -> bool {
-        self.as_str().chars().all(is_alphanumeric)
+        all_alphanumeric(self.as_str())
     }
 }
 

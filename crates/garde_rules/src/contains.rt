@@ -9,7 +9,23 @@ ghost use Rattle.garde_rules.specs.Text.{has_part};
 use crate::as_str::AsStr;
 use garde_i18n::I18n;
 use garde_report::RuleError;
+use memchr::{memchr, memmem};
 use std::alloc::Global;
+
+// In a text of so many bytes the preparation of a search by blocks of bytes pays.
+const LONG: usize = 512;
+
+// Whether the text has the pattern as a part. A pattern of one byte, as `@`, is searched as a byte.
+#[tactic(auto, using(crate::proofs::TextLemmas::part_is))]
+fn has_pattern(text: &str, pattern: &str) -> bool
+    ensures { result ≡ has_part pattern.now text.now }
+{
+    match pattern.as_bytes() {
+        [byte] => memchr(*byte, text.as_bytes()).is_some(),
+        _ if text.len() >= LONG => memmem::find(text.as_bytes(), pattern.as_bytes()).is_some(),
+        _ => text.contains(pattern),
+    }
+}
 
 /// A value that may have a text as a part. Every text may, and an option of one.
 pub trait Contains {
@@ -25,12 +41,12 @@ pub trait Contains {
 impl<T: AsStr> Contains for T {
     ghost passes = { λ pattern v. has_part pattern (T.text v) };
 
-    #[tactic(auto, using(crate::proofs::TextLemmas::part_is, std::proofs::lemmas::Str::Pattern::contains_text))]
+    #[tactic(auto, using(crate::proofs::TextLemmas::part_iff))]
     fn validate_contains(&self, pattern: &str) -> bool
         ensures value { result ≡ has_part pattern.now (T.text self.now) }
         ensures part { IsTrue result ↔ HasSubslice (T.text self.now) pattern.now }
     {
-        self.as_str().contains(pattern)
+        has_pattern(self.as_str(), pattern)
     }
 }
 
