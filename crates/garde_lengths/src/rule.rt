@@ -1,5 +1,5 @@
 //! Rules as values.
-ghost use Rattle.std.specs.Prelude.{Option};
+ghost use Rattle.std.specs.Prelude.{◌≡◌, Option, None, IsTrue};
 ghost use Rattle.garde_lengths.specs.Applies.{Applies, Fault};
 
 use garde_i18n::I18n;
@@ -12,6 +12,15 @@ use std::alloc::Global;
 pub trait Rule<T> {
     /// What the rule finds in a value.
     ghost finds: { Self → T → Option Fault };
+
+    /// Whether the rule is seen at once to find nothing. `false` says nothing of the value: `find`
+    /// is then asked. A rule that leaves this out is always asked so.
+    #[inline]
+    fn holds(&self, _value: &T) -> bool
+        ensures { IsTrue result → finds self.now _value.now ≡ None }
+    {
+        false
+    }
 
     /// Answers Ok where the rule finds nothing, and else the fault with the handler's text of it.
     ///

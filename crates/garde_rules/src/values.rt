@@ -30,6 +30,11 @@ pub struct Ascii;
 impl<T: ascii::Ascii> Rule<T> for Ascii {
     ghost finds = { λ _ v. unless (T.passes v) datum.not_ascii };
 
+    #[inline]
+    fn holds(&self, value: &T) -> bool {
+        value.validate_ascii()
+    }
+
     fn find<H: I18n>(&self, alloc: Global, value: &T, h: &H) -> Result<(), RuleError> {
         ascii::apply(alloc, value, (), h)
     }
@@ -41,6 +46,11 @@ pub struct Alphanumeric;
 
 impl<T: alphanumeric::Alphanumeric> Rule<T> for Alphanumeric {
     ghost finds = { λ _ v. unless (T.passes v) datum.not_alphanumeric };
+
+    #[inline]
+    fn holds(&self, value: &T) -> bool {
+        value.validate_alphanumeric()
+    }
 
     fn find<H: I18n>(&self, alloc: Global, value: &T, h: &H) -> Result<(), RuleError> {
         alphanumeric::apply(alloc, value, (), h)
@@ -54,6 +64,11 @@ pub struct Contains<'a>(pub &'a str);
 impl<T: contains::Contains> Rule<T> for Contains<'_> {
     ghost finds = { λ rule v. unless (T.passes rule.0.now v) (datum.contains rule.0.now) };
 
+    #[inline]
+    fn holds(&self, value: &T) -> bool {
+        value.validate_contains(self.0)
+    }
+
     fn find<H: I18n>(&self, alloc: Global, value: &T, h: &H) -> Result<(), RuleError> {
         contains::apply(alloc, value, (self.0,), h)
     }
@@ -66,6 +81,11 @@ pub struct Prefix<'a>(pub &'a str);
 impl<T: prefix::Prefix> Rule<T> for Prefix<'_> {
     ghost finds = { λ rule v. unless (T.passes rule.0.now v) (datum.prefix rule.0.now) };
 
+    #[inline]
+    fn holds(&self, value: &T) -> bool {
+        value.validate_prefix(self.0)
+    }
+
     fn find<H: I18n>(&self, alloc: Global, value: &T, h: &H) -> Result<(), RuleError> {
         prefix::apply(alloc, value, (self.0,), h)
     }
@@ -77,6 +97,11 @@ pub struct Suffix<'a>(pub &'a str);
 
 impl<T: suffix::Suffix> Rule<T> for Suffix<'_> {
     ghost finds = { λ rule v. unless (T.passes rule.0.now v) (datum.suffix rule.0.now) };
+
+    #[inline]
+    fn holds(&self, value: &T) -> bool {
+        value.validate_suffix(self.0)
+    }
 
     fn find<H: I18n>(&self, alloc: Global, value: &T, h: &H) -> Result<(), RuleError> {
         suffix::apply(alloc, value, (self.0,), h)
@@ -95,6 +120,11 @@ pub struct Matches<'a, O> {
 
 impl<T: matches::Matches<O>, O> Rule<T> for Matches<'_, O> {
     ghost finds = { λ rule v. unless (T.passes v rule.other.now) (datum.matches rule.field.now) };
+
+    #[inline]
+    fn holds(&self, value: &T) -> bool {
+        value.validate_matches(self.other)
+    }
 
     fn find<H: I18n>(&self, alloc: Global, value: &T, h: &H) -> Result<(), RuleError> {
         matches::apply(alloc, value, (self.field, self.other), h)
@@ -151,6 +181,13 @@ impl<T: range::Bounds> Rule<T> for Range<T::Size> {
         let lo = unwrap_or rule.min T.MIN in let hi = unwrap_or rule.max T.MAX in
         range_fault (T.text lo) (T.text hi) (T.answer lo hi v) };
 
+    #[inline]
+    fn holds(&self, value: &T) -> bool {
+        value
+            .validate_bounds(self.min.unwrap_or(T::MIN), self.max.unwrap_or(T::MAX))
+            .is_ok()
+    }
+
     fn find<H: I18n>(&self, alloc: Global, value: &T, h: &H) -> Result<(), RuleError> {
         range::apply(alloc, value, (self.min, self.max), h)
     }
@@ -163,6 +200,11 @@ pub struct Required;
 impl<T: required::Required> Rule<T> for Required {
     ghost finds = { λ _ v. unless (T.set v) datum.not_set };
 
+    #[inline]
+    fn holds(&self, value: &T) -> bool {
+        value.is_set()
+    }
+
     fn find<H: I18n>(&self, alloc: Global, value: &T, h: &H) -> Result<(), RuleError> {
         required::apply(alloc, value, (), h)
     }
@@ -174,6 +216,11 @@ pub struct Ip(pub IpKind);
 
 impl<T: ip::Ip> Rule<T> for Ip {
     ghost finds = { λ rule v. unless (T.passes rule.0 v) (datum.ip rule.0) };
+
+    #[inline]
+    fn holds(&self, value: &T) -> bool {
+        value.validate_ip(self.0).is_ok()
+    }
 
     fn find<H: I18n>(&self, alloc: Global, value: &T, h: &H) -> Result<(), RuleError> {
         ip::apply(alloc, value, (self.0,), h)

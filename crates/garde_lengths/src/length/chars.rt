@@ -241,6 +241,11 @@ impl CharLength {
 impl<T: Chars> Rule<T> for CharLength {
     ghost finds = { λ rule v. length_fault rule.min rule.max (T.answer rule.min rule.max v) };
 
+    #[inline]
+    fn holds(&self, value: &T) -> bool {
+        value.validate_num_chars(self.min, self.max).is_ok()
+    }
+
     fn find<H: I18n>(&self, alloc: Global, value: &T, h: &H) -> Result<(), RuleError> {
         apply(alloc, value, (self.min, self.max), h)
     }

@@ -179,6 +179,11 @@ impl GraphemeLength {
 impl<T: Graphemes> Rule<T> for GraphemeLength {
     ghost finds = { λ rule v. length_fault rule.min rule.max (T.answer rule.min rule.max v) };
 
+    #[inline]
+    fn holds(&self, value: &T) -> bool {
+        value.validate_num_graphemes(self.min, self.max).is_ok()
+    }
+
     fn find<H: I18n>(&self, alloc: Global, value: &T, h: &H) -> Result<(), RuleError> {
         apply(alloc, value, (self.min, self.max), h)
     }

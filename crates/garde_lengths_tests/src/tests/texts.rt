@@ -105,6 +105,7 @@ fn assert_finds<R: Rule<&'static str> + Drop>(
     rule: R,
     fault: Option<&str>,
 ) {
+    assert_eq!(rt; rule.holds(&FACE), fault.is_none());
     assert_answer(rt, rule.find(alloc, &FACE, &DefaultI18n), fault);
 }
 
