@@ -38,6 +38,7 @@ pub struct Is<R>(pub R);
 impl<'a, T, R: Rule<T>> Check<'a, T> for Is<R> {
     ghost visits = { λ is v. found (R.finds is.0 v) };
 
+    #[inline(always)]
     fn check<H: I18n>(
         &self,
         alloc: Global,
@@ -46,8 +47,29 @@ impl<'a, T, R: Rule<T>> Check<'a, T> for Is<R> {
         report: &mut Report,
         h: &H,
     ) -> Result<(), AllocError> {
-        trail.put(report, self.0.find(alloc, value, h))
+        if self.0.holds(value) {
+            trail.put(report, Ok(()))
+        } else {
+            put_found(alloc, &self.0, value, trail, report, h)
+        }
     }
+}
+
+// Asks the rule what it finds, and puts that. It stands out of line, so that a rule that holds is a
+// test.
+#[inline(never)]
+fn put_found<'a, T, R: Rule<T>, H: I18n>(
+    alloc: Global,
+    rule: &R,
+    value: &T,
+    trail: &mut Trail<'a>,
+    report: &mut Report,
+    h: &H,
+) -> Result<(), AllocError>
+    ensures { Visited (found (R.finds rule.now value.now)) (H.text h.now)
+        trail.old trail.new report.old report.new result }
+{
+    trail.put(report, rule.find(alloc, value, h))
 }
 
 /// The check that a rule holds of the value which may want memory for its answer.
@@ -57,6 +79,7 @@ pub struct IsInMemory<R>(pub R);
 impl<'a, T, R: MemoryRule<T>> Check<'a, T> for IsInMemory<R> {
     ghost visits = { λ is v. taking (found (R.finds is.0 v)) };
 
+    #[inline(always)]
     fn check<H: I18n>(
         &self,
         alloc: Global,
@@ -76,6 +99,7 @@ pub struct Dive<'c, C>(pub &'c C);
 impl<'a, 'c, T: Validate> Check<'a, T> for Dive<'c, T::Context> {
     ghost visits = { λ dive v. T.visits v dive.0.now };
 
+    #[inline(always)]
     fn check<H: I18n>(
         &self,
         alloc: Global,
@@ -92,6 +116,7 @@ impl<'a, 'c, T: Validate> Check<'a, T> for Dive<'c, T::Context> {
 impl<'a, T, A: Check<'a, T>, B: Check<'a, T>> Check<'a, T> for (A, B) {
     ghost visits = { λ both v. A.visits both.0 v and B.visits both.1 v };
 
+    #[inline(always)]
     fn check<H: I18n>(
         &self,
         alloc: Global,
@@ -109,6 +134,7 @@ impl<'a, T, A: Check<'a, T>, B: Check<'a, T>> Check<'a, T> for (A, B) {
 impl<'a, 'r, T, C: Check<'a, T>> Check<'a, T> for &'r C {
     ghost visits = { λ check v. C.visits check.now v };
 
+    #[inline(always)]
     fn check<H: I18n>(
         &self,
         alloc: Global,
@@ -125,6 +151,7 @@ impl<'a, 'r, T, C: Check<'a, T>> Check<'a, T> for &'r C {
 impl<'a, T, A: Check<'a, T>, B: Check<'a, T>, C: Check<'a, T>> Check<'a, T> for (A, B, C) {
     ghost visits = { λ all v. A.visits all.0 v and B.visits all.1 v and C.visits all.2 v };
 
+    #[inline(always)]
     fn check<H: I18n>(
         &self,
         alloc: Global,
@@ -143,6 +170,7 @@ impl<'a, T, A: Check<'a, T>, B: Check<'a, T>, C: Check<'a, T>, D: Check<'a, T>> 
     ghost visits = { λ all v.
         A.visits all.0 v and B.visits all.1 v and C.visits all.2 v and D.visits all.3 v };
 
+    #[inline(always)]
     fn check<H: I18n>(
         &self,
         alloc: Global,
@@ -159,6 +187,7 @@ impl<'a, T, A: Check<'a, T>, B: Check<'a, T>, C: Check<'a, T>, D: Check<'a, T>> 
 /// component popped.
 ///
 /// `AllocError` is answered where memory runs out, under the terms of `Validate::validate_into`.
+#[inline(always)]
 pub fn check_under<'a, T, C: Check<'a, T>, H: I18n>(
     alloc: Global,
     component: Component<'a>,

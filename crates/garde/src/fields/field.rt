@@ -51,6 +51,7 @@ pub struct Field<'a, T, C>(pub &'a str, pub &'a T, pub C);
 impl<'a, T, C: Check<'a, T>> Fields<'a> for Field<'a, T, C> {
     ghost visits = { λ field. below (key_part field.0.now) (C.visits field.2 field.1.now) };
 
+    #[inline(always)]
     fn visit<H: I18n>(
         &self,
         alloc: Global,
@@ -106,6 +107,7 @@ impl<'a> Fields<'a> for () {
 impl<'a, 'r, F: Fields<'a>> Fields<'a> for &'r F {
     ghost visits = { λ fields. F.visits fields.now };
 
+    #[inline(always)]
     fn visit<H: I18n>(
         &self,
         alloc: Global,

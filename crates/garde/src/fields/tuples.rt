@@ -10,6 +10,7 @@ use std::alloc::{AllocError, Global};
 impl<'a, A: Fields<'a>, B: Fields<'a>> Fields<'a> for (A, B) {
     ghost visits = { λ fields. A.visits fields.0 and B.visits fields.1 };
 
+    #[inline(always)]
     fn visit<H: I18n>(
         &self,
         alloc: Global,
@@ -26,6 +27,7 @@ impl<'a, A: Fields<'a>, B: Fields<'a>> Fields<'a> for (A, B) {
 impl<'a, A: Fields<'a>, B: Fields<'a>, C: Fields<'a>> Fields<'a> for (A, B, C) {
     ghost visits = { λ fields. A.visits fields.0 and B.visits fields.1 and C.visits fields.2 };
 
+    #[inline(always)]
     fn visit<H: I18n>(
         &self,
         alloc: Global,
@@ -42,6 +44,7 @@ impl<'a, A: Fields<'a>, B: Fields<'a>, C: Fields<'a>, D: Fields<'a>> Fields<'a> 
     ghost visits = { λ fields.
         A.visits fields.0 and B.visits fields.1 and C.visits fields.2 and D.visits fields.3 };
 
+    #[inline(always)]
     fn visit<H: I18n>(
         &self,
         alloc: Global,
@@ -60,6 +63,7 @@ impl<'a, A: Fields<'a>, B: Fields<'a>, C: Fields<'a>, D: Fields<'a>, E: Fields<'
         A.visits fields.0 and B.visits fields.1 and C.visits fields.2 and D.visits fields.3
         and E.visits fields.4 };
 
+    #[inline(always)]
     fn visit<H: I18n>(
         &self,
         alloc: Global,
@@ -86,6 +90,7 @@ impl<
         A.visits fields.0 and B.visits fields.1 and C.visits fields.2 and D.visits fields.3
         and E.visits fields.4 and F.visits fields.5 };
 
+    #[inline(always)]
     fn visit<H: I18n>(
         &self,
         alloc: Global,
@@ -113,6 +118,7 @@ impl<
         A.visits fields.0 and B.visits fields.1 and C.visits fields.2 and D.visits fields.3
         and E.visits fields.4 and F.visits fields.5 and G.visits fields.6 };
 
+    #[inline(always)]
     fn visit<H: I18n>(
         &self,
         alloc: Global,
@@ -141,6 +147,7 @@ impl<
         A.visits fields.0 and B.visits fields.1 and C.visits fields.2 and D.visits fields.3
         and E.visits fields.4 and F.visits fields.5 and G.visits fields.6 and I.visits fields.7 };
 
+    #[inline(always)]
     fn visit<H: I18n>(
         &self,
         alloc: Global,
@@ -171,6 +178,7 @@ impl<
         and E.visits fields.4 and F.visits fields.5 and G.visits fields.6 and I.visits fields.7
         and J.visits fields.8 };
 
+    #[inline(always)]
     fn visit<H: I18n>(
         &self,
         alloc: Global,
@@ -202,6 +210,7 @@ impl<
         and E.visits fields.4 and F.visits fields.5 and G.visits fields.6 and I.visits fields.7
         and J.visits fields.8 and K.visits fields.9 };
 
+    #[inline(always)]
     fn visit<H: I18n>(
         &self,
         alloc: Global,
@@ -236,6 +245,7 @@ impl<
         and E.visits fields.4 and F.visits fields.5 and G.visits fields.6 and I.visits fields.7
         and J.visits fields.8 and K.visits fields.9 and L.visits fields.10 };
 
+    #[inline(always)]
     fn visit<H: I18n>(
         &self,
         alloc: Global,
@@ -271,6 +281,7 @@ impl<
         and E.visits fields.4 and F.visits fields.5 and G.visits fields.6 and I.visits fields.7
         and J.visits fields.8 and K.visits fields.9 and L.visits fields.10 and M.visits fields.11 };
 
+    #[inline(always)]
     fn visit<H: I18n>(
         &self,
         alloc: Global,
