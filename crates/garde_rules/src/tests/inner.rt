@@ -2,6 +2,7 @@
 use crate::inner::{self, Inner};
 use garde_report::{Report, Trail};
 use std::alloc::{AllocError, Global};
+use std::collections::BTreeMap;
 use std::test::Fail;
 
 /// Pushes the component of each item, and so leaves it on the trail. Refuses the item 9.
@@ -75,5 +76,18 @@ fn the_method_walks_as_the_function(rt: HostRuntime) -> Result<(), Fail> {
         |_item: &u8, component, trail, _report| trail.push(component),
     )?;
     assert_eq!(rt; trail.path()?.to_string(rt.alloc())?.as_str(), "[0][1]");
+    Ok(())
+}
+
+#[test]
+fn a_map_under_its_keys(rt: HostRuntime) -> Result<(), Fail> {
+    let alloc = rt.alloc();
+    let mut items = BTreeMap::new(alloc);
+    for (key, item) in [("b", 1u8), ("c", 9), ("a", 2), ("d", 3)] {
+        items.insert(String::from_str(alloc, key)?, item)?;
+    }
+    let found = left(alloc, &items)?;
+    assert!(rt; !found.0);
+    assert_eq!(rt; found.1.as_str(), "a.b");
     Ok(())
 }
