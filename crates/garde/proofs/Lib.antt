@@ -5,6 +5,9 @@ mod Refusals
 mod Selected
 mod Read
 pub mod Visiting
+pub mod Calls
+pub mod Nesting
+pub mod Author
 pub mod Quiet
 mod Rest
 pub mod Stated

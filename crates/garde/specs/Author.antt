@@ -1,11 +1,12 @@
 -- The words in which the author of a type says what a visit of it comes by.
 pub use Rattle.std.specs.Prelude.{codes, length, string_bytes}
-pub use Rattle.garde.specs.Visits.{Visits, item, inside}
+pub use Rattle.garde.specs.Visits.{Visits, Visited, item, inside}
 unfoldable pub use Rattle.garde.specs.Visits.{none, only, found, taking, ◌and◌, below, items, entries, items_in_any_order, entries_in_any_order, optional, when}
-pub use Rattle.garde_report.specs.Part.{key_part, index_part}
+unfoldable pub use Rattle.garde.specs.Nested.{nested, within}
+pub use Rattle.garde_report.specs.Part.{key_part, index_part, part_of}
 pub use Rattle.garde_rules.specs.{Fault, rule, own, byte_count, char_count, unit_count, grapheme_count}
 pub use Rattle.garde_i18n.specs.declared.reasons.IpKind.TheVariants.{Any, V4, V6}
-use Rattle.std.specs.Prelude.{ℕ, ℤ, List, Bool, Option, is_some}
+use Rattle.std.specs.Prelude.{ℕ, ℤ, List, Bool, Option, is_some, string_bytes}
 use Rattle.std.specs.Fmt.{decimal, signed_decimal}
 use Rattle.garde_i18n.specs.Datum as datum
 use Rattle.garde_report.specs.Part.{key_part}
@@ -18,6 +19,11 @@ use Rattle.garde_rules.specs.{matches_source, url_answer}
 use Rattle.garde_i18n.specs.declared.reasons.IpKind.{IpKind}
 use Rattle.garde_rules.specs.Text.{is_ascii_text, is_alphanumeric_text, has_part, has_prefix, has_suffix}
 use Rattle.garde.specs.Visits.{Visits, below, found, taking}
+use Rattle.std.specs.declared.alloc.Global.{Global}
+use Rattle.std.specs.declared.string.String.{String}
+use Rattle.garde_report.specs.Part.{Part}
+use Rattle.garde_report.specs.declared.error.component.Kind.TheVariants as kinds
+use Rattle.garde_rules.specs.Inner as inner
 
 -- a field, by its name
 abbrev pub field : List ℕ → Visits → Visits
@@ -71,3 +77,7 @@ pattern source text = taking (found (unless (matches_source source text) (datum.
 
 abbrev pub url : List ℕ → Visits
 url text = taking (found (url_fault (read_answer (url_answer text))))
+
+-- the component of the key of the entry with this number, in a collection of one's own that is walked by `inner`
+abbrev pub key_place : {A : Type 0} → List (String Global × A) → ℕ → Part
+key_place es index = inner.key_place kinds.Key string_bytes es index

@@ -56,7 +56,7 @@ under_alike {p = p} k alike t (s, v, is) =
 
 -- ---- lists
 
-Any-uncons : {A : Type 0} (P : A → Type 0) (x : A) (xs : List A) → Any P (x ∷ xs) → P x ⊎ Any P xs
+pub Any-uncons : {A : Type 0} (P : A → Type 0) (x : A) (xs : List A) → Any P (x ∷ xs) → P x ⊎ Any P xs
 Any-uncons P x xs (zero, y, lt, is, h) = inl (subst P (sym is) h)
 Any-uncons P x xs (suc k, y, lt, is, h) = inr (k, y, omega arith, is, h)
 

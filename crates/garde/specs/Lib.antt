@@ -3,6 +3,7 @@ pub mod Trees
 pub mod Laws
 pub mod Walk
 pub mod Visits
+pub mod Nested
 pub mod Answers
 pub mod Refusal
 pub mod Select

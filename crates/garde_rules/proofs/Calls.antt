@@ -1,6 +1,9 @@
 -- Calls at each of some items, one after the other.
 use Rattle.std.proofs.Common.{◌≡◌, ℕ, zero, suc, ◌+◌, ◌<◌, ◌≤◌, List, [], ◌∷◌, length, drop, Option, Some, None, Result, Ok, Err, MatchResult, refl, sym, ap, subst, ◌∙◌, arith, add-one}
 use Rattle.std.specs.Prelude.{slice_get}
+use Rattle.std.specs.List.{Contains}
+use Rattle.std.specs.declared.alloc.AllocError.{AllocError}
+use Rattle.std.specs.Result.{IsErrAnd}
 use Rattle.garde_report.specs.Part.{Part}
 use Rattle.garde_report.specs.Report.{Entry}
 use Rattle.garde_report.specs.Trace.{Trace}
@@ -19,25 +22,37 @@ pub left_step : {A : Type 0} (place : ℕ → Part) (xs : List A) (i : ℕ) (x :
 left_step place xs i x e =
     ap (numbered place i) (drop_there xs i x e) ∙ (λ j. (place i, x) ∷ numbered place (i + 1) (drop (sym (add-one i) j) xs))
 
-drop_all : {A : Type 0} (xs : List A) (i : ℕ) → length xs ≤ i → drop i xs ≡ []
-drop_all [] zero over = refl
-drop_all [] (suc i) over = refl
-drop_all (x ∷ xs) zero over = absurd (omega arith)
-drop_all (x ∷ xs) (suc i) over = drop_all xs i (omega arith)
-
-pub left_none : {A : Type 0} (place : ℕ → Part) (xs : List A) (i : ℕ) → length xs ≤ i → left place i xs ≡ []
-left_none place xs i over = ap (numbered place i) (drop_all xs i over)
-
 pub is_there : {A : Type 0} (xs : List A) (i : ℕ) → i < length xs → None ≡ slice_get xs i → ⊥
 is_there [] i within e = omega arith
 is_there (x ∷ xs) zero within e = cc
 is_there (x ∷ xs) (suc i) within e = is_there xs i (omega arith) e
 
--- the first of the items, and those after it
-pub called_first : {A : Type 0} (post : Visitor A) (es rest : List (Part × A)) (e : Part × A) (t t1 t' : Trace) (r r1 r' : List Entry) (a answer : Answer) → es ≡ e ∷ rest → Called post e.0 e.1 t r a t1 r1 → MatchResult a (λ _. CalledAtEach post rest t1 r1 answer t' r') (λ f. (answer ≡ Err f) × (t' ≡ t1) × (r' ≡ r1)) → CalledAtEach post es t r answer t' r'
-called_first post es rest e t t1 t' r r1 r' a answer step called others =
-    subst (λ ds. CalledAtEach post ds t r answer t' r') (sym step) (a, t1, r1, called, others)
+-- an item stands among those with their components
+contains_numbered : {A : Type 0} (place : ℕ → Part) (xs : List A) (i k : ℕ) (x : A) → slice_get xs i ≡ Some x → Contains (numbered place k xs) (place (i + k), x)
+contains_numbered place [] i k x e = cc
+contains_numbered place (y ∷ ys) zero k x e = subst (λ j. Contains (numbered place k (y ∷ ys)) (place j, x)) (omega arith) (0, omega arith, let same : y ≡ x = cc in ap (λ z. (place k, z)) same)
+contains_numbered place (y ∷ ys) (suc i) k x e =
+    let (n, lt, is) = contains_numbered place ys i (k + 1) x e in
+    subst (λ j. Contains (numbered place k (y ∷ ys)) (place j, x)) (omega arith) (suc n, omega (arith, lt), is)
 
--- no item is left
-pub called_none : {A : Type 0} (post : Visitor A) (es : List (Part × A)) (t : Trace) (r : List Entry) → es ≡ [] → CalledAtEach post es t r (Ok tt) t r
-called_none post es t r none = subst (λ ds. CalledAtEach post ds t r (Ok tt) t r) (sym none) (refl, refl, refl)
+pub contains_placed : {A : Type 0} (place : ℕ → Part) (xs : List A) (i : ℕ) (k : Part) (x : A) → Some x ≡ slice_get xs i → k ≡ place i → Contains (numbered place 0 xs) (k, x)
+contains_placed place xs i k x e at = subst (λ j. Contains (numbered place 0 xs) (j, x)) (sym at) (subst (λ j. Contains (numbered place 0 xs) (place j, x)) (omega arith) (contains_numbered place xs i 0 x (sym e)))
+
+-- the first of the items was called, and others after it
+pub called_more : {A : Type 0} (post : Visitor A) {es rest : List (Part × A)} (e : Part × A) (k : Part) {t t1 : Trace} {r r1 : List Entry} (answer : Answer) (t' : Trace) (r' : List Entry) → k ≡ e.0 → es ≡ e ∷ rest → Called post k e.1 t r (Ok tt) t1 r1 → CalledAtEach post rest t1 r1 answer t' r' → CalledAtEach post es t r answer t' r'
+called_more post e k {t} {t1} {r} {r1} answer t' r' at step called others =
+    subst (λ ds. CalledAtEach post ds t r answer t' r') (sym step)
+    (Ok tt, t1, r1, subst (λ j. Called post j e.1 t r (Ok tt) t1 r1) at called, others)
+
+-- the first of the items was refused
+pub called_refused : {A : Type 0} (post : Visitor A) {es rest : List (Part × A)} (e : Part × A) (k : Part) {t t1 : Trace} {r r1 : List Entry} (answer : Answer) (f : AllocError) → k ≡ e.0 → es ≡ e ∷ rest → Called post k e.1 t r (Err f) t1 r1 → answer ≡ Err f → CalledAtEach post es t r answer t1 r1
+called_refused post e k {t} {t1} {r} {r1} answer f at step called says =
+    subst (λ ds. CalledAtEach post ds t r answer t1 r1) (sym step)
+    (Err f, t1, r1, subst (λ j. Called post j e.1 t r (Err f) t1 r1) at called, (says, refl, refl))
+
+-- the first of these is among them, and so are those after it
+pub contains_first : {A : Type 0} {es rest : List (Part × A)} (e : Part × A) (k : Part) → k ≡ e.0 → es ≡ e ∷ rest → Contains es (k, e.1)
+contains_first {A} e k at step = subst (λ ds. Contains {X = Part × A} ds (k, e.1)) (sym step) (0, omega arith, λ j. (sym at j, e.1))
+
+pub contains_later : {A : Type 0} {es rest : List A} (e d : A) → es ≡ e ∷ rest → Contains rest d → Contains es d
+contains_later e d step (n, lt, is) = subst (λ ds. Contains ds d) (sym step) (suc n, omega (arith, lt), is)

@@ -2,6 +2,7 @@
 use garde_report::{Report, Trail};
 use garde_rules::inner::{self, Inner};
 use std::alloc::{AllocError, Global};
+use std::collections::BTreeMap;
 use std::process::Abort;
 use std::test::Fail;
 
@@ -90,5 +91,18 @@ fn left_by_the_method<C: Inner<u8>>(alloc: Global, field: &C) -> Result<String, 
 fn the_method_walks_as_the_function(rt: HostRuntime) -> Result<(), Fail> {
     let path = left_by_the_method(rt.alloc(), &[1u8, 2])?;
     assert_eq!(rt; path.as_str(), "[0][1]");
+    Ok(())
+}
+
+#[test]
+fn a_map_under_its_keys(rt: HostRuntime) -> Result<(), Fail> {
+    let alloc = rt.alloc();
+    let mut items = BTreeMap::new(alloc);
+    for (key, item) in [("b", 1u8), ("c", 9), ("a", 2), ("d", 3)] {
+        items.insert(String::from_str(alloc, key)?, item)?;
+    }
+    let found = left(alloc, &items)?;
+    assert!(rt; !found.0);
+    assert_eq!(rt; found.1.as_str(), "a.b");
     Ok(())
 }
