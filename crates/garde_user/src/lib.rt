@@ -2,7 +2,10 @@
 #![tactic(auto)]
 
 pub mod data;
+pub mod ledger;
 pub mod login;
+pub mod names;
+pub mod recursive;
 pub mod table;
 pub mod team;
 #[cfg(test)]
