@@ -2,9 +2,12 @@
 #![tactic(auto)]
 
 pub mod data;
+pub mod ledger;
 pub mod login;
+pub mod names;
 pub mod order;
 pub mod payment;
+pub mod recursive;
 pub mod signup;
 pub mod stock;
 pub mod table;

@@ -2,6 +2,8 @@
 mod bounds;
 mod guide;
 mod modules;
+mod recursive;
+mod walks;
 
 use crate::data::Data;
 use crate::login::Login;

@@ -1,0 +1,2 @@
+pub mod ExprVisits
+pub mod FolderVisits

@@ -1,0 +1,70 @@
+//! Values under keys, in an order of their own.
+ghost use Rattle.std.specs.Prelude.{map, refl};
+ghost use Rattle.garde.specs.Author.{ascii, entries, key_part, key_place, string_bytes};
+
+use garde::error::Component;
+use garde::fields::{Ascii, Is, check_under};
+use garde::rules::inner::{self, Inner};
+use garde::{I18n, Report, Trail, Validate};
+use std::alloc::{AllocError, Global};
+
+/// Rows in the order in which they came, each under its key.
+#[derive(Debug, Drop)]
+pub struct Pairs<T> {
+    pub rows: Vec<(String, T)>,
+}
+
+impl<T> Inner<T> for Pairs<T> {
+    type Key = String;
+
+    ghost contents = { λ v. map (λ row. row.1) v.rows.items };
+
+    ghost place = { λ v. key_place v.rows.items };
+
+    ghost keyed = { λ _ index. refl };
+
+    fn count(&self) -> usize {
+        self.rows.len()
+    }
+
+    fn item(&self, index: usize) -> Option<&T> {
+        match self.rows.get(index) {
+            Some(row) => Some(&row.1),
+            None => None,
+        }
+    }
+
+    fn component<'a>(&'a self, index: usize) -> Component<'a> {
+        Component::key(self.rows[index].0.as_str())
+    }
+}
+
+/// Who owns what, in the order of entry. Each owner is of ASCII.
+#[derive(Debug, Drop)]
+pub struct Ledger {
+    pub owners: Pairs<String>,
+}
+
+impl Validate for Ledger {
+    type Context = ();
+
+    ghost visits = { λ v _. entries (λ k. key_part (string_bytes k)) (λ owner. ascii (string_bytes owner)) v.owners.rows.items };
+
+    fn validate_into<'a, H: I18n>(
+        &'a self,
+        alloc: Global,
+        _ctx: &(),
+        trail: &mut Trail<'a>,
+        report: &mut Report,
+        h: &H,
+    ) -> Result<(), AllocError> {
+        inner::apply(
+            &self.owners,
+            trail,
+            report,
+            |owner, component, trail, report| {
+                check_under(alloc, component, &Is(Ascii), owner, trail, report, h)
+            },
+        )
+    }
+}

@@ -1,0 +1,3 @@
+//! Values that hold values of their own type.
+pub mod expr;
+pub mod folder;
