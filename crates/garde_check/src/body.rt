@@ -6,6 +6,7 @@ mod json;
 use crate::user::User;
 use garde::fields::{
     Alphanumeric, CharLength, Check, Dive, Each, Field, Fields, Ip, Is, Length, Range, Required,
+    Transparent,
 };
 use garde::i18n::IpKind;
 use garde::{I18n, Report, Trail, Validate};
@@ -65,8 +66,8 @@ impl Validate for Body {
         };
         let tag = (Is(Alphanumeric), Is(CharLength { min: 1, max: 20 }));
         let tags = (Is(Length { min: 0, max: 5 }), Each(tag));
-        self.user.validate_into(alloc, ctx, trail, report, h)?;
         (
+            Transparent(&self.user, Dive(ctx)),
             Field("age", &self.age, (Is(Required), Is(years))),
             Field("tags", &self.tags, tags),
             Field("addresses", &self.addresses, Dive(ctx)),
