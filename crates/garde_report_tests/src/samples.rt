@@ -3,6 +3,8 @@
 use garde_report::rc_list::{JoinError, List};
 use garde_report::{Component, Error, Kind, Path, Report, Trail};
 use std::alloc::{AllocError, Global};
+use std::cmp::Ordering;
+use std::fmt::{Debug, Display};
 use std::hash::{DefaultHasher, Hash, Hasher};
 use std::test::Fail;
 
@@ -52,6 +54,21 @@ pub(crate) fn four_faults(alloc: Global) -> Result<Report, Fail> {
     add(&mut report, alloc, &["a", "b", "c"], "pog")?;
     add(&mut report, alloc, &["array", "0", "c"], "pog")?;
     Ok(report)
+}
+
+/// The text of a value.
+pub(crate) fn printed<T: Display>(alloc: Global, value: &T) -> Result<String, AllocError> {
+    format!(in alloc; "{value}")
+}
+
+/// The text of a value for a programmer.
+pub(crate) fn shown<T: Debug>(alloc: Global, value: &T) -> Result<String, AllocError> {
+    format!(in alloc; "{value:?}")
+}
+
+/// How a value compares with another, and whether it equals it.
+pub(crate) fn compared<T: Ord>(value: &T, other: &T) -> (Ordering, bool) {
+    (value.cmp(other), value == other)
 }
 
 /// What a hasher gives of a value.

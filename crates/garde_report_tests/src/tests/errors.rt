@@ -1,7 +1,9 @@
 //! Paths, errors and reports.
 
-use crate::samples::{add, four_faults, hash_of, keys, path_of};
+use crate::samples::{add, compared, four_faults, hash_of, path_of, printed, shown};
+use garde_report::rc_list::JoinError;
 use garde_report::{Error, Kind, NoKey, Path, PathComponentKind, Report, RuleError, select};
+use std::alloc::{AllocError, Global};
 use std::borrow::CowStr;
 use std::cmp::Ordering;
 use std::test::Fail;
@@ -16,20 +18,44 @@ const ONE: (Kind, &str) = (Kind::Index, "1");
 
 const UNNAMED: (Kind, &str) = (Kind::None, "");
 
+/// The path `[0].a[1]`, by joins.
+fn joined(alloc: Global) -> Result<Path, JoinError> {
+    let above = Path::new(alloc, 0usize)?.join(alloc, "a")?;
+    above.join(alloc, 1usize)
+}
+
+/// Whether a path without its last component is another one.
+fn is_beneath(path: &Path, above: &Path) -> Result<bool, AllocError> {
+    Ok(match path.parent()? {
+        Some(parent) => parent == *above,
+        None => false,
+    })
+}
+
+/// A component as a walk gives it, or none at its end.
+type Given<'p> = Option<(Kind, &'p str)>;
+
+/// How many components a walk has, and what it gives from the front, from the back, and twice from
+/// the front.
+fn walked(alloc: Global, path: &Path) -> Result<(usize, [Given<'_>; 4]), AllocError> {
+    let mut walk = path.iter(alloc)?;
+    let length = walk.len();
+    let first = walk.next();
+    let last = walk.next_back();
+    let middle = walk.next();
+    let end = walk.next();
+    Ok((length, [first, last, middle, end]))
+}
+
 #[test]
 fn a_path_is_joined_walked_and_cut(rt: HostRuntime) -> Result<(), Fail> {
-    let above = Path::new(rt.alloc(), 0usize)?.join(rt.alloc(), "a")?;
-    let path = above.join(rt.alloc(), 1usize)?;
-    assert_eq!(rt; path.to_string(rt.alloc())?.as_str(), "[0].a[1]");
+    let path = joined(rt.alloc())?;
     assert_eq!(rt; path.len(), 3);
-    let parent = path.parent()?.ok_or("there is a component")?;
-    assert!(rt; parent == above);
-    let mut walk = path.iter(rt.alloc())?;
-    assert_eq!(rt; walk.len(), 3);
-    assert_eq!(rt; walk.next(), Some((Kind::Index, "1")));
-    assert_eq!(rt; walk.next_back(), Some((Kind::Index, "0")));
-    assert_eq!(rt; walk.next(), Some((Kind::Key, "a")));
-    assert_eq!(rt; walk.next(), None);
+    assert_eq!(rt; printed(rt.alloc(), &path)?.as_str(), "[0].a[1]");
+    let above = path_of(rt.alloc(), &[ZERO, A])?;
+    assert!(rt; is_beneath(&path, &above)?);
+    let given = [Some(ONE), Some(ZERO), Some(A), None];
+    assert_eq!(rt; walked(rt.alloc(), &path)?, (3, given));
     Ok(())
 }
 
@@ -38,7 +64,7 @@ fn the_root_has_no_parent(rt: HostRuntime) -> Result<(), Fail> {
     let root = Path::default();
     assert!(rt; root.is_empty());
     assert!(rt; root.parent()?.is_none());
-    assert_eq!(rt; root.to_string(rt.alloc())?.as_str(), "");
+    assert_eq!(rt; printed(rt.alloc(), &root)?.as_str(), "");
     Ok(())
 }
 
@@ -63,7 +89,7 @@ fn each_component_prints_after_those_above(rt: HostRuntime) -> Result<(), Fail> 
     ];
     for (components, text) in rows {
         let path = path_of(rt.alloc(), components)?;
-        assert_eq!(rt; path.to_string(rt.alloc())?.as_str(), text);
+        assert_eq!(rt; printed(rt.alloc(), &path)?.as_str(), text);
     }
     Ok(())
 }
@@ -81,8 +107,8 @@ fn different_paths_can_print_one_text(rt: HostRuntime) -> Result<(), Fail> {
         let path = path_of(rt.alloc(), components)?;
         let other = path_of(rt.alloc(), others)?;
         assert!(rt; path != other, "at {text}");
-        assert_eq!(rt; path.to_string(rt.alloc())?.as_str(), text);
-        assert_eq!(rt; other.to_string(rt.alloc())?.as_str(), text);
+        assert_eq!(rt; printed(rt.alloc(), &path)?.as_str(), text);
+        assert_eq!(rt; printed(rt.alloc(), &other)?.as_str(), text);
     }
     Ok(())
 }
@@ -104,20 +130,29 @@ fn shorter_paths_come_first(rt: HostRuntime) -> Result<(), Fail> {
     for (components, others, order) in rows {
         let path = path_of(rt.alloc(), components)?;
         let other = path_of(rt.alloc(), others)?;
-        assert_eq!(rt; path.cmp(&other), order);
-        assert!(rt; path != other || hash_of(&path) == hash_of(&other));
+        let same = order == Ordering::Equal;
+        assert_eq!(rt; compared(&path, &other), (order, same));
+        assert!(rt; !same || hash_of(&path) == hash_of(&other));
     }
     Ok(())
 }
 
+/// Whether the path of a component is that of this kind and text.
+fn is_path_of<K: PathComponentKind + Drop>(
+    alloc: Global,
+    made: K,
+    component: (Kind, &str),
+) -> Result<bool, AllocError> {
+    Ok(Path::new(alloc, made)? == path_of(alloc, &[component])?)
+}
+
 #[test]
 fn each_type_of_component_has_its_kind(rt: HostRuntime) -> Result<(), Fail> {
-    let owned = Path::new(rt.alloc(), String::from_str(rt.alloc(), "a")?)?;
-    assert!(rt; owned == keys(rt.alloc(), &["a"])?);
-    let borrowed = Path::new(rt.alloc(), CowStr::Borrowed("a"))?;
-    assert!(rt; owned == borrowed);
-    let unnamed = Path::new(rt.alloc(), NoKey::default())?;
-    assert!(rt; unnamed == path_of(rt.alloc(), &[UNNAMED])?);
+    let alloc = rt.alloc();
+    assert!(rt; is_path_of(alloc, String::from_str(alloc, "a")?, A)?);
+    assert!(rt; is_path_of(alloc, CowStr::Borrowed("a"), A)?);
+    assert!(rt; is_path_of(alloc, "a", A)?);
+    assert!(rt; is_path_of(alloc, NoKey::default(), UNNAMED)?);
     let shared = (&7usize).component();
     assert_eq!(rt;
         shared.kind(),
@@ -133,12 +168,12 @@ fn each_type_of_component_has_its_kind(rt: HostRuntime) -> Result<(), Fail> {
 #[test]
 fn debug_shows_the_parts(rt: HostRuntime) -> Result<(), Fail> {
     let path = Path::new(rt.alloc(), "content_fingerprints")?.join(rt.alloc(), 0usize)?;
-    let shown = "Path { components: [(Key, \"content_fingerprints\"), (Index, \"0\")] }";
-    assert_eq!(rt; format!(in rt.alloc(); "{path:?}")?.as_str(), shown);
+    let wanted = "Path { components: [(Key, \"content_fingerprints\"), (Index, \"0\")] }";
+    assert_eq!(rt; shown(rt.alloc(), &path)?.as_str(), wanted);
     let mut report = Report::new(rt.alloc());
     add(&mut report, rt.alloc(), &[], "x")?;
-    let shown = "Report { errors: [(Path { components: [] }, Error { message: \"x\" })] }";
-    assert_eq!(rt; format!(in rt.alloc(); "{report:?}")?.as_str(), shown);
+    let wanted = "Report { errors: [(Path { components: [] }, Error { message: \"x\" })] }";
+    assert_eq!(rt; shown(rt.alloc(), &report)?.as_str(), wanted);
     Ok(())
 }
 
@@ -151,10 +186,15 @@ fn only_the_root_has_no_colon(rt: HostRuntime) -> Result<(), Fail> {
     add(&mut report, rt.alloc(), &[], "x")?;
     add(&mut report, rt.alloc(), &["a", "b"], "y\nz")?;
     assert_eq!(rt;
-        report.to_string(rt.alloc())?.as_str(),
+        printed(rt.alloc(), &report)?.as_str(),
         ": x\nx\na.b: y\nz\n"
     );
     Ok(())
+}
+
+/// How a clone of an error compares with it.
+fn order_to_its_clone(error: &Error) -> Result<Ordering, AllocError> {
+    Ok(error.clone()?.cmp(error))
 }
 
 #[test]
@@ -162,9 +202,9 @@ fn a_clone_is_equal(rt: HostRuntime) -> Result<(), Fail> {
     let report = four_faults(rt.alloc())?;
     let copy = report.clone()?.into_inner();
     assert_eq!(rt; copy.len(), 4);
-    for ((path, error), (like, same)) in report.iter().zip(&copy) {
-        assert!(rt; path == like && error == same);
-        assert_eq!(rt; error.clone()?.cmp(error), Ordering::Equal);
+    for (fault, like) in report.iter().zip(&copy) {
+        assert!(rt; fault == like);
+        assert_eq!(rt; order_to_its_clone(&fault.1)?, Ordering::Equal);
     }
     Ok(())
 }
@@ -186,6 +226,14 @@ fn select_takes_what_stands_beneath(rt: HostRuntime) -> Result<(), Fail> {
     Ok(())
 }
 
+/// Whether the fault of a text has it as its message, and equals its clone.
+fn is_kept(alloc: Global, handed: CowStr<'static>, text: &str) -> Result<bool, AllocError> {
+    match RuleError::of(alloc, Ok(handed)) {
+        RuleError::Fault(error) => Ok(error.message() == text && error.clone()? == error),
+        RuleError::Memory => Err(AllocError),
+    }
+}
+
 #[test]
 fn a_rule_error_keeps_the_text(rt: HostRuntime) -> Result<(), Fail> {
     // The last three have 30, 31 and 31 bytes.
@@ -197,29 +245,38 @@ fn a_rule_error_keeps_the_text(rt: HostRuntime) -> Result<(), Fail> {
         "abcdefghijklmnopqrstuvwxyz012\u{e9}",
     ];
     for text in rows {
+        assert!(rt;
+            is_kept(rt.alloc(), CowStr::Borrowed(text), text)?,
+            "{text}"
+        );
         let owned = String::from_str(rt.alloc(), text)?;
-        for handed in [CowStr::Borrowed(text), CowStr::Owned(owned)] {
-            let RuleError::Fault(error) = RuleError::of(rt.alloc(), Ok(handed)) else {
-                return Err("no fault")?;
-            };
-            assert_eq!(rt; error.message(), text);
-            assert!(rt; error.clone()? == error);
-        }
+        assert!(rt; is_kept(rt.alloc(), CowStr::Owned(owned), text)?, "{text}");
     }
     Ok(())
 }
 
-#[test]
-fn a_million_components_need_no_deep_stack(rt: HostRuntime) -> Result<(), Fail> {
+/// The path of the indexes below a million.
+fn a_million_indexes(alloc: Global) -> Result<Path, JoinError> {
     let mut path = Path::empty();
     for index in 0..1_000_000usize {
-        path = path.join(rt.alloc(), index)?;
+        path = path.join(alloc, index)?;
     }
+    Ok(path)
+}
+
+/// The last component that a walk gives.
+fn last_of(alloc: Global, path: &Path) -> Result<Given<'_>, AllocError> {
+    Ok(path.iter(alloc)?.last())
+}
+
+#[test]
+fn a_million_components_need_no_deep_stack(rt: HostRuntime) -> Result<(), Fail> {
+    let path = a_million_indexes(rt.alloc())?;
     let like = path.clone()?;
-    assert_eq!(rt; path.cmp(&like), Ordering::Equal);
+    assert_eq!(rt; compared(&path, &like), (Ordering::Equal, true));
     assert_eq!(rt; hash_of(&path), hash_of(&like));
-    assert_eq!(rt; path.iter(rt.alloc())?.last(), Some((Kind::Index, "0")));
+    assert_eq!(rt; last_of(rt.alloc(), &path)?, Some(ZERO));
     // The digits of all indices, and two brackets for each.
-    assert_eq!(rt; path.to_string(rt.alloc())?.len(), 7_888_890);
+    assert_eq!(rt; printed(rt.alloc(), &path)?.len(), 7_888_890);
     Ok(())
 }

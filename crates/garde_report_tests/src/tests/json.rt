@@ -1,10 +1,10 @@
 //! Written forms, and trees that are none.
 
-use crate::samples::path_of;
+use crate::samples::{path_of, printed};
 use garde_report::json::{
     JsonRefused, path_from_json, path_to_json, report_from_json, report_to_json,
 };
-use garde_report::{Error, Kind, Report};
+use garde_report::{Error, Kind, Path, Report};
 use serde_json::Value;
 use std::alloc::Global;
 use std::test::Fail;
@@ -30,9 +30,37 @@ fn report_of(alloc: Global, faults: &[(&[(Kind, &str)], &str)]) -> Result<Report
     Ok(report)
 }
 
-// What the reader answers of the tree of a text.
-fn read(alloc: Global, text: &str) -> Result<Result<Report, JsonRefused>, Fail> {
-    Ok(report_from_json(alloc, &Value::from_str(alloc, text)?))
+// The text of the tree of a report, and the report that is read back from the tree.
+fn there_and_back(alloc: Global, report: &Report) -> Result<(String, Report), Fail> {
+    let tree = report_to_json(alloc, report)?;
+    let back = report_from_json(alloc, &tree).map_err(|_| "it is a written form")?;
+    Ok((tree.to_string(alloc)?, back))
+}
+
+// The same of a path.
+fn path_there_and_back(alloc: Global, path: &Path) -> Result<(String, Path), Fail> {
+    let tree = path_to_json(alloc, path)?;
+    let back = path_from_json(alloc, &tree).map_err(|_| "it is a written form")?;
+    Ok((tree.to_string(alloc)?, back))
+}
+
+// The printed text of the report that is read from the tree of a text.
+fn read(alloc: Global, text: &str) -> Result<String, Fail> {
+    let tree = Value::from_str(alloc, text)?;
+    let report = report_from_json(alloc, &tree).map_err(|_| "it is a written form")?;
+    Ok(printed(alloc, &report)?)
+}
+
+// Whether the tree of a text is refused as a report for its form.
+fn is_refused(alloc: Global, text: &str) -> Result<bool, Fail> {
+    let tree = Value::from_str(alloc, text)?;
+    Ok(matches!(&report_from_json(alloc, &tree), Err(JsonRefused::Form)))
+}
+
+// Whether the tree of a text is refused as a path for its form.
+fn is_refused_as_a_path(alloc: Global, text: &str) -> Result<bool, Fail> {
+    let tree = Value::from_str(alloc, text)?;
+    Ok(matches!(&path_from_json(alloc, &tree), Err(JsonRefused::Form)))
 }
 
 #[test]
@@ -55,9 +83,8 @@ fn a_report_is_written_and_read_back(rt: HostRuntime) -> Result<(), Fail> {
     ];
     for (faults, text) in rows {
         let report = report_of(rt.alloc(), faults)?;
-        let tree = report_to_json(rt.alloc(), &report)?;
-        assert_eq!(rt; tree.to_string(rt.alloc())?.as_str(), text);
-        let back = report_from_json(rt.alloc(), &tree).map_err(|_| "it is a written form")?;
+        let (written, back) = there_and_back(rt.alloc(), &report)?;
+        assert_eq!(rt; written.as_str(), text);
         assert!(rt; back.into_inner() == report.into_inner());
     }
     Ok(())
@@ -66,15 +93,10 @@ fn a_report_is_written_and_read_back(rt: HostRuntime) -> Result<(), Fail> {
 #[test]
 fn a_path_is_written_and_read_back(rt: HostRuntime) -> Result<(), Fail> {
     let path = path_of(rt.alloc(), &[A, ZERO])?;
-    let tree = path_to_json(rt.alloc(), &path)?;
-    assert_eq!(rt;
-        tree.to_string(rt.alloc())?.as_str(),
-        r#"[["key","a"],["index","0"]]"#
-    );
-    let back = path_from_json(rt.alloc(), &tree).map_err(|_| "it is a written form")?;
+    let (written, back) = path_there_and_back(rt.alloc(), &path)?;
+    assert_eq!(rt; written.as_str(), r#"[["key","a"],["index","0"]]"#);
     assert!(rt; back == path);
-    let none = Value::from_str(rt.alloc(), r#"{"key":"a"}"#)?;
-    assert!(rt; matches!(&path_from_json(rt.alloc(), &none), Err(JsonRefused::Form)));
+    assert!(rt; is_refused_as_a_path(rt.alloc(), r#"{"key":"a"}"#)?);
     Ok(())
 }
 
@@ -99,8 +121,7 @@ fn every_other_tree_is_refused(rt: HostRuntime) -> Result<(), Fail> {
         r#"{"errors":[[[],{"message":"x","code":"y"}]]}"#,
     ];
     for text in rows {
-        let answer = read(rt.alloc(), text)?;
-        assert!(rt; matches!(&answer, Err(JsonRefused::Form)), "at {text}");
+        assert!(rt; is_refused(rt.alloc(), text)?, "at {text}");
     }
     Ok(())
 }
@@ -118,9 +139,8 @@ fn any_text_stands_with_any_kind(rt: HostRuntime) -> Result<(), Fail> {
             "[b].: x\n",
         ),
     ];
-    for (text, printed) in rows {
-        let report = read(rt.alloc(), text)?.map_err(|_| "it is a written form")?;
-        assert_eq!(rt; report.to_string(rt.alloc())?.as_str(), printed);
+    for (text, lines) in rows {
+        assert_eq!(rt; read(rt.alloc(), text)?.as_str(), lines);
     }
     Ok(())
 }

@@ -1,7 +1,8 @@
 //! Ways down and up, with the paths that are asked for and the nodes made so far.
 
+use crate::samples::printed;
 use garde_report::{Component, Error, Report, RuleError, Trail};
-use std::alloc::Global;
+use std::alloc::{AllocError, Global};
 use std::process::Abort;
 use std::test::Fail;
 
@@ -14,6 +15,12 @@ enum Step {
     Path(&'static str, usize),
 }
 
+/// Whether the path of a trail prints this text.
+fn is_at(trail: &mut Trail<'_>, alloc: Global, text: &str) -> Result<bool, AllocError> {
+    Ok(printed(alloc, &trail.path()?)?.as_str() == text)
+}
+
+/// Asserts each text and count on a way of these steps.
 fn takes_the_steps(rt: &impl Abort, alloc: Global, steps: &[Step]) -> Result<(), Fail> {
     let mut trail = Trail::new(alloc);
     for step in steps {
@@ -26,8 +33,7 @@ fn takes_the_steps(rt: &impl Abort, alloc: Global, steps: &[Step]) -> Result<(),
                 }
             }
             Step::Path(text, nodes) => {
-                let path = trail.path()?.to_string(alloc)?;
-                assert_eq!(rt; path.as_str(), text);
+                assert!(rt; is_at(&mut trail, alloc, text)?, "at {text}");
                 assert_eq!(rt; trail.nodes(), nodes, "at {text}");
             }
         }
@@ -72,6 +78,12 @@ fn missing_paths_are_made_from_the_deepest_one_on(rt: HostRuntime) -> Result<(),
     takes_the_steps(&rt, rt.alloc(), &steps)
 }
 
+/// Puts the fault `weak`.
+fn put_weak(trail: &mut Trail<'_>, alloc: Global, report: &mut Report) -> Result<(), AllocError> {
+    let weak = Error::new(alloc, "weak")?;
+    trail.put(report, Err(RuleError::Fault(weak)))
+}
+
 #[test]
 fn put_appends_a_fault_and_nothing_else(rt: HostRuntime) -> Result<(), Fail> {
     let mut report = Report::new(rt.alloc());
@@ -80,10 +92,9 @@ fn put_appends_a_fault_and_nothing_else(rt: HostRuntime) -> Result<(), Fail> {
     trail.put(&mut report, Ok(()))?;
     assert!(rt; report.is_empty());
     assert_eq!(rt; trail.nodes(), 0);
-    let weak = Err(Error::new(rt.alloc(), "weak")?);
-    trail.put(&mut report, weak.map_err(RuleError::Fault))?;
+    put_weak(&mut trail, rt.alloc(), &mut report)?;
     assert!(rt; trail.put(&mut report, Err(RuleError::Memory)).is_err());
-    assert_eq!(rt; report.to_string(rt.alloc())?.as_str(), "a: weak\n");
+    assert_eq!(rt; printed(rt.alloc(), &report)?.as_str(), "a: weak\n");
     assert_eq!(rt; trail.nodes(), 1);
     Ok(())
 }
