@@ -1,5 +1,6 @@
 //! Numbers of cards and phones, whose types say themselves what is one.
-ghost use Rattle.garde.specs.Fields.{◌and◌, ◌==◌, nat_le, Ok, Err, if◌then◌else◌, byte_count, string_bytes, field, credit_card, phone_number};
+ghost use Rattle.std.specs.Prelude.{◌==◌, if◌then◌else◌};
+ghost use Rattle.garde.specs.Fields.{◌and◌, nat_le, Ok, Err, byte_count, string_bytes, field, credit_card, phone_number};
 ghost use Rattle.garde.specs.Cards.{InvalidLength};
 ghost use Rattle.garde.specs.Phones.{TooLong};
 

@@ -1,6 +1,6 @@
 //! Fields that depend on one another, conditions, rules of one's own and messages of one's own.
-ghost use Rattle.std.specs.Prelude.{◌≡◌};
-ghost use Rattle.garde.specs.Fields.{◌and◌, ◌||◌, not, Some, None, if◌then◌else◌, codes, string_bytes, own, field, length_between, chars_min, suffix, required, range_between, optional, when, matches_text, asks, told, is_ipv4_text, is_ipv6_text};
+ghost use Rattle.std.specs.Prelude.{◌≡◌, ◌||◌, if◌then◌else◌};
+ghost use Rattle.garde.specs.Fields.{◌and◌, not, Some, None, codes, string_bytes, own, field, length_between, chars_min, suffix, required, range_between, optional, when, matches_text, asks, told, is_ipv4_text, is_ipv6_text};
 ghost use Rattle.garde.specs.Finds as rules;
 
 use garde::fields::{
