@@ -17,7 +17,7 @@ const LONG: usize = 512;
 
 // Whether the text has the pattern as a part. A pattern of one byte, as `@`, is searched as a byte.
 #[tactic(auto, using(crate::proofs::TextLemmas::part_is))]
-fn has_pattern(text: &str, pattern: &str) -> bool
+pub(crate) fn has_pattern(text: &str, pattern: &str) -> bool
     ensures { result ≡ has_part pattern.now text.now }
 {
     match pattern.as_bytes() {

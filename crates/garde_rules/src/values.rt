@@ -234,6 +234,11 @@ pub struct CreditCard;
 impl<T: credit_card::CreditCard> Rule<T> for CreditCard {
     ghost finds = { λ _ v. card_fault (T.answer v) };
 
+    #[inline]
+    fn holds(&self, value: &T) -> bool {
+        value.validate_credit_card().is_ok()
+    }
+
     fn find<H: I18n>(&self, alloc: Global, value: &T, h: &H) -> Result<(), RuleError> {
         credit_card::apply(alloc, value, (), h)
     }
@@ -245,6 +250,11 @@ pub struct PhoneNumber;
 
 impl<T: phone_number::PhoneNumber> Rule<T> for PhoneNumber {
     ghost finds = { λ _ v. phone_fault (T.answer v) };
+
+    #[inline]
+    fn holds(&self, value: &T) -> bool {
+        value.validate_phone_number().is_ok()
+    }
 
     fn find<H: I18n>(&self, alloc: Global, value: &T, h: &H) -> Result<(), RuleError> {
         phone_number::apply(alloc, value, (), h)
@@ -261,6 +271,11 @@ pub struct WithMessage<'a, R>(pub R, pub &'a str);
 
 impl<T, R: Rule<T>> Rule<T> for WithMessage<'_, R> {
     ghost finds = { λ rule v. option_map (λ _. own rule.1.now) (R.finds rule.0 v) };
+
+    #[inline]
+    fn holds(&self, value: &T) -> bool {
+        self.0.holds(value)
+    }
 
     fn find<H: I18n>(&self, alloc: Global, value: &T, h: &H) -> Result<(), RuleError> {
         match self.0.find(alloc, value, h) {
@@ -292,6 +307,11 @@ pub struct Adapt<V, R>(pub V, pub R);
 
 impl<T, V: View<T>, R: Rule<V::Seen>> Rule<T> for Adapt<V, R> {
     ghost finds = { λ rule v. R.finds rule.1 (V.seen rule.0 v) };
+
+    #[inline]
+    fn holds(&self, value: &T) -> bool {
+        self.1.holds(self.0.see(value))
+    }
 
     fn find<H: I18n>(&self, alloc: Global, value: &T, h: &H) -> Result<(), RuleError> {
         adapt(

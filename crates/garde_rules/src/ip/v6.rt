@@ -5,6 +5,7 @@ ghost use Rattle.garde_rules.specs.declared.ip.v6.Place.TheVariants.{Piece};
 ghost use Rattle.garde_rules.specs.IpText.{is_ipv6_text};
 ghost use Rattle.garde_rules.specs.Ipv6Reader.{accepts_ipv6, start_ipv6, read_ipv6, read_colon, read_other, ends_ipv6, read_piece, read_double, count_digit, read_octets, ends_octets, is_full, is_group_len};
 
+use crate::contains::has_pattern;
 use crate::ip::v4::Ipv4Reader;
 
 // Where in a text the reader stands.
@@ -192,5 +193,5 @@ pub fn is_ipv6(text: &str) -> bool
     ensures grammar { IsTrue result ↔ IsIpv6 text.now }
     ensures value { result ≡ is_ipv6_text text.now }
 {
-    reads_ipv6(text)
+    has_pattern(text, ":") && reads_ipv6(text)
 }
