@@ -1,7 +1,7 @@
 //! Values of the tests.
 
 use garde_report::rc_list::{JoinError, List};
-use garde_report::{Component, Error, Kind, Path, Report, Trail};
+use garde_report::{Component, Error, Kind, Path, PathComponentKind, Report, Trail};
 use std::alloc::{AllocError, Global};
 use std::cmp::Ordering;
 use std::fmt::{Debug, Display};
@@ -26,6 +26,23 @@ pub(crate) fn path_of(alloc: Global, components: &[(Kind, &str)]) -> Result<Path
     trail.path()
 }
 
+/// The path of one component.
+pub(crate) fn path_of_one<C: PathComponentKind + Drop>(
+    alloc: Global,
+    component: C,
+) -> Result<Path, AllocError> {
+    Path::new(alloc, component)
+}
+
+/// The path of the indexes below this number, by joins.
+pub(crate) fn path_to(alloc: Global, size: usize) -> Result<Path, JoinError> {
+    let mut path = Path::empty();
+    for index in 0..size {
+        path = path.join(alloc, index)?;
+    }
+    Ok(path)
+}
+
 /// The path of these keys.
 pub(crate) fn keys(alloc: Global, keys: &[&str]) -> Result<Path, JoinError> {
     let mut path = Path::empty();
@@ -44,6 +61,29 @@ pub(crate) fn add(
 ) -> Result<(), Fail> {
     report.append(keys(alloc, components)?, Error::new(alloc, message)?)?;
     Ok(())
+}
+
+/// Adds a fault at the path of these components.
+pub(crate) fn add_at(
+    report: &mut Report,
+    alloc: Global,
+    components: &[(Kind, &str)],
+    message: &str,
+) -> Result<(), AllocError> {
+    let error = Error::new(alloc, message)?;
+    report.append(path_of(alloc, components)?, error)
+}
+
+/// A report of these faults.
+pub(crate) fn report_of(
+    alloc: Global,
+    faults: &[(&[(Kind, &str)], &str)],
+) -> Result<Report, AllocError> {
+    let mut report = Report::new(alloc);
+    for (components, message) in faults {
+        add_at(&mut report, alloc, components, message)?;
+    }
+    Ok(report)
 }
 
 /// A report of four faults, two of them at one path.

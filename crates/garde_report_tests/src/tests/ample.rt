@@ -1,12 +1,12 @@
 //! Ample memory: what is long, deep or many is answered as what is small.
 
-use crate::samples::path_of;
+use crate::samples::{path_of, path_to};
 use garde_json::report_to_json_text;
 use garde_report::json::{report_from_json, report_to_json};
-use garde_report::rc_list::List;
+use garde_report::rc_list::{JoinError, List};
 use garde_report::{Component, Error, Kind, Path, Report, RuleError, Trail};
 use serde_json::Value;
-use std::alloc::Global;
+use std::alloc::{AllocError, Global};
 use std::borrow::CowStr;
 use std::process::Abort;
 use std::test::Fail;
@@ -17,77 +17,116 @@ const SIZES: [usize; 6] = [0, 1, 8, 9, 12, 1000];
 const LONG: &str =
     "abcdefghijklmnopqrstuvwxyz0123abcdefghijklmnopqrstuvwxyz0123abcdefghijklmnopqrstuvwxyz0123abcdefghijklmnopqrstuvwxyz0123";
 
+// How many items stand before the last one of a list of so many.
+fn items_before(alloc: Global, size: usize) -> Result<Option<usize>, JoinError> {
+    let mut list = List::new();
+    for index in 0..size {
+        list = list.append(alloc, index)?;
+    }
+    let before = list.before()?;
+    Ok(before.map(|list| list.len()))
+}
+
+// How many components a path of so many has without its last.
+fn components_above(alloc: Global, size: usize) -> Result<Option<usize>, JoinError> {
+    let parent = path_to(alloc, size)?.parent()?;
+    Ok(parent.map(|path| path.len()))
+}
+
+// How many components a clone of a path of so many gives.
+fn components_of_a_clone(alloc: Global, size: usize) -> Result<usize, JoinError> {
+    let path = path_to(alloc, size)?.clone()?;
+    Ok(path.iter(alloc)?.count())
+}
+
 #[test]
 fn lists_and_paths_of_each_size_are_cut(rt: HostRuntime) -> Result<(), Fail> {
-    let alloc = rt.alloc();
     for size in SIZES {
-        let mut list = List::new();
-        let mut path = Path::empty();
-        for index in 0..size {
-            list = list.append(alloc, index)?;
-            path = path.join(alloc, index)?;
-        }
         let above = size.checked_sub(1);
-        assert_eq!(rt; list.before()?.map(|list| list.len()), above);
-        assert_eq!(rt; path.parent()?.map(|path| path.len()), above);
-        assert_eq!(rt; path.clone()?.iter(alloc)?.len(), size);
+        assert_eq!(rt; items_before(rt.alloc(), size)?, above);
+        assert_eq!(rt; components_above(rt.alloc(), size)?, above);
+        assert_eq!(rt; components_of_a_clone(rt.alloc(), size)?, size);
     }
     Ok(())
+}
+
+// Goes down so far, and puts a fault with this text. Gives the nodes that this made.
+fn walk(
+    alloc: Global,
+    size: usize,
+    text: &'static str,
+    report: &mut Report,
+) -> Result<usize, AllocError> {
+    let mut trail = Trail::new(alloc);
+    for index in 0..size {
+        trail.push(Component::index(index))?;
+    }
+    let fault = RuleError::of(alloc, Ok(CowStr::Borrowed(text)));
+    trail.put(report, Err(fault))?;
+    Ok(trail.nodes())
+}
+
+// Whether the one fault of a report stands so deep, and has this text.
+fn is_one_fault(report: &Report, size: usize, text: &str) -> bool {
+    let is_right = |(path, error): &(Path, Error)| path.len() == size && error.message() == text;
+    report.iter().count() == 1 && report.iter().all(is_right)
 }
 
 #[test]
 fn ways_of_each_size_are_walked_and_reported(rt: HostRuntime) -> Result<(), Fail> {
-    let alloc = rt.alloc();
     for size in SIZES {
-        let mut trail = Trail::new(alloc);
-        let mut report = Report::new(alloc);
-        for index in 0..size {
-            trail.push(Component::index(index))?;
-        }
-        let fault = RuleError::of(alloc, Ok(CowStr::Borrowed(LONG)));
-        trail.put(&mut report, Err(fault))?;
-        assert_eq!(rt; trail.nodes(), size);
-        assert_eq!(rt; trail.path()?.len(), size);
-        let all = report.into_inner();
-        assert!(rt; all.iter().all(|(path, error)| path.len() == size && error.message() == LONG));
-        assert_eq!(rt; all.len(), 1);
+        let mut report = Report::new(rt.alloc());
+        let nodes = walk(rt.alloc(), size, LONG, &mut report)?;
+        assert_eq!(rt; nodes, size);
+        assert!(rt; is_one_fault(&report, size, LONG));
     }
     Ok(())
 }
 
+// Whether the path of a component has it, and no other.
+fn is_component_kept(alloc: Global, kind: Kind, text: &str) -> Result<bool, AllocError> {
+    let path = path_of(alloc, &[(kind, text)])?;
+    Ok(path.iter(alloc)?.eq([(kind, text)]))
+}
+
+// Whether an error, its clone, and the fault of the text have it as their message.
+fn is_message_kept(alloc: Global, text: &str) -> Result<bool, AllocError> {
+    let error = Error::new(alloc, text)?;
+    let copy = error.clone()?;
+    let owned = String::from_str(alloc, text)?;
+    let fault = RuleError::of(alloc, Ok(CowStr::Owned(owned)));
+    let is_kept = matches!(&fault, RuleError::Fault(same) if same.message() == text);
+    Ok(is_kept && copy.message() == text)
+}
+
 #[test]
 fn texts_of_each_length_are_kept(rt: HostRuntime) -> Result<(), Fail> {
-    let alloc = rt.alloc();
     for letter in ["a", "\u{0}", "\u{1f}", "\u{e9}"] {
         for times in [0usize, 1, 11, 15, 16, 22, 23, 30, 31, 1000] {
-            let text = letter.repeat(alloc, times)?;
+            let text = letter.repeat(rt.alloc(), times)?;
             for kind in [Kind::None, Kind::Key, Kind::Index] {
-                let path = path_of(alloc, &[(kind, text.as_str())])?;
-                let mut parts = path.iter(alloc)?;
-                assert_eq!(rt; parts.next(), Some((kind, text.as_str())));
+                assert!(rt; is_component_kept(rt.alloc(), kind, text.as_str())?);
             }
-            let error = Error::new(alloc, text.as_str())?;
-            assert_eq!(rt; error.clone()?.message(), text.as_str());
-            let RuleError::Fault(same) = RuleError::of(alloc, Ok(CowStr::Owned(text))) else {
-                return Err("no fault")?;
-            };
-            assert!(rt; same == error);
+            assert!(rt; is_message_kept(rt.alloc(), text.as_str())?);
         }
     }
     Ok(())
 }
 
 // So many faults with this key and message, each so many components deep.
-fn faults(alloc: Global, count: usize, depth: usize, text: &str) -> Result<Report, Fail> {
-    let mut path = Path::empty();
-    for index in 0..depth {
-        path = path.join(alloc, index)?;
-    }
+fn faults(alloc: Global, count: usize, depth: usize, text: &str) -> Result<Report, JoinError> {
+    let path = path_to(alloc, depth)?.join(alloc, text)?;
     let mut report = Report::new(alloc);
     for _ in 0..count {
-        report.append(path.join(alloc, text)?, Error::new(alloc, text)?)?;
+        append(alloc, &mut report, &path, text)?;
     }
     Ok(report)
+}
+
+// Appends a fault with this message, at the path.
+fn append(alloc: Global, report: &mut Report, path: &Path, text: &str) -> Result<(), AllocError> {
+    let error = Error::new(alloc, text)?;
+    report.append(path.clone()?, error)
 }
 
 // Both writers give one text of the report, and it is read back, as its clone is the same.

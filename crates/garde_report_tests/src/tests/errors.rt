@@ -1,6 +1,8 @@
 //! Paths, errors and reports.
 
-use crate::samples::{add, compared, four_faults, hash_of, path_of, printed, shown};
+use crate::samples::{
+    add, add_at, compared, four_faults, hash_of, path_of, path_of_one, path_to, printed, shown,
+};
 use garde_report::rc_list::JoinError;
 use garde_report::{Error, Kind, NoKey, Path, PathComponentKind, Report, RuleError, select};
 use std::alloc::{AllocError, Global};
@@ -18,10 +20,21 @@ const ONE: (Kind, &str) = (Kind::Index, "1");
 
 const UNNAMED: (Kind, &str) = (Kind::None, "");
 
+/// A path with a key more.
+fn with_key(alloc: Global, above: &Path, key: &str) -> Result<Path, JoinError> {
+    above.join(alloc, key)
+}
+
+/// A path with an index more.
+fn with_index(alloc: Global, above: &Path, index: usize) -> Result<Path, JoinError> {
+    above.join(alloc, index)
+}
+
 /// The path `[0].a[1]`, by joins.
 fn joined(alloc: Global) -> Result<Path, JoinError> {
-    let above = Path::new(alloc, 0usize)?.join(alloc, "a")?;
-    above.join(alloc, 1usize)
+    let path = path_to(alloc, 1)?;
+    let path = with_key(alloc, &path, "a")?;
+    with_index(alloc, &path, 1)
 }
 
 /// Whether a path without its last component is another one.
@@ -88,10 +101,27 @@ fn each_component_prints_after_those_above(rt: HostRuntime) -> Result<(), Fail> 
         (&[(Kind::None, "x"), ZERO], "x[0]"),
     ];
     for (components, text) in rows {
-        let path = path_of(rt.alloc(), components)?;
-        assert_eq!(rt; printed(rt.alloc(), &path)?.as_str(), text);
+        assert!(rt; prints(rt.alloc(), components, text)?, "at {text}");
     }
     Ok(())
+}
+
+/// Whether the path of these components has this text.
+fn prints(alloc: Global, components: &[(Kind, &str)], text: &str) -> Result<bool, AllocError> {
+    let path = path_of(alloc, components)?;
+    let given = printed(alloc, &path)?;
+    Ok(given.as_str() == text)
+}
+
+/// Whether the paths of these components are equal.
+fn are_equal(
+    alloc: Global,
+    components: &[(Kind, &str)],
+    others: &[(Kind, &str)],
+) -> Result<bool, AllocError> {
+    let path = path_of(alloc, components)?;
+    let other = path_of(alloc, others)?;
+    Ok(compared(&path, &other) == (Ordering::Equal, true))
 }
 
 #[test]
@@ -104,11 +134,9 @@ fn different_paths_can_print_one_text(rt: HostRuntime) -> Result<(), Fail> {
         (&[(Kind::Index, "0].a[1")], &[ZERO, A, ONE], "[0].a[1]"),
     ];
     for (components, others, text) in rows {
-        let path = path_of(rt.alloc(), components)?;
-        let other = path_of(rt.alloc(), others)?;
-        assert!(rt; path != other, "at {text}");
-        assert_eq!(rt; printed(rt.alloc(), &path)?.as_str(), text);
-        assert_eq!(rt; printed(rt.alloc(), &other)?.as_str(), text);
+        assert!(rt; !are_equal(rt.alloc(), components, others)?, "at {text}");
+        assert!(rt; prints(rt.alloc(), components, text)?);
+        assert!(rt; prints(rt.alloc(), others, text)?);
     }
     Ok(())
 }
@@ -143,7 +171,9 @@ fn is_path_of<K: PathComponentKind + Drop>(
     made: K,
     component: (Kind, &str),
 ) -> Result<bool, AllocError> {
-    Ok(Path::new(alloc, made)? == path_of(alloc, &[component])?)
+    let path = path_of_one(alloc, made)?;
+    let other = path_of(alloc, &[component])?;
+    Ok(compared(&path, &other) == (Ordering::Equal, true))
 }
 
 #[test]
@@ -167,7 +197,7 @@ fn each_type_of_component_has_its_kind(rt: HostRuntime) -> Result<(), Fail> {
 
 #[test]
 fn debug_shows_the_parts(rt: HostRuntime) -> Result<(), Fail> {
-    let path = Path::new(rt.alloc(), "content_fingerprints")?.join(rt.alloc(), 0usize)?;
+    let path = path_of(rt.alloc(), &[(Kind::Key, "content_fingerprints"), ZERO])?;
     let wanted = "Path { components: [(Key, \"content_fingerprints\"), (Index, \"0\")] }";
     assert_eq!(rt; shown(rt.alloc(), &path)?.as_str(), wanted);
     let mut report = Report::new(rt.alloc());
@@ -181,20 +211,19 @@ fn debug_shows_the_parts(rt: HostRuntime) -> Result<(), Fail> {
 fn only_the_root_has_no_colon(rt: HostRuntime) -> Result<(), Fail> {
     let mut report = Report::new(rt.alloc());
     assert!(rt; report.is_empty());
-    let unnamed = Path::new(rt.alloc(), NoKey::default())?;
-    report.append(unnamed, Error::new(rt.alloc(), "x")?)?;
-    add(&mut report, rt.alloc(), &[], "x")?;
-    add(&mut report, rt.alloc(), &["a", "b"], "y\nz")?;
-    assert_eq!(rt;
-        printed(rt.alloc(), &report)?.as_str(),
-        ": x\nx\na.b: y\nz\n"
-    );
+    let rows: [(&[(Kind, &str)], &str); 3] = [(&[UNNAMED], "x"), (&[], "x"), (&[A, B], "y\nz")];
+    for (components, message) in rows {
+        add_at(&mut report, rt.alloc(), components, message)?;
+    }
+    let text = printed(rt.alloc(), &report)?;
+    assert_eq!(rt; text.as_str(), ": x\nx\na.b: y\nz\n");
     Ok(())
 }
 
-/// How a clone of an error compares with it.
-fn order_to_its_clone(error: &Error) -> Result<Ordering, AllocError> {
-    Ok(error.clone()?.cmp(error))
+/// How a clone of an error compares with it, and whether it equals it.
+fn clone_compared(error: &Error) -> Result<(Ordering, bool), AllocError> {
+    let copy = error.clone()?;
+    Ok(compared(&copy, error))
 }
 
 #[test]
@@ -204,7 +233,7 @@ fn a_clone_is_equal(rt: HostRuntime) -> Result<(), Fail> {
     assert_eq!(rt; copy.len(), 4);
     for (fault, like) in report.iter().zip(&copy) {
         assert!(rt; fault == like);
-        assert_eq!(rt; order_to_its_clone(&fault.1)?, Ordering::Equal);
+        assert_eq!(rt; clone_compared(&fault.1)?, (Ordering::Equal, true));
     }
     Ok(())
 }
@@ -255,15 +284,6 @@ fn a_rule_error_keeps_the_text(rt: HostRuntime) -> Result<(), Fail> {
     Ok(())
 }
 
-/// The path of the indexes below a million.
-fn a_million_indexes(alloc: Global) -> Result<Path, JoinError> {
-    let mut path = Path::empty();
-    for index in 0..1_000_000usize {
-        path = path.join(alloc, index)?;
-    }
-    Ok(path)
-}
-
 /// The last component that a walk gives.
 fn last_of(alloc: Global, path: &Path) -> Result<Given<'_>, AllocError> {
     Ok(path.iter(alloc)?.last())
@@ -271,7 +291,7 @@ fn last_of(alloc: Global, path: &Path) -> Result<Given<'_>, AllocError> {
 
 #[test]
 fn a_million_components_need_no_deep_stack(rt: HostRuntime) -> Result<(), Fail> {
-    let path = a_million_indexes(rt.alloc())?;
+    let path = path_to(rt.alloc(), 1_000_000)?;
     let like = path.clone()?;
     assert_eq!(rt; compared(&path, &like), (Ordering::Equal, true));
     assert_eq!(rt; hash_of(&path), hash_of(&like));

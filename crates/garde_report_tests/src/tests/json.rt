@@ -1,10 +1,10 @@
 //! Written forms, and trees that are none.
 
-use crate::samples::{path_of, printed};
+use crate::samples::{path_of, printed, report_of};
 use garde_report::json::{
     JsonRefused, path_from_json, path_to_json, report_from_json, report_to_json,
 };
-use garde_report::{Error, Kind, Path, Report};
+use garde_report::{Kind, Path, Report};
 use serde_json::Value;
 use std::alloc::Global;
 use std::test::Fail;
@@ -20,15 +20,6 @@ const ZERO: (Kind, &str) = (Kind::Index, "0");
 const ONE: (Kind, &str) = (Kind::Index, "1");
 
 const TWO: (Kind, &str) = (Kind::Index, "2");
-
-// The report of these faults.
-fn report_of(alloc: Global, faults: &[(&[(Kind, &str)], &str)]) -> Result<Report, Fail> {
-    let mut report = Report::new(alloc);
-    for (components, message) in faults {
-        report.append(path_of(alloc, components)?, Error::new(alloc, message)?)?;
-    }
-    Ok(report)
-}
 
 // The text of the tree of a report, and the report that is read back from the tree.
 fn there_and_back(alloc: Global, report: &Report) -> Result<(String, Report), Fail> {

@@ -4,15 +4,19 @@ ghost use Rattle.garde_report.specs.declared.error.component.Kind.TheVariants.{K
 
 use super::custom::Custom;
 use super::user::User;
-use super::walks::{four, user};
+use super::walks::{Four, four, user, walked};
 use garde::error::{Kind, PathComponentKind};
 use garde::json::{path_from_json, path_to_json};
+use garde::rc_list::JoinError;
 use garde::{
     Component, DefaultI18n, Error, I18n, Path, Report, Trail, Validate, ValidateError, select,
 };
 use std::alloc::{AllocError, Global};
 use std::collections::{BTreeMap, HashMap};
 use std::test::Fail;
+
+/// How many keys, faults or components are many.
+const MANY: usize = 1_000_000;
 
 /// A number that keeps the text it is written with.
 #[derive(Debug, Drop, PartialEq, Eq, PartialOrd, Ord)]
@@ -35,22 +39,6 @@ impl PathComponentKind for Hex {
     }
 }
 
-// What a walk on a new trail tells, and the nodes that it made.
-fn walked<T: Validate, H: I18n>(
-    alloc: Global,
-    value: &T,
-    ctx: &T::Context,
-    h: &H,
-) -> Result<(String, usize), AllocError> {
-    let mut trail = Trail::new(alloc);
-    let answer = value.validate_on(alloc, ctx, &mut trail, h);
-    let text = match answer {
-        Ok(()) => String::new(alloc),
-        Err(refusal) => refusal.to_string(alloc)?,
-    };
-    Ok((text, trail.nodes()))
-}
-
 #[test]
 fn a_deep_valid_value_makes_no_path(rt: HostRuntime) -> Result<(), Fail> {
     let alloc = rt.alloc();
@@ -61,14 +49,26 @@ fn a_deep_valid_value_makes_no_path(rt: HostRuntime) -> Result<(), Fail> {
     Ok(())
 }
 
+type Eight<T> = Four<Four<T>>;
+
+type Forty<T> = Eight<Eight<Eight<Eight<Eight<T>>>>>;
+
+// A value in lists, eight deep.
+fn eight<T: Drop>(alloc: Global, value: T) -> Result<Eight<T>, AllocError> {
+    four(alloc, four(alloc, value)?)
+}
+
+// A value in lists, forty deep.
+fn forty<T: Drop>(alloc: Global, value: T) -> Result<Forty<T>, AllocError> {
+    let sixteen = eight(alloc, eight(alloc, value)?)?;
+    let thirty_two = eight(alloc, eight(alloc, sixteen)?)?;
+    eight(alloc, thirty_two)
+}
+
 #[test]
 fn a_nest_of_forty_lists(rt: HostRuntime) -> Result<(), Fail> {
-    let alloc = rt.alloc();
-    let eight = four(alloc, four(alloc, user(alloc, "ab")?)?)?;
-    let sixteen = four(alloc, four(alloc, eight)?)?;
-    let twenty_four = four(alloc, four(alloc, sixteen)?)?;
-    let all_forty = four(alloc, four(alloc, four(alloc, four(alloc, twenty_four)?)?)?)?;
-    let (text, nodes) = walked(alloc, &all_forty, &(), &DefaultI18n)?;
+    let lists = forty(rt.alloc(), user(rt.alloc(), "ab")?)?;
+    let (text, nodes) = walked(rt.alloc(), &lists, &(), &DefaultI18n)?;
     assert_eq!(rt; nodes, 41);
     // Forty times the index, then the field and its fault.
     assert_eq!(rt;
@@ -93,14 +93,19 @@ fn a_computed_key_is_kept(rt: HostRuntime) -> Result<(), Fail> {
     Ok(())
 }
 
+// A user under a key of so many letters.
+fn under_a_long_key(alloc: Global, size: usize) -> Result<BTreeMap<String, User>, AllocError> {
+    let mut users = BTreeMap::new(alloc);
+    users.insert("m".repeat(alloc, size)?, user(alloc, "ab")?)?;
+    Ok(users)
+}
+
 #[test]
 fn a_key_of_a_megabyte(rt: HostRuntime) -> Result<(), Fail> {
-    let alloc = rt.alloc();
-    let mut users = BTreeMap::new(alloc);
-    users.insert("m".repeat(alloc, 1_000_000)?, user(alloc, "ab")?)?;
-    let (text, nodes) = walked(alloc, &users, &(), &Custom)?;
+    let users = under_a_long_key(rt.alloc(), MANY)?;
+    let (text, nodes) = walked(rt.alloc(), &users, &(), &Custom)?;
     let after = ".username: custom: too short, need at least 3\n";
-    assert_eq!(rt; text.len(), 1_000_000 + after.len());
+    assert_eq!(rt; text.len().checked_sub(after.len()), Some(MANY));
     assert!(rt; text.as_str().ends_with(after));
     assert_eq!(rt; nodes, 2);
     Ok(())
@@ -138,30 +143,54 @@ fn keys_that_look_like_paths_stay_apart(rt: HostRuntime) -> Result<(), Fail> {
     Ok(())
 }
 
-#[test]
-fn a_million_faults_in_one_report(rt: HostRuntime) -> Result<(), Fail> {
-    let alloc = rt.alloc();
+// A fault at a path.
+fn append(alloc: Global, report: &mut Report, path: &Path) -> Result<(), AllocError> {
+    let same: Path = path.clone()?;
+    report.append(same, Error::new(alloc, "x")?)
+}
+
+// A report of so many faults at one path.
+fn of_one_path(alloc: Global, count: usize) -> Result<Report, AllocError> {
     let path = Path::new(alloc, "a")?;
     let mut report = Report::new(alloc);
-    for _ in 0..1_000_000usize {
-        let same: Path = path.clone()?;
-        report.append(same, Error::new(alloc, "x")?)?;
+    for _ in 0..count {
+        append(alloc, &mut report, &path)?;
     }
-    assert_eq!(rt; report.to_string(alloc)?.len(), 5_000_000);
+    Ok(report)
+}
+
+// How many bytes a report prints.
+fn printed_len(alloc: Global, report: &Report) -> Result<usize, AllocError> {
+    Ok(report.to_string(alloc)?.len())
+}
+
+#[test]
+fn a_million_faults_in_one_report(rt: HostRuntime) -> Result<(), Fail> {
+    let report = of_one_path(rt.alloc(), MANY)?;
+    assert_eq!(rt; printed_len(rt.alloc(), &report)?, MANY.wrapping_mul(5));
     let copy: Report = report.clone()?;
-    assert_eq!(rt; select(&copy, &["a"]).count(), 1_000_000);
+    assert_eq!(rt; select(&copy, &["a"]).count(), MANY);
     Ok(())
+}
+
+// The path of so many indexes.
+fn path_to(alloc: Global, size: usize) -> Result<Path, JoinError> {
+    let mut path = Path::empty();
+    for index in 0..size {
+        path = path.join(alloc, index)?;
+    }
+    Ok(path)
+}
+
+// Whether a path is read back from its tree.
+fn is_read_back(alloc: Global, path: &Path) -> Result<bool, AllocError> {
+    let tree = path_to_json(alloc, path)?;
+    Ok(matches!(&path_from_json(alloc, &tree), Ok(back) if back == path))
 }
 
 #[test]
 fn a_million_components_are_read_back(rt: HostRuntime) -> Result<(), Fail> {
-    let alloc = rt.alloc();
-    let mut path = Path::empty();
-    for index in 0..1_000_000usize {
-        path = path.join(alloc, index).map_err(|_| "too long")?;
-    }
-    let tree = path_to_json(alloc, &path)?;
-    let back = path_from_json(alloc, &tree).map_err(|_| "it is a written form")?;
-    assert!(rt; back == path);
+    let path = path_to(rt.alloc(), MANY)?;
+    assert!(rt; is_read_back(rt.alloc(), &path)?);
     Ok(())
 }

@@ -40,6 +40,11 @@ fn path_of(alloc: Global, indexes: usize) -> Result<Path, AllocError> {
     Ok(path)
 }
 
+// Whether two paths are equal.
+fn are_equal(path: &Path, other: &Path) -> bool {
+    path == other
+}
+
 pub fn join(alloc: Global, memory: &mut Scarce) -> Result<Met, AllocError> {
     let path = path_of(alloc, 2)?;
     let like = path_of(alloc, 2)?;
@@ -47,9 +52,9 @@ pub fn join(alloc: Global, memory: &mut Scarce) -> Result<Met, AllocError> {
     memory.begin();
     let answer = path.join(alloc, 2usize);
     memory.end();
-    let stands = path == like;
+    let stands = are_equal(&path, &like);
     Ok(match answer {
-        Ok(longer) if stands && longer == longer_like => Met::Ample,
+        Ok(longer) if stands && are_equal(&longer, &longer_like) => Met::Ample,
         Err(JoinError::Memory) if stands => Met::Want,
         _ => Met::Wrong,
     })
@@ -65,5 +70,5 @@ pub fn iter(alloc: Global, memory: &mut Scarce) -> Result<Met, AllocError> {
         Err(AllocError) => Met::Want,
     };
     memory.end();
-    Ok(if path == like { answer } else { Met::Wrong })
+    Ok(answer.when(are_equal(&path, &like)))
 }

@@ -2,8 +2,9 @@
 
 use super::custom::Custom;
 use super::nested::{Account, Home, Person};
+use super::walks::walked;
 use garde::rules::pattern::regex::Regex;
-use garde::{DefaultI18n, I18n, Trail, Validate, ValidateError};
+use garde::{DefaultI18n, Validate, ValidateError};
 use std::alloc::{AllocError, Global};
 use std::test::Fail;
 
@@ -51,18 +52,6 @@ fn a_person_alone(rt: HostRuntime) -> Result<(), Fail> {
         "name: custom: too short, need at least 3\nage: custom: value too small, minimum is 18\nphone: custom: this field is required\n"
     );
     Ok(())
-}
-
-// What a walk on a new trail tells of an account, and the nodes that it made.
-fn walked<H: I18n>(
-    alloc: Global,
-    account: &Account,
-    code: &Regex,
-    h: &H,
-) -> Result<(String, usize), AllocError> {
-    let mut trail = Trail::new(alloc);
-    let answer = account.validate_on(alloc, code, &mut trail, h);
-    Ok((told(alloc, answer)?, trail.nodes()))
 }
 
 #[test]

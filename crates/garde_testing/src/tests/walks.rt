@@ -3,7 +3,8 @@
 use super::reports::{report_of, tells};
 use super::user::User;
 use garde::{
-    Component, DefaultI18n, IntoValidError, Report, Trail, Unvalidated, Validate, ValidateError,
+    Component, DefaultI18n, I18n, IntoValidError, Report, Trail, Unvalidated, Validate,
+    ValidateError,
 };
 use garde_hog::{Met, Scarce};
 use std::alloc::{AllocError, Global};
@@ -13,6 +14,22 @@ pub fn user(alloc: Global, name: &str) -> Result<User, AllocError> {
     Ok(User {
         username: String::from_str(alloc, name)?,
     })
+}
+
+/// What a walk on a new trail tells, and the nodes that it made.
+pub fn walked<T: Validate, H: I18n>(
+    alloc: Global,
+    value: &T,
+    ctx: &T::Context,
+    h: &H,
+) -> Result<(String, usize), AllocError> {
+    let mut trail = Trail::new(alloc);
+    let answer = value.validate_on(alloc, ctx, &mut trail, h);
+    let text = match answer {
+        Ok(()) => String::new(alloc),
+        Err(refusal) => refusal.to_string(alloc)?,
+    };
+    Ok((text, trail.nodes()))
 }
 
 const FAULTS: &[&str] = &["old", "not ascii", "length is lower than 3"];
@@ -43,8 +60,8 @@ pub fn on_users(alloc: Global, memory: &mut Scarce) -> Result<Met, AllocError> {
     })
 }
 
-// Lists in lists, four deep.
-type Four<T> = Vec<Vec<Vec<Vec<T>>>>;
+/// Lists in lists, four deep.
+pub type Four<T> = Vec<Vec<Vec<Vec<T>>>>;
 
 /// The list of one value.
 pub fn one<T: Drop>(alloc: Global, value: T) -> Result<Vec<T>, AllocError> {
