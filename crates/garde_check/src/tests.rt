@@ -2,6 +2,7 @@
 mod body;
 mod devices;
 mod json;
+mod once;
 mod refusals;
 
 use crate::mode::Command;
