@@ -7,6 +7,7 @@ mod lengths;
 mod long;
 mod numbers;
 mod parcel;
+mod printed;
 mod reasons;
 mod refused;
 mod walked;

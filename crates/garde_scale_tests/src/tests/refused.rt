@@ -2,11 +2,12 @@
 //! faults.
 use garde::json::{JsonRefused, report_from_json, report_to_json};
 use garde::rc_list::JoinError;
-use garde::{Path, Report};
+use garde::{Error, Path, Report, RuleError};
 use garde_hog::{Calls, Met, Scarce};
 use garde_json::report_to_json_text;
 use serde_json::Value;
 use std::alloc::{AllocError, Global};
+use std::borrow::CowStr;
 use std::test::Fail;
 
 const FORM: &str =
@@ -101,6 +102,36 @@ fn each_budget_of_memory(rt: HostRuntime) -> Result<(), Fail> {
     for call in [Call::Join, Call::Write, Call::WriteText, Call::Read] {
         let met = call.in_turn(rt.alloc(), &mut memory)?;
         assert_eq!(rt; met, Met::Ample, "at {call:?}");
+    }
+    Ok(())
+}
+
+/// A message of 30 bytes, and one of 31.
+const MESSAGES: [&str; 2] = [
+    "abcdefghijklmnopqrstuvwxyz0123",
+    "abcdefghijklmnopqrstuvwxyz01234",
+];
+
+// Whether an error of a message, one of a borrowed text, and a copy of one could be made.
+fn made(alloc: Global, message: &'static str, kept: &Error) -> [bool; 3] {
+    let borrowed = RuleError::of(alloc, Ok(CowStr::Borrowed(message)));
+    [
+        Error::new(alloc, message).is_ok(),
+        matches!(&borrowed, RuleError::Fault(_)),
+        kept.clone().is_ok(),
+    ]
+}
+
+#[test]
+fn a_message_of_thirty_bytes_takes_no_memory(rt: HostRuntime) -> Result<(), Fail> {
+    let alloc = rt.alloc();
+    for (message, without_memory) in MESSAGES.into_iter().zip([true, false]) {
+        let kept = Error::new(alloc, message)?;
+        let mut memory = Scarce::taken(alloc)?;
+        memory.begin();
+        let made = made(alloc, message, &kept);
+        memory.end();
+        assert_eq!(rt; made, [without_memory; 3], "{message}");
     }
     Ok(())
 }
