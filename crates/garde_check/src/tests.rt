@@ -1,7 +1,9 @@
 //! Runs over memory: what is written, and how each run ends.
 mod body;
 mod devices;
+mod forms;
 mod json;
+mod once;
 mod refusals;
 
 use crate::mode::Command;

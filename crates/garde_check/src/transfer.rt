@@ -1,6 +1,6 @@
 //! Where bytes come from, and where they go.
 ghost use Rattle.std.specs.Prelude.{◌≡◌, ℕ, ◌<◌, ◌≤◌, List, Option, Bool, true, false, length, take, IfOk, OnOk, OnErr};
-ghost use Rattle.std.specs.Io.KnownBytes.{Consumes, IsAtEnd, WriteAppends};
+ghost use Rattle.std.specs.Io.KnownBytes.{Consumes, IsAtEnd, Keeps, WriteAppends};
 ghost use Rattle.garde_check.specs.Wrapped.{Wrapped};
 
 use std::io::{Read, Write};
@@ -19,7 +19,7 @@ pub trait Source {
     ghost has_failed: { Self → Bool };
 
     /// Moves bytes to the front of `part`, which is not empty, and says how many. Where it says 0,
-    /// none are left.
+    /// none are left. Where it fails, it took none of the bytes that it knows.
     fn take(&mut self, part: &mut [u8]) -> Result<usize, Failed>
         requires { 0 < length part.old }
         ensures bound { IfOk result (λ n. n ≤ length part.new) }
@@ -27,7 +27,8 @@ pub trait Source {
             Consumes (remaining self.old) (remaining self.new) (take n part.new)) }
         ensures end { IfOk result (λ n. n ≡ 0 → IsAtEnd (remaining self.new)) }
         ensures ok { OnOk result (has_failed self.new ≡ has_failed self.old) }
-        ensures err { OnErr result (has_failed self.new ≡ true) };
+        ensures err { OnErr result (has_failed self.new ≡ true) }
+        ensures kept { OnErr result (Keeps (remaining self.old) (remaining self.new)) };
 }
 
 /// What bytes are given to.

@@ -4,5 +4,6 @@ mod ample;
 mod errors;
 mod json;
 mod json_text;
+mod laws;
 mod lists;
 mod trails;

@@ -6,6 +6,7 @@ mod couple;
 mod documents;
 mod handlers;
 mod item;
+mod laws;
 mod long;
 mod many;
 mod names;

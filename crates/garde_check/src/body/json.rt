@@ -3,7 +3,7 @@ ghost use Rattle.std.specs.Prelude.{◌≡◌, ◌≢◌, ◌<◌, ◌^◌, ℕ,
 ghost use Rattle.serde_json.specs.Data.{Data, string};
 ghost use Rattle.serde_json.specs.View.{view};
 ghost use Rattle.garde_check.specs.Body.{Content, content, entries_of};
-ghost use Rattle.garde_check.specs.Request.{IsAge, age_json, texts_json, entries_json, members_json, IsRequest};
+ghost use Rattle.garde_check.specs.Request.{IsAge, age_json, texts_json, entries_json, members_json, is_texts, is_entries, are_spelled, IsRequest};
 
 use super::{Address, Body};
 use crate::user::User;
@@ -57,7 +57,7 @@ fn members_of(tree: &Value) -> Option<Members<'_>>
 fn age_from_json(tree: &Value) -> Option<Option<u32>>
     ensures { MatchOption result
         ((age : Option ℕ) → IsAge age → view tree.now ≢ age_json age)
-        (λ age. view tree.now ≡ age_json age) }
+        (λ age. (view tree.now ≡ age_json age) × IsAge age) }
 {
     if tree.is_null() {
         return Some(None);
@@ -66,6 +66,44 @@ fn age_from_json(tree: &Value) -> Option<Option<u32>>
         Ok(age) => Some(Some(age)),
         Err(_) => None,
     }
+}
+
+// Whether a tree is an array of texts.
+fn has_texts(tree: &Value) -> bool
+    ensures { result ≡ is_texts (view tree.now) }
+{
+    let Some(items) = tree.as_array() else {
+        return false;
+    };
+    for item in items {
+        if !item.is_string() {
+            return false;
+        }
+    }
+    true
+}
+
+// Whether a tree is an object whose values are texts.
+fn has_entries(tree: &Value) -> bool
+    ensures { result ≡ is_entries (view tree.now) }
+{
+    let Some(members) = tree.as_object() else {
+        return false;
+    };
+    for (_name, value) in members.iter() {
+        if !value.is_string() {
+            return false;
+        }
+    }
+    true
+}
+
+// Whether the members are texts where a body has texts.
+fn are_spelled(members: Members<'_>) -> bool
+    ensures { let m = members.entry in
+        result ≡ are_spelled (view m.addresses.now) (view m.tags.now) (view m.username.now) }
+{
+    members.username.is_string() && has_texts(members.tags) && has_entries(members.addresses)
 }
 
 fn text_from_json(alloc: Global, tree: &Value) -> Result<String, JsonRefused>
@@ -121,7 +159,8 @@ fn addresses_from_json(
 }
 
 impl Body {
-    /// The body that a tree spells. `Form` is answered only where the tree spells none.
+    /// The body that a tree spells. `Form` is answered exactly where the tree spells none, whatever
+    /// memory there is.
     ///
     /// A tree spells a body if it is an object of exactly four members: `username`, a text; `age`,
     /// null or a number that `serde_json` gives as a whole one without a sign, of at most
@@ -130,6 +169,8 @@ impl Body {
         ensures ok { IfOk result (λ body. IsRequest (view tree.now) (content body)) }
         ensures form { result ≡ Err JsonRefused.Form
             → (body : Content) → IsRequest (view tree.now) body → ⊥ }
+        ensures refused { ((body : Content) → IsRequest (view tree.now) body → ⊥)
+            → result ≡ Err JsonRefused.Form }
     {
         let Some(members) = members_of(tree) else {
             return Err(JsonRefused::Form);
@@ -137,6 +178,9 @@ impl Body {
         let Some(age) = age_from_json(members.age) else {
             return Err(JsonRefused::Form);
         };
+        if !are_spelled(members) {
+            return Err(JsonRefused::Form);
+        }
         Ok(Body {
             user: User {
                 username: text_from_json(alloc, members.username)?,

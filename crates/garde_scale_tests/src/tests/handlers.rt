@@ -1,0 +1,100 @@
+//! Each text of the default handler, of the least and the greatest data.
+use garde::i18n::{InvalidCreditCard, InvalidPhoneNumber, InvalidUrl, IpKind};
+use garde::{DefaultI18n, I18n};
+use std::alloc::{AllocError, Global};
+use std::borrow::CowStr;
+use std::process::Abort;
+use std::test::Fail;
+
+/// What a method answers.
+type Said = Result<CowStr<'static>, AllocError>;
+
+// Whether this is what was said.
+fn is_said(said: &Said, text: &str) -> bool {
+    match said {
+        Ok(said) => said.as_str() == text,
+        Err(AllocError) => false,
+    }
+}
+
+// What the method of this index says of a text.
+fn of_text<H: I18n>(alloc: Global, h: &H, index: usize, text: &str) -> Said {
+    match index {
+        0 => h.range_lower_than(alloc, text),
+        1 => h.range_greater_than(alloc, text),
+        2 => h.pattern_no_match(alloc, text),
+        3 => h.contains_missing(alloc, text),
+        4 => h.prefix_missing(alloc, text),
+        5 => h.suffix_missing(alloc, text),
+        _ => h.matches_field_mismatch(alloc, text),
+    }
+}
+
+/// What stands before and after a text in what is said of it.
+static AROUND: [(&str, &str); 7] = [
+    ("lower than ", ""),
+    ("greater than ", ""),
+    ("does not match pattern /", "/"),
+    ("does not contain \"", "\""),
+    ("value does not begin with \"", "\""),
+    ("does not end with \"", "\""),
+    ("does not match ", " field"),
+];
+
+#[test]
+fn texts_of_nothing_and_of_a_kilobyte(rt: HostRuntime) -> Result<(), Fail> {
+    let alloc = rt.alloc();
+    for times in [0usize, 1, 64] {
+        let text = "0123456789abcdeé".repeat(alloc, times)?;
+        for (index, (front, end)) in AROUND.iter().enumerate() {
+            let wanted = format!(in alloc; "{front}{text}{end}")?;
+            let directly = of_text(alloc, &DefaultI18n, index, text.as_str());
+            assert!(rt; is_said(&directly, wanted.as_str()), "{wanted}");
+            let referred = of_text(alloc, &&DefaultI18n, index, text.as_str());
+            assert!(rt; is_said(&referred, wanted.as_str()), "{wanted}");
+        }
+    }
+    Ok(())
+}
+
+// What the method of this index says, of a number, of a reason or of nothing.
+fn of_datum<H: I18n>(alloc: Global, h: &H, index: usize) -> Said {
+    match index {
+        0 => h.length_lower_than(alloc, 0),
+        1 => h.length_lower_than(alloc, usize::MAX),
+        2 => h.length_greater_than(alloc, 0),
+        3 => h.length_greater_than(alloc, usize::MAX),
+        4 => h.ip_invalid(alloc, IpKind::Any),
+        5 => h.ip_invalid(alloc, IpKind::V4),
+        6 => h.ip_invalid(alloc, IpKind::V6),
+        7 => h.ascii_invalid(alloc),
+        8 => h.alphanumeric_invalid(alloc),
+        _ => h.required_not_set(alloc),
+    }
+}
+
+static DATA: [&str; 10] = [
+    "length is lower than 0",
+    "length is lower than 18446744073709551615",
+    "length is greater than 0",
+    "length is greater than 18446744073709551615",
+    "not a valid IP address",
+    "not a valid IPv4 address",
+    "not a valid IPv6 address",
+    "not ascii",
+    "not alphanumeric",
+    "not set",
+];
+
+// Asserts each text of a handler that is the default one.
+fn assert_default<H: I18n>(rt: &impl Abort, alloc: Global, h: &H) {
+    for (index, text) in DATA.iter().enumerate() {
+        assert!(rt; is_said(&of_datum(alloc, h, index), text), "{text}");
+    }
+}
+
+#[test]
+fn texts_of_numbers_and_of_nothing(rt: HostRuntime) {
+    assert_default(&rt, rt.alloc(), &DefaultI18n);
+    assert_default(&rt, rt.alloc(), &&DefaultI18n);
+}

@@ -1,0 +1,280 @@
+//! What is made is given back: each kind of object is made and dropped many times, while no more
+//! than 32 KiB are left. What keeps a byte of each object comes to want of memory.
+use super::heavy::Heavy;
+use garde::json::{report_from_json, report_to_json};
+use garde::rc_list::List;
+use garde::rules::ascii;
+use garde::rules::pattern::regex::Regex;
+use garde::samples::{Document, Tag};
+use garde::{
+    Component, Error, IntoValidError, Path, Report, RuleError, Trail, Unvalidated, Validate,
+    ValidateError, select, with_i18n,
+};
+use garde_hog::Hog;
+use garde_json::report_to_json_text;
+use std::alloc::{AllocError, Global};
+use std::borrow::CowStr;
+use std::test::Fail;
+
+/// The bytes that are left while objects are made and dropped.
+const BUDGET: usize = 1 << 15;
+
+/// How often each object is made: a piece of memory has 16 bytes at least, so what keeps one of each
+/// object would take more than the budget.
+const TIMES: usize = 4000;
+
+/// A text that is kept on the heap, as a key and as a message.
+const LONG: &str = "abcdefghijklmnopqrstuvwxyz0123456789";
+
+/// What is made and dropped.
+#[derive(Clone, Copy, Debug)]
+enum Made {
+    Lists,
+    Paths,
+    Ways,
+    Reports,
+    Errors,
+    Trees,
+    Handlers,
+    Patterns,
+    Valid,
+    Invalid,
+    Refused,
+}
+
+static KINDS: [Made; 11] = [
+    Made::Lists,
+    Made::Paths,
+    Made::Ways,
+    Made::Reports,
+    Made::Errors,
+    Made::Trees,
+    Made::Handlers,
+    Made::Patterns,
+    Made::Valid,
+    Made::Invalid,
+    Made::Refused,
+];
+
+// A list, its clone, and the list before it.
+fn lists(alloc: Global) -> Result<(), AllocError> {
+    let mut list = List::new();
+    for _ in 0..9usize {
+        list = list
+            .append(alloc, String::from_str(alloc, LONG)?)
+            .map_err(|_| AllocError)?;
+    }
+    let _copy = list.clone()?;
+    let _before = list.before()?;
+    Ok(())
+}
+
+// The path of so many keys.
+fn path_of(alloc: Global, count: usize) -> Result<Path, AllocError> {
+    let mut path = Path::empty();
+    for _ in 0..count {
+        path = path.join(alloc, LONG).map_err(|_| AllocError)?;
+    }
+    Ok(path)
+}
+
+// A path, its parent, a walk of it, and its text.
+fn paths(alloc: Global) -> Result<(), AllocError> {
+    let path = path_of(alloc, 9)?;
+    let _parent = path.parent()?;
+    let mut walk = path.iter(alloc)?;
+    let _last = walk.next();
+    let _text = path.to_string(alloc)?;
+    Ok(())
+}
+
+// A trail after so many steps down, with its path or without it, and so many steps up.
+fn way(alloc: Global, (down, asked, up): (usize, bool, usize)) -> Result<(), AllocError> {
+    let mut trail = Trail::new(alloc);
+    for _ in 0..down {
+        trail.push(Component::key(LONG))?;
+    }
+    if asked {
+        let _path = trail.path()?;
+    }
+    for _ in 0..up {
+        if trail.depth() > 0 {
+            trail.pop();
+        }
+    }
+    Ok(())
+}
+
+// Trails in each state.
+fn ways(alloc: Global) -> Result<(), AllocError> {
+    for steps in [
+        (0, true, 0),
+        (3, false, 0),
+        (3, true, 0),
+        (3, true, 2),
+        (12, false, 0),
+        (12, true, 0),
+        (12, true, 5),
+        (12, true, 12),
+    ] {
+        way(alloc, steps)?;
+    }
+    Ok(())
+}
+
+// A report of so many faults.
+fn report_of(alloc: Global, count: usize) -> Result<Report, AllocError> {
+    let mut report = Report::new(alloc);
+    for _ in 0..count {
+        report.append(path_of(alloc, 1)?, Error::new(alloc, LONG)?)?;
+    }
+    Ok(report)
+}
+
+// A report, its clone, its text, and its faults.
+fn reports(alloc: Global) -> Result<(), AllocError> {
+    let report = report_of(alloc, 9)?;
+    let _text = report.to_string(alloc)?;
+    let copy = report.clone()?;
+    let _found = select(&copy, &[LONG]).count();
+    let _faults = report.into_inner();
+    Ok(())
+}
+
+// Errors of a text that is borrowed, and of one that is owned; and want of memory.
+fn errors(alloc: Global) -> Result<(), AllocError> {
+    let error = Error::new(alloc, LONG)?;
+    let _copy = error.clone()?;
+    let _borrowed = RuleError::of(alloc, Ok(CowStr::Borrowed(LONG)));
+    let text = String::from_str(alloc, LONG)?;
+    let _owned = RuleError::of(alloc, Ok(CowStr::Owned(text)));
+    let _none = RuleError::of(alloc, Err(AllocError));
+    let _line = ValidateError::Memory.to_string(alloc)?;
+    Ok(())
+}
+
+// The tree of a report, its text, and the report of the tree.
+fn trees(alloc: Global) -> Result<(), AllocError> {
+    let report = report_of(alloc, 2)?;
+    let tree = report_to_json(alloc, &report)?;
+    let _text = report_to_json_text(alloc, &report)?;
+    let _back = report_from_json(alloc, &tree).map_err(|_| AllocError)?;
+    Ok(())
+}
+
+// Work under a handler that holds memory.
+fn handlers(alloc: Global) -> Result<(), AllocError> {
+    let heavy = Heavy {
+        weight: Vec::with_capacity(alloc, 100)?,
+    };
+    match with_i18n(heavy, |h| ascii::apply(alloc, &"é", (), h)) {
+        Err(RuleError::Fault(_)) => Ok(()),
+        _ => Err(AllocError),
+    }
+}
+
+// A pattern, and two searches.
+fn patterns(alloc: Global) -> Result<(), AllocError> {
+    let Ok(pattern) = Regex::new(alloc, "^[0-9]+$") else {
+        return Err(AllocError);
+    };
+    let _found = pattern.is_match(alloc, "12345")?;
+    let searcher = pattern.searcher(alloc)?;
+    let _again = searcher.is_match(alloc, "x")?;
+    Ok(())
+}
+
+// A document with this tag, and with or without a content.
+fn document(alloc: Global, tag: &str, filled: bool) -> Result<Document, AllocError> {
+    let content = if filled {
+        Some(String::from_str(alloc, LONG)?)
+    } else {
+        None
+    };
+    Ok(Document {
+        check_format: false,
+        check_length: false,
+        content,
+        tag: Tag(String::from_str(alloc, tag)?),
+    })
+}
+
+// A value that becomes a valid one, and is taken out of it.
+fn valid(alloc: Global) -> Result<(), AllocError> {
+    match Unvalidated::new(document(alloc, "t-1", true)?).validate(alloc) {
+        Ok(valid) => {
+            let _document = valid.into_inner();
+            Ok(())
+        }
+        Err(_) => Err(AllocError),
+    }
+}
+
+// A value that is none, and its report.
+fn invalid(alloc: Global) -> Result<(), AllocError> {
+    match Unvalidated::new(document(alloc, LONG, false)?).validate(alloc) {
+        Err(IntoValidError::Report(report)) => {
+            let _text = report.to_string(alloc)?;
+            Ok(())
+        }
+        _ => Err(AllocError),
+    }
+}
+
+// So many documents, each with two faults.
+fn crowd(alloc: Global, count: usize) -> Result<Vec<Document>, AllocError> {
+    let mut crowd = Vec::new(alloc);
+    for _ in 0..count {
+        crowd.push(document(alloc, LONG, false)?)?;
+    }
+    Ok(crowd)
+}
+
+// A walk that is refused before its end.
+fn refused(alloc: Global, crowd: &Vec<Document>) -> Result<(), AllocError> {
+    match crowd.validate(alloc) {
+        Err(ValidateError::Memory) => Ok(()),
+        _ => Err(AllocError),
+    }
+}
+
+// Makes objects of a kind, and drops them.
+fn make(alloc: Global, kind: Made, crowd: &Vec<Document>) -> Result<(), AllocError> {
+    match kind {
+        Made::Lists => lists(alloc),
+        Made::Paths => paths(alloc),
+        Made::Ways => ways(alloc),
+        Made::Reports => reports(alloc),
+        Made::Errors => errors(alloc),
+        Made::Trees => trees(alloc),
+        Made::Handlers => handlers(alloc),
+        Made::Patterns => patterns(alloc),
+        Made::Valid => valid(alloc),
+        Made::Invalid => invalid(alloc),
+        Made::Refused => refused(alloc, crowd),
+    }
+}
+
+// How often objects of a kind could be made in turn.
+fn times_made(alloc: Global, kind: Made, crowd: &Vec<Document>) -> usize {
+    for time in 0..TIMES {
+        if make(alloc, kind, crowd).is_err() {
+            return time;
+        }
+    }
+    TIMES
+}
+
+#[test]
+fn what_is_made_is_given_back(rt: HostRuntime) -> Result<(), Fail> {
+    let alloc = rt.alloc();
+    let crowd = crowd(alloc, 300)?;
+    let mut hog = Hog::new(alloc)?;
+    for kind in KINDS {
+        hog.leave(BUDGET);
+        let times = times_made(alloc, kind, &crowd);
+        hog.release();
+        assert_eq!(rt; times, TIMES, "{kind:?}");
+    }
+    Ok(())
+}

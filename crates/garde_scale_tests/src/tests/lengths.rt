@@ -1,0 +1,103 @@
+//! Each length of a long text, as a value, with a fault below its bound and one above.
+use super::message;
+use garde::fields::{ByteLength, CharLength, GraphemeLength, Length, Utf16Length};
+use garde::rules::Rule;
+use garde::{DefaultI18n, RuleError};
+use std::alloc::Global;
+use std::test::Fail;
+
+/// A unit in which a length is counted.
+#[derive(Clone, Copy, Debug)]
+enum Unit {
+    Simple,
+    Bytes,
+    Chars,
+    Graphemes,
+    Utf16,
+}
+
+// What the rule of a length finds in a text.
+fn find(
+    alloc: Global,
+    unit: Unit,
+    (min, max): (usize, usize),
+    text: &str,
+) -> Result<(), RuleError> {
+    let h = &DefaultI18n;
+    match unit {
+        Unit::Simple => Length { min, max }.find(alloc, &text, h),
+        Unit::Bytes => ByteLength { min, max }.find(alloc, &text, h),
+        Unit::Chars => CharLength { min, max }.find(alloc, &text, h),
+        Unit::Graphemes => GraphemeLength { min, max }.find(alloc, &text, h),
+        Unit::Utf16 => Utf16Length { min, max }.find(alloc, &text, h),
+    }
+}
+
+const MAX: usize = usize::MAX;
+
+/// The bounds, and the fault of a thousand faces.
+static ROWS: [(Unit, (usize, usize), Option<&str>); 20] = [
+    (Unit::Simple, (4000, 4000), None),
+    (Unit::Simple, (4001, MAX), Some("length is lower than 4001")),
+    (Unit::Simple, (0, 3999), Some("length is greater than 3999")),
+    (
+        Unit::Simple,
+        (MAX, 0),
+        Some("length is lower than 18446744073709551615"),
+    ),
+    (Unit::Bytes, (4000, 4000), None),
+    (Unit::Bytes, (4001, MAX), Some("length is lower than 4001")),
+    (Unit::Bytes, (0, 3999), Some("length is greater than 3999")),
+    (
+        Unit::Bytes,
+        (MAX, 0),
+        Some("length is lower than 18446744073709551615"),
+    ),
+    (Unit::Chars, (1000, 1000), None),
+    (Unit::Chars, (1001, MAX), Some("length is lower than 1001")),
+    (Unit::Chars, (0, 999), Some("length is greater than 999")),
+    (Unit::Chars, (0, 0), Some("length is greater than 0")),
+    (Unit::Graphemes, (1000, 1000), None),
+    (
+        Unit::Graphemes,
+        (1001, MAX),
+        Some("length is lower than 1001"),
+    ),
+    (
+        Unit::Graphemes,
+        (0, 999),
+        Some("length is greater than 999"),
+    ),
+    (Unit::Graphemes, (0, 0), Some("length is greater than 0")),
+    (Unit::Utf16, (2000, 2000), None),
+    (Unit::Utf16, (2001, MAX), Some("length is lower than 2001")),
+    (Unit::Utf16, (0, 1999), Some("length is greater than 1999")),
+    (Unit::Utf16, (0, 0), Some("length is greater than 0")),
+];
+
+#[test]
+fn each_length_of_a_thousand_faces(rt: HostRuntime) -> Result<(), Fail> {
+    let alloc = rt.alloc();
+    let text = "😂".repeat(alloc, 1000)?;
+    for (unit, bounds, fault) in &ROWS {
+        let answer = find(alloc, *unit, *bounds, text.as_str());
+        assert_eq!(rt; message(&answer), *fault, "{unit:?} {bounds:?}");
+    }
+    Ok(())
+}
+
+#[test]
+fn a_text_of_no_characters(rt: HostRuntime) {
+    for unit in [
+        Unit::Simple,
+        Unit::Bytes,
+        Unit::Chars,
+        Unit::Graphemes,
+        Unit::Utf16,
+    ] {
+        let none = find(rt.alloc(), unit, (0, 0), "");
+        assert_eq!(rt; message(&none), None, "{unit:?}");
+        let one = find(rt.alloc(), unit, (0, 0), "a");
+        assert_eq!(rt; message(&one), Some("length is greater than 0"), "{unit:?}");
+    }
+}

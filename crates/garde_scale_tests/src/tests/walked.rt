@@ -1,0 +1,179 @@
+//! A type of an author's own: a length of its own, a check that reads the context, and two fields
+//! that match.
+ghost use Rattle.std.specs.Prelude.{if◌then◌else◌};
+ghost use Rattle.garde.specs.Author.{length_in};
+ghost use Rattle.garde.specs.Fields.{◌and◌, Some, None, nat_lt, byte_count, string_bytes, codes, own, found, field, matches_text};
+
+use super::parcel::Label;
+use garde::fields::{Field, Fields, Is, Length, Matches, Rule};
+use garde::rules::length::HasSimpleLength;
+use garde::rules::{adapt, inner, prefix};
+use garde::{Component, DefaultI18n, I18n, Report, RuleError, Trail, Validate};
+use std::alloc::{AllocError, Global};
+use std::borrow::CowStr;
+use std::test::Fail;
+
+/// A purse, whose length is the number of its coins.
+#[derive(Clone, Copy, Debug)]
+struct Purse {
+    coins: usize,
+}
+
+impl HasSimpleLength for Purse {
+    ghost simple_len = { λ purse. purse.coins };
+
+    fn length(&self) -> usize {
+        self.coins
+    }
+}
+
+/// What a bank asks of its accounts: the least number of bytes of a password.
+#[derive(Clone, Copy, Debug)]
+struct Bank {
+    least: usize,
+}
+
+/// The rule that a password is as long as the bank asks for.
+#[derive(Clone, Copy, Debug)]
+struct Strong<'c>(&'c Bank);
+
+impl Rule<String> for Strong<'_> {
+    ghost finds = { λ rule v.
+        if nat_lt (byte_count (string_bytes v)) rule.0.now.least then Some (own (codes "weak")) else None };
+
+    fn find<H: I18n>(&self, alloc: Global, value: &String, _h: &H) -> Result<(), RuleError> {
+        if value.len() < self.0.least {
+            Err(RuleError::of(alloc, Ok(CowStr::Borrowed("weak"))))
+        } else {
+            Ok(())
+        }
+    }
+}
+
+/// An account.
+#[derive(Debug, Drop)]
+struct Account {
+    purse: Purse,
+    password: String,
+    again: String,
+}
+
+impl Validate for Account {
+    type Context = Bank;
+
+    ghost visits = { λ v bank.
+        field "purse" (length_in 1 9 v.purse.coins)
+        and field "password"
+        (found (if nat_lt (byte_count (string_bytes v.password)) bank.least then Some (own (codes "weak")) else None))
+        and field "again" (matches_text "password" v.again v.password) };
+
+    fn validate_into<'a, H: I18n>(
+        &'a self,
+        alloc: Global,
+        ctx: &Bank,
+        trail: &mut Trail<'a>,
+        report: &mut Report,
+        h: &H,
+    ) -> Result<(), AllocError> {
+        let Self {
+            purse,
+            password,
+            again,
+        } = self;
+        let same = Matches {
+            field: "password",
+            other: password,
+        };
+        (
+            Field("purse", purse, Is(Length { min: 1, max: 9 })),
+            Field("password", password, Is(Strong(ctx))),
+            Field("again", again, Is(same)),
+        )
+            .visit(alloc, trail, report, h)
+    }
+}
+
+// What is told of an account under a bank that asks for so many bytes.
+fn told(alloc: Global, coins: usize, again: &str, least: usize) -> Result<String, AllocError> {
+    let account = Account {
+        purse: Purse { coins },
+        password: String::from_str(alloc, "secret")?,
+        again: String::from_str(alloc, again)?,
+    };
+    match account.validate_with(alloc, &Bank { least }) {
+        Ok(()) => Ok(String::new(alloc)),
+        Err(refusal) => refusal.to_string(alloc),
+    }
+}
+
+#[test]
+fn a_length_a_context_and_a_match(rt: HostRuntime) -> Result<(), Fail> {
+    let rows = [
+        (1, "secret", 6, ""),
+        (9, "secret", 0, ""),
+        (0, "secret", 6, "purse: length is lower than 1\n"),
+        (10, "secret", 6, "purse: length is greater than 9\n"),
+        (1, "secret", 7, "password: weak\n"),
+        (1, "Secret", 6, "again: does not match password field\n"),
+        (
+            0,
+            "",
+            7,
+            "purse: length is lower than 1\npassword: weak\nagain: does not match password field\n",
+        ),
+    ];
+    for (coins, again, least, text) in rows {
+        let told = told(rt.alloc(), coins, again, least)?;
+        assert_eq!(rt; told.as_str(), text);
+    }
+    Ok(())
+}
+
+// Asks the text of a label for its beginning, beneath its component.
+fn check_label<'a>(
+    alloc: Global,
+    label: &Label,
+    component: Component<'a>,
+    trail: &mut Trail<'a>,
+    report: &mut Report,
+) -> Result<(), AllocError> {
+    trail.push(component)?;
+    let answer = adapt(
+        label,
+        |label| label.text.as_str(),
+        |text| prefix::apply(alloc, text, ("t-",), &DefaultI18n),
+    );
+    let put = trail.put(report, answer);
+    trail.pop();
+    put
+}
+
+// What is told of labels of these texts.
+fn of_labels(alloc: Global, texts: &[&str]) -> Result<String, Fail> {
+    let mut labels = Vec::new(alloc);
+    for text in texts {
+        let text = String::from_str(alloc, text)?;
+        labels.push(Label { text })?;
+    }
+    let mut trail = Trail::new(alloc);
+    let mut report = Report::new(alloc);
+    inner::apply(
+        &labels,
+        &mut trail,
+        &mut report,
+        |label: &Label, component, trail, report| {
+            check_label(alloc, label, component, trail, report)
+        },
+    )?;
+    Ok(report.to_string(alloc)?)
+}
+
+#[test]
+fn a_view_of_each_item(rt: HostRuntime) -> Result<(), Fail> {
+    let told = of_labels(rt.alloc(), &["t-1", "1", "t-", ""])?;
+    assert_eq!(rt;
+        told.as_str(),
+        "[1]: value does not begin with \"t-\"\n[3]: value does not begin with \"t-\"\n"
+    );
+    Ok(())
+}
