@@ -1,11 +1,12 @@
 """The implementation of `Validate` for a type."""
-from .layout import WIDTH, Literal, Method, Word, arm, call, statement
+from .layout import WIDTH, Call, Literal, Method, Word, arm, call, statement
 from .scope import Place, Scope, Seen
 from .source import Param, all_rules, read_type, type_names
 from .tokens import Refusal, Tokens
 from .words import Checks, together
 
-ORDINALS = ("first", "second", "third", "fourth", "fifth", "sixth", "seventh", "eighth", "ninth", "tenth", "eleventh", "twelfth")
+ORDINALS = ("first", "second", "third", "fourth", "fifth", "sixth")
+LETTERS = "abcdefgijklmnopqrst"
 # Names of the method's own, and words of the statements and of their language, which no binding may hide.
 OWN = ("alloc", "trail", "report", "h", "self")
 STATED = (
@@ -31,13 +32,14 @@ class Implementation:
     def __init__(self, writer, item):
         self.writer, self.item = writer, item
         self.context = self.read_context()
+        self.writer.context = self.context[0]
         self.borrows = any(it.kind != "const" for it in item.params)
         self.asks_context = False
 
     def read_context(self):
         """The type of the context, its name, and whether there is none."""
         if not self.item.attributes.context:
-            dived = [it.name for it in self.item.params if it.kind == "type" and it.bounds in ("", "Validate") and self.dives(it.name)]
+            dived = [it.name for it in self.item.params if self.is_dived(it)]
             return (f"{dived[0]}::Context", "ctx", True) if dived else ("()", "ctx", True)
         line, tokens = self.item.attributes.context
         tokens = Tokens(tokens.tokens, tokens.text)
@@ -45,7 +47,13 @@ class Implementation:
             raise Refusal(line, "a context that is a tuple")
         kind = read_type(tokens)
         name = tokens.name("the name of the context") if tokens.takes("as") else "ctx"
+        if name in (*OWN, *STATED):
+            raise Refusal(line, f"the name `{name}` of the context stands for something else in the implementation")
         return self.writer.type_text(kind), name, False
+
+    def is_dived(self, param):
+        """Whether a field dives into a parameter whose context its bounds leave open."""
+        return param.kind == "type" and param.bounds in ("", "Validate") and self.dives(param.name)
 
     def dives(self, name):
         """Whether a field dives into a parameter."""
@@ -58,7 +66,7 @@ class Implementation:
         if item.attributes.skip or item.attributes.rules or item.attributes.adapter or item.attributes.rename:
             raise Refusal(item.line, f"`{item.name}` has an attribute that stands at fields alone")
         body, stated = self.of_struct() if item.kind == "struct" else self.of_enum()
-        context, name, unit = self.context
+        context, name, _ = self.context
         if item.name in writer.patterns:
             context = f"{item.name}Patterns"
         name = name if self.asks_context else f"_{name}"
@@ -67,11 +75,13 @@ class Implementation:
         return "\n".join(lines) + "\n" + HEAD.format(context=f"{name}: &{context}") + body + "\n    }\n}"
 
     def params(self):
-        """The parameters, with the bounds that are wanted."""
-        return tuple(
-            Param(it.kind, it.name, it.bounds or "Validate") if it.kind == "type" and self.dives(it.name) else it
-            for it in self.item.params
-        )
+        """The parameters with their bounds: those that fields dive into validate themselves, under the one context."""
+        params, context = [], self.context[0]
+        for it in self.item.params:
+            if self.is_dived(it):
+                it = Param(it.kind, it.name, "Validate" if context == f"{it.name}::Context" else f"Validate<Context = {context}>")
+            params.append(it)
+        return tuple(params)
 
     def visits(self, stated):
         """The statement: of a struct a list with an entry for each field, of an enum its cases."""
@@ -98,6 +108,9 @@ class Implementation:
         """The body and the statements of an enum: an arm and a case for each variant."""
         if self.item.attributes.transparent:
             raise Refusal(self.item.line, "`transparent` of an enum")
+        if self.writer.module is None:
+            raise Refusal(self.item.line, "an enum, whose statement names its module: say it by `--module CRATE::MODULE`")
+        self.writer.uses.words.add("Visits")
         arms, cases = [], []
         for variant in self.item.variants:
             names = self.bindings(variant)
@@ -107,32 +120,25 @@ class Implementation:
             arms.append(arm(self.pattern(f"{self.item.name}::{variant.name}", variant, names, scope), self.visit(code), 12))
             held = [name if self.is_bound(it, scope) else "_" for it, name in zip(variant.fields, stated_names)]
             cases.append(f"      | {' '.join([variant.name, *held])} ↦ {' and '.join(stated)}")
-        self.name_variants()
         return "\n".join(["        match self {", *arms, "        }"]), cases
-
-    def name_variants(self):
-        """Notes that the statements name the variants."""
-        names = [it.name for it in self.item.variants]
-        taken = {it for others in self.writer.variants.values() for it in others} | self.writer.uses.words | {"Some", "None", "Ok", "Err"}
-        for variant in self.item.variants:
-            if variant.name in taken:
-                raise Refusal(variant.line, f"the name `{variant.name}` stands for something else in this file: give the enum a file of its own, or the variant another name")
-        if self.writer.module is None:
-            raise Refusal(self.item.line, "an enum, whose statement names its module: say it by `--module CRATE::MODULE`")
-        self.writer.uses.words.add("Visits")
-        self.writer.variants[self.item.name] = names
 
     def scope(self, places):
         _, name, unit = self.context
         return Scope(name, places, {it.name for it in self.item.params if it.kind == "type"}, unit)
 
     def bindings(self, variant):
-        """The name of each field in the code."""
+        """The name of each field in the code, which hides no name of the method's own."""
+        return [f"the_{it}" if it in (*OWN, self.context[1]) else it for it in self.plain_names(variant)]
+
+    def plain_names(self, variant):
+        """The names of the fields; those of a tuple are words or, of many, letters."""
         if variant.shape == "named":
-            return [f"the_{it.name}" if it.name in (*OWN, self.context[1]) else it.name for it in variant.fields]
+            return [it.name for it in variant.fields]
+        if len(variant.fields) > len(LETTERS):
+            raise Refusal(variant.line, f"a tuple of more than {len(LETTERS)} fields")
         if len(variant.fields) == 1:
             return ["value"]
-        return [ORDINALS[at] if at < len(ORDINALS) else f"field{at}" for at in range(len(variant.fields))]
+        return list(ORDINALS if len(variant.fields) <= len(ORDINALS) else LETTERS)[: len(variant.fields)]
 
     def is_bound(self, it, scope):
         return self.has_rules(it) or it.name in scope.bound
@@ -185,7 +191,7 @@ class Implementation:
         bound = [name if self.is_bound(it, scope) else "_" for it, name in zip(variant.fields, names)]
         if variant.shape == "named":
             return Literal(head, tuple((it.name, Word(name)) for it, name in zip(variant.fields, bound)))
-        return call(head, *bound) if variant.fields else Word(head)
+        return Call(head, tuple(map(Word, bound)), WIDTH) if variant.fields else Word(head)
 
     def visit(self, fields):
         """The call that visits the fields."""

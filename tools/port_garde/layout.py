@@ -1,7 +1,7 @@
 """Rust code as a tree, and its layout, which is that of `rt fmt`."""
 from dataclasses import dataclass
 
-WIDTH, USE_WIDTH = 100, 98
+WIDTH, USE_WIDTH, USE_ROW = 100, 98, 99
 # What fits between brackets on one line: the arguments of a call, the fields of a literal or a pattern, those of a variant.
 CALL, LITERAL, VARIANT = 60, 18, 35
 
@@ -15,10 +15,11 @@ class Word:
 
 @dataclass(frozen=True)
 class Call:
-    """A call, a constructor or, with an empty head, a tuple."""
+    """A call, a constructor or its pattern, or, with an empty head, a tuple."""
 
     head: str
     parts: tuple
+    width: int = CALL
 
 
 @dataclass(frozen=True)
@@ -79,8 +80,9 @@ def may_be_flat(tree):
         return may_be_flat(tree.part)
     if isinstance(tree, Literal):
         return len(fields_of(tree)) <= tree.width and all(may_be_flat(value) for _, value in tree.fields)
-    parts = all(may_be_flat(it) for it in tree.parts) and len(commas(tree.parts)) <= CALL
-    return parts and (not isinstance(tree, Method) or may_be_flat(tree.receiver))
+    if isinstance(tree, Method):
+        return may_be_flat(tree.receiver)
+    return all(may_be_flat(it) for it in tree.parts) and len(commas(tree.parts)) <= tree.width
 
 
 def lay(tree, column, indent, after=0):
@@ -131,11 +133,11 @@ def statement(tree, indent, before="", after=""):
 
 
 def arm(pattern, tree, indent):
-    """An arm of a match: on one line where it fits, and else with a block."""
-    line = f"{' ' * indent}{flat(pattern)} => {flat(tree)},"
-    if may_be_flat(pattern) and may_be_flat(tree) and len(line) <= WIDTH:
-        return line
+    """An arm of a match: on the line on which its pattern ends where it fits, and else with a block."""
     head = " " * indent + lay(pattern, indent, indent, len(" => {"))
+    line = f"{head} => {flat(tree)},"
+    if may_be_flat(tree) and len(line.splitlines()[-1]) <= WIDTH:
+        return line
     return f"{head} => {{\n{statement(tree, indent + 4)}\n{' ' * indent}}}"
 
 
@@ -149,7 +151,7 @@ def use_line(path, names):
         return line
     lines, row = [], "   "
     for name in names:
-        if len(row) + len(name) + 2 > WIDTH:
+        if len(row) + len(name) + 2 > (WIDTH if name == names[-1] else USE_ROW):
             lines.append(row)
             row = "   "
         row += f" {name},"

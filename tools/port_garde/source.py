@@ -66,6 +66,17 @@ class Item:
 
 
 @dataclass
+class Outer:
+    """What stands before an item, a variant or a field. `tests` is for what stands for tests alone, `condition` for other `cfg`."""
+
+    docs: tuple = ()
+    attributes: Attributes = None
+    derives: tuple = ()
+    tests: bool = False
+    condition: int = 0
+
+
+@dataclass
 class Source:
     """What a file declares."""
 
@@ -88,17 +99,19 @@ def read_source(text):
 
 def read_item(tokens, source, text):
     """Reads an item; those that are neither ported nor asked for are passed over."""
-    docs, attributes, derives, skipped = read_outer(tokens)
+    outer = read_outer(tokens)
     start, line = tokens.first.at, tokens.line
     vis = read_vis(tokens)
     while tokens.sees("unsafe") or tokens.sees("async") or tokens.sees("const", "fn"):
         tokens.take()
     word = tokens.take().text
-    if word in ("struct", "enum") and not skipped:
-        read = read_struct if word == "struct" else read_enum
-        name, params, variants = read(tokens)
-        source.items.append(Item(word, name, params, variants, line, attributes, derives, docs, vis))
-    elif word == "use" and not skipped:
+    if outer.tests:
+        pass_over(tokens)
+    elif word in ("struct", "enum"):
+        unconditional(outer)
+        name, params, variants = (read_struct if word == "struct" else read_enum)(tokens)
+        source.items.append(Item(word, name, params, variants, line, outer.attributes, outer.derives, outer.docs, vis))
+    elif word == "use":
         source.imports += read_imports(tokens, ())
         tokens.expect(";")
     elif word == "fn":
@@ -124,8 +137,8 @@ def read_constant(tokens, source):
 
 
 def read_outer(tokens):
-    """Reads docs and attributes: the docs, what `garde` asks, the derives, and whether the item stands for tests alone."""
-    docs, asked, derives, skipped = [], [], [], False
+    """Reads docs and attributes."""
+    docs, asked, outer = [], [], Outer()
     while tokens.first.kind == "doc" or tokens.opens("#"):
         if tokens.first.kind == "doc":
             docs.append(tokens.take().text)
@@ -135,11 +148,22 @@ def read_outer(tokens):
         inside = tokens.group()
         line, word = inside.line, inside.take().text
         if word == "derive":
-            derives += inside.group().items(lambda it: read_path(it)[-1])
+            outer.derives += tuple(inside.group().items(lambda it: read_path(it)[-1]))
         elif word == "garde":
             asked.append((line, inside.group()))
-        skipped = skipped or (word == "cfg" and inside.group().sees("test"))
-    return tuple(docs), read_attributes(asked) if asked else no_attributes(), tuple(derives), skipped
+        elif word == "cfg" and inside.group().sees("test"):
+            outer.tests = True
+        elif word in ("cfg", "cfg_attr"):
+            outer.condition = line
+    outer.docs, outer.attributes = tuple(docs), read_attributes(asked) if asked else no_attributes()
+    return outer
+
+
+def unconditional(outer):
+    """Refuses what stands under a condition of the build."""
+    if outer.condition:
+        raise Refusal(outer.condition, "an attribute `cfg` or `cfg_attr`, which the port cannot judge")
+    return outer
 
 
 def read_path(tokens):
@@ -210,11 +234,11 @@ def read_enum(tokens):
 
 def read_variant(tokens):
     """Reads a variant of an enum."""
-    docs, attributes, _, _ = read_outer(tokens)
+    outer = unconditional(read_outer(tokens))
     line, name = tokens.line, tokens.name("a variant")
-    if attributes.asked:
+    if outer.attributes.asked:
         raise Refusal(line, f"an attribute at the variant `{name}`: attributes stand at types and at fields")
-    variant = read_variant_body(tokens, name, line, docs)
+    variant = read_variant_body(tokens, name, line, outer.docs)
     if tokens.takes("="):
         raise Refusal(line, f"the variant `{name}` has a number")
     return variant
@@ -238,16 +262,16 @@ def no_where(tokens):
 
 
 def read_named_field(tokens):
-    docs, attributes, _, _ = read_outer(tokens)
+    outer = unconditional(read_outer(tokens))
     vis, line, name = read_vis(tokens), tokens.line, tokens.name("the name of a field")
     tokens.expect(":")
-    return Field(name, read_type(tokens), line, attributes, docs, vis)
+    return Field(name, read_type(tokens), line, outer.attributes, outer.docs, vis)
 
 
 def read_tuple_field(tokens):
-    docs, attributes, _, _ = read_outer(tokens)
+    outer = unconditional(read_outer(tokens))
     vis, line = read_vis(tokens), tokens.line
-    return Field("", read_type(tokens), line, attributes, docs, vis)
+    return Field("", read_type(tokens), line, outer.attributes, outer.docs, vis)
 
 
 def read_params(tokens):

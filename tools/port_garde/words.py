@@ -110,6 +110,8 @@ class Checks:
 
     def context_of(self, rule):
         """The context that a part gets, as code and as it is stated."""
+        if rule.place is None and self.writer.asks_patterns(self.writer.item.name):
+            return "&()", "tt"
         if rule.place is None or rule.place.value == (self.scope.context,):
             return self.scope.the_context(), self.scope.context
         if rule.place.kind == "unit":
@@ -121,7 +123,7 @@ class Checks:
 
     def custom(self, rule, seen, adapter):
         """A rule of one's own, which holds the context where there is one."""
-        name = camel(rule.text) if rule.text else self.writer.closure_name()
+        name = camel(rule.text) if rule.text else self.writer.closure_name(rule)
         kind = self.writer.type_text(seen.type)
         self.writer.own_rule(name, rule, kind, self.scope.unit)
         self.word("found")

@@ -1,6 +1,8 @@
 """The Rattle source with the implementations."""
+import re
+
 from .implementation import Implementation
-from .layout import VARIANT, use_line
+from .layout import CALL, VARIANT, WIDTH, use_line
 from .rules import Expression
 from .scope import Uses
 from .source import all_rules, is_ported, type_names
@@ -13,9 +15,9 @@ IMPORTS = {**{name: f"std::collections::{name}" for name in COLLECTIONS}, "Rc": 
 GARDE = {"I18n", "Report", "Trail", "Validate", "AllocError", "Global", "Rule", "View", "RuleError"}
 RULE = """{docs}
 #[derive(Clone, Copy)]
-pub struct {name}{life}{holds};
+{vis}struct {name}{life}{holds};
 
-impl Rule<{kind}> for {name}{lives} {{
+impl{bound} Rule<{kind}> for {name}{lives} {{
     ghost finds = {{ λ rule value. todo }};
 
     fn find<H: I18n>(&self, alloc: Global, value: &{kind}, _h: &H) -> Result<(), RuleError> {{
@@ -24,9 +26,9 @@ impl Rule<{kind}> for {name}{lives} {{
 }}"""
 VIEW = """{docs}
 #[derive(Clone, Copy)]
-pub struct {name};
+{vis}struct {name};
 
-impl View<{kind}> for {name} {{
+impl{bound} View<{kind}> for {name} {{
     type Seen = String;
 
     ghost seen = {{ λ _ value. todo }};
@@ -43,8 +45,8 @@ class Writer:
     def __init__(self, source, module=None, own=None):
         self.source, self.module, self.own = source, module, own
         self.uses = Uses()
-        self.patterns, self.variants, self.skeletons = {}, {}, {}
-        self.item = self.spot = None
+        self.patterns, self.skeletons, self.closures = {}, {}, {}
+        self.item = self.context = self.spot = None
         self.renamed = {}
 
     def text(self):
@@ -65,10 +67,20 @@ class Writer:
         return [self.declaration(item), *patterns, implementation]
 
     def refuse_names(self):
-        """Refuses types whose names are imported."""
+        """Refuses types whose names are imported, and variants whose names stand for something else in a statement."""
+        imported = GARDE | self.uses.fields | {path.rpartition("::")[2] for path in self.uses.others}
+        taken = self.uses.words | {"Some", "None", "Ok", "Err"}
         for item in self.source.items:
-            if item.name in GARDE | self.uses.fields:
+            if item.name in imported:
                 raise Refusal(item.line, f"the name `{item.name}` is one that the port imports")
+            for variant in self.stated_variants(item):
+                if variant.name in taken:
+                    raise Refusal(variant.line, f"the name `{variant.name}` stands for something else in this file: give the enum a file of its own, or the variant another name")
+                taken.add(variant.name)
+
+    def stated_variants(self, item):
+        """The variants that statements name."""
+        return item.variants if item.kind == "enum" and is_ported(item) else ()
 
     # Types.
 
@@ -79,34 +91,41 @@ class Writer:
         lines = [*item.docs, f"#[derive({', '.join(derives)})]"]
         params = self.params_text(item.params, bounds=False)
         if item.kind == "struct":
-            return "\n".join([*lines, f"{item.vis}struct {item.name}{params}{self.body(item.variants[0])}"])
+            head = f"{item.vis}struct {item.name}{params}"
+            return "\n".join([*lines, head + self.body(item.variants[0], len(head))])
         tall = any("\n" in self.variant_text(it, False) for it in item.variants)
         variants = [f"    {line}" for it in item.variants for line in (*it.docs, f"{self.variant_text(it, tall)},")]
         return "\n".join([*lines, f"{item.vis}enum {item.name}{params} {{", *variants, "}"])
 
-    def body(self, variant):
-        """The fields of a struct."""
+    def body(self, variant, before):
+        """The fields of a struct, behind its name."""
         if variant.shape == "unit":
             return ";"
         if variant.shape == "named":
             return " {\n" + "".join(self.field_lines(it, 4) for it in variant.fields) + "}"
-        return f"({', '.join(it.vis + self.type_text(it.type, True) for it in variant.fields)});"
+        inside = ", ".join(it.vis + self.type_text(it.type, True) for it in variant.fields)
+        if len(inside) <= CALL and before + len(inside) + 3 <= WIDTH and not any(it.docs for it in variant.fields):
+            return f"({inside});"
+        return "(\n" + "".join(self.field_lines(it, 4) for it in variant.fields) + ");"
 
     def field_lines(self, it, indent):
         space = " " * indent
-        return "".join(f"{space}{line}\n" for line in (*it.docs, f"{it.vis}{it.name}: {self.type_text(it.type, True)},"))
+        name = f"{it.name}: " if it.name else ""
+        return "".join(f"{space}{line}\n" for line in (*it.docs, f"{it.vis}{name}{self.type_text(it.type, True)},"))
 
     def variant_text(self, variant, tall):
         """A variant of an enum; where one of them is tall, so are all with named fields."""
         if variant.shape == "unit":
             return variant.name
-        if variant.shape == "tuple":
-            return f"{variant.name}({', '.join(self.type_text(it.type, True) for it in variant.fields)})"
-        inside = ", ".join(f"{it.name}: {self.type_text(it.type, True)}" for it in variant.fields)
-        if not tall and len(inside) <= VARIANT and not any(it.docs for it in variant.fields):
-            return f"{variant.name} {{ {inside} }}"
+        opening, closing = (" {", "}") if variant.shape == "named" else ("(", ")")
+        names = (f"{it.name}: " if it.name else "" for it in variant.fields)
+        inside = ", ".join(name + self.type_text(it.type, True) for name, it in zip(names, variant.fields))
+        fits = len(inside) <= VARIANT and not tall if variant.shape == "named" else len(variant.name + inside) + 7 <= WIDTH
+        if fits and not any(it.docs for it in variant.fields):
+            space = " " if variant.shape == "named" else ""
+            return f"{variant.name}{opening}{space}{inside}{space}{closing}"
         fields = "".join(self.field_lines(it, 8) for it in variant.fields)
-        return f"{variant.name} {{\n{fields}    }}"
+        return f"{variant.name}{opening}\n{fields}    {closing}"
 
     def type_text(self, kind, declared=False):
         """A type as it is written here; in a declaration its lifetimes stay as they are."""
@@ -174,36 +193,40 @@ class Writer:
         return f"/// The compiled patterns of `{item.name}`.\n#[derive(Drop)]\n{item.vis}struct {item.name}Patterns {{\n{fields}}}"
 
     def asks_patterns(self, name):
-        """Whether a type of this file has a context of compiled patterns."""
+        """Whether the port makes a context of compiled patterns for a type of this file."""
         found = [it for it in self.source.items if it.name == name and is_ported(it) and not it.attributes.context]
         return any(has_pattern(field.attributes.rules) for it in found for variant in it.variants for field in variant.fields)
 
     def dives_into(self, name, rule):
         """Refuses a part whose context this port makes, where the whole has no such context."""
-        if rule.place is None and self.asks_patterns(name):
+        if (rule.place is None or rule.place.kind == "unit") and self.asks_patterns(name):
             raise Refusal(rule.line, f"`dive` into `{name}`, whose patterns make a context of it: give both types a context with compiled patterns")
         if any(it.name == name and it is self.item for it in self.source.items):
             raise Refusal(rule.line, f"`dive` of `{name}` into itself: such a type is walked by a function of its own")
 
-    def closure_name(self):
-        return f"{self.item.name}{camel(self.spot)}Rule"
+    def closure_name(self, rule):
+        """A name for a closure, after the type and the field, with a number for each further one of the field."""
+        name = f"{self.item.name}{camel(self.spot)}Rule"
+        found = self.closures.setdefault(name, [])
+        if rule.source not in found:
+            found.append(rule.source)
+        number = found.index(rule.source)
+        return f"{name}{number + 1}" if number else name
 
     def own_rule(self, name, rule, kind, unit):
         """A rule of one's own: its type is imported or, with no module for it, written as a beginning."""
         source = rule.source or self.source.functions.get(rule.text, f"fn {rule.text}")
         docs = ["/// A rule to be written. In the Rust source it is:", "///", "/// ```text", *(f"/// {line}".rstrip() for line in source.splitlines()), "/// ```"]
-        context = self.context_text() if not unit else ""
+        context = "" if unit else self.context
         self.skeletons[name] = ("Rule", RULE.format(
-            docs="\n".join(docs), name=name, kind=kind, life="<'c>" if context else "", lives="<'_>" if context else "",
-            holds=f"(pub &'c {context})" if context else "",
+            docs="\n".join(docs), vis=self.item.vis, name=name, kind=kind, bound=lifetimes_of(kind),
+            life="<'c>" if context else "", lives="<'_>" if context else "",
+            holds=f"({self.item.vis}&'c {context})" if context else "",
         ))
 
     def own_view(self, name, path, kind):
         docs = f"/// A view to be written, in place of the module `{'::'.join(path)}`: the text of which the rules are asked."
-        self.skeletons[name] = ("View", VIEW.format(docs=docs, name=name, kind=kind))
-
-    def context_text(self):
-        return Implementation(self, self.item).context[0]
+        self.skeletons[name] = ("View", VIEW.format(docs=docs, vis=self.item.vis, name=name, kind=kind, bound=lifetimes_of(kind)))
 
     def skeleton_texts(self):
         """The beginnings of rules and views."""
@@ -220,12 +243,14 @@ class Writer:
         if uses.words:
             lines.append(f"ghost use Rattle.garde.specs.Fields.{{{', '.join(sorted(uses.words, key=word_order))}}};")
         lines += ["ghost use Rattle.garde.specs.Author as bytes;"] if uses.bytes else []
-        lines += [f"ghost use {self.variants_path(name)}.{{{', '.join(names)}}};" for name, names in self.variants.items()]
+        lines += [self.variants_use(it) for it in self.source.items if self.stated_variants(it)]
         return "\n".join(lines)
 
-    def variants_path(self, name):
+    def variants_use(self, item):
+        """What imports the variants of an enum."""
         crate, *modules = self.module.split("::")
-        return ".".join(["Rattle", crate, "specs", "declared", *modules, name, "TheVariants"])
+        path = ".".join(["Rattle", crate, "specs", "declared", *modules, item.name, "TheVariants"])
+        return f"ghost use {path}.{{{', '.join(it.name for it in item.variants)}}};"
 
     def use_lines(self):
         """What the code imports."""
@@ -263,6 +288,12 @@ def names_of(item):
     names = {name for variant in item.variants for it in variant.fields for name in type_names(it.type)}
     names |= {token.text for token in item.attributes.context[1].tokens} if item.attributes.context else set()
     return names
+
+
+def lifetimes_of(kind):
+    """The lifetimes that a type's text names, as parameters."""
+    found = sorted(set(re.findall(r"'\w+", kind)) - {"'static"})
+    return f"<{', '.join(found)}>" if found else ""
 
 
 def free_lifetime(params):

@@ -3,8 +3,10 @@
 
 pub mod account;
 pub mod coupon;
+pub mod depot;
 pub mod draft;
 pub mod event;
+pub mod generic;
 pub mod guest;
 pub mod label;
 pub mod own;

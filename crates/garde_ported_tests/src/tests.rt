@@ -1,5 +1,6 @@
 //! What is told of each type: all of its report, and nothing of a valid value.
 mod collections;
+mod generics;
 mod numbers;
 mod parts;
 mod rules;

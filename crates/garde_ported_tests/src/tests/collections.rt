@@ -1,9 +1,11 @@
 //! Types of collections and of options.
 use super::{next, texts, told};
+use garde_ported::depot::{Depot, Door};
 use garde_ported::guest::Guest;
 use garde_ported::shop::Shop;
 use std::alloc::{AllocError, Global};
-use std::collections::{BTreeMap, BTreeSet};
+use std::collections::{BTreeMap, BTreeSet, HashMap, HashSet, LinkedList, VecDeque};
+use std::rc::Rc;
 use std::test::Fail;
 
 /// A map from texts to numbers.
@@ -111,5 +113,77 @@ fn options_with_and_without_a_value(rt: HostRuntime) -> Result<(), Fail> {
         let guest = guest(alloc, age, from, seats)?;
         assert_eq!(rt; told(alloc, &guest, &())?.as_str(), text);
     }
+    Ok(())
+}
+
+fn counts(alloc: Global, count: u32) -> Result<HashMap<String, u32>, AllocError> {
+    let mut counts = HashMap::new(alloc);
+    counts.insert(String::from_str(alloc, "a")?, count)?;
+    Ok(counts)
+}
+
+fn names(alloc: Global, name: &str) -> Result<HashMap<usize, String>, AllocError> {
+    let mut names = HashMap::new(alloc);
+    names.insert(7, String::from_str(alloc, name)?)?;
+    Ok(names)
+}
+
+fn keys(alloc: Global, key: &str) -> Result<HashSet<String>, AllocError> {
+    let mut keys = HashSet::new(alloc);
+    keys.insert(String::from_str(alloc, key)?)?;
+    Ok(keys)
+}
+
+fn queue(alloc: Global, digits: &[u8]) -> Result<VecDeque<u8>, AllocError> {
+    let mut queue = VecDeque::new(alloc);
+    for digit in digits {
+        queue.push_back(*digit)?;
+    }
+    Ok(queue)
+}
+
+fn chain(alloc: Global, digits: &[u8]) -> Result<LinkedList<u8>, AllocError> {
+    let mut chain = LinkedList::new(alloc);
+    for digit in digits {
+        chain.push_back(*digit)?;
+    }
+    Ok(chain)
+}
+
+fn doors(alloc: Global, width: u8) -> Result<BTreeMap<String, Door>, AllocError> {
+    let mut doors = BTreeMap::new(alloc);
+    doors.insert(String::from_str(alloc, "a")?, Door { width })?;
+    Ok(doors)
+}
+
+/// A depot of numbers up to the first one, texts and doors.
+fn depot(alloc: Global, digits: &[u8], text: &str, width: u8) -> Result<Depot, AllocError> {
+    let digit = match digits {
+        [digit, ..] => *digit,
+        [] => 0,
+    };
+    Ok(Depot {
+        counts: counts(alloc, digit as u32)?,
+        names: names(alloc, text)?,
+        keys: keys(alloc, text)?,
+        queue: queue(alloc, digits)?,
+        chain: chain(alloc, digits)?,
+        digits: [0, 9, digit],
+        gate: Rc::new(alloc, Door { width })?,
+        doors: doors(alloc, width)?,
+    })
+}
+
+#[test]
+fn each_collection_of_a_depot(rt: HostRuntime) -> Result<(), Fail> {
+    let alloc = rt.alloc();
+    assert_eq!(rt;
+        told(alloc, &depot(alloc, &[9], "abcd", 15)?, &())?.as_str(),
+        ""
+    );
+    assert_eq!(rt;
+        told(alloc, &depot(alloc, &[10, 11], "é123", 16)?, &())?.as_str(),
+        "counts.a: greater than 9\nnames[7]: not ascii\nkeys[0]: length is greater than 4\nqueue: length is greater than 1\nqueue[0]: greater than 9\nqueue[1]: greater than 9\nchain: length is greater than 1\nchain[0]: greater than 9\nchain[1]: greater than 9\ndigits[2]: greater than 9\ngate.width: greater than 15\ndoors.a.width: greater than 15\n"
+    );
     Ok(())
 }
