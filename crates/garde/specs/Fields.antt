@@ -7,6 +7,7 @@ pub use Rattle.garde.specs.Author.{Visits, item, inside, none, found, taking, �
 pub use Rattle.garde_rules.specs.{byte_count, char_count}
 pub use Rattle.garde_rules.specs.IpText.{is_ipv4_text, is_ipv6_text}
 use Rattle.std.specs.Prelude.{ℕ, ℤ, neg_ℤ, List, String, Vec}
+use Rattle.std.specs.Borrow.{Bor}
 use Rattle.std.specs.BTreeMap.{BTreeMap}
 use Rattle.std.specs.BTreeSet.{BTreeSet}
 use Rattle.std.specs.HashMap.{HashMap}
@@ -34,6 +35,10 @@ asks message holds = found (told_unless message holds)
 
 abbrev pub told : Literal → Option Fault → Visits
 told message fault = found (with_message message fault)
+
+-- a reference to a value, as a rule of one's own holds its context: where it points says nothing
+abbrev pub lent : {A : Type 0} → A → Bor A
+lent v = record { ref_ptr = (0, 0); now = v }
 
 -- the pattern of this source matches anywhere in a text; a text is an absolute URL
 abbrev pub pattern : {Z : Type 0} → List ℕ → String Z → Visits

@@ -25,7 +25,7 @@ mod tuples;
 pub use check::{Check, Dive, Is, IsInMemory, check_under};
 pub use condition::When;
 pub use each::Each;
-pub use field::{Field, Fields, Transparent};
+pub use field::{Field, Fields, Item, Transparent};
 pub use garde_rules::Rule;
 pub use garde_rules::values::{
     Adapt, Alphanumeric, Ascii, ByteLength, CharLength, Contains, CreditCard, GraphemeLength, Ip,

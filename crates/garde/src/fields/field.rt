@@ -1,5 +1,5 @@
 //! The fields of a value.
-ghost use Rattle.garde_report.specs.Part.{key_part};
+ghost use Rattle.garde_report.specs.Part.{index_part, key_part};
 ghost use Rattle.garde.specs.Visits.{Visits, Visited, none, below};
 
 use super::check::{Check, check_under};
@@ -8,7 +8,7 @@ use garde_report::{Component, Report, Trail};
 use std::alloc::{AllocError, Global};
 
 /// Fields that are checked in turn, each under its name. It is implemented for one `Field`, for one
-/// `Transparent`, for tuples of fields and for `()`, which checks nothing.
+/// `Item`, for one `Transparent`, for tuples of fields and for `()`, which checks nothing.
 pub trait Fields<'a> {
     /// What a visit of the fields comes by.
     ghost visits: { Self → Visits };
@@ -62,6 +62,33 @@ impl<'a, T, C: Check<'a, T>> Fields<'a> for Field<'a, T, C> {
         check_under(
             alloc,
             Component::key(self.0),
+            &self.2,
+            self.1,
+            trail,
+            report,
+            h,
+        )
+    }
+}
+
+/// A field of a tuple: its index, its value, and what is checked of it.
+#[derive(Clone, Copy, Debug)]
+pub struct Item<'a, T, C>(pub usize, pub &'a T, pub C);
+
+impl<'a, T, C: Check<'a, T>> Fields<'a> for Item<'a, T, C> {
+    ghost visits = { λ field. below (index_part field.0) (C.visits field.2 field.1.now) };
+
+    #[inline(always)]
+    fn visit<H: I18n>(
+        &self,
+        alloc: Global,
+        trail: &mut Trail<'a>,
+        report: &mut Report,
+        h: &H,
+    ) -> Result<(), AllocError> {
+        check_under(
+            alloc,
+            Component::index(self.0),
             &self.2,
             self.1,
             trail,

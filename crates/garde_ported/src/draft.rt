@@ -1,0 +1,56 @@
+//! Fields without an attribute, where the type allows them, and names that stand for something else in an implementation.
+ghost use Rattle.garde.specs.Fields.{◌and◌, field, length_min, range_max};
+
+use garde::fields::{Field, Fields, Is, Length, Range};
+use garde::{I18n, Report, Trail, Validate};
+use std::alloc::{AllocError, Global};
+
+/// A draft.
+#[derive(Clone, PartialEq, Drop)]
+pub struct Draft {
+    pub report: String,
+    pub trail: u8,
+    pub h: u8,
+}
+
+impl Validate for Draft {
+    type Context = ();
+
+    ghost visits = { λ v _.
+        field "report" (length_min 1 v.report)
+        and field "h" (range_max 9 v.h) };
+
+    fn validate_into<'a, H: I18n>(
+        &'a self,
+        alloc: Global,
+        _ctx: &(),
+        trail: &mut Trail<'a>,
+        report: &mut Report,
+        h: &H,
+    ) -> Result<(), AllocError> {
+        let Self {
+            report: the_report,
+            trail: _,
+            h: the_h,
+        } = self;
+        (
+            Field(
+                "report",
+                the_report,
+                Is(Length {
+                    min: 1,
+                    max: usize::MAX,
+                }),
+            ),
+            Field(
+                "h",
+                the_h,
+                Is(Range {
+                    min: None,
+                    max: Some(9),
+                }),
+            ),
+        )
+            .visit(alloc, trail, report, h)
+    }
+}

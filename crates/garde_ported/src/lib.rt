@@ -1,0 +1,19 @@
+//! Types of Rust sources with `#[derive(Validate)]`, as `tools/port-garde` writes them. `own` is written by hand.
+#![tactic(auto)]
+
+pub mod account;
+pub mod coupon;
+pub mod depot;
+pub mod draft;
+pub mod event;
+pub mod generic;
+pub mod guest;
+pub mod label;
+pub mod own;
+pub mod page;
+pub mod place;
+pub mod reading;
+pub mod shop;
+pub mod team;
+pub mod visitor;
+pub mod wrapped;

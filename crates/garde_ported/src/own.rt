@@ -1,0 +1,72 @@
+//! The rules and the view that the types of `coupon` name: what is written by hand after a port.
+ghost use Rattle.std.specs.Prelude.{◌==◌, ◌%◌, if◌then◌else◌};
+ghost use Rattle.garde.specs.Fields.{None, Some, codes, nat_le, own};
+
+use crate::coupon::{Season, Tag};
+use garde::fields::{Rule, View};
+use garde::{I18n, RuleError};
+use std::alloc::Global;
+use std::borrow::CowStr;
+
+/// The rule that a number is even.
+#[derive(Clone, Copy)]
+pub struct IsEven;
+
+impl Rule<u32> for IsEven {
+    ghost finds = { λ _ number. if number % 2 == 0 then None else Some (own (codes "not even")) };
+
+    fn find<H: I18n>(&self, alloc: Global, value: &u32, _h: &H) -> Result<(), RuleError> {
+        if *value % 2 == 0 {
+            Ok(())
+        } else {
+            Err(RuleError::of(alloc, Ok(CowStr::Borrowed("not even"))))
+        }
+    }
+}
+
+/// The rule that a discount is at most that of the season.
+#[derive(Clone, Copy)]
+pub struct IsInSeason<'c>(pub &'c Season);
+
+impl Rule<u8> for IsInSeason<'_> {
+    ghost finds = { λ rule percent.
+        if nat_le percent rule.0.now.most then None else Some (own (codes "not in season")) };
+
+    fn find<H: I18n>(&self, alloc: Global, value: &u8, _h: &H) -> Result<(), RuleError> {
+        if *value <= self.0.most {
+            Ok(())
+        } else {
+            Err(RuleError::of(alloc, Ok(CowStr::Borrowed("not in season"))))
+        }
+    }
+}
+
+/// The rule that the terms are accepted.
+#[derive(Clone, Copy)]
+pub struct CouponTermsRule;
+
+impl Rule<bool> for CouponTermsRule {
+    ghost finds = { λ _ accepted. if accepted then None else Some (own (codes "accept the terms")) };
+
+    fn find<H: I18n>(&self, alloc: Global, value: &bool, _h: &H) -> Result<(), RuleError> {
+        if *value {
+            Ok(())
+        } else {
+            Err(RuleError::of(alloc, Ok(CowStr::Borrowed("accept the terms"))))
+        }
+    }
+}
+
+/// The view of a tag as its text.
+#[derive(Clone, Copy)]
+pub struct TagText;
+
+impl View<Tag> for TagText {
+    type Seen = String;
+
+    ghost seen = { λ _ tag. tag.0 };
+
+    fn see<'v>(&self, tag: &'v Tag) -> &'v String {
+        &tag.0
+    }
+}

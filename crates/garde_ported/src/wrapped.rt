@@ -1,0 +1,203 @@
+//! New types, tuples, a type with a parameter, and a unit.
+ghost use Rattle.garde.specs.Fields.{◌and◌, ascii, each, field, item, length_max, length_min, none, range_max};
+
+use garde::fields::{Ascii, Dive, Each, Field, Fields, Is, Item, Length, Range, Transparent};
+use garde::{I18n, Report, Trail, Validate};
+use std::alloc::{AllocError, Global};
+
+/// A name that adds no component.
+#[derive(Drop)]
+pub struct Nickname(pub String);
+
+impl Validate for Nickname {
+    type Context = ();
+
+    ghost visits = { λ v _. length_min 3 v.0 };
+
+    fn validate_into<'a, H: I18n>(
+        &'a self,
+        alloc: Global,
+        _ctx: &(),
+        trail: &mut Trail<'a>,
+        report: &mut Report,
+        h: &H,
+    ) -> Result<(), AllocError> {
+        let Self(value) = self;
+        Transparent(
+            value,
+            Is(Length {
+                min: 3,
+                max: usize::MAX,
+            }),
+        )
+        .visit(alloc, trail, report, h)
+    }
+}
+
+/// A code, of which both rules are asked where it stands.
+#[derive(Drop)]
+pub struct Code {
+    pub text: String,
+}
+
+impl Validate for Code {
+    type Context = ();
+
+    ghost visits = { λ v _. ascii v.text and length_max 4 v.text };
+
+    fn validate_into<'a, H: I18n>(
+        &'a self,
+        alloc: Global,
+        _ctx: &(),
+        trail: &mut Trail<'a>,
+        report: &mut Report,
+        h: &H,
+    ) -> Result<(), AllocError> {
+        let Self { text } = self;
+        Transparent(text, (Is(Ascii), Is(Length { min: 0, max: 4 }))).visit(alloc, trail, report, h)
+    }
+}
+
+/// A name under the index of its field.
+#[derive(Drop)]
+pub struct Numbered(pub String);
+
+impl Validate for Numbered {
+    type Context = ();
+
+    ghost visits = { λ v _. item 0 (length_min 3 v.0) };
+
+    fn validate_into<'a, H: I18n>(
+        &'a self,
+        alloc: Global,
+        _ctx: &(),
+        trail: &mut Trail<'a>,
+        report: &mut Report,
+        h: &H,
+    ) -> Result<(), AllocError> {
+        let Self(value) = self;
+        Item(
+            0,
+            value,
+            Is(Length {
+                min: 3,
+                max: usize::MAX,
+            }),
+        )
+        .visit(alloc, trail, report, h)
+    }
+}
+
+/// Three values under their indexes, but for the second.
+#[derive(Drop)]
+pub struct Triple(pub String, pub u8, pub u8);
+
+impl Validate for Triple {
+    type Context = ();
+
+    ghost visits = { λ v _. item 0 (ascii v.0) and item 2 (range_max 9 v.2) };
+
+    fn validate_into<'a, H: I18n>(
+        &'a self,
+        alloc: Global,
+        _ctx: &(),
+        trail: &mut Trail<'a>,
+        report: &mut Report,
+        h: &H,
+    ) -> Result<(), AllocError> {
+        let Self(first, _, third) = self;
+        (
+            Item(0, first, Is(Ascii)),
+            Item(
+                2,
+                third,
+                Is(Range {
+                    min: None,
+                    max: Some(9),
+                }),
+            ),
+        )
+            .visit(alloc, trail, report, h)
+    }
+}
+
+/// A value that validates itself.
+#[derive(Drop)]
+pub struct Holder<T> {
+    pub value: T,
+    pub label: String,
+}
+
+impl<T: Validate> Validate for Holder<T> {
+    type Context = T::Context;
+
+    ghost visits = { λ v ctx.
+        field "value" (T.visits v.value ctx)
+        and field "label" (length_min 1 v.label) };
+
+    fn validate_into<'a, H: I18n>(
+        &'a self,
+        alloc: Global,
+        ctx: &T::Context,
+        trail: &mut Trail<'a>,
+        report: &mut Report,
+        h: &H,
+    ) -> Result<(), AllocError> {
+        let Self { value, label } = self;
+        (
+            Field("value", value, Dive(ctx)),
+            Field(
+                "label",
+                label,
+                Is(Length {
+                    min: 1,
+                    max: usize::MAX,
+                }),
+            ),
+        )
+            .visit_of(self, alloc, trail, report, h)
+    }
+}
+
+/// Values of one type, each in its own box.
+#[derive(Drop)]
+pub struct Boxes<T>(pub Vec<Box<T>>);
+
+impl<T: Validate> Validate for Boxes<T> {
+    type Context = T::Context;
+
+    ghost visits = { λ v ctx. each (λ x. T.visits x.value ctx) v.0 };
+
+    fn validate_into<'a, H: I18n>(
+        &'a self,
+        alloc: Global,
+        ctx: &T::Context,
+        trail: &mut Trail<'a>,
+        report: &mut Report,
+        h: &H,
+    ) -> Result<(), AllocError> {
+        let Self(value) = self;
+        Transparent(value, Each(Dive(ctx))).visit_of(self, alloc, trail, report, h)
+    }
+}
+
+/// Nothing.
+#[derive(Clone, Copy)]
+pub struct Nothing;
+
+impl Validate for Nothing {
+    type Context = ();
+
+    ghost visits = { λ v _. none };
+
+    fn validate_into<'a, H: I18n>(
+        &'a self,
+        alloc: Global,
+        _ctx: &(),
+        trail: &mut Trail<'a>,
+        report: &mut Report,
+        h: &H,
+    ) -> Result<(), AllocError> {
+        ().visit(alloc, trail, report, h)
+    }
+}

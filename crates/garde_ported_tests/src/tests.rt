@@ -1,0 +1,36 @@
+//! What is told of each type: all of its report, and nothing of a valid value.
+mod collections;
+mod generics;
+mod numbers;
+mod parts;
+mod rules;
+mod strings;
+
+use garde::{Validate, ValidateError};
+use std::alloc::{AllocError, Global};
+
+/// The report's text, or the empty one of a valid value.
+fn told<V: Validate>(alloc: Global, value: &V, ctx: &V::Context) -> Result<String, AllocError> {
+    match value.validate_with(alloc, ctx) {
+        Ok(()) => Ok(String::new(alloc)),
+        Err(ValidateError::Report(report)) => report.to_string(alloc),
+        Err(ValidateError::Memory) => Err(AllocError),
+    }
+}
+
+/// Texts, the first of which is the last one of the list.
+fn texts(alloc: Global, from: &[&str]) -> Result<Vec<String>, AllocError> {
+    let mut found = Vec::new(alloc);
+    for text in from.iter().rev() {
+        found.push(String::from_str(alloc, *text)?)?;
+    }
+    Ok(found)
+}
+
+/// The next of some texts, or the empty one.
+fn next(alloc: Global, texts: &mut Vec<String>) -> String {
+    match texts.pop() {
+        Some(text) => text,
+        None => String::new(alloc),
+    }
+}

@@ -1,0 +1,103 @@
+//! Types of numbers, and an enum.
+use super::{next, texts, told};
+use garde_ported::event::Event;
+use garde_ported::reading::Reading;
+use std::alloc::{AllocError, Global};
+use std::test::Fail;
+
+static READINGS: [(Reading, &str); 2] = [
+    (
+        Reading {
+            age: 18,
+            height: 5000,
+            kind: 7,
+            channel: 255,
+            coldest: -40,
+            depth: -1,
+            tilt: -10,
+            drift: 0,
+        },
+        "",
+    ),
+    (
+        Reading {
+            age: 17,
+            height: 5001,
+            kind: 8,
+            channel: 0,
+            coldest: -41,
+            depth: 0,
+            tilt: 11,
+            drift: -1,
+        },
+        "age: lower than 18\nheight: greater than 5000\nkind: greater than 7\nchannel: lower than 1\ncoldest: lower than -40\ndepth: greater than -1\ntilt: greater than 10\ndrift: lower than 0\n",
+    ),
+];
+
+#[test]
+fn each_number_within_its_bounds(rt: HostRuntime) -> Result<(), Fail> {
+    let alloc = rt.alloc();
+    for (reading, text) in READINGS {
+        assert_eq!(rt; told(alloc, &reading, &())?.as_str(), text);
+    }
+    Ok(())
+}
+
+/// A variant of an event.
+#[derive(Clone, Copy)]
+enum Of {
+    Move,
+    Say,
+    Wait,
+    Pair,
+    Stop,
+    Mark,
+}
+
+static EVENTS: [(Of, u8, &str, &str); 10] = [
+    (Of::Move, 10, "", ""),
+    (Of::Move, 11, "", "steps: greater than 10\n"),
+    (Of::Say, 0, "abc", ""),
+    (
+        Of::Say,
+        0,
+        "é12",
+        "text: not ascii\nreport: length is greater than 3\n",
+    ),
+    (Of::Wait, 60, "", ""),
+    (Of::Wait, 61, "", "[0]: greater than 60\n"),
+    (Of::Pair, 0, "ab", ""),
+    (Of::Pair, 0, "é", "[0]: not ascii\n"),
+    (Of::Stop, 0, "", ""),
+    (Of::Mark, 255, "", ""),
+];
+
+fn event(alloc: Global, of: Of, number: u8, text: &str) -> Result<Event, AllocError> {
+    let mut all = texts(alloc, &[text, text])?;
+    let first = next(alloc, &mut all);
+    let second = next(alloc, &mut all);
+    Ok(match of {
+        Of::Move => Event::Move {
+            steps: number as i32,
+        },
+        Of::Say => Event::Say {
+            text: first,
+            sender: 0,
+            report: second,
+        },
+        Of::Wait => Event::Wait(number),
+        Of::Pair => Event::Pair(first, second),
+        Of::Stop => Event::Stop,
+        Of::Mark => Event::Mark(number),
+    })
+}
+
+#[test]
+fn each_variant_in_its_way(rt: HostRuntime) -> Result<(), Fail> {
+    let alloc = rt.alloc();
+    for (of, number, from, text) in EVENTS {
+        let event = event(alloc, of, number, from)?;
+        assert_eq!(rt; told(alloc, &event, &())?.as_str(), text);
+    }
+    Ok(())
+}

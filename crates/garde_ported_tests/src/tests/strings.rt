@@ -1,0 +1,139 @@
+//! Types of texts.
+use super::{next, texts, told};
+use garde_ported::account::Account;
+use garde_ported::draft::Draft;
+use garde_ported::label::Label;
+use garde_ported::place::Place;
+use std::alloc::{AllocError, Global};
+use std::borrow::CowStr;
+use std::test::Fail;
+
+/// A type of texts.
+#[derive(Clone, Copy)]
+enum Of {
+    Account,
+    Draft,
+    Label,
+    Place,
+}
+
+static ROWS: [(Of, &[&str], &str); 8] = [
+    (
+        Of::Account,
+        &[
+            "test",
+            "not a very good password",
+            "not a very good password",
+            "a1",
+        ],
+        "",
+    ),
+    (
+        Of::Account,
+        &["é", "short", "other", "a_23456789"],
+        "username: not ascii\nusername: length is lower than 3\npassword: length is lower than 15\nagain: does not match password field\ncode: not alphanumeric\ncode: length is greater than 8\n",
+    ),
+    (Of::Draft, &["a"], ""),
+    (
+        Of::Draft,
+        &[],
+        "report: length is lower than 1\nh: greater than 9\n",
+    ),
+    (Of::Label, &["name", "b1", "a-b", "text"], ""),
+    (
+        Of::Label,
+        &["é", "cde", "x", "_"],
+        "name: not ascii\nalso[1]: value does not begin with \"b\"\nalso[1]: length is greater than 2\ncode: does not contain \"-\"\ncode: length is lower than 2\ntext: not alphanumeric\n",
+    ),
+    (
+        Of::Place,
+        &[
+            "a@b.org",
+            "t-abc",
+            "::1",
+            "1.2.3.4",
+            "1::",
+            "https://a.org/",
+            "e\u{301}",
+            "😂",
+            "abéé",
+        ],
+        "",
+    ),
+    (
+        Of::Place,
+        &[
+            "mail", "x", "host", "::1", "1.2.3.4", "abc", "", "a😂", "abcde",
+        ],
+        "mail: does not contain \"@\"\nmail: does not end with \".org\"\ntag: value does not begin with \"t-\"\ntag: length is lower than 5\nhost: not a valid IP address\nold: not a valid IPv4 address\nnew: not a valid IPv6 address\nsite: not a valid url: relative URL without a base\nsign: length is lower than 1\nshort: length is greater than 2\ntitle: length is greater than 4\n",
+    ),
+];
+
+fn account(alloc: Global, from: &[&str]) -> Result<Account, AllocError> {
+    let mut all = texts(alloc, from)?;
+    Ok(Account {
+        username: next(alloc, &mut all),
+        password: next(alloc, &mut all),
+        again: next(alloc, &mut all),
+        code: next(alloc, &mut all),
+        remember: false,
+    })
+}
+
+/// A draft, whose height is too great where it has no report.
+fn draft(alloc: Global, from: &[&str]) -> Result<Draft, AllocError> {
+    let mut all = texts(alloc, from)?;
+    Ok(Draft {
+        report: next(alloc, &mut all),
+        trail: 200,
+        h: if from.is_empty() { 10 } else { 9 },
+    })
+}
+
+fn place(alloc: Global, from: &[&str]) -> Result<Place, AllocError> {
+    let mut all = texts(alloc, from)?;
+    Ok(Place {
+        mail: next(alloc, &mut all),
+        tag: next(alloc, &mut all),
+        host: next(alloc, &mut all),
+        old: next(alloc, &mut all),
+        new: next(alloc, &mut all),
+        site: next(alloc, &mut all),
+        sign: next(alloc, &mut all),
+        short: next(alloc, &mut all),
+        title: next(alloc, &mut all),
+    })
+}
+
+/// What is told of a label of four texts.
+fn label(alloc: Global, from: &[&str]) -> Result<String, AllocError> {
+    let [name, second, code, text] = from else {
+        return Ok(String::new(alloc));
+    };
+    let also = ["b", *second];
+    let label = Label {
+        name: *name,
+        also: &also,
+        code: Some(*code),
+        text: CowStr::Borrowed(*text),
+    };
+    told(alloc, &label, &())
+}
+
+fn text_of(alloc: Global, of: Of, from: &[&str]) -> Result<String, AllocError> {
+    match of {
+        Of::Account => told(alloc, &account(alloc, from)?, &()),
+        Of::Draft => told(alloc, &draft(alloc, from)?, &()),
+        Of::Label => label(alloc, from),
+        Of::Place => told(alloc, &place(alloc, from)?, &()),
+    }
+}
+
+#[test]
+fn types_of_texts(rt: HostRuntime) -> Result<(), Fail> {
+    let alloc = rt.alloc();
+    for (of, from, text) in ROWS {
+        assert_eq!(rt; text_of(alloc, of, from)?.as_str(), text);
+    }
+    Ok(())
+}

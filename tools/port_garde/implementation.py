@@ -1,0 +1,201 @@
+"""The implementation of `Validate` for a type."""
+from .layout import WIDTH, Call, Literal, Method, Word, arm, call, statement
+from .scope import Place, Scope, Seen
+from .source import Param, all_rules, read_type, type_names
+from .tokens import Refusal, Tokens
+from .words import Checks, together
+
+ORDINALS = ("first", "second", "third", "fourth", "fifth", "sixth")
+LETTERS = "abcdefgijklmnopqrst"
+# Names of the method's own, and words of the statements and of their language, which no binding may hide.
+OWN = ("alloc", "trail", "report", "h", "self")
+STATED = (
+    "field item none found when optional inside each each_of_set each_value each_numbered items ascii alphanumeric contains prefix suffix "
+    "pattern url ip required codes not lent length bytes minus pos yes no tt v x y z w u data record deriving module where use mod pub "
+    "package open as unfoldable abbrev axiom unfold unfolding ruleset mutual infix infixl infixr elim let in do coe fcoe tcoe hcom com"
+).split()
+HEAD = """
+    fn validate_into<'a, H: I18n>(
+        &'a self,
+        alloc: Global,
+        {context},
+        trail: &mut Trail<'a>,
+        report: &mut Report,
+        h: &H,
+    ) -> Result<(), AllocError> {{
+"""
+
+
+class Implementation:
+    """The implementation of `Validate` for one type."""
+
+    def __init__(self, writer, item):
+        self.writer, self.item = writer, item
+        self.context = self.read_context()
+        self.writer.context = self.context[0]
+        self.borrows = any(it.kind != "const" for it in item.params)
+        self.asks_context = False
+
+    def read_context(self):
+        """The type of the context, its name, and whether there is none."""
+        if not self.item.attributes.context:
+            dived = [it.name for it in self.item.params if self.is_dived(it)]
+            return (f"{dived[0]}::Context", "ctx", True) if dived else ("()", "ctx", True)
+        line, tokens = self.item.attributes.context
+        tokens = Tokens(tokens.tokens, tokens.text)
+        if tokens.opens("("):
+            raise Refusal(line, "a context that is a tuple")
+        kind = read_type(tokens)
+        name = tokens.name("the name of the context") if tokens.takes("as") else "ctx"
+        if name in (*OWN, *STATED):
+            raise Refusal(line, f"the name `{name}` of the context stands for something else in the implementation")
+        return self.writer.type_text(kind), name, False
+
+    def is_dived(self, param):
+        """Whether a field dives into a parameter whose context its bounds leave open."""
+        return param.kind == "type" and param.bounds in ("", "Validate") and self.dives(param.name)
+
+    def dives(self, name):
+        """Whether a field dives into a parameter."""
+        fields = [it for variant in self.item.variants for it in variant.fields]
+        return any(name in type_names(it.type) and any(rule.name == "dive" for rule in all_rules(it.attributes.rules)) for it in fields)
+
+    def text(self):
+        """The whole implementation."""
+        item, writer = self.item, self.writer
+        if item.attributes.skip or item.attributes.rules or item.attributes.adapter or item.attributes.rename:
+            raise Refusal(item.line, f"`{item.name}` has an attribute that stands at fields alone")
+        body, stated = self.of_struct() if item.kind == "struct" else self.of_enum()
+        context, name, _ = self.context
+        if item.name in writer.patterns:
+            context = f"{item.name}Patterns"
+        name = name if self.asks_context else f"_{name}"
+        lines = [f"impl{writer.params_text(self.params(), True)} Validate for {item.name}{writer.params_text(item.params, False, True)} {{"]
+        lines += [f"    type Context = {context};", "", self.visits(stated)]
+        return "\n".join(lines) + "\n" + HEAD.format(context=f"{name}: &{context}") + body + "\n    }\n}"
+
+    def params(self):
+        """The parameters with their bounds: those that fields dive into validate themselves, under the one context."""
+        params, context = [], self.context[0]
+        for it in self.item.params:
+            if self.is_dived(it):
+                it = Param(it.kind, it.name, "Validate" if context == f"{it.name}::Context" else f"Validate<Context = {context}>")
+            params.append(it)
+        return tuple(params)
+
+    def visits(self, stated):
+        """The statement: of a struct a list with an entry for each field, of an enum its cases."""
+        ctx = self.context[1] if self.asks_context else "_"
+        if self.item.kind == "enum":
+            return "\n".join([f"    ghost visits = {{ λ v {ctx}. elim v as (λ _. Visits) [", *stated, "    ] };"])
+        line = f"    ghost visits = {{ λ v {ctx}. {' and '.join(stated)} }};"
+        if len(line) <= WIDTH:
+            return line
+        return f"    ghost visits = {{ λ v {ctx}.\n        " + "\n        and ".join(stated) + " };"
+
+    def of_struct(self):
+        """The body and the statements of a struct."""
+        variant = self.item.variants[0]
+        names = self.bindings(variant)
+        places = {it.name: Place(names[at], f"v.{it.name}", it.type) for at, it in enumerate(variant.fields) if it.name}
+        stated_names = [f"v.{it.name or at}" for at, it in enumerate(variant.fields)]
+        scope = self.scope(places)
+        code, stated = self.fields(variant, names, stated_names, scope)
+        lines = [statement(self.pattern("Self", variant, names, scope), 8, "let ", " = self;")] if variant.fields else []
+        return "\n".join([*lines, statement(self.visit(code), 8)]), stated
+
+    def of_enum(self):
+        """The body and the statements of an enum: an arm and a case for each variant."""
+        if self.item.attributes.transparent:
+            raise Refusal(self.item.line, "`transparent` of an enum")
+        if self.writer.module is None:
+            raise Refusal(self.item.line, "an enum, whose statement names its module: say it by `--module CRATE::MODULE`")
+        self.writer.uses.words.add("Visits")
+        arms, cases = [], []
+        for variant in self.item.variants:
+            names = self.bindings(variant)
+            stated_names = [f"the_{it}" if it in STATED else it for it in names]
+            scope = self.scope({it.name: Place(names[at], stated_names[at], it.type) for at, it in enumerate(variant.fields) if it.name})
+            code, stated = self.fields(variant, names, stated_names, scope)
+            arms.append(arm(self.pattern(f"{self.item.name}::{variant.name}", variant, names, scope), self.visit(code), 12))
+            held = [name if self.is_bound(it, scope) else "_" for it, name in zip(variant.fields, stated_names)]
+            cases.append(f"      | {' '.join([variant.name, *held])} ↦ {' and '.join(stated)}")
+        return "\n".join(["        match self {", *arms, "        }"]), cases
+
+    def scope(self, places):
+        _, name, unit = self.context
+        return Scope(name, places, {it.name for it in self.item.params if it.kind == "type"}, unit)
+
+    def bindings(self, variant):
+        """The name of each field in the code, which hides no name of the method's own."""
+        return [f"the_{it}" if it in (*OWN, self.context[1]) else it for it in self.plain_names(variant)]
+
+    def plain_names(self, variant):
+        """The names of the fields; those of a tuple are words or, of many, letters."""
+        if variant.shape == "named":
+            return [it.name for it in variant.fields]
+        if len(variant.fields) > len(LETTERS):
+            raise Refusal(variant.line, f"a tuple of more than {len(LETTERS)} fields")
+        if len(variant.fields) == 1:
+            return ["value"]
+        return list(ORDINALS if len(variant.fields) <= len(ORDINALS) else LETTERS)[: len(variant.fields)]
+
+    def is_bound(self, it, scope):
+        return self.has_rules(it) or it.name in scope.bound
+
+    def has_rules(self, it):
+        """Whether something is asked of a field; each field is asked something or skipped."""
+        asked = it.attributes
+        if asked.skip and asked.rules:
+            raise Refusal(it.line, "a field with rules that is skipped")
+        if asked.allow_unvalidated or asked.transparent or asked.context:
+            raise Refusal(it.line, "an attribute of types at a field")
+        if not asked.rules and not asked.skip and not self.item.attributes.allow_unvalidated:
+            raise Refusal(it.line, f"the field `{it.name}` has no rule: write `#[garde(skip)]`" if it.name else "a field without a rule: write `#[garde(skip)]`")
+        return bool(asked.rules)
+
+    def fields(self, variant, names, stated_names, scope):
+        """The checks of the fields, as code and as they are stated."""
+        if self.item.attributes.transparent and len(variant.fields) != 1:
+            raise Refusal(self.item.line, "`transparent` of a type that has not just one field")
+        code, stated = [], []
+        for at, it in enumerate(variant.fields):
+            if self.has_rules(it):
+                self.writer.spot = it.name or names[at]
+                checks = Checks(scope, self.writer.uses, self.writer)
+                check, said = checks.of(it.attributes.rules, Seen(it.type, stated_names[at]), it.attributes.adapter)
+                entry, text = self.field(it, at, names[at], check, said)
+                code.append(entry)
+                stated.append(text)
+        self.asks_context = self.asks_context or scope.asks_context
+        self.writer.uses.words |= {"none"} if not code else {"◌and◌"} if len(code) > 1 else set()
+        return code, stated or ["none"]
+
+    def field(self, it, at, name, check, said):
+        """One field: under its name or its index, or where the whole stands."""
+        uses = self.writer.uses
+        if self.item.attributes.transparent:
+            uses.fields.add("Transparent")
+            return call("Transparent", name, check), said
+        key = it.attributes.rename if it.attributes.rename is not None else it.name
+        if key:
+            uses.fields.add("Field")
+            uses.words.add("field")
+            return call("Field", f'"{key}"', name, check), f'field "{key}" ({said})'
+        uses.fields.add("Item")
+        uses.words.add("item")
+        return call("Item", str(at), name, check), f"item {at} ({said})"
+
+    def pattern(self, head, variant, names, scope):
+        """The pattern that takes a value apart."""
+        bound = [name if self.is_bound(it, scope) else "_" for it, name in zip(variant.fields, names)]
+        if variant.shape == "named":
+            return Literal(head, tuple((it.name, Word(name)) for it, name in zip(variant.fields, bound)))
+        return Call(head, tuple(map(Word, bound)), WIDTH) if variant.fields else Word(head)
+
+    def visit(self, fields):
+        """The call that visits the fields."""
+        self.writer.uses.fields.add("Fields")
+        whole = together(fields, 12) if fields else Word("()")
+        words = tuple(map(Word, ("alloc", "trail", "report", "h")))
+        return Method(whole, "visit_of", (Word("self"), *words)) if self.borrows and fields else Method(whole, "visit", words)

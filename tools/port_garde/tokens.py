@@ -1,0 +1,158 @@
+"""The tokens of a Rust source file."""
+import re
+import textwrap
+from dataclasses import dataclass
+
+
+class Refusal(Exception):
+    """What cannot be ported: the line that says it, and the reason."""
+
+    def __init__(self, line, reason):
+        super().__init__(reason)
+        self.line, self.reason = line, reason
+
+
+@dataclass(frozen=True)
+class Token:
+    """A token: its kind (a key of PATTERNS, or `end`), its text, its line and its place in the source."""
+
+    kind: str
+    text: str
+    line: int
+    at: int
+
+
+PATTERNS = {
+    "space": r"\s+",
+    "doc": r"///(?!/)[^\n]*",
+    "head": r"//![^\n]*",
+    "comment": r"//[^\n]*",
+    "raw": r'b?r(?P<hashes>#*)".*?"(?P=hashes)',
+    "bytes": r"b\"(?:[^\"\\]|\\.)*\"|b'(?:[^'\\]|\\.)'",
+    "text": r'"(?:[^"\\]|\\.)*"',
+    "char": r"'(?:[^'\\\n]|\\(?:x[0-9a-fA-F]{2}|u\{[^}]*\}|.))'",
+    "lifetime": r"'[A-Za-z_]\w*",
+    "float": r"[0-9][0-9_]*(?:\.[0-9][0-9_]*(?:[eE][+-]?[0-9_]+)?(?:f32|f64)?|[eE][+-]?[0-9_]+|_?f32|_?f64)",
+    "number": r"0[xob][0-9a-fA-F_]+(?:[iu](?:8|16|32|64|128|size))?|[0-9][0-9_]*(?:[iu](?:8|16|32|64|128|size))?",
+    "name": r"r#[A-Za-z_]\w*|[A-Za-z_]\w*",
+    "mark": r"::|->|=>|==|!=|<=|&&|\|\||\.\.=|\.\.|[^\w\s\"]",
+}
+PATTERN = re.compile("|".join(f"(?P<{kind}>{pattern})" for kind, pattern in PATTERNS.items()), re.S)
+OPEN = {"(": ")", "[": "]", "{": "}"}
+
+
+def end_of_block_comment(source, at, line):
+    """The place after a comment that begins here; such comments nest."""
+    depth = 0
+    for mark in re.finditer(r"/\*|\*/", source[at:]):
+        depth += 1 if mark.group() == "/*" else -1
+        if depth == 0:
+            return at + mark.end()
+    raise Refusal(line, "a comment that does not end")
+
+
+def tokens_of(source):
+    """The tokens of a source, without space and comments, and `end` last."""
+    found, at, line = [], 0, 1
+    while at < len(source):
+        if source.startswith("/*", at):
+            end = end_of_block_comment(source, at, line)
+        else:
+            match = PATTERN.match(source, at)
+            if match is None:
+                raise Refusal(line, f"a character that cannot be read: {source[at]}")
+            end = match.end()
+            if match.lastgroup not in ("space", "comment"):
+                found.append(Token(kind_of(match), match.group(), line, at))
+        line += source.count("\n", at, end)
+        at = end
+    return [*found, Token("end", "the end of the file", line, at)]
+
+
+def kind_of(match):
+    """The kind of a match: the group of `hashes` is a part of a raw text."""
+    return "raw" if match.group("raw") else match.lastgroup
+
+
+class Tokens:
+    """Tokens of a text that are taken from the front."""
+
+    def __init__(self, tokens, text):
+        self.tokens, self.text, self.at = tokens, text, 0
+
+    @property
+    def first(self):
+        """The token that comes next."""
+        return self.tokens[self.at]
+
+    @property
+    def line(self):
+        return self.first.line
+
+    def ended(self):
+        return self.first.kind == "end"
+
+    def sees(self, *texts):
+        """Whether these texts come next, as names and marks."""
+        ahead = self.tokens[self.at : self.at + len(texts)]
+        return [it.text for it in ahead if it.kind in ("name", "mark")] == list(texts)
+
+    def take(self):
+        token = self.first
+        if token.kind != "end":
+            self.at += 1
+        return token
+
+    def takes(self, text):
+        """Takes a name or a mark if it comes next, and says whether it did."""
+        if self.sees(text):
+            self.at += 1
+            return True
+        return False
+
+    def expect(self, text):
+        if not self.takes(text):
+            raise Refusal(self.line, f"`{text}` is expected in place of `{self.first.text}`")
+
+    def name(self, what):
+        """Takes a name."""
+        token = self.take()
+        if token.kind != "name":
+            raise Refusal(token.line, f"{what} is expected in place of `{token.text}`")
+        if token.text.startswith("r#"):
+            raise Refusal(token.line, f"the name `{token.text}` is a keyword, which the port cannot write")
+        return token.text
+
+    def group(self):
+        """Takes a group of brackets, and answers the tokens within."""
+        opening = self.take()
+        ends, start = [OPEN[opening.text]], self.at
+        while ends:
+            token = self.take()
+            if token.kind == "end":
+                raise Refusal(opening.line, f"`{opening.text}` is not closed")
+            if token.kind == "mark" and token.text in OPEN:
+                ends.append(OPEN[token.text])
+            elif token.kind == "mark" and token.text in OPEN.values() and ends.pop() != token.text:
+                raise Refusal(token.line, f"`{token.text}` closes no bracket")
+        closing = self.tokens[self.at - 1]
+        inside = [*self.tokens[start : self.at - 1], Token("end", closing.text, closing.line, closing.at)]
+        return Tokens(inside, self.text)
+
+    def source(self):
+        """The text of all tokens, its lines without what stands before each of them but the first."""
+        first, *lines = self.text[self.tokens[0].at : self.tokens[-1].at].rstrip().splitlines()
+        return "\n".join([first, *textwrap.dedent("\n".join(lines)).splitlines()])
+
+    def opens(self, text):
+        """Whether a group of these brackets comes next."""
+        return self.first.kind == "mark" and self.first.text == text
+
+    def items(self, read):
+        """What `read` reads of each item of a list with commas."""
+        found = []
+        while not self.ended():
+            found.append(read(self))
+            if not self.ended():
+                self.expect(",")
+        return found

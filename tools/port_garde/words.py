@@ -1,0 +1,308 @@
+"""What a rule becomes: a value of `garde::fields` in the code, and a word of `garde.specs.Fields` in `visits`."""
+from .layout import Lent, Literal, Word, call
+from .scope import SIGNED, UNSIGNED, Conditions, Seen, is_option, is_path, is_text
+from .source import Type
+from .tokens import Refusal
+
+LENGTHS = {"simple": "Length", "bytes": "ByteLength", "chars": "CharLength", "graphemes": "GraphemeLength", "utf16": "Utf16Length"}
+TEXT_LENGTHS = {"simple": "length", "bytes": "length", "chars": "chars", "graphemes": "graphemes", "utf16": "utf16"}
+BYTE_COUNTS = {"simple": "byte_count", "bytes": "byte_count", "chars": "char_count", "graphemes": "bytes.grapheme_count", "utf16": "bytes.unit_count"}
+COUNTED = {"Vec": "items", "BTreeMap": "map", "BTreeSet": "set", "HashMap": "hash_map", "HashSet": "hash_set"}
+# Each collection with the word for its items and what of it that word is given; of maps, which item is meant.
+HELD = {
+    "Vec": ("each", ""), "BTreeSet": ("each_of_set", ""), "HashSet": ("items_in_any_order", ".keys"),
+    "VecDeque": ("items", ".items"), "LinkedList": ("items", ""), "[;]": ("items", ""), "Option": ("inside", ""),
+}
+MAPS = {("BTreeMap", "String"): "each_value", ("BTreeMap", "usize"): "each_numbered"}
+HASH_KEYS = {"String": "λ key. bytes.key_part (string_bytes key)", "usize": "λ key. bytes.index_part key"}
+IPS = {"ip": "Any", "ipv4": "V4", "ipv6": "V6"}
+# The rules that are asked of what an option holds.
+INSIDE = ("ascii", "alphanumeric", "url", "ip", "ipv4", "ipv6", "length", "range", "contains", "prefix", "suffix", "pattern", "dive")
+
+
+def camel(path):
+    """The name of the type that stands for a function or a module."""
+    return "".join(part[:1].upper() + part[1:] for part in path.split("::")[-1].split("_"))
+
+
+class Checks:
+    """The checks of a value, as code and as they are stated."""
+
+    def __init__(self, scope, uses, writer):
+        self.scope, self.uses, self.writer = scope, uses, writer
+
+    def of(self, rules, seen, adapter=()):
+        """The check that these rules hold of a value, in turn."""
+        found = [self.part(group, seen, adapter) for group in grouped(rules, seen.type, adapter)]
+        self.uses.words |= {"◌and◌"} if len(found) > 1 else set()
+        return together([code for code, _ in found]), " and ".join(spec for _, spec in found)
+
+    def part(self, group, seen, adapter):
+        """The check of one rule, or of some that are asked of what an option holds."""
+        rule = group[0]
+        if goes_inside(rule, seen.type, adapter):
+            held = seen.part(seen.type.args[0])
+            code, spec = self.of(group, held)
+            return call(self.field("IfSome"), code), f"{self.word('optional')} (λ {held.name}. {spec}) {seen.name}"
+        parts = {"dive": self.dive, "inner": self.inner, "if": self.under, "custom": self.custom}
+        if rule.name in parts:
+            return parts[rule.name](rule, seen, adapter)
+        if adapter:
+            return self.adapted(rule, seen, adapter)
+        value, spec, taking = self.value(rule, seen)
+        return call(self.field("IsInMemory" if taking else "Is"), value), spec
+
+    def field(self, name):
+        self.uses.fields.add(name)
+        return name
+
+    def word(self, name):
+        self.uses.words.add(name)
+        return name
+
+    def under(self, rule, seen, adapter):
+        """Rules under a condition."""
+        condition, stated = Conditions(self.scope, self.uses, self.writer.resolved).of(rule.place)
+        code, spec = self.of(rule.rules, seen, adapter)
+        return call(self.field("When"), condition, code), f"{self.word('when')} {stated} ({spec})"
+
+    def inner(self, rule, seen, adapter):
+        """Rules of each item."""
+        held, word, name = self.items_of(rule, seen)
+        code, spec = self.of(rule.rules, held, adapter)
+        return call(self.field("Each"), code), f"{word} (λ {held.name}. {spec}) {name}"
+
+    def items_of(self, rule, seen):
+        """The items of a collection: one of them, and the word for each with what it is given."""
+        kind = seen.type
+        if kind.kind == "ref" and kind.args[0].kind == "slice":
+            return seen.part(kind.args[0].args[0]), self.word("items"), f"{seen.name}.now"
+        if kind.name in HELD and kind.args:
+            word, suffix = HELD[kind.name]
+            return seen.part(kind.args[0]), self.word(word), seen.name + suffix
+        key = kind.args[0].name if len(kind.args) == 2 and isinstance(kind.args[0], Type) else ""
+        if (kind.name, key) in MAPS:
+            return seen.part(kind.args[1]), self.word(MAPS[kind.name, key]), seen.name
+        if kind.name == "HashMap" and key in HASH_KEYS:
+            self.uses.bytes = True
+            self.uses.words |= {"entries_in_any_order"} | ({"string_bytes"} if key == "String" else set())
+            return seen.part(kind.args[1]), f"entries_in_any_order ({HASH_KEYS[key]})", f"{seen.name}.entries"
+        raise Refusal(rule.line, f"`{rule.name}` of the type `{self.writer.type_text(kind)}`, whose items the port does not know")
+
+    def dive(self, rule, seen, adapter):
+        """A value that validates itself, or a collection of such."""
+        kind = seen.type
+        if is_option(kind):
+            return self.part([rule], seen, ())
+        if kind.name in (*HELD, "BTreeMap", "HashMap") or (kind.kind == "ref" and kind.args[0].kind == "slice"):
+            held, word, name = self.items_of(rule, seen)
+            code, spec = self.of([rule], held)
+            return call(self.field("Each"), code), f"{word} (λ {held.name}. {spec}) {name}"
+        lent, context = self.context_of(rule)
+        name = seen.name
+        while is_path(kind, "Box", "Rc") or kind.kind == "ref":
+            name, kind = name + (".now" if kind.kind == "ref" else ".value"), kind.args[0]
+        if kind.kind != "path" or kind.name in (*UNSIGNED, *SIGNED, *HELD, "bool", "char", "str", "String", "BTreeMap", "HashMap"):
+            raise Refusal(rule.line, f"`dive` into the type `{self.writer.type_text(kind)}`")
+        self.writer.dives_into(kind.name, rule)
+        owner = kind.name if kind.name in self.scope.params else f"⟦<{self.writer.type_text(kind)} as Validate>⟧"
+        return call(self.field("Dive"), lent), f"{owner}.visits {name} {context}"
+
+    def context_of(self, rule):
+        """The context that a part gets, as code and as it is stated."""
+        if rule.place is None and self.writer.asks_patterns(self.writer.item.name):
+            return "&()", "tt"
+        if rule.place is None or rule.place.value == (self.scope.context,):
+            return self.scope.the_context(), self.scope.context
+        if rule.place.kind == "unit":
+            return "&()", "tt"
+        if rule.place.kind != "place" or rule.place.value[0] != self.scope.context:
+            raise Refusal(rule.line, f"`dive` with a context that is no part of `{self.scope.context}`")
+        code, spec, _ = self.scope.place(rule.place.value, rule.line)
+        return f"&{code}", spec
+
+    def custom(self, rule, seen, adapter):
+        """A rule of one's own, which holds the context where there is one."""
+        name = camel(rule.text) if rule.text else self.writer.closure_name(rule)
+        kind = self.writer.type_text(seen.type)
+        self.writer.own_rule(name, rule, kind, self.scope.unit)
+        self.word("found")
+        if self.scope.unit:
+            return call(self.field("Is"), name), f"found (⟦<{name} as garde::fields::Rule<{kind}>>⟧.finds (record {{}}) {seen.name})"
+        context = self.word("lent") + " " + self.scope.the_context()
+        spec = f"found (⟦<{name}<'static> as garde::fields::Rule<{kind}>>⟧.finds (record {{ 0 = {context} }}) {seen.name})"
+        return call(self.field("Is"), call(name, self.scope.context)), spec
+
+    def adapted(self, rule, seen, adapter):
+        """A rule of a text that a view shows of the value."""
+        _, *path = adapter
+        name, kind = camel(path[-1]), self.writer.type_text(seen.type)
+        self.writer.own_view(name, path, kind)
+        text = Type("path", "String", rule.line, path=("String",))
+        shown = Seen(text, f"(⟦<{name} as garde::fields::View<{kind}>>⟧.seen (record {{}}) {seen.name})", seen.depth)
+        value, spec, taking = self.value(rule, shown)
+        return call(self.field("IsInMemory" if taking else "Is"), call(self.field("Adapt"), name, value)), spec
+
+    def value(self, rule, seen):
+        """A rule as a value, as it is stated, and whether it may take memory for its answer."""
+        if rule.name == "length":
+            return (*self.length(rule, seen), False)
+        if rule.name == "range":
+            return (*self.range(rule, seen), False)
+        if rule.name == "required":
+            if not is_option(seen.type):
+                raise Refusal(rule.line, "`required` of a value that is no `Option`")
+            return Word(self.field("Required")), f"{self.word('required')} {seen.name}", False
+        if rule.name == "matches":
+            return (*self.matches(rule, seen), False)
+        if not is_text(seen.type):
+            raise Refusal(rule.line, f"`{rule.name}` of the type `{self.writer.type_text(seen.type)}`, which is no text")
+        if rule.name == "pattern":
+            return (*self.pattern(rule, seen), True)
+        if rule.name in IPS:
+            self.uses.words.add(IPS[rule.name])
+            self.uses.others.add("garde::i18n::IpKind")
+            return call(self.field("Ip"), f"IpKind::{IPS[rule.name]}"), self.text("ip", seen, IPS[rule.name]), False
+        name = self.field(rule.name.capitalize())
+        if rule.text is None:
+            return Word(name), self.text(rule.name, seen), rule.name == "url"
+        return call(name, f'"{rule.text}"'), self.text(rule.name, seen, f'"{rule.text}"'), False
+
+    def text(self, word, seen, *before):
+        """A word about a text: of a `String` as it is, of other texts by their bytes."""
+        if is_path(seen.type, "String"):
+            return " ".join([self.word(word), *before, seen.name])
+        self.uses.bytes = True
+        quoted = any(it.startswith('"') for it in before)
+        before = [f"({self.word('codes')} {it})" if it.startswith('"') else it for it in before] if quoted else before
+        return " ".join([f"bytes.{word}", *before, self.bytes_of(seen)])
+
+    def bytes_of(self, seen):
+        if seen.type.kind == "ref":
+            return f"{seen.name}.now"
+        self.uses.cow = True
+        return f"(cow_str_bytes {seen.name})"
+
+    def matches(self, rule, seen):
+        """The rule that a text equals that of another field."""
+        other = self.scope.places.get(rule.text)
+        if other is None:
+            raise Refusal(rule.line, f"`matches` of the field `{rule.text}`, which is not there")
+        if not (is_path(seen.type, "String") and is_path(other.type, "String")):
+            raise Refusal(rule.line, "`matches` of values that are not both of type `String`")
+        self.scope.bound.add(rule.text)
+        fields = (("field", Word(f'"{rule.text}"')), ("other", Word(other.binding)))
+        return Literal(self.field("Matches"), fields), f'{self.word("matches_text")} "{rule.text}" {seen.name} {other.name}'
+
+    def pattern(self, rule, seen):
+        """The rule that a compiled pattern of the context matches."""
+        if rule.place is None:
+            place = (self.scope.the_context(), self.writer.new_pattern(rule))
+        else:
+            place = rule.place.value
+            if place[0] != self.scope.context or len(place) < 2 or self.scope.unit:
+                raise Refusal(rule.line, f"the pattern `{'.'.join(place)}` is no part of the context")
+            self.scope.the_context()
+        source = ".".join(place)
+        return call(self.field("Pattern"), Lent(Word(source))), self.text("pattern", seen, source)
+
+    def length(self, rule, seen):
+        """The rule about a length, in its mode."""
+        name = self.field(LENGTHS[rule.mode])
+        code = self.bounds_code(name, rule)
+        stated = [self.bound(rule.bounds[it], False)[1] for it in ("min", "max", "equal") if it in rule.bounds]
+        return code, " ".join([self.length_word(rule, seen, ending(rule)), *stated, self.counted(rule, seen)])
+
+    def length_word(self, rule, seen, end):
+        kind = seen.type
+        if is_path(kind, "String"):
+            return self.word(f"{TEXT_LENGTHS[rule.mode]}_{end}")
+        if rule.mode == "simple" and kind.kind == "path" and kind.name in COUNTED:
+            return self.word(f"{COUNTED[kind.name]}_{end}")
+        return self.word(f"count_{end}")
+
+    def counted(self, rule, seen):
+        """What a word about a length is given: the value, or a number that is counted."""
+        kind = seen.type
+        if is_path(kind, "String") or (rule.mode == "simple" and kind.kind == "path" and kind.name in COUNTED):
+            return seen.name
+        if is_text(kind):
+            count = BYTE_COUNTS[rule.mode]
+            self.uses.bytes = self.uses.bytes or count.startswith("bytes.")
+            self.uses.words |= {count} - {it for it in (count,) if it.startswith("bytes.")}
+            return f"({count} {self.bytes_of(seen)})"
+        listed = {"VecDeque": ".items", "LinkedList": ""}.get(kind.name)
+        if kind.kind == "ref" and kind.args[0].kind == "slice":
+            listed = ".now"
+        if rule.mode != "simple" or listed is None:
+            mode = "" if rule.mode == "simple" else f" in `{rule.mode}`"
+            raise Refusal(rule.line, f"the length{mode} of the type `{self.writer.type_text(kind)}`, which the port does not know")
+        self.uses.prelude.add("length")
+        return f"(length {seen.name}{listed})"
+
+    def range(self, rule, seen):
+        """The rule about a number, by its type."""
+        kind = seen.type.name
+        if not is_path(seen.type, *UNSIGNED, *SIGNED):
+            floats = " of floating-point numbers" if kind in ("f32", "f64") else ""
+            raise Refusal(rule.line, f"`range` of the type `{self.writer.type_text(seen.type)}`: there are no bounds{floats} here")
+        signed = kind in SIGNED
+        code = self.bounds_code(self.field("Range"), rule, signed)
+        end = ending(rule)
+        family = "signed" if signed else "range"
+        word = f"{kind}_{end}" if end == "min" or (signed and end == "max") else f"{family}_{end}"
+        stated = [self.bound(rule.bounds[it], signed)[1] for it in ("min", "max", "equal") if it in rule.bounds]
+        return code, " ".join([self.word(word), *stated, seen.name])
+
+    def bound(self, it, signed):
+        """A bound as code and as it is stated."""
+        it = self.writer.resolved(it)
+        if it.kind == "number":
+            if it.value < 0 and not signed:
+                raise Refusal(it.line, f"the bound {it.value} of what has no sign")
+            word = "minus" if it.value < 0 else "pos"
+            return str(it.value), f"({self.word(word)} {abs(it.value)})" if signed else str(it.value)
+        if it.kind != "place":
+            raise Refusal(it.line, "a bound that the port cannot read: it reads numbers and fields of `self` and of the context")
+        code, spec, _ = self.scope.place(it.value, it.line)
+        return code, spec
+
+    def bounds_code(self, name, rule, signed=False):
+        """A rule with bounds, as a literal."""
+        given = {key: self.bound(value, signed)[0] for key, value in rule.bounds.items()}
+        low, high = given.get("min", given.get("equal")), given.get("max", given.get("equal"))
+        if name == "Range":
+            ends = (f"Some({it})" if it else "None" for it in (low, high))
+        else:
+            ends = (low or "0", high or "usize::MAX")
+        return Literal(name, tuple(zip(("min", "max"), map(Word, ends))))
+
+
+def ending(rule):
+    """The end of the names of a rule with these bounds."""
+    return "between" if len(rule.bounds) == 2 else next(iter(rule.bounds))
+
+
+def goes_inside(rule, kind, adapter):
+    return is_option(kind) and (rule.name == "dive" or (rule.name in INSIDE and not adapter))
+
+
+def grouped(rules, kind, adapter):
+    """Rules in groups: those that are asked of what an option holds, one after the other, are one."""
+    groups = []
+    for rule in rules:
+        inside = goes_inside(rule, kind, adapter)
+        if groups and inside and goes_inside(groups[-1][-1], kind, adapter):
+            groups[-1].append(rule)
+        else:
+            groups.append([rule])
+    return groups
+
+
+def together(checks, most=4):
+    """Checks in turn: one, or a tuple of up to so many, whose last one holds the rest."""
+    if len(checks) == 1:
+        return checks[0]
+    if len(checks) > most:
+        checks = [*checks[: most - 1], together(checks[most - 1 :], most)]
+    return call("", *checks)

@@ -1,0 +1,306 @@
+"""The Rattle source with the implementations."""
+import re
+
+from .implementation import Implementation
+from .layout import CALL, VARIANT, WIDTH, use_line
+from .rules import Expression
+from .scope import Uses
+from .source import all_rules, is_ported, type_names
+from .tokens import Refusal
+from .words import camel
+
+DERIVES = ("Clone", "Copy", "Debug", "Default", "Eq", "Hash", "Ord", "PartialEq", "PartialOrd")
+COLLECTIONS = ("BTreeMap", "BTreeSet", "BinaryHeap", "HashMap", "HashSet", "LinkedList", "VecDeque")
+IMPORTS = {**{name: f"std::collections::{name}" for name in COLLECTIONS}, "Rc": "std::rc::Rc", "Regex": "garde::rules::pattern::regex::Regex"}
+GARDE = {"I18n", "Report", "Trail", "Validate", "AllocError", "Global", "Rule", "View", "RuleError"}
+RULE = """{docs}
+#[derive(Clone, Copy)]
+{vis}struct {name}{life}{holds};
+
+impl{bound} Rule<{kind}> for {name}{lives} {{
+    ghost finds = {{ λ rule value. todo }};
+
+    fn find<H: I18n>(&self, alloc: Global, value: &{kind}, _h: &H) -> Result<(), RuleError> {{
+        todo
+    }}
+}}"""
+VIEW = """{docs}
+#[derive(Clone, Copy)]
+{vis}struct {name};
+
+impl{bound} View<{kind}> for {name} {{
+    type Seen = String;
+
+    ghost seen = {{ λ _ value. todo }};
+
+    fn see<'v>(&self, value: &'v {kind}) -> &'v String {{
+        todo
+    }}
+}}"""
+
+
+class Writer:
+    """Writes what stands for a source. `module` is the path of what is written, and `own` that of the rules of one's own."""
+
+    def __init__(self, source, module=None, own=None):
+        self.source, self.module, self.own = source, module, own
+        self.uses = Uses()
+        self.patterns, self.skeletons, self.closures = {}, {}, {}
+        self.item = self.context = self.spot = None
+        self.renamed = {}
+
+    def text(self):
+        """The whole file."""
+        items = [text for item in self.source.items for text in self.item_texts(item)]
+        self.refuse_names()
+        parts = [self.ghost_uses(), self.use_lines(), *items, *self.skeleton_texts()]
+        return "\n\n".join(part for part in parts if part) + "\n"
+
+    def item_texts(self, item):
+        """The type, the patterns that it asks for, and its implementation."""
+        self.item = item
+        self.renamed = {"'a": free_lifetime(item.params)}
+        if not is_ported(item):
+            return [self.declaration(item)]
+        implementation = Implementation(self, item).text()
+        patterns = [self.pattern_struct(item)] if item.name in self.patterns else []
+        return [self.declaration(item), *patterns, implementation]
+
+    def refuse_names(self):
+        """Refuses types whose names are imported, and variants whose names stand for something else in a statement."""
+        imported = GARDE | self.uses.fields | {path.rpartition("::")[2] for path in self.uses.others}
+        taken = self.uses.words | {"Some", "None", "Ok", "Err"}
+        for item in self.source.items:
+            if item.name in imported:
+                raise Refusal(item.line, f"the name `{item.name}` is one that the port imports")
+            for variant in self.stated_variants(item):
+                if variant.name in taken:
+                    raise Refusal(variant.line, f"the name `{variant.name}` stands for something else in this file: give the enum a file of its own, or the variant another name")
+                taken.add(variant.name)
+
+    def stated_variants(self, item):
+        """The variants that statements name."""
+        return item.variants if item.kind == "enum" and is_ported(item) else ()
+
+    # Types.
+
+    def declaration(self, item):
+        """The type itself, with the derives that are here."""
+        derives = [it for it in item.derives if it in DERIVES]
+        derives += [] if "Copy" in derives else ["Drop"]
+        lines = [*item.docs, f"#[derive({', '.join(derives)})]"]
+        params = self.params_text(item.params, bounds=False)
+        if item.kind == "struct":
+            head = f"{item.vis}struct {item.name}{params}"
+            return "\n".join([*lines, head + self.body(item.variants[0], len(head))])
+        tall = any("\n" in self.variant_text(it, False) for it in item.variants)
+        variants = [f"    {line}" for it in item.variants for line in (*it.docs, f"{self.variant_text(it, tall)},")]
+        return "\n".join([*lines, f"{item.vis}enum {item.name}{params} {{", *variants, "}"])
+
+    def body(self, variant, before):
+        """The fields of a struct, behind its name."""
+        if variant.shape == "unit":
+            return ";"
+        if variant.shape == "named":
+            return " {\n" + "".join(self.field_lines(it, 4) for it in variant.fields) + "}"
+        inside = ", ".join(it.vis + self.type_text(it.type, True) for it in variant.fields)
+        if len(inside) <= CALL and before + len(inside) + 3 <= WIDTH and not any(it.docs for it in variant.fields):
+            return f"({inside});"
+        return "(\n" + "".join(self.field_lines(it, 4) for it in variant.fields) + ");"
+
+    def field_lines(self, it, indent):
+        space = " " * indent
+        name = f"{it.name}: " if it.name else ""
+        return "".join(f"{space}{line}\n" for line in (*it.docs, f"{it.vis}{name}{self.type_text(it.type, True)},"))
+
+    def variant_text(self, variant, tall):
+        """A variant of an enum; where one of them is tall, so are all with named fields."""
+        if variant.shape == "unit":
+            return variant.name
+        opening, closing = (" {", "}") if variant.shape == "named" else ("(", ")")
+        names = (f"{it.name}: " if it.name else "" for it in variant.fields)
+        inside = ", ".join(name + self.type_text(it.type, True) for name, it in zip(names, variant.fields))
+        fits = len(inside) <= VARIANT and not tall if variant.shape == "named" else len(variant.name + inside) + 7 <= WIDTH
+        if fits and not any(it.docs for it in variant.fields):
+            space = " " if variant.shape == "named" else ""
+            return f"{variant.name}{opening}{space}{inside}{space}{closing}"
+        fields = "".join(self.field_lines(it, 8) for it in variant.fields)
+        return f"{variant.name}{opening}\n{fields}    {closing}"
+
+    def type_text(self, kind, declared=False):
+        """A type as it is written here; in a declaration its lifetimes stay as they are."""
+        if isinstance(kind, str):
+            return kind if declared else self.renamed.get(kind, kind)
+        inside = [self.type_text(it, declared) for it in kind.args]
+        if kind.kind == "ref":
+            life = self.type_text(kind.lifetime, declared) + " " if kind.lifetime else ""
+            return f"&{life}{inside[0]}"
+        if kind.kind == "slice":
+            return f"[{inside[0]}]"
+        if kind.kind == "array":
+            return f"[{inside[0]}; {kind.size}]"
+        if kind.kind == "tuple":
+            return f"({', '.join(inside)}{',' * (len(inside) == 1)})"
+        return self.path_text(kind, inside)
+
+    def path_text(self, kind, inside):
+        """A type by its path: those of std by their last name, which is imported."""
+        if kind.name == "Arc":
+            raise Refusal(kind.line, "the type `Arc`, which is not there: write `Rc`")
+        if kind.name == "Cow" and inside[-1] == "str":
+            self.uses.others.add("std::borrow::CowStr")
+            return f"CowStr<{inside[0]}>"
+        name = kind.name if kind.path[0] in ("std", "regex", "garde") else "::".join(kind.path)
+        if name in IMPORTS:
+            self.uses.others.add(IMPORTS[name])
+        return f"{name}<{', '.join(inside)}>" if inside else name
+
+    def params_text(self, params, bounds, names=False):
+        """The parameters of a type: as it declares them, with their bounds, or by their names alone."""
+        texts = []
+        for it in params:
+            name = self.renamed.get(it.name, it.name) if bounds or names else it.name
+            const = "const " if it.kind == "const" and not names else ""
+            colon = f": {it.bounds}" if it.bounds and (bounds or (const and not names)) else ""
+            texts.append(f"{const}{name}{colon}")
+        return f"<{', '.join(texts)}>" if texts else ""
+
+    # What rules ask for.
+
+    def resolved(self, it):
+        """An expression, and of a constant its number."""
+        known = it.kind == "place" and len(it.value) == 1 and it.value[0] in self.source.numbers
+        return Expression("number", it.line, self.source.numbers[it.value[0]]) if known else it
+
+    def new_pattern(self, rule):
+        """A place in the context of the type for a pattern in quotes, and its name."""
+        if self.item.attributes.context:
+            raise Refusal(rule.line, "a pattern in quotes under a context of one's own: add a field of type `Regex` to it, and write `pattern(ctx.FIELD)`")
+        places = self.patterns.setdefault(self.item.name, {})
+        name, number = self.spot, 1
+        while places.get(name, rule.text) != rule.text:
+            number += 1
+            name = f"{self.spot}_{number}"
+        places[name] = rule.text
+        return name
+
+    def pattern_struct(self, item):
+        """The context that holds the compiled patterns of a type."""
+        fields = ""
+        for name, source in self.patterns[item.name].items():
+            fields += f"    /// `Regex::new` of the pattern `{source}`.\n    {item.vis}{name}: Regex,\n"
+        self.uses.others.add(IMPORTS["Regex"])
+        return f"/// The compiled patterns of `{item.name}`.\n#[derive(Drop)]\n{item.vis}struct {item.name}Patterns {{\n{fields}}}"
+
+    def asks_patterns(self, name):
+        """Whether the port makes a context of compiled patterns for a type of this file."""
+        found = [it for it in self.source.items if it.name == name and is_ported(it) and not it.attributes.context]
+        return any(has_pattern(field.attributes.rules) for it in found for variant in it.variants for field in variant.fields)
+
+    def dives_into(self, name, rule):
+        """Refuses a part whose context this port makes, where the whole has no such context."""
+        if (rule.place is None or rule.place.kind == "unit") and self.asks_patterns(name):
+            raise Refusal(rule.line, f"`dive` into `{name}`, whose patterns make a context of it: give both types a context with compiled patterns")
+        if any(it.name == name and it is self.item for it in self.source.items):
+            raise Refusal(rule.line, f"`dive` of `{name}` into itself: such a type is walked by a function of its own")
+
+    def closure_name(self, rule):
+        """A name for a closure, after the type and the field, with a number for each further one of the field."""
+        name = f"{self.item.name}{camel(self.spot)}Rule"
+        found = self.closures.setdefault(name, [])
+        if rule.source not in found:
+            found.append(rule.source)
+        number = found.index(rule.source)
+        return f"{name}{number + 1}" if number else name
+
+    def own_rule(self, name, rule, kind, unit):
+        """A rule of one's own: its type is imported or, with no module for it, written as a beginning."""
+        source = rule.source or self.source.functions.get(rule.text, f"fn {rule.text}")
+        docs = ["/// A rule to be written. In the Rust source it is:", "///", "/// ```text", *(f"/// {line}".rstrip() for line in source.splitlines()), "/// ```"]
+        context = "" if unit else self.context
+        self.skeletons[name] = ("Rule", RULE.format(
+            docs="\n".join(docs), vis=self.item.vis, name=name, kind=kind, bound=lifetimes_of(kind),
+            life="<'c>" if context else "", lives="<'_>" if context else "",
+            holds=f"({self.item.vis}&'c {context})" if context else "",
+        ))
+
+    def own_view(self, name, path, kind):
+        docs = f"/// A view to be written, in place of the module `{'::'.join(path)}`: the text of which the rules are asked."
+        self.skeletons[name] = ("View", VIEW.format(docs=docs, vis=self.item.vis, name=name, kind=kind, bound=lifetimes_of(kind)))
+
+    def skeleton_texts(self):
+        """The beginnings of rules and views."""
+        return [] if self.own else [text for _, text in self.skeletons.values()]
+
+    # Imports.
+
+    def ghost_uses(self):
+        """What the statements import."""
+        lines, uses = [*self.source.head], self.uses
+        prelude = {f"Rattle.std.specs.Prelude.{{{', '.join(sorted(uses.prelude))}}}"} if uses.prelude else set()
+        cow = {"Rattle.std.specs.Cow.{cow_str_bytes}"} if uses.cow else set()
+        lines += [f"ghost use {it};" for it in (*prelude, *cow)]
+        if uses.words:
+            lines.append(f"ghost use Rattle.garde.specs.Fields.{{{', '.join(sorted(uses.words, key=word_order))}}};")
+        lines += ["ghost use Rattle.garde.specs.Author as bytes;"] if uses.bytes else []
+        lines += [self.variants_use(it) for it in self.source.items if self.stated_variants(it)]
+        return "\n".join(lines)
+
+    def variants_use(self, item):
+        """What imports the variants of an enum."""
+        crate, *modules = self.module.split("::")
+        path = ".".join(["Rattle", crate, "specs", "declared", *modules, item.name, "TheVariants"])
+        return f"ghost use {path}.{{{', '.join(it.name for it in item.variants)}}};"
+
+    def use_lines(self):
+        """What the code imports."""
+        paths = {f"garde::fields::{name}" for name in self.uses.fields} | self.uses.others | self.crate_imports()
+        if any(map(is_ported, self.source.items)):
+            paths |= {f"garde::{name}" for name in ("I18n", "Report", "Trail", "Validate")} | {"std::alloc::AllocError", "std::alloc::Global"}
+        if self.own:
+            paths |= {f"{self.own}::{name}" for name in self.skeletons}
+        elif self.skeletons:
+            paths |= {f"garde::fields::{kind}" for kind, _ in self.skeletons.values()}
+            paths |= {"garde::RuleError"} if any(kind == "Rule" for kind, _ in self.skeletons.values()) else set()
+        grouped = {}
+        for path in paths:
+            module, _, name = path.rpartition("::")
+            grouped.setdefault(module, set()).add(name)
+        order = sorted(grouped, key=lambda it: [(part[:1].islower() is False, part) for part in it.split("::")] + [(True, "~")])
+        return "\n".join(use_line(module, grouped[module]) for module in order)
+
+    def crate_imports(self):
+        """The imports of the source from its own crate that the types here still name."""
+        named = {name for item in self.source.items for name in names_of(item)}
+        kept = set()
+        for path, name in self.source.imports:
+            if path[0] in ("crate", "self", "super") and name in named and name == path[-1]:
+                kept.add("::".join(path))
+        return kept
+
+
+def has_pattern(rules):
+    return any(rule.name == "pattern" and rule.text is not None for rule in all_rules(rules))
+
+
+def names_of(item):
+    """The names that a type's declaration and its attributes speak of."""
+    names = {name for variant in item.variants for it in variant.fields for name in type_names(it.type)}
+    names |= {token.text for token in item.attributes.context[1].tokens} if item.attributes.context else set()
+    return names
+
+
+def lifetimes_of(kind):
+    """The lifetimes that a type's text names, as parameters."""
+    found = sorted(set(re.findall(r"'\w+", kind)) - {"'static"})
+    return f"<{', '.join(found)}>" if found else ""
+
+
+def free_lifetime(params):
+    """A lifetime for `'a` in the implementation, whose method has an `'a` of its own."""
+    taken = {it.name for it in params}
+    return next(it for it in ("'t", "'u", "'s", "'r") if it not in taken)
+
+
+def word_order(word):
+    return (not word.startswith("◌"), word.lower(), word)

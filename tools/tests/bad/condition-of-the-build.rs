@@ -1,0 +1,8 @@
+use garde::Validate;
+
+#[derive(Validate)]
+pub struct Bad {
+    #[cfg_attr(feature = "strict", garde(ascii))] //~ an attribute `cfg` or `cfg_attr`, which the port cannot judge
+    #[garde(skip)]
+    pub name: String,
+}

@@ -1,0 +1,7 @@
+use garde::Validate;
+
+#[derive(Validate)]
+pub struct Bad {
+    #[garde(ascii, credit_card)] //~ the rule `credit_card` is not ported: give the number a type of its own that implements `CreditCard`
+    pub name: String,
+}

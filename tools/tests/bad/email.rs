@@ -1,0 +1,7 @@
+use garde::Validate;
+
+#[derive(Validate)]
+pub struct Bad {
+    #[garde(email)] //~ the rule `email` is not ported: write a rule of your own, by `custom`
+    pub name: String,
+}

@@ -1,0 +1,7 @@
+use garde::Validate;
+
+#[derive(Validate)]
+pub struct Bad {
+    #[garde(pattern(MAIL))] //~ the pattern `MAIL` is no part of the context
+    pub name: String,
+}
