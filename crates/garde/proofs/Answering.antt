@@ -25,11 +25,8 @@ walk_told {text = text} {before} began walk = walk.report ∙ ap (λ ls. ls ++ f
 pub answers_valid : (visits : Visits) {text : Datum → List ℕ} {before after : Trace} {old new : List Entry} → old ≡ [] → Walked visits.trees text before after old new → new ≡ [] → AnswersOn visits text before after (Ok tt)
 answers_valid visits {text = text} {before} began walk empty =
     let silent : bears walk.tree ≡ false = no_fault_of_flat text before.components walk.tree (sym (walk_told began walk) ∙ empty) in
-    (λ t v. not_true (bears t) (λ e. true≢false (sym ((visits.alike walk.tree walk.visited).1 ((visits.alike t v).0 e)) ∙ silent)), walk.trail ∙ trace_after-none before walk.tree silent)
-  where
-    not_true : (b : Bool) → (b ≡ true → ⊥) → b ≡ false
-    not_true true never = absurd (never refl)
-    not_true false never = refl
+    let known = (visits.alike walk.tree walk.visited).0 silent in
+    (λ t v. (visits.alike t v).1 known, walk.trail ∙ trace_after-none before walk.tree silent)
 
 -- and else one does that gives the report
 pub answers_faults : (visits : Visits) {text : Datum → List ℕ} {before after : Trace} {old : List Entry} {report : Report} → old ≡ [] → Walked visits.trees text before after old report → ¬ (report ≡ []) → AnswersOn visits text before after (Err (errors.Report report))

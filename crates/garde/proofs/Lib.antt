@@ -7,6 +7,7 @@ mod Read
 pub mod Visiting
 pub mod Calls
 pub mod Nesting
+pub mod Known
 pub mod Author
 pub mod Quiet
 mod Rest

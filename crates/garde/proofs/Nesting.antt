@@ -1,5 +1,5 @@
 -- Lemmas on visits of values that hold values of their own type.
-use Rattle.std.proofs.Common.{◌≡◌, ℕ, zero, suc, ◌<◌, List, Bool, true, false, nat_lt, ltb→lt, lt→ltb, T, Result, refl, sym, subst, arith}
+use Rattle.std.proofs.Common.{◌≡◌, ℕ, zero, suc, ◌<◌, List, Bool, true, false, nat_lt, ltb→lt, lt→ltb, T, Result, refl, ap, sym, subst, arith}
 use Rattle.garde_i18n.specs.Datum.{Datum}
 use Rattle.garde_report.specs.Report.{Entry}
 use Rattle.garde_report.specs.Trace.{Trace}
@@ -34,6 +34,11 @@ enough level size (suc m) (suc n) v more deep = λ i. level (λ x. when_same (na
 pub nested_is : {A : Type 0} (level : (A → Visits) → A → Visits) (size : A → ℕ) (v : A) → nested level size v ≡ level (within level size v) v
 unfolding nested nested_to within
 nested_is level size v = λ i. level (λ x. when_same (nat_lt (size x) (size v)) (nested_to level size (size v) x) (nested level size x) (λ is. let lt = less _ _ is in enough level size (size v) (suc (size x)) x lt (omega arith)) i) v
+
+-- what is in this one and smaller comes by what it comes by itself
+pub within_is : {A : Type 0} (level : (A → Visits) → A → Visits) (size : A → ℕ) (v x : A) → size x < size v → within level size v x ≡ nested level size x
+unfolding within when
+within_is level size v x smaller = ap (λ b. when b (nested level size x)) (is_less _ _ smaller)
 
 module _ {text : Datum → List ℕ} {E : Type 0} {A : Type 0} (level : (A → Visits) → A → Visits) (size : A → ℕ) where
   -- a level was visited

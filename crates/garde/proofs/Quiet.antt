@@ -11,7 +11,7 @@ use Rattle.garde_rules.specs.{Fault}
 use Rattle.garde.specs.Tree.{Tree, bears, height}
 use Rattle.garde.specs.Trees.{TreesNothing, TreesUnder, TreesBoth, TreesEach}
 use Rattle.garde.specs.Laws.{bears-then}
-use Rattle.garde.specs.Visits.{Visits, Visited, only, none, found, below, ◌and◌, items, optional}
+use Rattle.garde.specs.Visits.{Visits, Visited, none, found, below, ◌and◌, items, optional}
 use Rattle.garde.specs.Answers.{NeedsNoMemory}
 use Rattle.garde.proofs.Answering.{never_refused}
 use Rattle.garde.proofs.Refusals.{height-then}
@@ -53,7 +53,7 @@ takes_of : {A : Type 0} (P Q : A → Type 0) (xs : List A) → All P xs → ((x 
 takes_of P Q xs all never (k, x, within, is, takes) = never x (subst P is (all k x within)) takes
 
 pub no_memory_found : (fault : Option Fault) {depth : ℕ} → fault ≡ None → depth ≤ 8 → NeedsNoMemory (found fault) depth
-unfolding found only
+unfolding found
 no_memory_found None is most = record { takes_none = λ h. h; none_bears = λ t v. ap bears v; none_deeper = λ t v. omega (arith, ap height v) }
 no_memory_found (Some fault) is most = cc
 

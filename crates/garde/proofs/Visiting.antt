@@ -61,7 +61,7 @@ module _ {text : Datum → List ℕ} {E : Type 0} where
 
   -- a rule's answer was put
   pub visited_found : (fault : Option Fault) {before after : Trace} {old new : List Entry} (outcome : Result Unit RuleError) {result : Result Unit E} → IsTrace before → Applies fault text outcome → OnOk result (IsPut outcome before after old new) → OnErr result (IsNotPut outcome before after) → OnErr result (new ≡ old) → Visited (found fault) text before after old new result
-  unfolding found only
+  unfolding found
   visited_found fault outcome {result = Ok x} sound applies put refused same = record { ok = rule_walked fault outcome sound applies put; err = tt; why = tt }
   visited_found fault {before} {after} outcome {result = Err e} sound applies put refused same = record {
     ok = tt;
@@ -71,7 +71,7 @@ module _ {text : Datum → List ℕ} {E : Type 0} where
 
   -- a rule's answer was put that may want memory though it finds nothing
   pub visited_taking : (fault : Option Fault) {before after : Trace} {old new : List Entry} (outcome : Result Unit RuleError) {result : Result Unit E} → IsTrace before → AppliesInMemory fault text outcome → OnOk result (IsPut outcome before after old new) → OnErr result (IsNotPut outcome before after) → OnErr result (new ≡ old) → Visited (taking (found fault)) text before after old new result
-  unfolding found only taking
+  unfolding found taking
   visited_taking fault (Ok x) sound applies put refused same = taking_more (visited_found fault (Ok x) sound applies put refused same)
   visited_taking fault (Err (errors.Fault m)) sound applies put refused same = taking_more (visited_found fault (Err (errors.Fault m)) sound applies put refused same)
   visited_taking fault (Err errors.Memory) {result = Ok x} sound applies put refused same = absurd put

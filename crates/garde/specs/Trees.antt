@@ -1,5 +1,5 @@
 -- Which trees a value may have, as a relation, since a hashed collection has several.
-use Rattle.std.specs.Prelude.{◌≡◌, false, List, [], ◌∷◌, Option, Some, None, ◌↔◌, IsTrue}
+use Rattle.std.specs.Prelude.{◌≡◌, false, List, [], ◌∷◌, Option, Some, None, ◌↔◌}
 use Rattle.std.specs.List.{enumerate_from}
 use Rattle.std.specs.List.Sorted.{IsPermutation}
 use Rattle.garde_report.specs.Part.{Part, index_part}
@@ -9,9 +9,9 @@ use Rattle.garde.specs.Tree.{Tree, nothing, under, ◌then◌, bears}
 abbrev pub HasTree : (Tree → Type 0) → Type 0
 HasTree trees = (t : Tree) × trees t
 
--- all trees bear a fault exactly if the value is faulty: all do, or none does
+-- a tree is without a fault exactly if this is known of the value: all of them are, or none is
 abbrev pub Alike : (Tree → Type 0) → Type 0 → Type 0
-Alike trees faulty = (t : Tree) → trees t → IsTrue (bears t) ↔ faulty
+Alike trees known = (t : Tree) → trees t → (bears t ≡ false) ↔ known
 
 -- no tree bears a fault
 abbrev pub NoneBears : (Tree → Type 0) → Type 0
@@ -42,11 +42,6 @@ TreesItems trees xs = TreesEach index_part trees (enumerate_from 0 xs)
 abbrev pub TreesOption : {A : Type 0} → (A → Tree → Type 0) → Option A → Tree → Type 0
 TreesOption trees None = TreesNothing
 TreesOption trees (Some x) = trees x
-
--- what an option holds is faulty
-abbrev pub FaultyOption : {A : Type 0} → (A → Type 0) → Option A → Type 0
-FaultyOption faulty None = ⊥
-FaultyOption faulty (Some x) = faulty x
 
 -- the trees of the items in some order
 abbrev pub TreesInAnyOrder : {A : Type 0} → (List A → Tree → Type 0) → List A → Tree → Type 0

@@ -5,12 +5,12 @@ use Rattle.garde.specs.declared.unvalidated.IntoValidError.{IntoValidError}
 use Rattle.garde.specs.declared.unvalidated.IntoValidError.TheVariants as errors
 use Rattle.garde.specs.Tree.{Tree, bears, flat}
 use Rattle.garde.specs.Trees.{NoneBears}
-use Rattle.garde.specs.Visits.{Visits}
+use Rattle.garde.specs.Visits.{Visits, Known}
 use Rattle.garde.specs.Walk.{MayRefuse}
 
--- Under some context, no tree of the value bears a fault.
+-- Under some context, no tree of the value bears a fault, and so what the rules ask is known of it.
 abbrev pub IsValid : {V C : Type 0} → (V → C → Visits) → V → Type 0
-IsValid {C = C} visits value = (ctx : C) × NoneBears (visits value ctx).trees
+IsValid {C = C} visits value = (ctx : C) × NoneBears (visits value ctx).trees × Known (visits value ctx)
 
 -- The answer where a value is handed in to be validated. Ok: it is that value, and no tree of it bears a fault. A report: it is
 -- a tree that bears a fault, read from left to right. Want of memory: the value is handed back, and there is a reason for it.

@@ -1,28 +1,28 @@
 -- What a visit of a value comes by, and how it is put together from smaller visits.
-use Rattle.std.specs.Prelude.{◌≡◌, ⊤, ℕ, Bool, true, false, List, length, Option, ◌⊎◌, IsTrue, Result, OnOk, OnErr, refl}
-use Rattle.std.specs.List.{Any}
+use Rattle.std.specs.Prelude.{◌≡◌, ⊤, ℕ, Bool, true, false, List, length, Option, None, IfSome, IsSomeAnd, ◌⊎◌, Result, OnOk, OnErr, refl}
+use Rattle.std.specs.List.{All, Any}
 use Rattle.garde_i18n.specs.Datum.{Datum}
 use Rattle.garde_report.specs.Part.{Part, index_part, unnamed_part}
 use Rattle.garde_report.specs.Report.{Entry}
 use Rattle.garde_report.specs.Trace.{Trace}
 use Rattle.garde_rules.specs.{Fault}
 use Rattle.garde.specs.Tree.{Tree, nothing, bears, found_tree}
-use Rattle.garde.specs.Trees.{HasTree, Alike, TreesUnder, TreesBoth, TreesEach, TreesItems, TreesOption, TreesInAnyOrder, FaultyOption}
-use Rattle.garde.specs.Laws.{one_alike, both_have_tree, both_alike, under_has_tree, under_alike, each_has_tree, each_alike, items_have_tree, items_alike, any_order_has_tree, any_order_alike, option_has_tree, option_alike}
+use Rattle.garde.specs.Trees.{HasTree, Alike, TreesUnder, TreesBoth, TreesEach, TreesItems, TreesOption, TreesInAnyOrder}
+use Rattle.garde.specs.Laws.{one_alike, found_alike, both_have_tree, both_alike, under_has_tree, under_alike, each_has_tree, each_alike, items_have_tree, items_alike, any_order_has_tree, any_order_alike, option_has_tree, option_alike}
 use Rattle.garde.specs.Walk.{Walked, WalkedPartly, MayRefuse}
 
--- The trees that the value may have, whether they bear a fault, and whether a walk may take memory though they bear none;
--- with the two laws: there is a tree, and all of them bear a fault exactly if the value is faulty.
+-- The trees that the value may have, what is known of it where they bear no fault, and whether a walk may take memory then;
+-- with the two laws: there is a tree, and one is without a fault exactly if that is known of the value.
 pub record Visits : Type 1 where
   pub trees : Tree → Type 0
-  pub faulty : Type 0
+  pub known : Type 0
   pub takes : Type 0
   pub has_tree : HasTree trees
-  pub alike : Alike trees faulty
+  pub alike : Alike trees known
 
 -- one tree, whose walk takes no memory but for its faults
 unfoldable pub only : Tree → Visits
-only t = record { trees = λ s. s ≡ t; faulty = IsTrue (bears t); takes = ⊥; has_tree = (t, refl); alike = one_alike t }
+only t = record { trees = λ s. s ≡ t; known = bears t ≡ false; takes = ⊥; has_tree = (t, refl); alike = one_alike t }
 
 -- nothing at all
 unfoldable pub none : Visits
@@ -30,18 +30,24 @@ none = only nothing
 
 -- what a rule finds
 unfoldable pub found : Option Fault → Visits
-found fault = only (found_tree fault)
+found fault = record {
+  trees = λ s. s ≡ found_tree fault;
+  known = fault ≡ None;
+  takes = ⊥;
+  has_tree = (found_tree fault, refl);
+  alike = found_alike fault;
+}
 
 -- the same, of which a walk may take memory though there is no fault
 unfoldable pub taking : Visits → Visits
-taking a = record { trees = a.trees; faulty = a.faulty; takes = ⊤; has_tree = a.has_tree; alike = a.alike }
+taking a = record { trees = a.trees; known = a.known; takes = ⊤; has_tree = a.has_tree; alike = a.alike }
 
 -- the one, and then the other
 infixr 20 ◌and◌
 unfoldable pub ◌and◌ : Visits → Visits → Visits
 a and b = record {
   trees = TreesBoth a.trees b.trees;
-  faulty = a.faulty ⊎ b.faulty;
+  known = a.known × b.known;
   takes = a.takes ⊎ b.takes;
   has_tree = both_have_tree a.has_tree b.has_tree;
   alike = both_alike a.alike b.alike;
@@ -51,7 +57,7 @@ a and b = record {
 unfoldable pub below : Part → Visits → Visits
 below k a = record {
   trees = TreesUnder k a.trees;
-  faulty = a.faulty;
+  known = a.known;
   takes = a.takes;
   has_tree = under_has_tree k a.has_tree;
   alike = under_alike k a.alike;
@@ -65,7 +71,7 @@ item index a = below (index_part index) a
 unfoldable pub items : {A : Type 0} → (A → Visits) → List A → Visits
 items each xs = record {
   trees = TreesItems (λ x. (each x).trees) xs;
-  faulty = Any (λ x. (each x).faulty) xs;
+  known = All (λ x. (each x).known) xs;
   takes = Any (λ x. (each x).takes) xs;
   has_tree = items_have_tree (λ x. (each x).has_tree) xs;
   alike = items_alike (λ x. (each x).alike) xs;
@@ -75,7 +81,7 @@ items each xs = record {
 unfoldable pub entries : {K A : Type 0} → (K → Part) → (A → Visits) → List (K × A) → Visits
 entries part each es = record {
   trees = TreesEach part (λ x. (each x).trees) es;
-  faulty = Any (λ e. (each e.1).faulty) es;
+  known = All (λ e. (each e.1).known) es;
   takes = Any (λ e. (each e.1).takes) es;
   has_tree = each_has_tree part (λ x. (each x).has_tree) es;
   alike = each_alike part (λ x. (each x).alike) es;
@@ -85,28 +91,28 @@ entries part each es = record {
 unfoldable pub items_in_any_order : {A : Type 0} → (A → Visits) → List A → Visits
 items_in_any_order each xs = record {
   trees = TreesInAnyOrder (TreesItems (λ x. (each x).trees)) xs;
-  faulty = Any (λ x. (each x).faulty) xs;
+  known = All (λ x. (each x).known) xs;
   takes = Any (λ x. (each x).takes) xs;
   has_tree = any_order_has_tree (items_have_tree (λ x. (each x).has_tree)) xs;
-  alike = any_order_alike (items_alike (λ x. (each x).alike)) xs;
+  alike = any_order_alike (λ x. (each x).known) (items_alike (λ x. (each x).alike)) xs;
 }
 
 -- each value once in some order, beneath the component of its key
 unfoldable pub entries_in_any_order : {K A : Type 0} → (K → Part) → (A → Visits) → List (K × A) → Visits
 entries_in_any_order part each es = record {
   trees = TreesInAnyOrder (TreesEach part (λ x. (each x).trees)) es;
-  faulty = Any (λ e. (each e.1).faulty) es;
+  known = All (λ e. (each e.1).known) es;
   takes = Any (λ e. (each e.1).takes) es;
   has_tree = any_order_has_tree (each_has_tree part (λ x. (each x).has_tree)) es;
-  alike = any_order_alike (each_alike part (λ x. (each x).alike)) es;
+  alike = any_order_alike (λ e. (each e.1).known) (each_alike part (λ x. (each x).alike)) es;
 }
 
 -- what an option holds, with no component of its own
 unfoldable pub optional : {A : Type 0} → (A → Visits) → Option A → Visits
 optional each v = record {
   trees = TreesOption (λ x. (each x).trees) v;
-  faulty = FaultyOption (λ x. (each x).faulty) v;
-  takes = FaultyOption (λ x. (each x).takes) v;
+  known = IfSome v (λ x. (each x).known);
+  takes = IsSomeAnd v (λ x. (each x).takes);
   has_tree = option_has_tree (λ x. (each x).has_tree) v;
   alike = option_alike (λ x. (each x).alike) v;
 }
@@ -119,6 +125,13 @@ inside each v = optional (λ x. below unnamed_part (each x)) v
 unfoldable pub when : Bool → Visits → Visits
 when true a = a
 when false a = none
+
+-- What is known of a value of whose trees none bears a fault. Where this word is unfolded, what is known is that each rule
+-- found nothing: of both sides of `and`, beneath a component, of each item and each value, of what an option holds, and where
+-- the condition holds.
+unfoldable pub Known : Visits → Type 0
+unfolding only none found taking ◌and◌ below items entries items_in_any_order entries_in_any_order optional when
+Known visits = visits.known
 
 -- What a visit leaves and answers. At an Ok all of one tree was walked. At a refusal, which is for want of memory, a
 -- beginning of one tree was walked, and there is a reason why memory was wanted.

@@ -9,6 +9,7 @@ pub mod samples;
 mod unvalidated;
 mod unvalidated_refusal;
 mod valid;
+mod valid_under;
 pub mod validate;
 
 pub use garde_i18n as i18n;
@@ -20,4 +21,5 @@ pub use garde_rules as rules;
 pub use refusal::ValidateError;
 pub use unvalidated::{IntoValidError, Unvalidated};
 pub use valid::Valid;
+pub use valid_under::ValidUnder;
 pub use validate::Validate;

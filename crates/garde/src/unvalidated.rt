@@ -41,9 +41,10 @@ impl<T: Validate> Unvalidated<T> {
 
 impl<T: Validate + Drop> Unvalidated<T> {
     ghost use Rattle.garde_i18n.specs.DefaultText.{default_text};
-    ghost use Rattle.std.specs.Prelude.{IsOk};
+    ghost use Rattle.std.specs.Prelude.{IsOk, OnOk};
     ghost use Rattle.garde.specs.Answers.{NeedsNoMemory};
     ghost use Rattle.garde.specs.Validated.{AnswersFor};
+    ghost use Rattle.garde.specs.Visits.{Known};
 
     /// Validates the value under the default context, with the texts of `DefaultI18n`.
     pub fn validate(self, alloc: Global) -> Result<Valid<T>, IntoValidError<T>>
@@ -53,6 +54,8 @@ impl<T: Validate + Drop> Unvalidated<T> {
             × AnswersFor (T.visits self ctx) default_text self result }
         ensures sure { ((ctx : T.Context) → T.Context.is_default ctx
             → NeedsNoMemory (T.visits self ctx) 0) → IsOk result }
+        ensures known { (ctx : T.Context) × T.Context.is_default ctx
+            × OnOk result (Known (T.visits self ctx)) }
     {
         let ctx = T::Context::default();
         self.validate_with(alloc, &ctx)
@@ -70,6 +73,7 @@ impl<T: Validate + Drop> Unvalidated<T> {
     ) -> Result<Valid<T>, IntoValidError<T>>
         ensures told { AnswersFor (T.visits self ctx.now) default_text self result }
         ensures sure { NeedsNoMemory (T.visits self ctx.now) 0 → IsOk result }
+        ensures known { OnOk result (Known (T.visits self ctx.now)) }
     {
         match self.0.validate_with(alloc, ctx) {
             Ok(()) => {

@@ -8,7 +8,8 @@ use std::ops::Deref;
 
 /// A value of which some context found no fault. A contract sees the value.
 ///
-/// Only `Unvalidated` makes one, and `clone` of another.
+/// `Unvalidated` makes one by a walk, `known` makes one of a value whose rules hold by a proof, and
+/// `clone` of another.
 #[derive(Debug, Drop)]
 pub struct Valid<T: Validate>(T);
 
@@ -24,6 +25,16 @@ impl<T: Validate> Model for Valid<T> {
 
 impl<T: Validate> Valid<T> {
     ghost use Rattle.garde.specs.Validated.{IsValid};
+    ghost use Rattle.garde.specs.Visits.{Known};
+
+    /// The value, of which the caller proves that this context finds no fault. Nothing is checked
+    /// at run time, and no memory is taken.
+    pub fn known(value: T, ctx: &T::Context) -> Self
+        requires { Known (T.visits value ctx.now) }
+        ensures { result ≡ value }
+    {
+        Valid::new(value)
+    }
 
     /// The value, of which some context found no fault.
     pub(crate) fn new(value: T) -> Self

@@ -1,13 +1,14 @@
 //! The walk of a value.
-ghost use Rattle.std.specs.Prelude.{◌≡◌, length, IsOk};
+ghost use Rattle.std.specs.Prelude.{◌≡◌, length, IsOk, OnOk};
 ghost use Rattle.garde_i18n.specs.DefaultText.{default_text};
 ghost use Rattle.garde_report.specs.Trace.{new_trace};
 ghost use Rattle.garde.specs.Answers.{Headline, Answers, AnswersOn, NeedsNoMemory};
-ghost use Rattle.garde.specs.Visits.{Visits, Visited};
+ghost use Rattle.garde.specs.Visits.{Visits, Visited, Known};
 
 pub use crate::refusal::ValidateError;
 pub use crate::unvalidated::{IntoValidError, Unvalidated};
 pub use crate::valid::Valid;
+pub use crate::valid_under::ValidUnder;
 use garde_i18n::{DefaultI18n, I18n};
 use garde_report::{Report, Trail};
 use std::alloc::{AllocError, Global};
@@ -50,6 +51,8 @@ pub trait Validate {
             × Answers (visits self.now c) default_text result }
         ensures sure { ((c : Self.Context) → Self.Context.is_default c
             → NeedsNoMemory (visits self.now c) 0) → IsOk result }
+        ensures known { (c : Self.Context) × Self.Context.is_default c
+            × OnOk result (Known (visits self.now c)) }
     {
         let ctx = Self::Context::default();
         self.validate_with(alloc, &ctx)
@@ -59,6 +62,7 @@ pub trait Validate {
     final fn validate_with(&self, alloc: Global, ctx: &Self::Context) -> Result<(), ValidateError>
         ensures told { Answers (visits self.now ctx.now) default_text result }
         ensures sure { NeedsNoMemory (visits self.now ctx.now) 0 → IsOk result }
+        ensures known { OnOk result (Known (visits self.now ctx.now)) }
     {
         self.validate_with_i18n(alloc, ctx, &DefaultI18n)
     }
@@ -72,6 +76,7 @@ pub trait Validate {
     ) -> Result<(), ValidateError>
         ensures told { Answers (visits self.now ctx.now) (H.text h.now) result }
         ensures sure { NeedsNoMemory (visits self.now ctx.now) 0 → IsOk result }
+        ensures known { OnOk result (Known (visits self.now ctx.now)) }
     {
         let mut trail = Trail::new(alloc);
         self.validate_on(alloc, ctx, &mut trail, h)
@@ -79,6 +84,8 @@ pub trait Validate {
 
     /// Validates a value that stands where the trail leads, under a context, with the texts of a
     /// handler.
+    ///
+    /// At Ok what the rules of the type ask under the context is known of the value.
     ///
     /// On a new trail it answers Ok exactly if the value has no fault, and else a report of every
     /// fault in the order of the walk; `Trail::nodes` then tells how many path nodes that took: one
@@ -98,6 +105,7 @@ pub trait Validate {
             trail.old trail.new result }
         ensures sure { NeedsNoMemory (visits self.now ctx.now) (length trail.old.components)
             → IsOk result }
+        ensures known { OnOk result (Known (visits self.now ctx.now)) }
     {
         let mut report = Report::new(alloc);
         match self.validate_into(alloc, ctx, trail, &mut report, h) {

@@ -1,6 +1,7 @@
 use Rattle.std.proofs.Common.{Ok, Err, sym, ◌∙◌}
 use Rattle.garde.specs.declared.refusal.ValidateError.TheVariants.{Report}
 use Rattle.garde.proofs.Answering.{answers_valid, answers_faults, headline, surely, empty_report, filled_report}
+use Rattle.garde.proofs.Known.{known_of}
 use Rattle.garde.proofs.validate.Validate.validate_on.Goals as goal
 
 pub returns-then-is_empty-clause-on : goal.returns-then-is_empty-clause-on
@@ -10,6 +11,10 @@ returns-then-is_empty-clause-on g c =
 pub returns-then-is_empty-clause-headline : goal.returns-then-is_empty-clause-headline
 returns-then-is_empty-clause-headline g c =
     headline (g.Self.Validate.visits c.args.self.now c.args.ctx.now) (g.H.I18n.text c.args.h.now) _ _ (Ok tt) (returns-then-is_empty-clause-on g c)
+
+pub returns-then-is_empty-clause-known : goal.returns-then-is_empty-clause-known
+returns-then-is_empty-clause-known g c =
+    known_of (g.Self.Validate.visits c.args.self.now c.args.ctx.now) (returns-then-is_empty-clause-on g c).0
 
 pub returns-else-is_empty-clause-on : goal.returns-else-is_empty-clause-on
 returns-else-is_empty-clause-on g c =

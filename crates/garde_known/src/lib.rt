@@ -1,0 +1,15 @@
+//! What a valid value is known to have, and code that relies on it with no test.
+#![tactic(auto)]
+
+pub mod basket;
+pub mod bill;
+pub mod level;
+pub mod made;
+pub mod page;
+pub mod panel;
+pub mod parcel;
+pub mod seat;
+pub mod tariff;
+#[cfg(test)]
+mod tests;
+pub mod words;

@@ -1,0 +1,43 @@
+//! An option that has a value, and that value.
+ghost use Rattle.std.specs.Prelude.{◌≡◌};
+ghost use Rattle.garde.specs.Fields.{Some, field, required};
+
+use garde::fields::{Field, Fields, Is, Required};
+use garde::{I18n, Report, Trail, Valid, Validate};
+use std::alloc::{AllocError, Global};
+
+/// A parcel with a recipient. Who sends it may be left out.
+#[derive(Debug, Drop)]
+pub struct Parcel {
+    pub sender: Option<String>,
+    pub recipient: Option<String>,
+}
+
+impl Validate for Parcel {
+    type Context = ();
+
+    ghost visits = { λ v _. field "recipient" (required v.recipient) };
+
+    fn validate_into<'a, H: I18n>(
+        &'a self,
+        alloc: Global,
+        _ctx: &(),
+        trail: &mut Trail<'a>,
+        report: &mut Report,
+        h: &H,
+    ) -> Result<(), AllocError> {
+        let Self {
+            sender: _,
+            recipient,
+        } = self;
+        Field("recipient", recipient, Is(Required)).visit(alloc, trail, report, h)
+    }
+}
+
+/// To whom the parcel goes. A valid one has a recipient.
+#[tactic(auto, unfolding(garde::specs::Fields::Known))]
+pub fn recipient(parcel: &Valid<Parcel>) -> &String
+    ensures { parcel.now.recipient ≡ Some result.now }
+{
+    parcel.recipient.as_ref().unwrap()
+}
