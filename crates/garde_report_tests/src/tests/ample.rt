@@ -86,7 +86,8 @@ fn ways_of_each_size_are_walked_and_reported(rt: HostRuntime) -> Result<(), Fail
 // Whether the path of a component has it, and no other.
 fn is_component_kept(alloc: Global, kind: Kind, text: &str) -> Result<bool, AllocError> {
     let path = path_of(alloc, &[(kind, text)])?;
-    Ok(path.iter(alloc)?.eq([(kind, text)]))
+    let mut parts = path.iter(alloc)?;
+    Ok(parts.len() == 1 && parts.next() == Some((kind, text)))
 }
 
 // Whether an error, its clone, and the fault of the text have it as their message.
