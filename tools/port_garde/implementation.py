@@ -10,9 +10,10 @@ LETTERS = "abcdefgijklmnopqrst"
 # Names of the method's own, and words of the statements and of their language, which no binding may hide.
 OWN = ("alloc", "trail", "report", "h", "self")
 STATED = (
-    "field item none found when optional inside each each_of_set each_value each_numbered items ascii alphanumeric contains prefix suffix "
-    "pattern url ip required codes not lent length bytes minus pos yes no tt v x y z w u data record deriving module where use mod pub "
-    "package open as unfoldable abbrev axiom unfold unfolding ruleset mutual infix infixl infixr elim let in do coe fcoe tcoe hcom com"
+    "field item none found when optional inside each each_of_set each_value each_numbered items ascii alphanumeric "
+    "contains prefix suffix pattern url ip required codes not lent length bytes minus pos yes no tt v x y z w u data "
+    "record deriving module where use mod pub package open as unfoldable abbrev axiom unfold unfolding ruleset mutual "
+    "infix infixl infixr elim let in do coe fcoe tcoe hcom com"
 ).split()
 HEAD = """
     fn validate_into<'a, H: I18n>(
@@ -57,8 +58,8 @@ class Implementation:
 
     def dives(self, name):
         """Whether a field dives into a parameter."""
-        fields = [it for variant in self.item.variants for it in variant.fields]
-        return any(name in type_names(it.type) and any(rule.name == "dive" for rule in all_rules(it.attributes.rules)) for it in fields)
+        fields = [it for variant in self.item.variants for it in variant.fields if name in type_names(it.type)]
+        return any(rule.name == "dive" for it in fields for rule in all_rules(it.attributes.rules))
 
     def text(self):
         """The whole implementation."""
@@ -70,7 +71,8 @@ class Implementation:
         if item.name in writer.patterns:
             context = f"{item.name}Patterns"
         name = name if self.asks_context else f"_{name}"
-        lines = [f"impl{writer.params_text(self.params(), True)} Validate for {item.name}{writer.params_text(item.params, False, True)} {{"]
+        params, names = writer.params_text(self.params(), True), writer.params_text(item.params, False, True)
+        lines = [f"impl{params} Validate for {item.name}{names} {{"]
         lines += [f"    type Context = {context};", "", self.visits(stated)]
         return "\n".join(lines) + "\n" + HEAD.format(context=f"{name}: &{context}") + body + "\n    }\n}"
 
@@ -97,7 +99,7 @@ class Implementation:
         """The body and the statements of a struct."""
         variant = self.item.variants[0]
         names = self.bindings(variant)
-        places = {it.name: Place(names[at], f"v.{it.name}", it.type) for at, it in enumerate(variant.fields) if it.name}
+        places = {it.name: Place(name, f"v.{it.name}", it.type) for it, name in zip(variant.fields, names) if it.name}
         stated_names = [f"v.{it.name or at}" for at, it in enumerate(variant.fields)]
         scope = self.scope(places)
         code, stated = self.fields(variant, names, stated_names, scope)
@@ -115,7 +117,8 @@ class Implementation:
         for variant in self.item.variants:
             names = self.bindings(variant)
             stated_names = [f"the_{it}" if it in STATED else it for it in names]
-            scope = self.scope({it.name: Place(names[at], stated_names[at], it.type) for at, it in enumerate(variant.fields) if it.name})
+            places = {it.name: Place(*name, it.type) for it, name in zip(variant.fields, zip(names, stated_names)) if it.name}
+            scope = self.scope(places)
             code, stated = self.fields(variant, names, stated_names, scope)
             arms.append(arm(self.pattern(f"{self.item.name}::{variant.name}", variant, names, scope), self.visit(code), 12))
             held = [name if self.is_bound(it, scope) else "_" for it, name in zip(variant.fields, stated_names)]
@@ -151,7 +154,8 @@ class Implementation:
         if asked.allow_unvalidated or asked.transparent or asked.context:
             raise Refusal(it.line, "an attribute of types at a field")
         if not asked.rules and not asked.skip and not self.item.attributes.allow_unvalidated:
-            raise Refusal(it.line, f"the field `{it.name}` has no rule: write `#[garde(skip)]`" if it.name else "a field without a rule: write `#[garde(skip)]`")
+            name = f" `{it.name}`" if it.name else ""
+            raise Refusal(it.line, f"the field{name} has no rule: write `#[garde(skip)]`")
         return bool(asked.rules)
 
     def fields(self, variant, names, stated_names, scope):

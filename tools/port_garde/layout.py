@@ -69,7 +69,7 @@ def commas(parts):
 
 
 def fields_of(literal):
-    return ", ".join(name if isinstance(value, Word) and value.text == name else f"{name}: {flat(value)}" for name, value in literal.fields)
+    return ", ".join(name if value == Word(name) else f"{name}: {flat(value)}" for name, value in literal.fields)
 
 
 def may_be_flat(tree):
@@ -106,7 +106,7 @@ def lay(tree, column, indent, after=0):
 
 
 def lay_field(name, value, indent):
-    if isinstance(value, Word) and value.text == name:
+    if value == Word(name):
         return name
     return f"{name}: {lay(value, indent + len(name) + 2, indent, 1)}"
 

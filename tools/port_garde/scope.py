@@ -7,6 +7,10 @@ from .tokens import Refusal
 UNSIGNED = ("u8", "u16", "u32", "u64", "u128", "usize")
 SIGNED = ("i8", "i16", "i32", "i64", "i128", "isize")
 VARIABLES = ("x", "y", "z", "w", "u")
+COMPARISONS = {
+    "==": "nat_eq {0} {1}", "!=": "not (nat_eq {0} {1})", "<": "nat_lt {0} {1}", "<=": "nat_le {0} {1}",
+    ">": "nat_lt {1} {0}", ">=": "nat_le {1} {0}",
+}
 
 
 @dataclass
@@ -88,7 +92,8 @@ class Conditions:
 
     def of(self, it):
         """A condition that stands in a place where it needs brackets if it has parts."""
-        readers = {"bool": self.truth, "place": self.flag, "not": self.negation, "call": self.method, "and": self.both, "or": self.both}
+        readers = {"bool": self.truth, "place": self.flag, "not": self.negation, "call": self.method}
+        readers.update({"and": self.both, "or": self.both})
         if it.kind in readers:
             return readers[it.kind](it)
         if it.kind == "number":
@@ -115,7 +120,8 @@ class Conditions:
         mark = "&&" if it.kind == "and" else "||"
         self.uses.prelude.add(f"◌{mark}◌")
         codes, specs = zip(*(self.of(part) for part in it.parts))
-        codes = [f"({code})" if part.kind in ("and", "or") and part.kind != it.kind else code for part, code in zip(it.parts, codes)]
+        other = "or" if it.kind == "and" else "and"
+        codes = [f"({code})" if part.kind == other else code for part, code in zip(it.parts, codes)]
         return f" {mark} ".join(codes), f"({f' {mark} '.join(specs)})"
 
     def grouped(self, it, code):
@@ -135,8 +141,7 @@ class Conditions:
     def comparison(self, it):
         """A comparison of numbers without a sign."""
         (left, low), (right, high) = (self.number(part) for part in it.parts)
-        shapes = {"==": "nat_eq {0} {1}", "!=": "not (nat_eq {0} {1})", "<": "nat_lt {0} {1}", "<=": "nat_le {0} {1}", ">": "nat_lt {1} {0}", ">=": "nat_le {1} {0}"}
-        spec = shapes[it.kind].format(low, high)
+        spec = COMPARISONS[it.kind].format(low, high)
         self.uses.words |= {word for word in ("nat_eq", "nat_lt", "nat_le", "not") if word in spec.split() or f"({word}" in spec}
         return f"{left} {it.kind} {right}", f"({spec})"
 

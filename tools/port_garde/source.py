@@ -67,7 +67,8 @@ class Item:
 
 @dataclass
 class Outer:
-    """What stands before an item, a variant or a field. `tests` is for what stands for tests alone, `condition` for other `cfg`."""
+    """What stands before an item, a variant or a field. `tests` says that it is for tests alone; `condition` is the line of
+    another condition of the build."""
 
     docs: tuple = ()
     attributes: Attributes = None

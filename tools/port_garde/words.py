@@ -1,12 +1,18 @@
 """What a rule becomes: a value of `garde::fields` in the code, and a word of `garde.specs.Fields` in `visits`."""
 from .layout import Lent, Literal, Word, call
+from .rules import PLAIN, TEXTS
 from .scope import SIGNED, UNSIGNED, Conditions, Seen, is_option, is_path, is_text
 from .source import Type
 from .tokens import Refusal
 
-LENGTHS = {"simple": "Length", "bytes": "ByteLength", "chars": "CharLength", "graphemes": "GraphemeLength", "utf16": "Utf16Length"}
+LENGTHS = {
+    "simple": "Length", "bytes": "ByteLength", "chars": "CharLength", "graphemes": "GraphemeLength", "utf16": "Utf16Length",
+}
 TEXT_LENGTHS = {"simple": "length", "bytes": "length", "chars": "chars", "graphemes": "graphemes", "utf16": "utf16"}
-BYTE_COUNTS = {"simple": "byte_count", "bytes": "byte_count", "chars": "char_count", "graphemes": "bytes.grapheme_count", "utf16": "bytes.unit_count"}
+BYTE_COUNTS = {
+    "simple": "byte_count", "bytes": "byte_count", "chars": "char_count", "graphemes": "bytes.grapheme_count",
+    "utf16": "bytes.unit_count",
+}
 COUNTED = {"Vec": "items", "BTreeMap": "map", "BTreeSet": "set", "HashMap": "hash_map", "HashSet": "hash_set"}
 # Each collection with the word for its items and what of it that word is given; of maps, which item is meant.
 HELD = {
@@ -17,7 +23,9 @@ MAPS = {("BTreeMap", "String"): "each_value", ("BTreeMap", "usize"): "each_numbe
 HASH_KEYS = {"String": "λ key. bytes.key_part (string_bytes key)", "usize": "λ key. bytes.index_part key"}
 IPS = {"ip": "Any", "ipv4": "V4", "ipv6": "V6"}
 # The rules that are asked of what an option holds.
-INSIDE = ("ascii", "alphanumeric", "url", "ip", "ipv4", "ipv6", "length", "range", "contains", "prefix", "suffix", "pattern", "dive")
+INSIDE = (*PLAIN[1:], *TEXTS, "length", "range", "pattern")
+# Types of one value, which do not validate themselves.
+SIMPLE = (*UNSIGNED, *SIGNED, "bool", "char", "str", "String")
 
 
 def camel(path):
@@ -102,7 +110,7 @@ class Checks:
         name = seen.name
         while is_path(kind, "Box", "Rc") or kind.kind == "ref":
             name, kind = name + (".now" if kind.kind == "ref" else ".value"), kind.args[0]
-        if kind.kind != "path" or kind.name in (*UNSIGNED, *SIGNED, *HELD, "bool", "char", "str", "String", "BTreeMap", "HashMap"):
+        if kind.kind != "path" or kind.name in (*SIMPLE, *HELD, "BTreeMap", "HashMap"):
             raise Refusal(rule.line, f"`dive` into the type `{self.writer.type_text(kind)}`")
         self.writer.dives_into(kind.name, rule)
         owner = kind.name if kind.name in self.scope.params else f"⟦<{self.writer.type_text(kind)} as Validate>⟧"
@@ -127,11 +135,12 @@ class Checks:
         kind = self.writer.type_text(seen.type)
         self.writer.own_rule(name, rule, kind, self.scope.unit)
         self.word("found")
-        if self.scope.unit:
-            return call(self.field("Is"), name), f"found (⟦<{name} as garde::fields::Rule<{kind}>>⟧.finds (record {{}}) {seen.name})"
-        context = self.word("lent") + " " + self.scope.the_context()
-        spec = f"found (⟦<{name}<'static> as garde::fields::Rule<{kind}>>⟧.finds (record {{ 0 = {context} }}) {seen.name})"
-        return call(self.field("Is"), call(name, self.scope.context)), spec
+        rule_value, life, record = Word(name), "", "{}"
+        if not self.scope.unit:
+            rule_value, life = call(name, self.scope.the_context()), "<'static>"
+            record = f"{{ 0 = {self.word('lent')} {self.scope.context} }}"
+        spec = f"found (⟦<{name}{life} as garde::fields::Rule<{kind}>>⟧.finds (record {record}) {seen.name})"
+        return call(self.field("Is"), rule_value), spec
 
     def adapted(self, rule, seen, adapter):
         """A rule of a text that a view shows of the value."""
@@ -236,7 +245,8 @@ class Checks:
             listed = ".now"
         if rule.mode != "simple" or listed is None:
             mode = "" if rule.mode == "simple" else f" in `{rule.mode}`"
-            raise Refusal(rule.line, f"the length{mode} of the type `{self.writer.type_text(kind)}`, which the port does not know")
+            told = f"the length{mode} of the type `{self.writer.type_text(kind)}`"
+            raise Refusal(rule.line, f"{told}, which the port does not know")
         self.uses.prelude.add("length")
         return f"(length {seen.name}{listed})"
 
@@ -245,7 +255,8 @@ class Checks:
         kind = seen.type.name
         if not is_path(seen.type, *UNSIGNED, *SIGNED):
             floats = " of floating-point numbers" if kind in ("f32", "f64") else ""
-            raise Refusal(rule.line, f"`range` of the type `{self.writer.type_text(seen.type)}`: there are no bounds{floats} here")
+            told = f"`range` of the type `{self.writer.type_text(seen.type)}`"
+            raise Refusal(rule.line, f"{told}: there are no bounds{floats} here")
         signed = kind in SIGNED
         code = self.bounds_code(self.field("Range"), rule, signed)
         end = ending(rule)

@@ -11,7 +11,8 @@ from .words import camel
 
 DERIVES = ("Clone", "Copy", "Debug", "Default", "Eq", "Hash", "Ord", "PartialEq", "PartialOrd")
 COLLECTIONS = ("BTreeMap", "BTreeSet", "BinaryHeap", "HashMap", "HashSet", "LinkedList", "VecDeque")
-IMPORTS = {**{name: f"std::collections::{name}" for name in COLLECTIONS}, "Rc": "std::rc::Rc", "Regex": "garde::rules::pattern::regex::Regex"}
+IMPORTS = {name: f"std::collections::{name}" for name in COLLECTIONS}
+IMPORTS.update({"Rc": "std::rc::Rc", "Regex": "garde::rules::pattern::regex::Regex"})
 GARDE = {"I18n", "Report", "Trail", "Validate", "AllocError", "Global", "Rule", "View", "RuleError"}
 RULE = """{docs}
 #[derive(Clone, Copy)]
@@ -75,7 +76,8 @@ class Writer:
                 raise Refusal(item.line, f"the name `{item.name}` is one that the port imports")
             for variant in self.stated_variants(item):
                 if variant.name in taken:
-                    raise Refusal(variant.line, f"the name `{variant.name}` stands for something else in this file: give the enum a file of its own, or the variant another name")
+                    told = f"the name `{variant.name}` stands for something else in this file"
+                    raise Refusal(variant.line, f"{told}: give the enum a file of its own, or the variant another name")
                 taken.add(variant.name)
 
     def stated_variants(self, item):
@@ -175,7 +177,8 @@ class Writer:
     def new_pattern(self, rule):
         """A place in the context of the type for a pattern in quotes, and its name."""
         if self.item.attributes.context:
-            raise Refusal(rule.line, "a pattern in quotes under a context of one's own: add a field of type `Regex` to it, and write `pattern(ctx.FIELD)`")
+            told = "a pattern in quotes under a context of one's own"
+            raise Refusal(rule.line, f"{told}: add a field of type `Regex` to it, and write `pattern(ctx.FIELD)`")
         places = self.patterns.setdefault(self.item.name, {})
         name, number = self.spot, 1
         while places.get(name, rule.text) != rule.text:
@@ -190,7 +193,8 @@ class Writer:
         for name, source in self.patterns[item.name].items():
             fields += f"    /// `Regex::new` of the pattern `{source}`.\n    {item.vis}{name}: Regex,\n"
         self.uses.others.add(IMPORTS["Regex"])
-        return f"/// The compiled patterns of `{item.name}`.\n#[derive(Drop)]\n{item.vis}struct {item.name}Patterns {{\n{fields}}}"
+        head = f"/// The compiled patterns of `{item.name}`.\n#[derive(Drop)]\n"
+        return f"{head}{item.vis}struct {item.name}Patterns {{\n{fields}}}"
 
     def asks_patterns(self, name):
         """Whether the port makes a context of compiled patterns for a type of this file."""
@@ -200,7 +204,8 @@ class Writer:
     def dives_into(self, name, rule):
         """Refuses a part whose context this port makes, where the whole has no such context."""
         if (rule.place is None or rule.place.kind == "unit") and self.asks_patterns(name):
-            raise Refusal(rule.line, f"`dive` into `{name}`, whose patterns make a context of it: give both types a context with compiled patterns")
+            told = f"`dive` into `{name}`, whose patterns make a context of it"
+            raise Refusal(rule.line, f"{told}: give both types a context with compiled patterns")
         if any(it.name == name and it is self.item for it in self.source.items):
             raise Refusal(rule.line, f"`dive` of `{name}` into itself: such a type is walked by a function of its own")
 
@@ -216,7 +221,8 @@ class Writer:
     def own_rule(self, name, rule, kind, unit):
         """A rule of one's own: its type is imported or, with no module for it, written as a beginning."""
         source = rule.source or self.source.functions.get(rule.text, f"fn {rule.text}")
-        docs = ["/// A rule to be written. In the Rust source it is:", "///", "/// ```text", *(f"/// {line}".rstrip() for line in source.splitlines()), "/// ```"]
+        quoted = ["```text", *source.splitlines(), "```"]
+        docs = ["/// A rule to be written. In the Rust source it is:", "///", *(f"/// {line}".rstrip() for line in quoted)]
         context = "" if unit else self.context
         self.skeletons[name] = ("Rule", RULE.format(
             docs="\n".join(docs), vis=self.item.vis, name=name, kind=kind, bound=lifetimes_of(kind),
@@ -256,7 +262,8 @@ class Writer:
         """What the code imports."""
         paths = {f"garde::fields::{name}" for name in self.uses.fields} | self.uses.others | self.crate_imports()
         if any(map(is_ported, self.source.items)):
-            paths |= {f"garde::{name}" for name in ("I18n", "Report", "Trail", "Validate")} | {"std::alloc::AllocError", "std::alloc::Global"}
+            paths |= {f"garde::{name}" for name in ("I18n", "Report", "Trail", "Validate")}
+            paths |= {f"std::alloc::{name}" for name in ("AllocError", "Global")}
         if self.own:
             paths |= {f"{self.own}::{name}" for name in self.skeletons}
         elif self.skeletons:

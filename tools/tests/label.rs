@@ -13,4 +13,13 @@ pub struct Label<'a> {
     pub code: Option<&'a str>,
     #[garde(alphanumeric)]
     pub text: Cow<'a, str>,
+    #[garde(custom(is_short))]
+    pub mark: &'a str,
+}
+
+fn is_short(value: &str, _ctx: &()) -> garde::Result {
+    if value.len() <= 4 {
+        return Ok(());
+    }
+    Err(garde::Error::new("not short"))
 }

@@ -25,4 +25,13 @@ pub struct Badge {
     pub number: String,
     #[garde(inner(pattern("^[a-z]+$")))]
     pub colors: Vec<String>,
+    #[garde(dive)]
+    pub desk: Desk,
+}
+
+/// Where a badge is given.
+#[derive(Validate)]
+pub struct Desk {
+    #[garde(range(max = 9))]
+    pub floor: u8,
 }

@@ -1,9 +1,10 @@
 //! Texts that are borrowed.
 ghost use Rattle.std.specs.Prelude.{length};
 ghost use Rattle.std.specs.Cow.{cow_str_bytes};
-ghost use Rattle.garde.specs.Fields.{◌and◌, byte_count, char_count, codes, count_between, count_max, count_min, field, items, optional};
+ghost use Rattle.garde.specs.Fields.{◌and◌, byte_count, char_count, codes, count_between, count_max, count_min, field, found, items, optional};
 ghost use Rattle.garde.specs.Author as bytes;
 
+use crate::own::IsShort;
 use garde::fields::{
     Alphanumeric, Ascii, CharLength, Contains, Each, Field, Fields, GraphemeLength, IfSome, Is,
     Length, Prefix,
@@ -19,6 +20,7 @@ pub struct Label<'a> {
     pub also: &'a [&'a str],
     pub code: Option<&'a str>,
     pub text: CowStr<'a>,
+    pub mark: &'a str,
 }
 
 impl<'t> Validate for Label<'t> {
@@ -28,7 +30,8 @@ impl<'t> Validate for Label<'t> {
         field "name" (bytes.ascii v.name.now and count_between 1 9 (byte_count v.name.now))
         and field "also" (count_max 2 (length v.also.now) and items (λ x. bytes.prefix (codes "b") x.now and count_max 2 (char_count x.now)) v.also.now)
         and field "code" (optional (λ x. bytes.contains (codes "-") x.now and count_min 2 (bytes.grapheme_count x.now)) v.code)
-        and field "text" (bytes.alphanumeric (cow_str_bytes v.text)) };
+        and field "text" (bytes.alphanumeric (cow_str_bytes v.text))
+        and field "mark" (found (⟦<IsShort as garde::fields::Rule<&'t str>>⟧.finds (record {}) v.mark)) };
 
     fn validate_into<'a, H: I18n>(
         &'a self,
@@ -43,6 +46,7 @@ impl<'t> Validate for Label<'t> {
             also,
             code,
             text,
+            mark,
         } = self;
         (
             Field("name", name, (Is(Ascii), Is(Length { min: 1, max: 9 }))),
@@ -66,6 +70,7 @@ impl<'t> Validate for Label<'t> {
                 )),
             ),
             Field("text", text, Is(Alphanumeric)),
+            Field("mark", mark, Is(IsShort)),
         )
             .visit_of(self, alloc, trail, report, h)
     }

@@ -1,6 +1,6 @@
-//! The rules and the view that the types of `coupon` name: what is written by hand after a port.
+//! The rules and the view that the types of `coupon` and `label` name: what is written by hand after a port.
 ghost use Rattle.std.specs.Prelude.{◌==◌, ◌%◌, if◌then◌else◌};
-ghost use Rattle.garde.specs.Fields.{None, Some, codes, nat_le, own};
+ghost use Rattle.garde.specs.Fields.{None, Some, byte_count, codes, nat_le, own};
 
 use crate::coupon::{Season, Tag};
 use garde::fields::{Rule, View};
@@ -53,6 +53,22 @@ impl Rule<bool> for CouponTermsRule {
             Ok(())
         } else {
             Err(RuleError::of(alloc, Ok(CowStr::Borrowed("accept the terms"))))
+        }
+    }
+}
+
+/// The rule that a borrowed text has 4 bytes at most.
+#[derive(Clone, Copy)]
+pub struct IsShort;
+
+impl<'t> Rule<&'t str> for IsShort {
+    ghost finds = { λ _ text. if nat_le (byte_count text.now) 4 then None else Some (own (codes "not short")) };
+
+    fn find<H: I18n>(&self, alloc: Global, value: &&'t str, _h: &H) -> Result<(), RuleError> {
+        if value.len() <= 4 {
+            Ok(())
+        } else {
+            Err(RuleError::of(alloc, Ok(CowStr::Borrowed("not short"))))
         }
     }
 }

@@ -1,7 +1,7 @@
 //! Texts under patterns: compiled ones of a context, and one in quotes.
-ghost use Rattle.garde.specs.Fields.{◌and◌, ascii, each, field, optional, pattern};
+ghost use Rattle.garde.specs.Fields.{◌and◌, ascii, each, field, optional, pattern, range_max};
 
-use garde::fields::{Ascii, Each, Field, Fields, IfSome, Is, IsInMemory, Pattern};
+use garde::fields::{Ascii, Dive, Each, Field, Fields, IfSome, Is, IsInMemory, Pattern, Range};
 use garde::rules::pattern::regex::Regex;
 use garde::{I18n, Report, Trail, Validate};
 use std::alloc::{AllocError, Global};
@@ -53,6 +53,7 @@ impl Validate for Visitor {
 pub struct Badge {
     pub number: String,
     pub colors: Vec<String>,
+    pub desk: Desk,
 }
 
 /// The compiled patterns of `Badge`.
@@ -69,7 +70,8 @@ impl Validate for Badge {
 
     ghost visits = { λ v ctx.
         field "number" (pattern ctx.number v.number)
-        and field "colors" (each (λ x. pattern ctx.colors x) v.colors) };
+        and field "colors" (each (λ x. pattern ctx.colors x) v.colors)
+        and field "desk" (⟦<Desk as Validate>⟧.visits v.desk tt) };
 
     fn validate_into<'a, H: I18n>(
         &'a self,
@@ -79,11 +81,48 @@ impl Validate for Badge {
         report: &mut Report,
         h: &H,
     ) -> Result<(), AllocError> {
-        let Self { number, colors } = self;
+        let Self {
+            number,
+            colors,
+            desk,
+        } = self;
         (
             Field("number", number, IsInMemory(Pattern(&ctx.number))),
             Field("colors", colors, Each(IsInMemory(Pattern(&ctx.colors)))),
+            Field("desk", desk, Dive(&())),
         )
             .visit(alloc, trail, report, h)
+    }
+}
+
+/// Where a badge is given.
+#[derive(Drop)]
+pub struct Desk {
+    pub floor: u8,
+}
+
+impl Validate for Desk {
+    type Context = ();
+
+    ghost visits = { λ v _. field "floor" (range_max 9 v.floor) };
+
+    fn validate_into<'a, H: I18n>(
+        &'a self,
+        alloc: Global,
+        _ctx: &(),
+        trail: &mut Trail<'a>,
+        report: &mut Report,
+        h: &H,
+    ) -> Result<(), AllocError> {
+        let Self { floor } = self;
+        Field(
+            "floor",
+            floor,
+            Is(Range {
+                min: None,
+                max: Some(9),
+            }),
+        )
+        .visit(alloc, trail, report, h)
     }
 }

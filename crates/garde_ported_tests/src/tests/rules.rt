@@ -3,7 +3,7 @@ use super::{next, texts, told};
 use garde::rules::pattern::regex::Regex;
 use garde_ported::coupon::{Coupon, Discount, Season, Tag};
 use garde_ported::page::{Page, Press};
-use garde_ported::visitor::{Badge, BadgePatterns, Patterns, Visitor};
+use garde_ported::visitor::{Badge, BadgePatterns, Desk, Patterns, Visitor};
 use std::alloc::{AllocError, Global};
 use std::test::Fail;
 
@@ -131,9 +131,11 @@ fn visitor(alloc: Global, from: &[&str]) -> Result<String, AllocError> {
 fn badge(alloc: Global, from: &[&str]) -> Result<String, AllocError> {
     let mut all = texts(alloc, from)?;
     let number = next(alloc, &mut all);
+    let floor = if number.len() == 3 { 9 } else { 10 };
     let badge = Badge {
         number,
         colors: all,
+        desk: Desk { floor },
     };
     let patterns = badge_patterns(alloc)?;
     told(alloc, &badge, &patterns)
@@ -151,7 +153,7 @@ static MATCHED: [(Of, [&str; 2], &str); 4] = [
     (
         Of::Badge,
         ["AB", "Red"],
-        "number: does not match pattern /^[A-Z]{2}[0-9]+$/\ncolors[0]: does not match pattern /^[a-z]+$/\n",
+        "number: does not match pattern /^[A-Z]{2}[0-9]+$/\ncolors[0]: does not match pattern /^[a-z]+$/\ndesk.floor: greater than 9\n",
     ),
     (Of::Visitor, ["a@b", "123"], ""),
     (

@@ -39,11 +39,11 @@ static ROWS: [(Of, &[&str], &str); 8] = [
         &[],
         "report: length is lower than 1\nh: greater than 9\n",
     ),
-    (Of::Label, &["name", "b1", "a-b", "text"], ""),
+    (Of::Label, &["name", "b1", "a-b", "text", "mark"], ""),
     (
         Of::Label,
-        &["é", "cde", "x", "_"],
-        "name: not ascii\nalso[1]: value does not begin with \"b\"\nalso[1]: length is greater than 2\ncode: does not contain \"-\"\ncode: length is lower than 2\ntext: not alphanumeric\n",
+        &["é", "cde", "x", "_", "marks"],
+        "name: not ascii\nalso[1]: value does not begin with \"b\"\nalso[1]: length is greater than 2\ncode: does not contain \"-\"\ncode: length is lower than 2\ntext: not alphanumeric\nmark: not short\n",
     ),
     (
         Of::Place,
@@ -105,9 +105,9 @@ fn place(alloc: Global, from: &[&str]) -> Result<Place, AllocError> {
     })
 }
 
-/// What is told of a label of four texts.
+/// What is told of a label of five texts.
 fn label(alloc: Global, from: &[&str]) -> Result<String, AllocError> {
-    let [name, second, code, text] = from else {
+    let [name, second, code, text, mark] = from else {
         return Ok(String::new(alloc));
     };
     let also = ["b", *second];
@@ -116,6 +116,7 @@ fn label(alloc: Global, from: &[&str]) -> Result<String, AllocError> {
         also: &also,
         code: Some(*code),
         text: CowStr::Borrowed(*text),
+        mark: *mark,
     };
     told(alloc, &label, &())
 }
