@@ -102,6 +102,12 @@ fn by_turns(alloc: Global, path: &Path, turns: usize) -> Result<String, AllocErr
     Ok(all)
 }
 
+// Whether a path of so many indexes gives this by twelve turns.
+fn gives(alloc: Global, count: usize, text: &str) -> Result<bool, JoinError> {
+    let path = indexes(alloc, count)?;
+    Ok(by_turns(alloc, &path, 12)?.as_str() == text)
+}
+
 #[test]
 fn a_walk_gives_both_ends_by_turns(rt: HostRuntime) -> Result<(), Fail> {
     for (count, text) in [
@@ -111,9 +117,7 @@ fn a_walk_gives_both_ends_by_turns(rt: HostRuntime) -> Result<(), Fail> {
         (9, "807162534---"),
         (10, "9081726354--"),
     ] {
-        let path = indexes(rt.alloc(), count)?;
-        let given = by_turns(rt.alloc(), &path, 12)?;
-        assert_eq!(rt; given.as_str(), text);
+        assert!(rt; gives(rt.alloc(), count, text)?, "{text}");
     }
     Ok(())
 }

@@ -47,18 +47,18 @@ fn parts_of_a_kilobyte(rt: HostRuntime) -> Result<(), Fail> {
     Ok(())
 }
 
-// What is answered of a label that may be a URL, or have a code, by the function and by each value.
-fn answers(alloc: Global, label: &Label, code: &Regex) -> [Result<(), RuleError>; 6] {
+// What is answered of a label that may be a URL, or have a code, by a function or a value.
+fn answer(alloc: Global, way: usize, label: &Label, code: &Regex) -> Result<(), RuleError> {
     let h = &DefaultI18n;
     let text = &label.text;
-    [
-        url::apply(alloc, text, (), h),
-        Url.find_in_memory(alloc, text, h),
-        Adapt(LabelText, Url).find_in_memory(alloc, label, h),
-        pattern::apply(alloc, text, (code,), h),
-        Pattern(code).find_in_memory(alloc, text, h),
-        Adapt(LabelText, Pattern(code)).find_in_memory(alloc, label, h),
-    ]
+    match way {
+        0 => url::apply(alloc, text, (), h),
+        1 => Url.find_in_memory(alloc, text, h),
+        2 => Adapt(LabelText, Url).find_in_memory(alloc, label, h),
+        3 => pattern::apply(alloc, text, (code,), h),
+        4 => Pattern(code).find_in_memory(alloc, text, h),
+        _ => Adapt(LabelText, Pattern(code)).find_in_memory(alloc, label, h),
+    }
 }
 
 const NO_URL: Option<&str> = Some("not a valid url: relative URL without a base");
@@ -79,10 +79,12 @@ fn links_of_four_and_codes_of_eight_kilobytes(rt: HostRuntime) -> Result<(), Fai
         let label = Label {
             text: format!(in alloc; "{front}{}", again.repeat(alloc, times)?)?,
         };
-        let told = answers(alloc, &label, &code);
-        let wanted = [link, link, link, number, number, number];
-        for (answer, text) in told.iter().zip(wanted) {
-            assert_eq!(rt; message(answer), text, "{front}{again}");
+        for (way, wanted) in [link, link, link, number, number, number]
+            .iter()
+            .enumerate()
+        {
+            let told = answer(alloc, way, &label, &code);
+            assert_eq!(rt; message(&told), *wanted, "{front}{again}");
         }
     }
     Ok(())

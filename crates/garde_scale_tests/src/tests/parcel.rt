@@ -7,7 +7,7 @@ use garde::{I18n, Report, Trail, Validate};
 use std::alloc::{AllocError, Global};
 
 /// A text that is seen by a view.
-#[derive(Debug, Drop)]
+#[derive(Drop)]
 pub struct Label {
     pub text: String,
 }
@@ -27,7 +27,7 @@ impl View<Label> for LabelText {
 }
 
 /// A link, a code and a label with a code. The context is the pattern of the codes.
-#[derive(Debug, Drop)]
+#[derive(Drop)]
 pub struct Parcel {
     pub link: String,
     pub code: String,

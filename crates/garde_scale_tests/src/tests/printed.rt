@@ -1,5 +1,5 @@
-//! What `{}` gives of a value of each public type that prints: into a text, and into a writer that
-//! takes a byte a call.
+//! What `{}` gives of a value of each public type that prints, and of a report to a writer that takes
+//! a byte a call.
 use garde::error::{Component, NoKey};
 use garde::i18n::{InvalidCreditCard, InvalidPhoneNumber, InvalidUrl, IpKind};
 use garde::rules::ip::Ip;
@@ -40,12 +40,16 @@ fn assert_prints<T: Display>(
     text: &str,
 ) -> Result<(), AllocError> {
     assert_eq!(rt; format!(in alloc; "{value}")?.as_str(), text);
+    Ok(())
+}
+
+// What a report gives to a writer that takes one byte a call.
+fn written(alloc: Global, report: &Report) -> Vec<u8> {
     let mut writer = Narrow {
         taken: Vec::new(alloc),
     };
-    assert!(rt; write!(writer, "{value}").is_ok(), "{text}");
-    assert_eq!(rt; writer.taken.as_slice(), text.as_bytes());
-    Ok(())
+    let _written = write!(writer, "{report}");
+    writer.taken
 }
 
 #[test]
@@ -96,6 +100,7 @@ fn reports_and_refusals(rt: HostRuntime) -> Result<(), Fail> {
     let line = "[7]: not ascii: \u{e9}\n";
     let told = report(alloc, Path::new(alloc, 7usize)?)?;
     assert_prints(&rt, alloc, &told, line)?;
+    assert_eq!(rt; written(alloc, &told).as_slice(), line.as_bytes());
     assert_prints(&rt, alloc, &ValidateError::Report(told), line)?;
     assert_prints(&rt, alloc, &ValidateError::Memory, "out of memory")?;
     let told: IntoValidError<()> = IntoValidError::Report(report(

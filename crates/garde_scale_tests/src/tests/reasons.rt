@@ -68,23 +68,23 @@ static CARDS: [(InvalidCreditCard, &str); 5] = [
 ];
 
 // What is found in a card, by the function, under a reference to the handler too, and as a value.
-fn of_card(alloc: Global, card: Card) -> [Result<(), RuleError>; 3] {
-    [
-        credit_card::apply(alloc, &card, (), &DefaultI18n),
-        credit_card::apply(alloc, &card, (), &&DefaultI18n),
-        fields::CreditCard.find(alloc, &card, &DefaultI18n),
-    ]
+fn of_card(alloc: Global, way: usize, card: Card) -> Result<(), RuleError> {
+    match way {
+        0 => credit_card::apply(alloc, &card, (), &DefaultI18n),
+        1 => credit_card::apply(alloc, &card, (), &&DefaultI18n),
+        _ => fields::CreditCard.find(alloc, &card, &DefaultI18n),
+    }
 }
 
 #[test]
 fn each_reason_of_a_card(rt: HostRuntime) {
-    for (reason, text) in &CARDS {
-        for answer in &of_card(rt.alloc(), Card(Err(*reason))) {
-            assert_eq!(rt; message(answer), Some(*text));
+    for way in 0..3 {
+        for (reason, text) in &CARDS {
+            let answer = of_card(rt.alloc(), way, Card(Err(*reason)));
+            assert_eq!(rt; message(&answer), Some(*text));
         }
-    }
-    for answer in &of_card(rt.alloc(), Card(Ok(()))) {
-        assert_eq!(rt; message(answer), None);
+        let answer = of_card(rt.alloc(), way, Card(Ok(())));
+        assert_eq!(rt; message(&answer), None);
     }
 }
 
@@ -121,23 +121,23 @@ static PHONES: [(InvalidPhoneNumber, &str); 8] = [
 ];
 
 // What is found in a phone, by the function, under a reference to the handler too, and as a value.
-fn of_phone(alloc: Global, phone: Phone) -> [Result<(), RuleError>; 3] {
-    [
-        phone_number::apply(alloc, &phone, (), &DefaultI18n),
-        phone_number::apply(alloc, &phone, (), &&DefaultI18n),
-        fields::PhoneNumber.find(alloc, &phone, &DefaultI18n),
-    ]
+fn of_phone(alloc: Global, way: usize, phone: Phone) -> Result<(), RuleError> {
+    match way {
+        0 => phone_number::apply(alloc, &phone, (), &DefaultI18n),
+        1 => phone_number::apply(alloc, &phone, (), &&DefaultI18n),
+        _ => fields::PhoneNumber.find(alloc, &phone, &DefaultI18n),
+    }
 }
 
 #[test]
 fn each_reason_of_a_phone(rt: HostRuntime) {
-    for (reason, text) in &PHONES {
-        for answer in &of_phone(rt.alloc(), Phone(Err(*reason))) {
-            assert_eq!(rt; message(answer), Some(*text));
+    for way in 0..3 {
+        for (reason, text) in &PHONES {
+            let answer = of_phone(rt.alloc(), way, Phone(Err(*reason)));
+            assert_eq!(rt; message(&answer), Some(*text));
         }
-    }
-    for answer in &of_phone(rt.alloc(), Phone(Ok(()))) {
-        assert_eq!(rt; message(answer), None);
+        let answer = of_phone(rt.alloc(), way, Phone(Ok(())));
+        assert_eq!(rt; message(&answer), None);
     }
 }
 
@@ -183,23 +183,23 @@ static LINKS: [(InvalidUrl, &str); 11] = [
 ];
 
 // What is found in a link, by the function, under a reference to the handler too, and as a value.
-fn of_link(alloc: Global, link: Link) -> [Result<(), RuleError>; 3] {
-    [
-        url::apply(alloc, &link, (), &DefaultI18n),
-        url::apply(alloc, &link, (), &&DefaultI18n),
-        fields::Url.find_in_memory(alloc, &link, &DefaultI18n),
-    ]
+fn of_link(alloc: Global, way: usize, link: Link) -> Result<(), RuleError> {
+    match way {
+        0 => url::apply(alloc, &link, (), &DefaultI18n),
+        1 => url::apply(alloc, &link, (), &&DefaultI18n),
+        _ => fields::Url.find_in_memory(alloc, &link, &DefaultI18n),
+    }
 }
 
 #[test]
 fn each_reason_of_a_link(rt: HostRuntime) {
-    for (reason, text) in &LINKS {
-        for answer in &of_link(rt.alloc(), Link(Err(*reason))) {
-            assert_eq!(rt; message(answer), Some(*text));
+    for way in 0..3 {
+        for (reason, text) in &LINKS {
+            let answer = of_link(rt.alloc(), way, Link(Err(*reason)));
+            assert_eq!(rt; message(&answer), Some(*text));
         }
-    }
-    for answer in &of_link(rt.alloc(), Link(Ok(()))) {
-        assert_eq!(rt; message(answer), None);
+        let answer = of_link(rt.alloc(), way, Link(Ok(())));
+        assert_eq!(rt; message(&answer), None);
     }
 }
 

@@ -14,7 +14,7 @@ use std::borrow::CowStr;
 use std::test::Fail;
 
 /// A purse, whose length is the number of its coins.
-#[derive(Clone, Copy, Debug)]
+#[derive(Clone, Copy)]
 struct Purse {
     coins: usize,
 }
@@ -28,13 +28,13 @@ impl HasSimpleLength for Purse {
 }
 
 /// What a bank asks of its accounts: the least number of bytes of a password.
-#[derive(Clone, Copy, Debug)]
+#[derive(Clone, Copy)]
 struct Bank {
     least: usize,
 }
 
 /// The rule that a password is as long as the bank asks for.
-#[derive(Clone, Copy, Debug)]
+#[derive(Clone, Copy)]
 struct Strong<'c>(&'c Bank);
 
 impl Rule<String> for Strong<'_> {
@@ -51,7 +51,7 @@ impl Rule<String> for Strong<'_> {
 }
 
 /// An account.
-#[derive(Debug, Drop)]
+#[derive(Drop)]
 struct Account {
     purse: Purse,
     password: String,
