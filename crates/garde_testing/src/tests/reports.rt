@@ -6,11 +6,17 @@ use garde_hog::{Met, Scarce};
 use serde_json::Value;
 use std::alloc::{AllocError, Global};
 
+// Adds a fault with this message at the key `a`.
+fn add(alloc: Global, report: &mut Report, message: &str) -> Result<(), AllocError> {
+    let error = Error::new(alloc, message)?;
+    report.append(Path::new(alloc, "a")?, error)
+}
+
 /// A report of these messages at the key `a`.
 pub fn report_of(alloc: Global, messages: &[&str]) -> Result<Report, AllocError> {
     let mut report = Report::new(alloc);
     for message in messages {
-        report.append(Path::new(alloc, "a")?, Error::new(alloc, message)?)?;
+        add(alloc, &mut report, message)?;
     }
     Ok(report)
 }
