@@ -5,4 +5,6 @@ mod errors;
 mod json;
 mod json_text;
 mod lists;
+mod numbers;
+mod refusals;
 mod trails;

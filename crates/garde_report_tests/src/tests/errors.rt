@@ -181,6 +181,7 @@ fn debug_shows_the_parts(rt: HostRuntime) -> Result<(), Fail> {
 fn only_the_root_has_no_colon(rt: HostRuntime) -> Result<(), Fail> {
     let mut report = Report::new(rt.alloc());
     assert!(rt; report.is_empty());
+    assert_eq!(rt; report.len(), 0);
     let unnamed = Path::new(rt.alloc(), NoKey::default())?;
     report.append(unnamed, Error::new(rt.alloc(), "x")?)?;
     add(&mut report, rt.alloc(), &[], "x")?;
@@ -189,6 +190,7 @@ fn only_the_root_has_no_colon(rt: HostRuntime) -> Result<(), Fail> {
         printed(rt.alloc(), &report)?.as_str(),
         ": x\nx\na.b: y\nz\n"
     );
+    assert_eq!(rt; report.len(), 3);
     Ok(())
 }
 
