@@ -3,3 +3,4 @@ pub use Rattle.garde.proofs.Visiting.{visited_none, visited_then, visited_stop, 
 pub use Rattle.garde.proofs.Calls.{visited_calls, visited_option_calls, visited_keyed_calls, visited_text_calls, visited_placed_calls, visited_poppable, placed_item}
 pub use Rattle.garde.proofs.Nesting.{visited_level, visited_within}
 pub use Rattle.garde.proofs.Known.{known_of, none_bears_of, known_alone, known_level, known_within}
+pub use Rattle.garde.proofs.Stated.{as_stated, part, ◌also◌}

@@ -14,7 +14,7 @@ use Rattle.std.specs.BTreeSet.{BTreeSet}
 use Rattle.std.specs.HashMap.{HashMap}
 use Rattle.std.specs.HashSet.{HashSet}
 use Rattle.garde_i18n.specs.declared.reasons.IpKind.{IpKind}
-use Rattle.garde_report.specs.Part.{Part, key_part, index_part}
+use Rattle.garde_report.specs.Part.{Part, key_part, index_part, signed_index_part}
 use Rattle.garde_i18n.specs.declared.reasons.InvalidCreditCard.{InvalidCreditCard}
 use Rattle.garde_i18n.specs.declared.reasons.InvalidPhoneNumber.{InvalidPhoneNumber}
 use Rattle.garde_rules.specs.Reasons.{card_fault, phone_fault}
@@ -62,12 +62,15 @@ each check v = items check v.items
 abbrev pub each_of_set : {A : Type 0} → (A → Visits) → BTreeSet A → Visits
 each_of_set check v = items check v.keys
 
--- each value of a `BTreeMap`, beneath the key that is a text, or under the index that is a number
+-- each value of a `BTreeMap`, beneath the key that is a text, or under the index that is a number without a sign, or with one
 abbrev pub each_value : {A Z : Type 0} → (A → Visits) → BTreeMap (String Z) A → Visits
 each_value check v = entries (λ key. key_part (string_bytes key)) check v.entries
 
 abbrev pub each_numbered : {A : Type 0} → (A → Visits) → BTreeMap ℕ A → Visits
 each_numbered check v = entries (λ key. index_part key) check v.entries
+
+abbrev pub each_signed : {A : Type 0} → (A → Visits) → BTreeMap ℤ A → Visits
+each_signed check v = entries (λ key. signed_index_part key) check v.entries
 
 -- every byte of a text is below 128; every character is a letter or a number
 abbrev pub ascii : {Z : Type 0} → String Z → Visits

@@ -16,4 +16,5 @@ pub mod Fields
 pub mod Handlers
 pub mod Cards
 pub mod Phones
+pub mod Urls
 pub mod IntoValid

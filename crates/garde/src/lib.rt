@@ -13,7 +13,7 @@ mod valid_under;
 pub mod validate;
 
 pub use garde_i18n as i18n;
-pub use garde_i18n::{DefaultI18n, I18n, with_i18n};
+pub use garde_i18n::{CodeI18n, DefaultI18n, I18n, with_i18n};
 pub use garde_report::{
     Component, Error, Path, Report, Result, RuleError, Trail, error, json, rc_list, select, trail,
 };

@@ -1,5 +1,5 @@
 -- The words of a command, the status of an answer and the line of a refusal.
-use Rattle.std.specs.Prelude.{ℕ, List, [], ◌∷◌, Result, Ok, Err, codes}
+use Rattle.std.specs.Prelude.{ℕ, List, [], ◌∷◌, ◌++◌, Result, Ok, Err, codes}
 use Rattle.garde_check.specs.declared.mode.Command.{Command}
 use Rattle.garde_check.specs.declared.mode.Command.TheVariants.{Text, Nodes, Json, Body}
 use Rattle.garde_check.specs.declared.outcome.Outcome.{Outcome}
@@ -20,10 +20,14 @@ status_of (Ok Valid) = 0
 status_of (Ok Faults) = 1
 status_of (Err _) = 2
 
+-- why a run was refused
+abbrev pub run_error_text : RunError → List ℕ
+run_error_text NotUtf8 = codes "the input is not UTF-8"
+run_error_text BadBody = codes "the body is not a request"
+run_error_text Read = codes "the input could not be read"
+run_error_text Write = codes "the output could not be written"
+run_error_text Memory = codes "out of memory"
+
 -- the line that tells of each refusal
 abbrev pub line_of : RunError → List ℕ
-line_of NotUtf8 = codes "garde_check: the input is not UTF-8"
-line_of BadBody = codes "garde_check: the body is not a request"
-line_of Read = codes "garde_check: the input could not be read"
-line_of Write = codes "garde_check: the output could not be written"
-line_of Memory = codes "garde_check: out of memory"
+line_of error = codes "garde_check: " ++ run_error_text error

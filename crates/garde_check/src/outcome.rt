@@ -1,8 +1,10 @@
 //! How a run ends.
-ghost use Rattle.std.specs.Prelude.{◌≡◌};
+ghost use Rattle.std.specs.Prelude.{◌≡◌, Some};
 ghost use Rattle.garde_check.specs.declared.outcome.RunError.TheVariants.{Memory};
+ghost use Rattle.garde_check.specs.Words.{run_error_text};
 
 use std::alloc::AllocError;
+use std::fmt;
 
 /// What a run found.
 #[derive(Clone, Copy, PartialEq, Eq, Debug)]
@@ -35,3 +37,20 @@ impl From<AllocError> for RunError {
         RunError::Memory
     }
 }
+
+/// Why the run was refused, in words.
+impl fmt::Display for RunError {
+    ghost output = { λ error. Some (run_error_text error) };
+
+    fn fmt<W: fmt::Write>(&self, f: &mut fmt::Formatter<W>) -> fmt::Result {
+        f.write_str(match self {
+            RunError::NotUtf8 => "the input is not UTF-8",
+            RunError::BadBody => "the body is not a request",
+            RunError::Read => "the input could not be read",
+            RunError::Write => "the output could not be written",
+            RunError::Memory => "out of memory",
+        })
+    }
+}
+
+impl std::error::Error for RunError {}

@@ -9,7 +9,7 @@ mod refusals;
 use crate::mode::Command;
 use crate::outcome::{Outcome, RunError};
 use crate::running::run;
-use crate::transfer::Plain;
+use crate::transfer::{Failed, Plain};
 use crate::user::User;
 use crate::words::{command, fault_line, status};
 use devices::{Narrow, OneByOne};
@@ -126,7 +126,7 @@ fn cuts_a_long_text_as_a_short_one(rt: HostRuntime) -> Result<(), Fail> {
 }
 
 #[test]
-fn tells_how_a_run_ended(rt: HostRuntime) {
+fn tells_how_a_run_ended(rt: HostRuntime) -> Result<(), Fail> {
     assert_eq!(rt; status(&Ok(Outcome::Valid)), 0);
     assert_eq!(rt; status(&Ok(Outcome::Faults)), 1);
     let (cut, _) = ran(rt.alloc(), b"\xf0\x9f\x98", false);
@@ -144,7 +144,11 @@ fn tells_how_a_run_ended(rt: HostRuntime) {
     for (error, line) in rows {
         assert_eq!(rt; status(&Err(error)), 2, "at {error:?}");
         assert_eq!(rt; fault_line(&error), line);
+        let told = format!(in rt.alloc(); "garde_check: {error}")?;
+        assert_eq!(rt; told.as_str(), line);
     }
+    assert_eq!(rt; Failed.to_string(rt.alloc())?.as_str(), "the device failed");
+    Ok(())
 }
 
 fn words_of(alloc: Global, words: &[&str]) -> Result<Vec<String>, AllocError> {

@@ -3,12 +3,25 @@ ghost use Rattle.std.specs.Prelude.{◌≡◌, ℕ, ◌<◌, ◌≤◌, List, Op
 ghost use Rattle.std.specs.Io.KnownBytes.{Consumes, IsAtEnd, Keeps, WriteAppends};
 ghost use Rattle.garde_check.specs.Wrapped.{Wrapped};
 
+use std::fmt;
 use std::io::{Read, Write};
 use std::marker::Model;
 
 /// A call of a reader or a writer failed.
 #[derive(Clone, Copy, PartialEq, Eq, Debug)]
 pub struct Failed;
+
+impl fmt::Display for Failed {
+    ghost use Rattle.std.specs.Prelude.{Some, codes};
+
+    ghost output = { λ _. Some (codes "the device failed") };
+
+    fn fmt<W: fmt::Write>(&self, f: &mut fmt::Formatter<W>) -> fmt::Result {
+        f.write_str("the device failed")
+    }
+}
+
+impl std::error::Error for Failed {}
 
 /// What bytes are taken from.
 pub trait Source {

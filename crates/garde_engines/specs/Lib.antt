@@ -1,3 +1,4 @@
 pub mod Compiled
 pub mod Patterns
 pub mod Urls
+pub mod Refusals

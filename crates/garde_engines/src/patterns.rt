@@ -5,6 +5,7 @@ ghost use Rattle.garde_engines.specs.Patterns.{IsPattern, IsNoPattern, matches_s
 
 use std::alloc::{AllocError, Global};
 use std::cell::RefCell;
+use std::fmt;
 use std::marker::Model;
 
 /// Why a pattern was not compiled.
@@ -16,6 +17,23 @@ pub enum PatternRefused {
     /// Any other reason: the compiled pattern would be too big, or there is no memory for it.
     Other,
 }
+
+/// Why the pattern was not compiled, in words.
+impl fmt::Display for PatternRefused {
+    ghost use Rattle.std.specs.Prelude.{Some};
+    ghost use Rattle.garde_engines.specs.Refusals.{pattern_refused_text};
+
+    ghost output = { λ refused. Some (pattern_refused_text refused) };
+
+    fn fmt<W: fmt::Write>(&self, f: &mut fmt::Formatter<W>) -> fmt::Result {
+        f.write_str(match self {
+            PatternRefused::Syntax => "the text is not a pattern",
+            PatternRefused::Other => "the pattern is too big, or out of memory",
+        })
+    }
+}
+
+impl std::error::Error for PatternRefused {}
 
 /// A compiled pattern, which keeps the text that it was compiled from.
 #[derive(Drop)]

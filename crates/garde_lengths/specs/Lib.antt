@@ -1,3 +1,4 @@
 pub mod Applies
 pub mod Bounds
+pub mod Beyond
 pub mod Counts

@@ -7,9 +7,11 @@ mod texts;
 mod urls;
 
 use garde_i18n::DefaultI18n;
+use garde_lengths::OutOfBounds;
 use garde_lengths::length::simple;
 use garde_report::RuleError;
 use std::process::Abort;
+use std::test::Fail;
 
 /// What an answer tells: nothing where it is Ok.
 fn message(answer: &Result<(), RuleError>) -> Option<&str> {
@@ -38,4 +40,16 @@ fn asks_the_lower_bound_first(rt: HostRuntime) {
         let answer = simple::apply(rt.alloc(), &text, (min, max), &DefaultI18n);
         assert_answer(&rt, answer, fault);
     }
+}
+
+#[test]
+fn tells_which_bound_it_is(rt: HostRuntime) -> Result<(), Fail> {
+    let rows = [
+        (OutOfBounds::Lower, "below the lower bound"),
+        (OutOfBounds::Upper, "above the upper bound"),
+    ];
+    for (bound, text) in rows {
+        assert!(rt; bound.to_string(rt.alloc())?.as_str() == text);
+    }
+    Ok(())
 }

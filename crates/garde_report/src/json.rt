@@ -12,6 +12,7 @@ mod report;
 pub use path::{kind_name, path_from_json, path_to_json};
 pub use report::{report_from_json, report_to_json};
 use std::alloc::AllocError;
+use std::fmt;
 
 /// Why nothing was read from a tree.
 #[derive(Clone, Copy, Debug, PartialEq, Eq)]
@@ -32,3 +33,20 @@ impl From<AllocError> for JsonRefused {
         JsonRefused::Memory
     }
 }
+
+/// Why nothing was read, in words.
+impl fmt::Display for JsonRefused {
+    ghost use Rattle.std.specs.Prelude.{Some};
+    ghost use Rattle.garde_report.specs.Refusals.{json_refused_text};
+
+    ghost output = { λ refused. Some (json_refused_text refused) };
+
+    fn fmt<W: fmt::Write>(&self, f: &mut fmt::Formatter<W>) -> fmt::Result {
+        f.write_str(match self {
+            JsonRefused::Form => "the tree is not a report or a path",
+            JsonRefused::Memory => "out of memory",
+        })
+    }
+}
+
+impl std::error::Error for JsonRefused {}

@@ -6,4 +6,6 @@ mod json;
 mod json_text;
 mod laws;
 mod lists;
+mod numbers;
+mod refusals;
 mod trails;

@@ -46,6 +46,15 @@ impl fmt::Display for AddrParseError {
     }
 }
 
+impl fmt::Debug for AddrParseError {
+    fn fmt<W: fmt::Write>(&self, f: &mut fmt::Formatter<W>) -> fmt::Result {
+        let kind = self.kind;
+        write!(f, "AddrParseError({kind})")
+    }
+}
+
+impl std::error::Error for AddrParseError {}
+
 // Whether the text is an address of the kind.
 fn is_ip(text: &str, kind: IpKind) -> bool
     ensures grammar { IsTrue result ↔ IsIp kind text.now }

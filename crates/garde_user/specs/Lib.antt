@@ -1,2 +1,3 @@
 pub mod ExprVisits
 pub mod FolderVisits
+pub mod GermanText

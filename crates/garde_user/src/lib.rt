@@ -2,6 +2,7 @@
 #![tactic(auto)]
 
 pub mod data;
+pub mod german;
 pub mod ledger;
 pub mod login;
 pub mod names;

@@ -1,5 +1,5 @@
 //! Maps and a set: values under keys that are texts or numbers.
-ghost use Rattle.garde.specs.Fields.{◌and◌, field, ascii, length_max, range_between, map_between, each_value, each_numbered, set_max, each_of_set};
+ghost use Rattle.garde.specs.Fields.{◌and◌, field, ascii, length_max, range_between, map_between, each_value, each_numbered, each_signed, set_max, each_of_set};
 
 use garde::fields::{Ascii, Each, Field, Fields, Is, Length, Range};
 use garde::{I18n, Report, Trail, Validate};
@@ -7,11 +7,12 @@ use std::alloc::{AllocError, Global};
 use std::collections::{BTreeMap, BTreeSet};
 
 /// What a store has: the number of pieces by the name of an article, the shelves by their numbers,
-/// and marks.
+/// the floors, of which some lie below the street, and marks.
 #[derive(Debug, Drop)]
 pub struct Stock {
     pub pieces: BTreeMap<String, u32>,
-    pub shelves: BTreeMap<usize, String>,
+    pub shelves: BTreeMap<u32, String>,
+    pub floors: BTreeMap<i8, String>,
     pub marks: BTreeSet<String>,
 }
 
@@ -21,6 +22,7 @@ impl Validate for Stock {
     ghost visits = { λ v _.
         field "pieces" (map_between 1 100 v.pieces and each_value (λ count. range_between 1 999 count) v.pieces)
         and field "shelves" (each_numbered (λ name. ascii name) v.shelves)
+        and field "floors" (each_signed (λ name. length_max 20 name) v.floors)
         and field "marks" (set_max 9 v.marks and each_of_set (λ mark. length_max 8 mark) v.marks) };
 
     fn validate_into<'a, H: I18n>(
@@ -34,6 +36,7 @@ impl Validate for Stock {
         let Self {
             pieces,
             shelves,
+            floors,
             marks,
         } = self;
         let counts = Each(Is(Range {
@@ -43,6 +46,7 @@ impl Validate for Stock {
         (
             Field("pieces", pieces, (Is(Length::between(1, 100)), counts)),
             Field("shelves", shelves, Each(Is(Ascii))),
+            Field("floors", floors, Each(Is(Length { min: 0, max: 20 }))),
             Field(
                 "marks",
                 marks,

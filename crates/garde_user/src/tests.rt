@@ -1,6 +1,7 @@
 //! What is told of the types, and the calls of each module that `garde` passes on.
 mod bounds;
 mod guide;
+mod handlers;
 mod modules;
 mod recursive;
 mod walks;

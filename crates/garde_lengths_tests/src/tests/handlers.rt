@@ -1,4 +1,5 @@
 //! Tests of handlers: each asks a handler, and a reference to it, for a table of texts.
+mod codes;
 mod czech;
 mod reasons;
 mod scope;

@@ -5,6 +5,8 @@ ghost use Rattle.std.specs.String.{string_bytes};
 ghost use Rattle.std.specs.Cow.{cow_str_bytes};
 ghost use Rattle.garde_report.specs.Part.{part, part_of};
 
+mod numbers;
+
 use super::component::{Component, Kind};
 use std::borrow::CowStr;
 use std::fmt;

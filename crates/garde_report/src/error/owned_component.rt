@@ -49,6 +49,10 @@ impl OwnedComponent {
         let stored = match component {
             Component::Text(kind, text) => store(alloc, kind, text)?,
             Component::Number(number) => Stored::Place(Short::decimal(number)),
+            Component::Signed(_) | Component::Wide(_) | Component::WideSigned(_) => {
+                let text = format!(in alloc; "{component}")?;
+                store(alloc, Kind::Index, text.as_str())?
+            }
         };
         Ok(OwnedComponent { stored })
     }

@@ -211,12 +211,14 @@ fn debug_shows_the_parts(rt: HostRuntime) -> Result<(), Fail> {
 fn only_the_root_has_no_colon(rt: HostRuntime) -> Result<(), Fail> {
     let mut report = Report::new(rt.alloc());
     assert!(rt; report.is_empty());
+    assert_eq!(rt; report.len(), 0);
     let rows: [(&[(Kind, &str)], &str); 3] = [(&[UNNAMED], "x"), (&[], "x"), (&[A, B], "y\nz")];
     for (components, message) in rows {
         add_at(&mut report, rt.alloc(), components, message)?;
     }
     let text = printed(rt.alloc(), &report)?;
     assert_eq!(rt; text.as_str(), ": x\nx\na.b: y\nz\n");
+    assert_eq!(rt; report.len(), 3);
     Ok(())
 }
 

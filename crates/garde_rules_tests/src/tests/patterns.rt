@@ -38,6 +38,21 @@ fn refuses_an_open_group(rt: HostRuntime) {
     }
 }
 
+#[test]
+fn tells_why_a_pattern_was_refused(rt: HostRuntime) -> Result<(), Fail> {
+    let rows = [
+        (PatternRefused::Syntax, "the text is not a pattern"),
+        (
+            PatternRefused::Other,
+            "the pattern is too big, or out of memory",
+        ),
+    ];
+    for (refused, text) in rows {
+        assert!(rt; refused.to_string(rt.alloc())?.as_str() == text);
+    }
+    Ok(())
+}
+
 /// The text that a value lends, by its trait alone.
 fn lent<T: AsStr>(value: &T) -> &str {
     value.as_str()

@@ -14,19 +14,28 @@ fn text(alloc: Global, text: &str) -> Result<String, AllocError> {
     String::from_str(alloc, text)
 }
 
-/// A stock of two articles, two shelves and a mark.
-fn stock(alloc: Global, pears: u32, shelf: &str, mark: &str) -> Result<Stock, AllocError> {
+/// A stock of two articles, two shelves, a floor below the street and a mark.
+fn stock(
+    alloc: Global,
+    pears: u32,
+    shelf: &str,
+    floor: &str,
+    mark: &str,
+) -> Result<Stock, AllocError> {
     let mut pieces = BTreeMap::new(alloc);
     pieces.insert(text(alloc, "apples")?, 1)?;
     pieces.insert(text(alloc, "pears")?, pears)?;
     let mut shelves = BTreeMap::new(alloc);
     shelves.insert(7, text(alloc, "left")?)?;
     shelves.insert(4_000_000_000, text(alloc, shelf)?)?;
+    let mut floors = BTreeMap::new(alloc);
+    floors.insert(-1, text(alloc, floor)?)?;
     let mut marks = BTreeSet::new(alloc);
     marks.insert(text(alloc, mark)?)?;
     Ok(Stock {
         pieces,
         shelves,
+        floors,
         marks,
     })
 }
@@ -34,19 +43,24 @@ fn stock(alloc: Global, pears: u32, shelf: &str, mark: &str) -> Result<Stock, Al
 #[test]
 fn keys_that_are_texts_and_numbers(rt: HostRuntime) -> Result<(), Fail> {
     let alloc = rt.alloc();
-    let good = stock(alloc, 999, "right", "12345678")?;
+    let good = stock(alloc, 999, "right", "cellar", "12345678")?;
     assert!(rt; good.validate(alloc).is_ok());
-    let bad = stock(alloc, 1000, "é", "123456789")?;
+    let bad = stock(alloc, 1000, "é", "under the street, deep", "123456789")?;
     let told = told(alloc, bad.validate(alloc))?;
     assert_eq!(rt;
         told.as_str(),
-        "pieces.pears: greater than 999\nshelves[4000000000]: not ascii\nmarks[0]: length is greater than 8\n"
+        "pieces.pears: greater than 999\nshelves[4000000000]: not ascii\nfloors[-1]: length is greater than 20\nmarks[0]: length is greater than 8\n"
     );
     Ok(())
 }
 
 /// Who signs up, under a name and from a host.
-fn signup(alloc: Global, name: &str, host: &str, terms: bool) -> Result<Signup, AllocError> {
+pub(super) fn signup(
+    alloc: Global,
+    name: &str,
+    host: &str,
+    terms: bool,
+) -> Result<Signup, AllocError> {
     Ok(Signup {
         name: text(alloc, name)?,
         password: text(alloc, "analytical engine")?,

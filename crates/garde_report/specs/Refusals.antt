@@ -1,0 +1,23 @@
+-- What is printed of a call that was refused.
+use Rattle.std.specs.Prelude.{ℕ, List, codes}
+use Rattle.garde_report.specs.declared.rc_list.JoinError.{JoinError}
+use Rattle.garde_report.specs.declared.rc_list.JoinError.TheVariants as join
+use Rattle.garde_report.specs.declared.json.JsonRefused.{JsonRefused}
+use Rattle.garde_report.specs.declared.json.JsonRefused.TheVariants as json
+use Rattle.garde_report.specs.declared.error.fault.RuleError.{RuleError}
+use Rattle.garde_report.specs.declared.error.fault.RuleError.TheVariants as rule
+
+-- why an item could not be appended
+abbrev pub join_error_text : JoinError → List ℕ
+join_error_text join.Memory = codes "out of memory"
+join_error_text join.TooLong = codes "the list is full"
+
+-- why nothing was read from a tree
+abbrev pub json_refused_text : JsonRefused → List ℕ
+json_refused_text json.Form = codes "the tree is not a report or a path"
+json_refused_text json.Memory = codes "out of memory"
+
+-- the message of a fault, or that memory ran out
+abbrev pub rule_error_text : RuleError → List ℕ
+rule_error_text (rule.Fault message) = message
+rule_error_text rule.Memory = codes "out of memory"

@@ -1,0 +1,27 @@
+//! Reports under other handlers than the default one.
+use super::guide::signup;
+use super::told;
+use crate::german::German;
+use garde::{CodeI18n, I18n, Validate};
+use std::alloc::{AllocError, Global};
+use std::test::Fail;
+
+/// What is told of one who signs up with five faults, under a handler.
+fn told_by<H: I18n>(alloc: Global, handler: &H) -> Result<String, AllocError> {
+    let bad = signup(alloc, "é", "example.com", false)?;
+    told(alloc, bad.validate_with_i18n(alloc, &(), handler))
+}
+
+#[test]
+fn a_handler_of_ones_own_and_one_of_codes(rt: HostRuntime) -> Result<(), Fail> {
+    let alloc = rt.alloc();
+    assert_eq!(rt;
+        told_by(alloc, &German)?.as_str(),
+        "name: choose a longer name\nagain: anders als im Feld password\nage: fehlt\nhost: nicht mit .org am Ende\nterms: accept the terms\n"
+    );
+    assert_eq!(rt;
+        told_by(alloc, &CodeI18n)?.as_str(),
+        "name: choose a longer name\nagain: matches_field_mismatch field=password\nage: required_not_set\nhost: suffix_missing pattern=.org\nterms: accept the terms\n"
+    );
+    Ok(())
+}
