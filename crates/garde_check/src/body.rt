@@ -14,7 +14,7 @@ use std::alloc::{AllocError, Global};
 use std::collections::BTreeMap;
 
 /// A text that must be an IP address of version 4 or 6.
-#[derive(Drop, Debug)]
+#[derive(Drop)]
 pub struct Address(pub String);
 
 impl Validate for Address {
@@ -35,7 +35,7 @@ impl Validate for Address {
 }
 
 /// The body of a request.
-#[derive(Drop, Debug)]
+#[derive(Drop)]
 pub struct Body {
     /// Whose request it is. Its name has no component of the user's above it.
     pub user: User,

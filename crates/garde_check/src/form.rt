@@ -7,7 +7,7 @@ use garde_json::report_to_json_text;
 use std::alloc::{AllocError, Global};
 
 /// The form in which a report is written.
-#[derive(Clone, Copy, PartialEq, Eq, Debug)]
+#[derive(Clone, Copy)]
 pub enum Form {
     /// One line for each fault, and with `true` then a line with the number of path nodes.
     Text(bool),

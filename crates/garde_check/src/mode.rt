@@ -16,7 +16,7 @@ pub enum Command {
 }
 
 /// What a run reads its input as, and the form of its report.
-#[derive(Clone, Copy, PartialEq, Eq, Debug)]
+#[derive(Clone, Copy)]
 pub enum Task {
     /// Each line is a user or none.
     Lines(Form),

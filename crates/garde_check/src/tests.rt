@@ -1,19 +1,20 @@
 //! Runs over memory: what is written, and how each run ends.
+
 mod body;
 mod devices;
 mod forms;
 mod json;
 mod once;
 mod refusals;
+mod runs;
 
 use crate::mode::Command;
 use crate::outcome::{Outcome, RunError};
-use crate::running::run;
-use crate::transfer::{Failed, Plain};
+use crate::transfer::Failed;
 use crate::user::User;
 use crate::words::{command, fault_line, status};
-use devices::{Narrow, OneByOne};
 use garde::{Component, DefaultI18n, Trail, Validate, ValidateError};
+use runs::{Row, given, gives, is_ran, ran_by_bytes, reads_failed, refuses, rooms_filled};
 use std::alloc::{AllocError, Global};
 use std::test::Fail;
 
@@ -24,130 +25,170 @@ const REPORT: &[u8] = b"[1].username: not ascii\n[3].username: length is lower t
 const REPORT_WITH_NODES: &[u8] =
     b"[1].username: not ascii\n[3].username: length is lower than 3\nnodes: 4\n";
 
-// What a run on an input answers, and what it writes.
-fn ran(alloc: Global, input: &[u8], show_nodes: bool) -> (Result<Outcome, RunError>, Vec<u8>) {
-    let mut reader = Plain::new(input);
-    let mut writer = Plain::new(Vec::new(alloc));
-    let answer = run(alloc, &mut reader, &mut writer, show_nodes);
-    (answer, writer.into_inner())
-}
+static INPUTS: [Row; 15] = [
+    (b"test\n", Command::Text, 0, b""),
+    (b"test\n", Command::Nodes, 0, b"nodes: 0\n"),
+    (b"", Command::Text, 0, b""),
+    (b"\n", Command::Text, 0, b""),
+    (LINES, Command::Text, 1, REPORT),
+    (LINES, Command::Nodes, 1, REPORT_WITH_NODES),
+    (
+        b"\xc3\xa9\n",
+        Command::Text,
+        1,
+        b"[0].username: not ascii\n[0].username: length is lower than 3\n",
+    ),
+    (
+        b"\xc3\xa9\n",
+        Command::Nodes,
+        1,
+        b"[0].username: not ascii\n[0].username: length is lower than 3\nnodes: 2\n",
+    ),
+    (
+        b"ab",
+        Command::Text,
+        1,
+        b"[0].username: length is lower than 3\n",
+    ),
+    (b"ab\r\n", Command::Text, 0, b""),
+    (b"aaaaaaaaaaaaaaaaaaaaaaaaa\n", Command::Text, 0, b""),
+    (
+        b"aaaaaaaaaaaaaaaaaaaaaaaaaa\n",
+        Command::Text,
+        1,
+        b"[0].username: length is greater than 25\n",
+    ),
+    (b"ab\n\xf0\x9f\x98", Command::Text, 2, b""),
+    (b"ab\n\xf0\x9f\x98", Command::Nodes, 2, b""),
+    (b"\xff\nab\n", Command::Nodes, 2, b""),
+];
 
 #[test]
 fn writes_the_faults_of_each_line(rt: HostRuntime) {
-    let rows: [(&[u8], bool, u8, &[u8]); 15] = [
-        (b"test\n", false, 0, b""),
-        (b"test\n", true, 0, b"nodes: 0\n"),
-        (b"", false, 0, b""),
-        (b"\n", false, 0, b""),
-        (LINES, false, 1, REPORT),
-        (LINES, true, 1, REPORT_WITH_NODES),
-        (
-            b"\xc3\xa9\n",
-            false,
-            1,
-            b"[0].username: not ascii\n[0].username: length is lower than 3\n",
-        ),
-        (
-            b"\xc3\xa9\n",
-            true,
-            1,
-            b"[0].username: not ascii\n[0].username: length is lower than 3\nnodes: 2\n",
-        ),
-        (b"ab", false, 1, b"[0].username: length is lower than 3\n"),
-        (b"ab\r\n", false, 0, b""),
-        (b"aaaaaaaaaaaaaaaaaaaaaaaaa\n", false, 0, b""),
-        (
-            b"aaaaaaaaaaaaaaaaaaaaaaaaaa\n",
-            false,
-            1,
-            b"[0].username: length is greater than 25\n",
-        ),
-        (b"ab\n\xf0\x9f\x98", false, 2, b""),
-        (b"ab\n\xf0\x9f\x98", true, 2, b""),
-        (b"\xff\nab\n", true, 2, b""),
-    ];
-    for (input, show_nodes, want, text) in rows {
-        let (answer, written) = ran(rt.alloc(), input, show_nodes);
-        assert_eq!(rt; status(&answer), want, "at {input:?}");
-        assert_eq!(rt; written.as_slice(), text, "at {input:?}");
-    }
+    assert_eq!(rt; given(rt.alloc(), &INPUTS), INPUTS.len());
 }
 
-// The reader gives a byte at a time.
+static BAD_TEXTS: [&[u8]; 4] = [
+    b"\xff\nab\n",
+    b"ab\n\xc3\nab\nab\n",
+    b"ab\n\xc3",
+    b"\xc3\xa9\n\xa9",
+];
+
+// Whether a run whose reader gives a byte at a time finds that this is no text, and writes nothing.
+fn finds_bad_text(alloc: Global, bytes: &[u8]) -> bool {
+    let ran = ran_by_bytes(alloc, Command::Text, bytes, usize::MAX);
+    is_ran(ran, Err(RunError::NotUtf8), b"")
+}
+
+// How many of the texts hold before the first that does not.
+fn bad_texts_found(alloc: Global) -> usize {
+    for (place, bytes) in BAD_TEXTS.iter().enumerate() {
+        if !finds_bad_text(alloc, bytes) {
+            return place;
+        }
+    }
+    BAD_TEXTS.len()
+}
+
 #[test]
 fn finds_bad_text_in_each_part(rt: HostRuntime) {
-    let texts: [&[u8]; 4] = [
-        b"\xff\nab\n",
-        b"ab\n\xc3\nab\nab\n",
-        b"ab\n\xc3",
-        b"\xc3\xa9\n\xa9",
-    ];
-    for bytes in texts {
-        let mut reader = OneByOne {
-            bytes,
-            whole: usize::MAX,
-            failed: false,
-        };
-        let mut writer = Plain::new(Vec::new(rt.alloc()));
-        let answer = run(rt.alloc(), &mut reader, &mut writer, false);
-        assert_eq!(rt; answer, Err(RunError::NotUtf8), "at {bytes:?}");
-        assert!(rt; writer.into_inner().is_empty(), "at {bytes:?}");
+    assert_eq!(rt; bad_texts_found(rt.alloc()), BAD_TEXTS.len());
+}
+
+static LONG: [(&str, usize, &[u8]); 3] = [
+    (
+        "test\n",
+        30_000,
+        b"[30000].username: length is lower than 3\n",
+    ),
+    (
+        "\n",
+        100_000,
+        b"[100000].username: length is lower than 3\n",
+    ),
+    ("x", 100_000, b"[0].username: length is greater than 25\n"),
+];
+
+// A text so many times, and then `ab`.
+fn long_text(alloc: Global, line: &str, times: usize) -> Result<String, AllocError> {
+    let mut text = String::new(alloc);
+    for _ in 0..times {
+        text.push_str(line)?;
     }
+    text.push_str("ab")?;
+    Ok(text)
+}
+
+// Whether a run on a long text finds a fault, and writes this.
+fn cuts(alloc: Global, line: &str, times: usize, want: &[u8]) -> Result<bool, AllocError> {
+    let text = long_text(alloc, line, times)?;
+    Ok(gives(alloc, Command::Text, text.as_bytes(), 1, want))
+}
+
+// How many of the rows hold before the first that does not.
+fn long_texts_cut(alloc: Global) -> Result<usize, AllocError> {
+    for (place, (line, times, want)) in LONG.iter().enumerate() {
+        if !cuts(alloc, line, *times, want)? {
+            return Ok(place);
+        }
+    }
+    Ok(LONG.len())
 }
 
 // Lines are cut while a text is read, and a line that is longer than a part is not.
 #[test]
 fn cuts_a_long_text_as_a_short_one(rt: HostRuntime) -> Result<(), Fail> {
-    let alloc = rt.alloc();
-    let rows: [(&str, usize, &[u8]); 3] = [
-        (
-            "test\n",
-            30_000,
-            b"[30000].username: length is lower than 3\n",
-        ),
-        (
-            "\n",
-            100_000,
-            b"[100000].username: length is lower than 3\n",
-        ),
-        ("x", 100_000, b"[0].username: length is greater than 25\n"),
-    ];
-    for (line, times, want) in rows {
-        let mut text = String::new(alloc);
-        for _ in 0..times {
-            text.push_str(line)?;
-        }
-        text.push_str("ab")?;
-        let (answer, written) = ran(alloc, text.as_bytes(), false);
-        assert_eq!(rt; status(&answer), 1);
-        assert_eq!(rt; written.as_slice(), want);
-    }
+    assert_eq!(rt; long_texts_cut(rt.alloc())?, LONG.len());
     Ok(())
+}
+
+static ERRORS: [(RunError, &str); 5] = [
+    (RunError::NotUtf8, "garde_check: the input is not UTF-8"),
+    (RunError::BadBody, "garde_check: the body is not a request"),
+    (RunError::Read, "garde_check: the input could not be read"),
+    (
+        RunError::Write,
+        "garde_check: the output could not be written",
+    ),
+    (RunError::Memory, "garde_check: out of memory"),
+];
+
+// Whether an error has the exit status 2, and is told so by its line and by its text.
+fn is_told(alloc: Global, error: RunError, line: &str) -> Result<bool, AllocError> {
+    let told = format!(in alloc; "garde_check: {error}")?;
+    Ok(status(&Err(error)) == 2 && fault_line(&error) == line && told.as_str() == line)
+}
+
+// How many of the rows hold before the first that does not.
+fn errors_told(alloc: Global) -> Result<usize, AllocError> {
+    for (place, (error, line)) in ERRORS.iter().enumerate() {
+        if !is_told(alloc, *error, line)? {
+            return Ok(place);
+        }
+    }
+    Ok(ERRORS.len())
+}
+
+// Whether a failed call is told so.
+fn failure_is_told(alloc: Global, text: &str) -> Result<bool, AllocError> {
+    Ok(Failed.to_string(alloc)?.as_str() == text)
 }
 
 #[test]
 fn tells_how_a_run_ended(rt: HostRuntime) -> Result<(), Fail> {
     assert_eq!(rt; status(&Ok(Outcome::Valid)), 0);
     assert_eq!(rt; status(&Ok(Outcome::Faults)), 1);
-    let (cut, _) = ran(rt.alloc(), b"\xf0\x9f\x98", false);
-    assert_eq!(rt; cut, Err(RunError::NotUtf8));
-    let rows = [
-        (RunError::NotUtf8, "garde_check: the input is not UTF-8"),
-        (RunError::BadBody, "garde_check: the body is not a request"),
-        (RunError::Read, "garde_check: the input could not be read"),
-        (
-            RunError::Write,
-            "garde_check: the output could not be written",
-        ),
-        (RunError::Memory, "garde_check: out of memory"),
-    ];
-    for (error, line) in rows {
-        assert_eq!(rt; status(&Err(error)), 2, "at {error:?}");
-        assert_eq!(rt; fault_line(&error), line);
-        let told = format!(in rt.alloc(); "garde_check: {error}")?;
-        assert_eq!(rt; told.as_str(), line);
-    }
-    assert_eq!(rt; Failed.to_string(rt.alloc())?.as_str(), "the device failed");
+    assert!(rt;
+        refuses(
+            rt.alloc(),
+            Command::Text,
+            b"\xf0\x9f\x98",
+            RunError::NotUtf8
+        )
+    );
+    assert_eq!(rt; errors_told(rt.alloc())?, ERRORS.len());
+    assert!(rt; failure_is_told(rt.alloc(), "the device failed")?);
     Ok(())
 }
 
@@ -159,85 +200,100 @@ fn words_of(alloc: Global, words: &[&str]) -> Result<Vec<String>, AllocError> {
     Ok(list)
 }
 
+static WORDS: [(&[&str], Option<Command>); 10] = [
+    (&[], Some(Command::Text)),
+    (&["--nodes"], Some(Command::Nodes)),
+    (&["--json"], Some(Command::Json)),
+    (&["json"], Some(Command::Body)),
+    (&["--json", "--nodes"], None),
+    (&["json", "json"], None),
+    (&[""], None),
+    (&["--node"], None),
+    (&["--nodes", "--nodes"], None),
+    (&["", "--nodes"], None),
+];
+
+// Whether the words ask for this.
+fn asks(alloc: Global, words: &[&str], want: Option<Command>) -> Result<bool, AllocError> {
+    let list = words_of(alloc, words)?;
+    Ok(command(&list) == want)
+}
+
+// How many of the rows hold before the first that does not.
+fn words_asked(alloc: Global) -> Result<usize, AllocError> {
+    for (place, (words, want)) in WORDS.iter().enumerate() {
+        if !asks(alloc, words, *want)? {
+            return Ok(place);
+        }
+    }
+    Ok(WORDS.len())
+}
+
 #[test]
 fn refuses_words_that_ask_for_nothing(rt: HostRuntime) -> Result<(), Fail> {
-    let rows: [(&[&str], Option<Command>); 10] = [
-        (&[], Some(Command::Text)),
-        (&["--nodes"], Some(Command::Nodes)),
-        (&["--json"], Some(Command::Json)),
-        (&["json"], Some(Command::Body)),
-        (&["--json", "--nodes"], None),
-        (&["json", "json"], None),
-        (&[""], None),
-        (&["--node"], None),
-        (&["--nodes", "--nodes"], None),
-        (&["", "--nodes"], None),
-    ];
-    for (words, want) in rows {
-        let list = words_of(rt.alloc(), words)?;
-        assert_eq!(rt; command(&list), want, "at {words:?}");
-    }
+    assert_eq!(rt; words_asked(rt.alloc())?, WORDS.len());
     Ok(())
 }
 
-// The reader gives `k` bytes and fails in place of the next, also in place of its end.
+// Whether a run whose reader gives all lines a byte at a time writes the report.
+fn reads_by_bytes(alloc: Global) -> bool {
+    let ran = ran_by_bytes(alloc, Command::Text, LINES, usize::MAX);
+    is_ran(ran, Ok(Outcome::Faults), REPORT)
+}
+
+// The reader fails in place of each byte, and in place of its end.
 #[test]
 fn a_reader_that_fails_leaves_nothing_written(rt: HostRuntime) {
-    for k in 0..LINES.len() + 2 {
-        let whole = if k > LINES.len() { usize::MAX } else { k };
-        let mut reader = OneByOne {
-            bytes: LINES,
-            whole,
-            failed: false,
-        };
-        let mut writer = Plain::new(Vec::new(rt.alloc()));
-        let answer = run(rt.alloc(), &mut reader, &mut writer, false);
-        let (want, text) = if whole == k {
-            (Err(RunError::Read), b"" as &[u8])
-        } else {
-            (Ok(Outcome::Faults), REPORT)
-        };
-        assert_eq!(rt; answer, want, "at {k}");
-        assert_eq!(rt; writer.into_inner().as_slice(), text, "at {k}");
-    }
+    let places = LINES.len() + 1;
+    assert_eq!(rt; reads_failed(rt.alloc(), Command::Text, LINES), places);
+    assert!(rt; reads_by_bytes(rt.alloc()));
 }
 
 #[test]
 fn a_writer_that_fails_holds_a_beginning(rt: HostRuntime) {
-    for k in 0..REPORT.len() + 1 {
-        let mut reader = Plain::new(LINES);
-        let mut writer = Narrow {
-            taken: Vec::new(rt.alloc()),
-            room: k,
-            failed: false,
-        };
-        let answer = run(rt.alloc(), &mut reader, &mut writer, false);
-        let want = if k < REPORT.len() {
-            Err(RunError::Write)
-        } else {
-            Ok(Outcome::Faults)
-        };
-        assert_eq!(rt; answer, want, "at {k}");
-        assert_eq!(rt; writer.taken.as_slice(), &REPORT[..k], "at {k}");
+    let rooms = REPORT.len() + 1;
+    assert_eq!(rt;
+        rooms_filled(rt.alloc(), Command::Text, LINES, REPORT),
+        rooms
+    );
+}
+
+// A user of a name that is not ASCII, and too short.
+fn users(alloc: Global) -> Result<Vec<Option<User>>, AllocError> {
+    let username = String::from_str(alloc, "é")?;
+    Ok(vec![in alloc; Some(User { username })]?)
+}
+
+// Whether this is reported of users on a trail.
+fn reports<'a>(
+    alloc: Global,
+    users: &'a Vec<Option<User>>,
+    trail: &mut Trail<'a>,
+    want: &str,
+) -> Result<bool, AllocError> {
+    match users.validate_on(alloc, &(), trail, &DefaultI18n) {
+        Err(ValidateError::Report(report)) => Ok(report.to_string(alloc)?.as_str() == want),
+        _ => Ok(false),
     }
+}
+
+// Whether a trail stands at this path, and made so many nodes.
+fn stands_at(alloc: Global, trail: &mut Trail<'_>, path: &str, nodes: usize) -> Result<bool, Fail> {
+    let told = trail.path()?.to_string(alloc)?;
+    Ok(told.as_str() == path && trail.nodes() == nodes)
+}
+
+// Whether the faults of users stand beneath the trail's component, and the trail is left as it was.
+fn are_told_beneath(alloc: Global, want: &str) -> Result<bool, Fail> {
+    let users = users(alloc)?;
+    let mut trail = Trail::new(alloc);
+    trail.push(Component::key("users"))?;
+    Ok(reports(alloc, &users, &mut trail, want)? && stands_at(alloc, &mut trail, "users", 3)?)
 }
 
 #[test]
 fn paths_begin_with_the_components_of_the_trail(rt: HostRuntime) -> Result<(), Fail> {
-    let alloc = rt.alloc();
-    let mut users = Vec::new(alloc);
-    users.push(Some(User {
-        username: String::from_str(alloc, "é")?,
-    }))?;
-    let mut trail = Trail::new(alloc);
-    trail.push(Component::key("users"))?;
-    let answer = users.validate_on(alloc, &(), &mut trail, &DefaultI18n);
-    let Err(ValidateError::Report(report)) = answer else {
-        return Err("no report".into());
-    };
     let want = "users[0].username: not ascii\nusers[0].username: length is lower than 3\n";
-    assert_eq!(rt; report.to_string(alloc)?.as_str(), want);
-    assert_eq!(rt; trail.path()?.to_string(alloc)?.as_str(), "users");
-    assert_eq!(rt; trail.nodes(), 3);
+    assert!(rt; are_told_beneath(rt.alloc(), want)?);
     Ok(())
 }

@@ -6,7 +6,7 @@ use garde::{I18n, Report, Trail, Validate};
 use std::alloc::{AllocError, Global};
 
 /// A user, whose name has 3 to 25 bytes, all of them ASCII.
-#[derive(Drop, Debug)]
+#[derive(Drop)]
 pub struct User {
     /// The name.
     pub username: String,

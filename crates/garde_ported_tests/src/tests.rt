@@ -9,11 +9,16 @@ mod strings;
 use garde::{Validate, ValidateError};
 use std::alloc::{AllocError, Global};
 
-/// The report's text, or the empty one of a valid value.
-fn told<V: Validate>(alloc: Global, value: &V, ctx: &V::Context) -> Result<String, AllocError> {
+/// Whether the report's text is this one. That of a valid value is empty.
+fn tells<V: Validate>(
+    alloc: Global,
+    value: &V,
+    ctx: &V::Context,
+    text: &str,
+) -> Result<bool, AllocError> {
     match value.validate_with(alloc, ctx) {
-        Ok(()) => Ok(String::new(alloc)),
-        Err(ValidateError::Report(report)) => report.to_string(alloc),
+        Ok(()) => Ok(text.is_empty()),
+        Err(ValidateError::Report(report)) => Ok(report.to_string(alloc)?.as_str() == text),
         Err(ValidateError::Memory) => Err(AllocError),
     }
 }

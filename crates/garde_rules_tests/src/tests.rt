@@ -14,18 +14,12 @@ mod urls;
 mod values;
 
 use garde_report::RuleError;
-use std::process::Abort;
 
-/// What an answer tells: nothing where it is Ok.
-fn message(answer: &Result<(), RuleError>) -> Option<&str> {
+/// Whether an answer tells this: nothing where it is Ok, and else the text of its fault.
+fn tells(answer: Result<(), RuleError>, wanted: Option<&str>) -> bool {
     match answer {
-        Ok(()) => None,
-        Err(RuleError::Fault(error)) => Some(error.message()),
-        Err(RuleError::Memory) => Some("out of memory"),
+        Ok(()) => wanted.is_none(),
+        Err(RuleError::Fault(error)) => wanted == Some(error.message()),
+        Err(RuleError::Memory) => wanted == Some("out of memory"),
     }
-}
-
-/// Asserts that the answer is Ok where no text is given, and else the fault with this text.
-fn assert_answer(rt: &impl Abort, answer: Result<(), RuleError>, text: Option<&str>) {
-    assert_eq!(rt; message(&answer), text);
 }

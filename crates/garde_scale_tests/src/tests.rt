@@ -14,11 +14,11 @@ mod walked;
 
 use garde::RuleError;
 
-/// What an answer tells: nothing where it is Ok.
-fn message(answer: &Result<(), RuleError>) -> Option<&str> {
+/// Whether an answer tells this: nothing where it is Ok, and else the text of its fault.
+fn tells(answer: Result<(), RuleError>, wanted: Option<&str>) -> bool {
     match answer {
-        Ok(()) => None,
-        Err(RuleError::Fault(error)) => Some(error.message()),
-        Err(RuleError::Memory) => Some("out of memory"),
+        Ok(()) => wanted.is_none(),
+        Err(RuleError::Fault(error)) => wanted == Some(error.message()),
+        Err(RuleError::Memory) => wanted == Some("out of memory"),
     }
 }

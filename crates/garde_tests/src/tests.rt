@@ -48,83 +48,117 @@ fn told(alloc: Global, answer: Result<(), ValidateError>) -> Result<String, Allo
     }
 }
 
-/// What is told of a value under a context.
-fn told_with<V: Validate>(
+/// Whether an answer prints this text. That of a valid value prints nothing.
+fn prints_as(
     alloc: Global,
-    value: &V,
-    ctx: &V::Context,
-) -> Result<String, AllocError> {
-    told(alloc, value.validate_with(alloc, ctx))
+    answer: Result<(), ValidateError>,
+    text: &str,
+) -> Result<bool, AllocError> {
+    Ok(told(alloc, answer)?.as_str() == text)
 }
 
-/// A form whose name and password are wrong, with these tags and this city.
-fn wrong_form(alloc: Global, tags: &[&str], city: &str) -> Result<Signup, AllocError> {
+/// A list of these tags.
+fn tags_of(alloc: Global, tags: &[&str]) -> Result<Vec<String>, AllocError> {
     let mut kept = Vec::new(alloc);
     for tag in tags {
         kept.push(String::from_str(alloc, tag)?)?;
     }
+    Ok(kept)
+}
+
+/// A form whose name and password are wrong, with these tags and this city.
+fn wrong_form(alloc: Global, tags: &[&str], city: &str) -> Result<Signup, AllocError> {
     Ok(Signup {
         name: String::from_str(alloc, "é")?,
         password: String::from_str(alloc, "short")?,
-        tags: kept,
+        tags: tags_of(alloc, tags)?,
         address: address(alloc, city)?,
     })
 }
 
+/// Whether this is told of a wrong form that may have one tag.
+fn is_told_of_a_form(alloc: Global, text: &str) -> Result<bool, AllocError> {
+    let signup = wrong_form(alloc, &["ok", "ü"], "")?;
+    let answer = signup.validate_with(alloc, &Limits { most: 1 });
+    prints_as(alloc, answer, text)
+}
+
 #[test]
 fn each_field_under_its_name(rt: HostRuntime) -> Result<(), Fail> {
-    let signup = wrong_form(rt.alloc(), &["ok", "ü"], "")?;
-    let text = told_with(rt.alloc(), &signup, &Limits { most: 1 })?;
-    assert_eq!(rt;
-        text.as_str(),
-        "name: not ascii\nname: length is lower than 3\npassword: weak\ntags: length is greater than 1\ntags[1]: not ascii\naddress.city: length is lower than 1\n"
-    );
+    let text =
+        "name: not ascii\nname: length is lower than 3\npassword: weak\ntags: length is greater than 1\ntags[1]: not ascii\naddress.city: length is lower than 1\n";
+    assert!(rt; is_told_of_a_form(rt.alloc(), text)?);
     Ok(())
+}
+
+/// A row that is empty, and one that holds a box of an address.
+fn rows(alloc: Global, home: &Address) -> Result<Vec<Option<Box<&Address>>>, AllocError> {
+    let mut rows = Vec::new(alloc);
+    rows.push(None)?;
+    rows.push(Some(Box::new(alloc, home)?))?;
+    Ok(rows)
+}
+
+/// Whether this is told of the rows of an address without a city.
+fn is_told_of_rows(alloc: Global, text: &str) -> Result<bool, AllocError> {
+    let home = address(alloc, "")?;
+    prints_as(alloc, rows(alloc, &home)?.validate(alloc), text)
 }
 
 #[test]
 fn wrappers_add_no_component(rt: HostRuntime) -> Result<(), Fail> {
-    let alloc = rt.alloc();
-    let home = address(alloc, "")?;
-    let held = Box::new(alloc, &home)?;
-    let rows = vec![in alloc; None, Some(held)]?;
-    let text = told(alloc, rows.validate(alloc))?;
-    assert_eq!(rt; text.as_str(), "[1].city: length is lower than 1\n");
+    assert!(rt; is_told_of_rows(rt.alloc(), "[1].city: length is lower than 1\n")?);
     Ok(())
 }
 
-#[test]
-fn couples_and_contacts(rt: HostRuntime) -> Result<(), Fail> {
-    let alloc = rt.alloc();
+/// Whether this is told of a contact by mail and one that is silent.
+fn is_told_of_a_couple(alloc: Global, text: &str) -> Result<bool, AllocError> {
     let couple = Couple {
         left: Contact::Mail(String::from_str(alloc, "ñ")?),
         right: Contact::Silent,
     };
-    let text = told(alloc, couple.validate_with_i18n(alloc, &(), &DefaultI18n))?;
-    assert_eq!(rt; text.as_str(), "left.mail: not ascii\n");
+    let answer = couple.validate_with_i18n(alloc, &(), &DefaultI18n);
+    prints_as(alloc, answer, text)
+}
+
+#[test]
+fn couples_and_contacts(rt: HostRuntime) -> Result<(), Fail> {
+    assert!(rt; is_told_of_a_couple(rt.alloc(), "left.mail: not ascii\n")?);
     Ok(())
+}
+
+/// Whether this is told of a badge of this number.
+fn is_told_of_a_badge(alloc: Global, number: u8, text: &str) -> Result<bool, AllocError> {
+    prints_as(alloc, Badge { number }.validate(alloc), text)
 }
 
 #[test]
 fn a_path_made_by_hand(rt: HostRuntime) -> Result<(), Fail> {
-    let alloc = rt.alloc();
-    let text = told(alloc, Badge { number: 0 }.validate(alloc))?;
-    assert_eq!(rt; text.as_str(), "number: lower than 1\n");
-    assert!(rt; Badge { number: 1 }.validate(alloc).is_ok());
+    assert!(rt; is_told_of_a_badge(rt.alloc(), 0, "number: lower than 1\n")?);
+    assert!(rt; is_told_of_a_badge(rt.alloc(), 1, "")?);
     Ok(())
+}
+
+/// A home in a city, and one that is in none.
+fn homes(alloc: Global) -> Result<Vec<Address>, AllocError> {
+    let mut homes = Vec::new(alloc);
+    homes.push(address(alloc, "Brno")?)?;
+    homes.push(address(alloc, "")?)?;
+    Ok(homes)
+}
+
+/// Whether this is told of homes behind one component, which stays, and so many paths are made.
+fn is_told_of_homes(alloc: Global, text: &str, nodes: usize) -> Result<bool, AllocError> {
+    let homes = homes(alloc)?;
+    let mut trail = Trail::new(alloc);
+    trail.push(Component::key("homes"))?;
+    let answer = homes.validate_on(alloc, &Limits::default(), &mut trail, &DefaultI18n);
+    Ok(trail.nodes() == nodes && trail.depth() == 1 && prints_as(alloc, answer, text)?)
 }
 
 #[test]
 fn paths_begin_with_the_trail(rt: HostRuntime) -> Result<(), Fail> {
-    let alloc = rt.alloc();
-    let homes = vec![in alloc; address(alloc, "Brno")?, address(alloc, "")?]?;
-    let mut trail = Trail::new(alloc);
-    trail.push(Component::key("homes"))?;
-    let answer = homes.validate_on(alloc, &Limits::default(), &mut trail, &DefaultI18n);
-    let text = told(alloc, answer)?;
-    assert_eq!(rt; text.as_str(), "homes[1].city: length is lower than 1\n");
-    assert_eq!(rt; trail.nodes(), 3);
-    assert_eq!(rt; trail.depth(), 1);
+    assert!(rt; is_told_of_homes(rt.alloc(), "homes[1].city: length is lower than 1\n", 3)?);
     Ok(())
 }
 
@@ -134,123 +168,165 @@ fn two_bytes(alloc: Global) -> Result<Long, AllocError> {
     })
 }
 
-/// What a handler says of a text.
-fn said<H: I18n>(alloc: Global, long: &Long, h: &H) -> Result<String, AllocError> {
-    told(alloc, long.validate_with_i18n(alloc, &(), h))
+/// What a handler says of a text of two bytes.
+fn said<H: I18n>(alloc: Global, h: &H) -> Result<String, AllocError> {
+    let answer = two_bytes(alloc)?.validate_with_i18n(alloc, &(), h);
+    told(alloc, answer)
+}
+
+/// Whether a handler says this of a text of two bytes.
+fn says<H: I18n>(alloc: Global, h: &H, text: &str) -> Result<bool, AllocError> {
+    Ok(said(alloc, h)?.as_str() == text)
+}
+
+/// Whether this is said where no handler is named.
+fn is_said_by_default(alloc: Global, text: &str) -> Result<bool, AllocError> {
+    prints_as(alloc, two_bytes(alloc)?.validate(alloc), text)
+}
+
+/// Whether an outer handler speaks before and after an inner one, and the inner one between.
+fn speak_in_turn(alloc: Global, by_outer: &str, by_inner: &str) -> Result<bool, AllocError> {
+    let [outside, inside, again] = with_i18n(Labelled("OUTER:"), |outer| {
+        let outside = says(alloc, outer, by_outer);
+        let inside = with_i18n(Labelled("INNER:"), |inner| says(alloc, inner, by_inner));
+        [outside, inside, says(alloc, outer, by_outer)]
+    });
+    Ok(outside? && inside? && again?)
 }
 
 #[test]
 fn the_inner_handler_speaks_inside(rt: HostRuntime) -> Result<(), Fail> {
-    let alloc = rt.alloc();
-    let long = two_bytes(alloc)?;
     let by_default = "s: length is lower than 5\n";
-    assert_eq!(rt; told(alloc, long.validate(alloc))?.as_str(), by_default);
-    let [outside, inside, again] = with_i18n(Labelled("OUTER:"), |outer| {
-        let outside = said(alloc, &long, outer);
-        let inside = with_i18n(Labelled("INNER:"), |inner| said(alloc, &long, inner));
-        [outside, inside, said(alloc, &long, outer)]
-    });
-    assert_eq!(rt; outside?.as_str(), "s: OUTER:5\n");
-    assert_eq!(rt; inside?.as_str(), "s: INNER:5\n");
-    assert_eq!(rt; again?.as_str(), "s: OUTER:5\n");
-    assert_eq!(rt; told(alloc, long.validate(alloc))?.as_str(), by_default);
+    assert!(rt; is_said_by_default(rt.alloc(), by_default)?);
+    assert!(rt; speak_in_turn(rt.alloc(), "s: OUTER:5\n", "s: INNER:5\n")?);
+    assert!(rt; is_said_by_default(rt.alloc(), by_default)?);
     Ok(())
 }
 
-/// What a reference to a handler of this label says.
-fn said_by(alloc: Global, label: &str) -> Result<String, AllocError> {
-    let handler = Labelled(label);
-    said(alloc, &two_bytes(alloc)?, &&handler)
+/// Whether a reference to a handler of this label says this.
+fn is_said_by(alloc: Global, label: &str, text: &str) -> Result<bool, AllocError> {
+    says(alloc, &&Labelled(label), text)
+}
+
+/// Whether a label of so many letters is said whole.
+fn is_said_whole(alloc: Global, size: usize) -> Result<bool, AllocError> {
+    let label = "m".repeat(alloc, size)?;
+    let text = said(alloc, &&Labelled(label.as_str()))?;
+    Ok(text.len().checked_sub("s: 5\n".len()) == Some(size))
 }
 
 #[test]
 fn a_handler_says_what_it_likes(rt: HostRuntime) -> Result<(), Fail> {
-    let alloc = rt.alloc();
-    assert_eq!(rt; said_by(alloc, "a\nb ")?.as_str(), "s: a\nb 5\n");
-    let megabyte = "m".repeat(alloc, 1_000_000)?;
-    let length = said_by(alloc, megabyte.as_str())?.len();
-    assert_eq!(rt; length, 1_000_000 + "s: 5\n".len());
+    assert!(rt; is_said_by(rt.alloc(), "a\nb ", "s: a\nb 5\n")?);
+    assert!(rt; is_said_whole(rt.alloc(), 1_000_000)?);
     Ok(())
+}
+
+/// Whether a handler that borrows its label from a text says this.
+fn is_said_by_a_borrower(alloc: Global, text: &str) -> Result<bool, AllocError> {
+    let label = String::from_str(alloc, "[cs-CZ] ")?;
+    is_said_by(alloc, label.as_str(), text)
 }
 
 #[test]
 fn a_handler_borrows_its_label(rt: HostRuntime) -> Result<(), Fail> {
-    let alloc = rt.alloc();
-    let label = String::from_str(alloc, "[cs-CZ] ")?;
-    let text = said_by(alloc, label.as_str())?;
-    assert_eq!(rt; text.as_str(), "s: [cs-CZ] 5\n");
+    assert!(rt; is_said_by_a_borrower(rt.alloc(), "s: [cs-CZ] 5\n")?);
     Ok(())
+}
+
+/// Whether this is told of a wrong form by a handler that says nothing.
+fn is_told_in_silence(alloc: Global, text: &str) -> Result<bool, AllocError> {
+    let signup = wrong_form(alloc, &[], "Brno")?;
+    let answer = signup.validate_with_i18n(alloc, &Limits { most: 9 }, &Silent);
+    prints_as(alloc, answer, text)
 }
 
 #[test]
 fn own_messages_stay(rt: HostRuntime) -> Result<(), Fail> {
-    let alloc = rt.alloc();
-    let signup = wrong_form(alloc, &[], "Brno")?;
-    let answer = signup.validate_with_i18n(alloc, &Limits { most: 9 }, &Silent);
-    let text = told(alloc, answer)?;
-    assert_eq!(rt; text.as_str(), "name: \nname: \npassword: weak\n");
+    assert!(rt; is_told_in_silence(rt.alloc(), "name: \nname: \npassword: weak\n")?);
     Ok(())
 }
 
-/// Whether these are the messages at and beneath a way.
-fn is_selected(report: &Report, way: &[&str], messages: &[&str]) -> bool {
-    let found = select(report, way).map(|error| error.message());
-    found.eq(messages.iter().copied())
-}
-
-/// The report of an item with a wrong name and two wrong identifiers.
-fn report_of_an_item(alloc: Global) -> Result<Report, Fail> {
-    let item = Item {
+/// An item with a wrong name and two wrong identifiers.
+fn wrong_item(alloc: Global) -> Result<Item, AllocError> {
+    Ok(Item {
         name: String::from_str(alloc, "😂")?,
         identifiers: vec![in alloc; Identifier { id: 10 }, Identifier { id: 20 }]?,
-    };
-    match item.validate(alloc) {
+    })
+}
+
+/// The report of the item.
+fn report_of_an_item(alloc: Global) -> Result<Report, Fail> {
+    match wrong_item(alloc)?.validate(alloc) {
         Err(ValidateError::Report(report)) => Ok(report),
         _ => Err("no report".into()),
     }
 }
 
-#[test]
-fn selects_the_faults_of_a_part(rt: HostRuntime) -> Result<(), Fail> {
-    let report = report_of_an_item(rt.alloc())?;
-    let name = ["not ascii", "length is lower than 10"];
-    assert!(rt; is_selected(&report, &["name"], &name));
-    assert!(rt; is_selected(&report, &["identifiers", "0"], &["greater than 4"]));
-    Ok(())
+/// Whether these are the messages of the item at and beneath a way.
+fn is_selected(alloc: Global, way: &[&str], messages: &[&str]) -> Result<bool, Fail> {
+    let report = report_of_an_item(alloc)?;
+    let found = select(&report, way).map(|error| error.message());
+    Ok(found.eq(messages.iter().copied()))
 }
 
 #[test]
-fn each_rule_has_its_text(rt: HostRuntime) -> Result<(), Fail> {
-    let alloc = rt.alloc();
-    let profile = Profile {
+fn selects_the_faults_of_a_part(rt: HostRuntime) -> Result<(), Fail> {
+    let name = ["not ascii", "length is lower than 10"];
+    assert!(rt; is_selected(rt.alloc(), &["name"], &name)?);
+    let id = ["greater than 4"];
+    assert!(rt; is_selected(rt.alloc(), &["identifiers", "0"], &id)?);
+    Ok(())
+}
+
+/// A profile of which nothing is right.
+fn wrong_profile(alloc: Global) -> Result<Profile, AllocError> {
+    Ok(Profile {
         tag: String::from_str(alloc, "a b")?,
         address: String::from_str(alloc, "localhost")?,
         phone: None,
         host: String::from_str(alloc, "1.2.3")?,
         site: String::from_str(alloc, "abc")?,
         degrees: 100,
-    };
-    let text = told(alloc, profile.validate(alloc))?;
-    assert_eq!(rt;
-        text.as_str(),
-        "tag: not alphanumeric\naddress: value does not begin with \"https://\"\naddress: does not contain \".\"\naddress: does not end with \"/\"\nphone: not set\nhost: not a valid IP address\nsite: not a valid url: relative URL without a base\ndegrees: greater than 10\n"
-    );
+    })
+}
+
+/// Whether this is told of the profile.
+fn is_told_of_a_profile(alloc: Global, text: &str) -> Result<bool, AllocError> {
+    prints_as(alloc, wrong_profile(alloc)?.validate(alloc), text)
+}
+
+#[test]
+fn each_rule_has_its_text(rt: HostRuntime) -> Result<(), Fail> {
+    let text =
+        "tag: not alphanumeric\naddress: value does not begin with \"https://\"\naddress: does not contain \".\"\naddress: does not end with \"/\"\nphone: not set\nhost: not a valid IP address\nsite: not a valid url: relative URL without a base\ndegrees: greater than 10\n";
+    assert!(rt; is_told_of_a_profile(rt.alloc(), text)?);
     Ok(())
+}
+
+/// A list of one user with a wrong name.
+fn wrong_users(alloc: Global) -> Result<Vec<Option<User>>, AllocError> {
+    let username = String::from_str(alloc, "é")?;
+    let mut users = Vec::new(alloc);
+    users.push(Some(User { username }))?;
+    Ok(users)
+}
+
+/// Whether this is told of the users by a handler that says nothing.
+fn is_told_of_users_in_silence(alloc: Global, text: &str) -> Result<bool, AllocError> {
+    let answer = wrong_users(alloc)?.validate_with_i18n(alloc, &(), &Silent);
+    prints_as(alloc, answer, text)
 }
 
 #[test]
 fn empty_texts_leave_their_paths(rt: HostRuntime) -> Result<(), Fail> {
-    let alloc = rt.alloc();
-    let username = String::from_str(alloc, "é")?;
-    let users = vec![in alloc; Some(User { username })]?;
-    let text = told(alloc, users.validate_with_i18n(alloc, &(), &Silent))?;
-    assert_eq!(rt; text.as_str(), "[0].username: \n[0].username: \n");
+    let text = "[0].username: \n[0].username: \n";
+    assert!(rt; is_told_of_users_in_silence(rt.alloc(), text)?);
     Ok(())
 }
 
 #[test]
 fn want_of_memory_prints_a_line(rt: HostRuntime) -> Result<(), Fail> {
-    let text = ValidateError::Memory.to_string(rt.alloc())?;
-    assert_eq!(rt; text.as_str(), "out of memory");
+    assert!(rt; prints_as(rt.alloc(), Err(ValidateError::Memory), "out of memory")?);
     Ok(())
 }

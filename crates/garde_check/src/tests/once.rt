@@ -1,9 +1,10 @@
 //! Devices that fail once: the failure is told, and the device is not asked again.
 
+use super::LINES;
+use super::body::BODY;
+use super::runs::run_as;
+use crate::mode::Command;
 use crate::outcome::{Outcome, RunError};
-use crate::running::{run, run_body, run_json};
-use crate::tests::LINES;
-use crate::tests::body::BODY;
 use crate::transfer::Plain;
 use std::alloc::Global;
 use std::io::{self, ErrorKind, Read, Write};
@@ -54,14 +55,6 @@ impl Write for Once {
     }
 }
 
-/// A way to run.
-#[derive(Clone, Copy, Debug)]
-enum Way {
-    Text,
-    Json,
-    Body,
-}
-
 // A device with this text that fails at this call.
 fn device(text: &'static [u8], fails: usize, kind: ErrorKind) -> Once {
     Once {
@@ -72,46 +65,66 @@ fn device(text: &'static [u8], fails: usize, kind: ErrorKind) -> Once {
     }
 }
 
+// What is read where this is asked for.
+fn input_of(command: Command) -> &'static [u8] {
+    match command {
+        Command::Body => BODY,
+        _ => LINES,
+    }
+}
+
 // What a run answers whose reader and writer fail at these calls, and how often each was called.
 fn ran(
     alloc: Global,
-    way: Way,
+    command: Command,
     (read, write): (usize, usize),
     kind: ErrorKind,
 ) -> (Result<Outcome, RunError>, usize, usize) {
-    let text = match way {
-        Way::Text | Way::Json => LINES,
-        Way::Body => BODY,
-    };
-    let mut reader = Plain::new(device(text, read, kind));
+    let mut reader = Plain::new(device(input_of(command), read, kind));
     let mut writer = Plain::new(device(b"", write, kind));
-    let answer = match way {
-        Way::Text => run(alloc, &mut reader, &mut writer, false),
-        Way::Json => run_json(alloc, &mut reader, &mut writer),
-        Way::Body => run_body(alloc, &mut reader, &mut writer),
-    };
+    let answer = run_as(alloc, command, &mut reader, &mut writer);
     (answer, reader.into_inner().calls, writer.into_inner().calls)
+}
+
+// Whether a read that fails at this call is the last one, and nothing is written.
+fn reads_no_more(alloc: Global, command: Command, at: usize, kind: ErrorKind) -> bool {
+    ran(alloc, command, (at, 0), kind) == (Err(RunError::Read), at, 0)
+}
+
+// Whether a write that fails at this call is the last one, after all was read.
+fn writes_no_more(alloc: Global, command: Command, at: usize, kind: ErrorKind) -> bool {
+    let calls = input_of(command).len().saturating_add(1);
+    ran(alloc, command, (0, at), kind) == (Err(RunError::Write), calls, at)
+}
+
+/// How a call fails, and which one of them.
+static FAILURES: [(ErrorKind, usize); 9] = [
+    (ErrorKind::Other, 1),
+    (ErrorKind::Other, 2),
+    (ErrorKind::Other, 9),
+    (ErrorKind::Interrupted, 1),
+    (ErrorKind::Interrupted, 2),
+    (ErrorKind::Interrupted, 9),
+    (ErrorKind::WouldBlock, 1),
+    (ErrorKind::WouldBlock, 2),
+    (ErrorKind::WouldBlock, 9),
+];
+
+// How many of the failures are the last call of their device before the first that is not.
+fn failures_told(alloc: Global, command: Command) -> usize {
+    for (place, (kind, at)) in FAILURES.iter().enumerate() {
+        if !reads_no_more(alloc, command, *at, *kind)
+            || !writes_no_more(alloc, command, *at, *kind)
+        {
+            return place;
+        }
+    }
+    FAILURES.len()
 }
 
 #[test]
 fn a_device_that_failed_is_not_asked_again(rt: HostRuntime) {
-    for (way, length) in [
-        (Way::Text, LINES.len()),
-        (Way::Json, LINES.len()),
-        (Way::Body, BODY.len()),
-    ] {
-        for kind in [
-            ErrorKind::Other,
-            ErrorKind::Interrupted,
-            ErrorKind::WouldBlock,
-        ] {
-            for at in [1, 2, 9] {
-                let read = ran(rt.alloc(), way, (at, 0), kind);
-                assert_eq!(rt; read, (Err(RunError::Read), at, 0), "{way:?} {at}");
-                let written = ran(rt.alloc(), way, (0, at), kind);
-                let calls = length.saturating_add(1);
-                assert_eq!(rt; written, (Err(RunError::Write), calls, at), "{way:?} {at}");
-            }
-        }
-    }
+    assert_eq!(rt; failures_told(rt.alloc(), Command::Text), FAILURES.len());
+    assert_eq!(rt; failures_told(rt.alloc(), Command::Json), FAILURES.len());
+    assert_eq!(rt; failures_told(rt.alloc(), Command::Body), FAILURES.len());
 }

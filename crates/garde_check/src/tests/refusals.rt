@@ -2,44 +2,32 @@
 
 use super::body::{BODY, BODY_JSON};
 use super::json::JSON;
-use super::{LINES, REPORT_WITH_NODES};
+use super::runs::run_as;
+use super::{LINES, REPORT, REPORT_WITH_NODES};
+use crate::mode::Command;
 use crate::outcome::{Outcome, RunError};
-use crate::running::{run, run_body, run_json};
 use crate::transfer::Plain;
 use garde_hog::{Calls, Met, Scarce};
 use std::alloc::{AllocError, Global};
 use std::test::Fail;
 
-/// A run of the program.
-#[derive(Clone, Copy, Debug)]
-enum Run {
-    Nodes,
-    Json,
-    Body,
-}
-
-impl Run {
-    // What is read, and what is written of it.
-    fn texts(self) -> (&'static [u8], &'static [u8]) {
-        match self {
-            Run::Nodes => (LINES, REPORT_WITH_NODES),
-            Run::Json => (LINES, JSON),
-            Run::Body => (BODY, BODY_JSON),
-        }
+// What is read where this is asked for, and what is written of it.
+fn texts_of(command: Command) -> (&'static [u8], &'static [u8]) {
+    match command {
+        Command::Text => (LINES, REPORT),
+        Command::Nodes => (LINES, REPORT_WITH_NODES),
+        Command::Json => (LINES, JSON),
+        Command::Body => (BODY, BODY_JSON),
     }
 }
 
-impl Calls for Run {
+impl Calls for Command {
     fn meet(&self, alloc: Global, memory: &mut Scarce) -> Result<Met, AllocError> {
-        let (input, output) = self.texts();
+        let (input, output) = texts_of(*self);
         let mut reader = Plain::new(input);
         let mut writer = Plain::new(Vec::with_capacity(alloc, output.len())?);
         memory.begin();
-        let answer = match self {
-            Run::Nodes => run(alloc, &mut reader, &mut writer, true),
-            Run::Json => run_json(alloc, &mut reader, &mut writer),
-            Run::Body => run_body(alloc, &mut reader, &mut writer),
-        };
+        let answer = run_as(alloc, *self, &mut reader, &mut writer);
         memory.end();
         let written = writer.into_inner();
         Ok(match answer {
@@ -50,27 +38,31 @@ impl Calls for Run {
     }
 }
 
+// What runs come to that have one budget after the other, where all memory is taken.
+fn met_in_turn(alloc: Global, command: Command) -> Result<Met, AllocError> {
+    let mut memory = Scarce::taken(alloc)?;
+    command.in_turn(alloc, &mut memory)
+}
+
 #[test]
 fn each_budget_of_memory(rt: HostRuntime) -> Result<(), Fail> {
-    let mut memory = Scarce::taken(rt.alloc())?;
-    for calls in [Run::Nodes, Run::Json, Run::Body] {
-        let met = calls.in_turn(rt.alloc(), &mut memory)?;
-        assert_eq!(rt; met, Met::Ample, "at {calls:?}");
-    }
+    assert_eq!(rt; met_in_turn(rt.alloc(), Command::Nodes)?, Met::Ample);
+    assert_eq!(rt; met_in_turn(rt.alloc(), Command::Json)?, Met::Ample);
+    assert_eq!(rt; met_in_turn(rt.alloc(), Command::Body)?, Met::Ample);
     Ok(())
 }
 
 #[test]
 fn run_with_nodes(rt: HostRuntime) -> Result<(), Fail> {
-    Ok(Run::Nodes.once(rt.alloc())?.ample()?)
+    Ok(Command::Nodes.once(rt.alloc())?.ample()?)
 }
 
 #[test]
 fn run_as_json(rt: HostRuntime) -> Result<(), Fail> {
-    Ok(Run::Json.once(rt.alloc())?.ample()?)
+    Ok(Command::Json.once(rt.alloc())?.ample()?)
 }
 
 #[test]
 fn run_on_a_body(rt: HostRuntime) -> Result<(), Fail> {
-    Ok(Run::Body.once(rt.alloc())?.ample()?)
+    Ok(Command::Body.once(rt.alloc())?.ample()?)
 }

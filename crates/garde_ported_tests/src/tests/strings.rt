@@ -1,5 +1,5 @@
 //! Types of texts.
-use super::{next, texts, told};
+use super::{next, tells, texts};
 use garde_ported::account::Account;
 use garde_ported::draft::Draft;
 use garde_ported::label::Label;
@@ -105,36 +105,44 @@ fn place(alloc: Global, from: &[&str]) -> Result<Place, AllocError> {
     })
 }
 
-/// What is told of a label of five texts.
-fn label(alloc: Global, from: &[&str]) -> Result<String, AllocError> {
-    let [name, second, code, text, mark] = from else {
-        return Ok(String::new(alloc));
+/// Whether this is told of a label of five texts.
+fn label_tells(alloc: Global, from: &[&str], text: &str) -> Result<bool, AllocError> {
+    let [name, second, code, all, mark] = from else {
+        return Ok(false);
     };
     let also = ["b", *second];
     let label = Label {
         name: *name,
         also: &also,
         code: Some(*code),
-        text: CowStr::Borrowed(*text),
+        text: CowStr::Borrowed(*all),
         mark: *mark,
     };
-    told(alloc, &label, &())
+    tells(alloc, &label, &(), text)
 }
 
-fn text_of(alloc: Global, of: Of, from: &[&str]) -> Result<String, AllocError> {
+/// Whether this is told of a value of a type that is made of texts.
+fn is_told(alloc: Global, of: Of, from: &[&str], text: &str) -> Result<bool, AllocError> {
     match of {
-        Of::Account => told(alloc, &account(alloc, from)?, &()),
-        Of::Draft => told(alloc, &draft(alloc, from)?, &()),
-        Of::Label => label(alloc, from),
-        Of::Place => told(alloc, &place(alloc, from)?, &()),
+        Of::Account => tells(alloc, &account(alloc, from)?, &(), text),
+        Of::Draft => tells(alloc, &draft(alloc, from)?, &(), text),
+        Of::Label => label_tells(alloc, from, text),
+        Of::Place => tells(alloc, &place(alloc, from)?, &(), text),
     }
+}
+
+/// How many of the rows hold before the first that does not.
+fn rows_told(alloc: Global) -> Result<usize, AllocError> {
+    for (place, (of, from, text)) in ROWS.iter().enumerate() {
+        if !is_told(alloc, *of, from, text)? {
+            return Ok(place);
+        }
+    }
+    Ok(ROWS.len())
 }
 
 #[test]
 fn types_of_texts(rt: HostRuntime) -> Result<(), Fail> {
-    let alloc = rt.alloc();
-    for (of, from, text) in ROWS {
-        assert_eq!(rt; text_of(alloc, of, from)?.as_str(), text);
-    }
+    assert_eq!(rt; rows_told(rt.alloc())?, ROWS.len());
     Ok(())
 }

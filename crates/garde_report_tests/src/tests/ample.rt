@@ -8,7 +8,6 @@ use garde_report::{Component, Error, Kind, Path, Report, RuleError, Trail};
 use serde_json::Value;
 use std::alloc::{AllocError, Global};
 use std::borrow::CowStr;
-use std::process::Abort;
 use std::test::Fail;
 
 const SIZES: [usize; 6] = [0, 1, 8, 9, 12, 1000];
@@ -39,13 +38,17 @@ fn components_of_a_clone(alloc: Global, size: usize) -> Result<usize, JoinError>
     Ok(path.iter(alloc)?.count())
 }
 
+// Whether a list and a path of so many are cut and cloned.
+fn is_cut(alloc: Global, size: usize) -> Result<bool, JoinError> {
+    let above = size.checked_sub(1);
+    let is_cut = items_before(alloc, size)? == above && components_above(alloc, size)? == above;
+    Ok(is_cut && components_of_a_clone(alloc, size)? == size)
+}
+
 #[test]
 fn lists_and_paths_of_each_size_are_cut(rt: HostRuntime) -> Result<(), Fail> {
     for size in SIZES {
-        let above = size.checked_sub(1);
-        assert_eq!(rt; items_before(rt.alloc(), size)?, above);
-        assert_eq!(rt; components_above(rt.alloc(), size)?, above);
-        assert_eq!(rt; components_of_a_clone(rt.alloc(), size)?, size);
+        assert!(rt; is_cut(rt.alloc(), size)?, "of {size}");
     }
     Ok(())
 }
@@ -72,13 +75,17 @@ fn is_one_fault(report: &Report, size: usize, text: &str) -> bool {
     report.iter().count() == 1 && report.iter().all(is_right)
 }
 
+// Whether a way of so many components makes so many nodes, and gives its one fault.
+fn is_walked(alloc: Global, size: usize) -> Result<bool, AllocError> {
+    let mut report = Report::new(alloc);
+    let nodes = walk(alloc, size, LONG, &mut report)?;
+    Ok(nodes == size && is_one_fault(&report, size, LONG))
+}
+
 #[test]
 fn ways_of_each_size_are_walked_and_reported(rt: HostRuntime) -> Result<(), Fail> {
     for size in SIZES {
-        let mut report = Report::new(rt.alloc());
-        let nodes = walk(rt.alloc(), size, LONG, &mut report)?;
-        assert_eq!(rt; nodes, size);
-        assert!(rt; is_one_fault(&report, size, LONG));
+        assert!(rt; is_walked(rt.alloc(), size)?, "of {size}");
     }
     Ok(())
 }
@@ -100,15 +107,21 @@ fn is_message_kept(alloc: Global, text: &str) -> Result<bool, AllocError> {
     Ok(is_kept && copy.message() == text)
 }
 
+// Whether a letter so many times is kept by a component of each kind, and by a message.
+fn is_text_kept(alloc: Global, letter: &str, times: usize) -> Result<bool, AllocError> {
+    let text = letter.repeat(alloc, times)?;
+    let text = text.as_str();
+    let is_named = is_component_kept(alloc, Kind::Key, text)?;
+    let is_other = is_component_kept(alloc, Kind::None, text)?
+        && is_component_kept(alloc, Kind::Index, text)?;
+    Ok(is_named && is_other && is_message_kept(alloc, text)?)
+}
+
 #[test]
 fn texts_of_each_length_are_kept(rt: HostRuntime) -> Result<(), Fail> {
     for letter in ["a", "\u{0}", "\u{1f}", "\u{e9}"] {
         for times in [0usize, 1, 11, 15, 16, 22, 23, 30, 31, 1000] {
-            let text = letter.repeat(rt.alloc(), times)?;
-            for kind in [Kind::None, Kind::Key, Kind::Index] {
-                assert!(rt; is_component_kept(rt.alloc(), kind, text.as_str())?);
-            }
-            assert!(rt; is_message_kept(rt.alloc(), text.as_str())?);
+            assert!(rt; is_text_kept(rt.alloc(), letter, times)?, "{times} times");
         }
     }
     Ok(())
@@ -130,17 +143,22 @@ fn append(alloc: Global, report: &mut Report, path: &Path, text: &str) -> Result
     report.append(path.clone()?, error)
 }
 
-// Both writers give one text of the report, and it is read back, as its clone is the same.
-fn is_read_back(rt: &impl Abort, alloc: Global, report: Report) -> Result<(), Fail> {
-    let tree = report_to_json(alloc, &report)?;
-    let text = report_to_json_text(alloc, &report)?;
-    assert_eq!(rt; tree.to_string(alloc)?.as_str(), text.as_str());
+// Whether both writers give one text of a report, which is then read back, as its clone is the same.
+fn is_read_back(alloc: Global, report: &Report) -> Result<bool, Fail> {
+    let text = report_to_json_text(alloc, report)?;
+    let tree = report_to_json(alloc, report)?.to_string(alloc)?;
     let again = Value::from_str(alloc, text.as_str())?;
-    let back = report_from_json(alloc, &again).map_err(|_| "it is a written form")?;
-    let copy = report.clone()?.into_inner();
-    assert!(rt; copy == report.into_inner());
-    assert!(rt; copy == back.into_inner());
-    Ok(())
+    let Ok(back) = report_from_json(alloc, &again) else {
+        return Ok(false);
+    };
+    let copy = report.clone()?;
+    let is_same = copy.iter().eq(report.iter()) && back.iter().eq(report.iter());
+    Ok(is_same && tree.as_str() == text.as_str())
+}
+
+// Whether the report of so many faults is read back.
+fn are_read_back(alloc: Global, count: usize, depth: usize, text: &str) -> Result<bool, Fail> {
+    is_read_back(alloc, &faults(alloc, count, depth, text)?)
 }
 
 #[test]
@@ -153,8 +171,10 @@ fn reports_of_each_size_are_read_back(rt: HostRuntime) -> Result<(), Fail> {
         (100, 2),
         (1000, 2),
     ] {
-        let report = faults(rt.alloc(), count, depth, LONG)?;
-        is_read_back(&rt, rt.alloc(), report)?;
+        assert!(rt;
+            are_read_back(rt.alloc(), count, depth, LONG)?,
+            "{count}, {depth} deep"
+        );
     }
     Ok(())
 }
@@ -162,26 +182,51 @@ fn reports_of_each_size_are_read_back(rt: HostRuntime) -> Result<(), Fail> {
 #[test]
 fn each_control_character_is_read_back(rt: HostRuntime) -> Result<(), Fail> {
     for code in 0..0xa0u8 {
-        let text = String::from_str(rt.alloc(), char::from(code).encode_utf8(&mut [0; 4]))?;
-        let report = faults(rt.alloc(), 1, 1, text.as_str())?;
-        is_read_back(&rt, rt.alloc(), report)?;
+        let mut room = [0; 4];
+        let text = char::from(code).encode_utf8(&mut room);
+        assert!(rt; are_read_back(rt.alloc(), 1, 1, text)?, "{code}");
     }
     Ok(())
+}
+
+// Whether a fault's path and message print as these, whatever the width.
+fn is_fault_unpadded(
+    alloc: Global,
+    (path, error): &(Path, Error),
+    way: &str,
+    message: &str,
+) -> Result<bool, AllocError> {
+    let path = format!(in alloc; "{path:>40}")?;
+    let error = format!(in alloc; "{error:>40}")?;
+    Ok(path.as_str() == way && error.as_str() == message)
+}
+
+// Whether each fault of a report prints as these, whatever the width.
+fn are_unpadded(
+    alloc: Global,
+    report: &Report,
+    way: &str,
+    message: &str,
+) -> Result<bool, AllocError> {
+    for fault in report.iter() {
+        if !is_fault_unpadded(alloc, fault, way, message)? {
+            return Ok(false);
+        }
+    }
+    Ok(true)
+}
+
+// Whether a report prints as this text, whatever the width.
+fn is_unpadded(alloc: Global, report: &Report, text: &str) -> Result<bool, AllocError> {
+    Ok(format!(in alloc; "{report:>40}")?.as_str() == text)
 }
 
 // The width is that of nothing: what has parts prints as if none were asked for.
 #[test]
 fn a_width_pads_nothing(rt: HostRuntime) -> Result<(), Fail> {
-    let alloc = rt.alloc();
-    let report = faults(alloc, 2, 1, "x")?;
-    assert_eq!(rt;
-        format!(in alloc; "{report:>40}")?.as_str(),
-        "[0].x: x\n[0].x: x\n"
-    );
-    for (path, error) in report.iter() {
-        assert_eq!(rt; format!(in alloc; "{path:>40}")?.as_str(), "[0].x");
-        assert_eq!(rt; format!(in alloc; "{error:>40}")?.as_str(), "x");
-    }
-    assert_eq!(rt; Kind::default(), Kind::None);
+    let report = faults(rt.alloc(), 2, 1, "x")?;
+    assert!(rt; is_unpadded(rt.alloc(), &report, "[0].x: x\n[0].x: x\n")?);
+    assert!(rt; are_unpadded(rt.alloc(), &report, "[0].x", "x")?);
+    assert!(rt; Kind::default() == Kind::None);
     Ok(())
 }

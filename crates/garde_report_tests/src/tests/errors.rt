@@ -1,7 +1,7 @@
 //! Paths, errors and reports.
 
 use crate::samples::{
-    add, add_at, compared, four_faults, hash_of, path_of, path_of_one, path_to, printed, shown,
+    compared, four_faults, hash_of, path_of, path_of_one, path_to, printed, report_of, shown,
 };
 use garde_report::rc_list::JoinError;
 use garde_report::{Error, Kind, NoKey, Path, PathComponentKind, Report, RuleError, select};
@@ -60,24 +60,47 @@ fn walked(alloc: Global, path: &Path) -> Result<(usize, [Given<'_>; 4]), AllocEr
     Ok((length, [first, last, middle, end]))
 }
 
+/// Whether a path has this text.
+fn has_text(alloc: Global, path: &Path, text: &str) -> Result<bool, AllocError> {
+    Ok(printed(alloc, path)?.as_str() == text)
+}
+
+/// Whether the joined path has its length and its text.
+fn is_joined(alloc: Global) -> Result<bool, Fail> {
+    let path = joined(alloc)?;
+    Ok(path.len() == 3 && has_text(alloc, &path, "[0].a[1]")?)
+}
+
+/// Whether the joined path without its last component is `[0].a`.
+fn is_cut(alloc: Global) -> Result<bool, Fail> {
+    let path = joined(alloc)?;
+    let above = path_of(alloc, &[ZERO, A])?;
+    Ok(is_beneath(&path, &above)?)
+}
+
+/// Whether a walk of the joined path gives its components, from both ends.
+fn is_walked(alloc: Global) -> Result<bool, Fail> {
+    let path = joined(alloc)?;
+    let (length, given) = walked(alloc, &path)?;
+    Ok(length == 3 && given == [Some(ONE), Some(ZERO), Some(A), None])
+}
+
 #[test]
 fn a_path_is_joined_walked_and_cut(rt: HostRuntime) -> Result<(), Fail> {
-    let path = joined(rt.alloc())?;
-    assert_eq!(rt; path.len(), 3);
-    assert_eq!(rt; printed(rt.alloc(), &path)?.as_str(), "[0].a[1]");
-    let above = path_of(rt.alloc(), &[ZERO, A])?;
-    assert!(rt; is_beneath(&path, &above)?);
-    let given = [Some(ONE), Some(ZERO), Some(A), None];
-    assert_eq!(rt; walked(rt.alloc(), &path)?, (3, given));
+    assert!(rt; is_joined(rt.alloc())?);
+    assert!(rt; is_cut(rt.alloc())?);
+    assert!(rt; is_walked(rt.alloc())?);
     Ok(())
+}
+
+/// Whether the root is empty, has no parent and no text.
+fn is_root(alloc: Global, root: &Path) -> Result<bool, AllocError> {
+    Ok(root.is_empty() && root.parent()?.is_none() && has_text(alloc, root, "")?)
 }
 
 #[test]
 fn the_root_has_no_parent(rt: HostRuntime) -> Result<(), Fail> {
-    let root = Path::default();
-    assert!(rt; root.is_empty());
-    assert!(rt; root.parent()?.is_none());
-    assert_eq!(rt; printed(rt.alloc(), &root)?.as_str(), "");
+    assert!(rt; is_root(rt.alloc(), &Path::default())?);
     Ok(())
 }
 
@@ -108,9 +131,22 @@ fn each_component_prints_after_those_above(rt: HostRuntime) -> Result<(), Fail> 
 
 /// Whether the path of these components has this text.
 fn prints(alloc: Global, components: &[(Kind, &str)], text: &str) -> Result<bool, AllocError> {
+    has_text(alloc, &path_of(alloc, components)?, text)
+}
+
+/// Whether the paths of these components are in this order, equal only where that is equality, and
+/// of one hash then.
+fn are_in_order(
+    alloc: Global,
+    components: &[(Kind, &str)],
+    others: &[(Kind, &str)],
+    order: Ordering,
+) -> Result<bool, AllocError> {
     let path = path_of(alloc, components)?;
-    let given = printed(alloc, &path)?;
-    Ok(given.as_str() == text)
+    let other = path_of(alloc, others)?;
+    let same = order == Ordering::Equal;
+    let is_hashed = !same || hash_of(&path) == hash_of(&other);
+    Ok(compared(&path, &other) == (order, same) && is_hashed)
 }
 
 /// Whether the paths of these components are equal.
@@ -156,11 +192,7 @@ fn shorter_paths_come_first(rt: HostRuntime) -> Result<(), Fail> {
         (&[A, B], &[A, B], Ordering::Equal),
     ];
     for (components, others, order) in rows {
-        let path = path_of(rt.alloc(), components)?;
-        let other = path_of(rt.alloc(), others)?;
-        let same = order == Ordering::Equal;
-        assert_eq!(rt; compared(&path, &other), (order, same));
-        assert!(rt; !same || hash_of(&path) == hash_of(&other));
+        assert!(rt; are_in_order(rt.alloc(), components, others, order)?);
     }
     Ok(())
 }
@@ -176,6 +208,14 @@ fn is_path_of<K: PathComponentKind + Drop>(
     Ok(compared(&path, &other) == (Ordering::Equal, true))
 }
 
+/// Whether the component of a shared number has the kind and the text of the number's.
+fn is_shared_index(alloc: Global, number: &usize, text: &str) -> Result<bool, AllocError> {
+    let shared = number.component();
+    let of_type = <&usize as PathComponentKind>::component_kind();
+    let given = format!(in alloc; "{shared}{}", NoKey::default())?;
+    Ok(shared.kind() == of_type && given.as_str() == text)
+}
+
 #[test]
 fn each_type_of_component_has_its_kind(rt: HostRuntime) -> Result<(), Fail> {
     let alloc = rt.alloc();
@@ -183,66 +223,84 @@ fn each_type_of_component_has_its_kind(rt: HostRuntime) -> Result<(), Fail> {
     assert!(rt; is_path_of(alloc, CowStr::Borrowed("a"), A)?);
     assert!(rt; is_path_of(alloc, "a", A)?);
     assert!(rt; is_path_of(alloc, NoKey::default(), UNNAMED)?);
-    let shared = (&7usize).component();
-    assert_eq!(rt;
-        shared.kind(),
-        <&usize as PathComponentKind>::component_kind()
-    );
-    assert_eq!(rt;
-        format!(in rt.alloc(); "{shared}{}", NoKey::default())?.as_str(),
-        "7"
-    );
+    assert!(rt; is_shared_index(alloc, &7, "7")?);
     Ok(())
+}
+
+/// Whether the parts of the path of these components are shown so.
+fn is_path_shown(alloc: Global, parts: &[(Kind, &str)], wanted: &str) -> Result<bool, AllocError> {
+    let path = path_of(alloc, parts)?;
+    Ok(shown(alloc, &path)?.as_str() == wanted)
+}
+
+/// Whether the parts of a report of one fault at the root are shown so.
+fn is_report_shown(alloc: Global, message: &str, wanted: &str) -> Result<bool, Fail> {
+    let report = report_of(alloc, &[(&[], message)])?;
+    Ok(shown(alloc, &report)?.as_str() == wanted)
 }
 
 #[test]
 fn debug_shows_the_parts(rt: HostRuntime) -> Result<(), Fail> {
-    let path = path_of(rt.alloc(), &[(Kind::Key, "content_fingerprints"), ZERO])?;
+    let parts = [(Kind::Key, "content_fingerprints"), ZERO];
     let wanted = "Path { components: [(Key, \"content_fingerprints\"), (Index, \"0\")] }";
-    assert_eq!(rt; shown(rt.alloc(), &path)?.as_str(), wanted);
-    let mut report = Report::new(rt.alloc());
-    add(&mut report, rt.alloc(), &[], "x")?;
+    assert!(rt; is_path_shown(rt.alloc(), &parts, wanted)?);
     let wanted = "Report { errors: [(Path { components: [] }, Error { message: \"x\" })] }";
-    assert_eq!(rt; shown(rt.alloc(), &report)?.as_str(), wanted);
+    assert!(rt; is_report_shown(rt.alloc(), "x", wanted)?);
     Ok(())
+}
+
+/// Whether the report of these faults has one entry for each, and this text.
+fn is_printed(
+    alloc: Global,
+    faults: &[(&[(Kind, &str)], &str)],
+    text: &str,
+) -> Result<bool, AllocError> {
+    let report = report_of(alloc, faults)?;
+    let is_full = report.len() == faults.len() && report.is_empty() == faults.is_empty();
+    Ok(is_full && printed(alloc, &report)?.as_str() == text)
 }
 
 #[test]
 fn only_the_root_has_no_colon(rt: HostRuntime) -> Result<(), Fail> {
-    let mut report = Report::new(rt.alloc());
-    assert!(rt; report.is_empty());
-    assert_eq!(rt; report.len(), 0);
-    let rows: [(&[(Kind, &str)], &str); 3] = [(&[UNNAMED], "x"), (&[], "x"), (&[A, B], "y\nz")];
-    for (components, message) in rows {
-        add_at(&mut report, rt.alloc(), components, message)?;
-    }
-    let text = printed(rt.alloc(), &report)?;
-    assert_eq!(rt; text.as_str(), ": x\nx\na.b: y\nz\n");
-    assert_eq!(rt; report.len(), 3);
+    assert!(rt; is_printed(rt.alloc(), &[], "")?);
+    let faults: [(&[(Kind, &str)], &str); 3] = [(&[UNNAMED], "x"), (&[], "x"), (&[A, B], "y\nz")];
+    assert!(rt; is_printed(rt.alloc(), &faults, ": x\nx\na.b: y\nz\n")?);
     Ok(())
 }
 
-/// How a clone of an error compares with it, and whether it equals it.
-fn clone_compared(error: &Error) -> Result<(Ordering, bool), AllocError> {
+/// Whether a clone of an error equals it.
+fn is_cloned(error: &Error) -> Result<bool, AllocError> {
     let copy = error.clone()?;
-    Ok(compared(&copy, error))
+    Ok(compared(&copy, error) == (Ordering::Equal, true))
+}
+
+/// Whether the clone of a report has the same faults, each equal to its own clone.
+fn is_report_cloned(report: &Report) -> Result<bool, AllocError> {
+    let copy = report.clone()?.into_inner();
+    for (fault, like) in report.iter().zip(&copy) {
+        if fault != like || !is_cloned(&fault.1)? {
+            return Ok(false);
+        }
+    }
+    Ok(copy.len() == report.len())
 }
 
 #[test]
 fn a_clone_is_equal(rt: HostRuntime) -> Result<(), Fail> {
     let report = four_faults(rt.alloc())?;
-    let copy = report.clone()?.into_inner();
-    assert_eq!(rt; copy.len(), 4);
-    for (fault, like) in report.iter().zip(&copy) {
-        assert!(rt; fault == like);
-        assert_eq!(rt; clone_compared(&fault.1)?, (Ordering::Equal, true));
-    }
+    assert_eq!(rt; report.len(), 4);
+    assert!(rt; is_report_cloned(&report)?);
     Ok(())
+}
+
+/// Whether these messages are selected of a report.
+fn is_selected(report: &Report, way: &[&str], messages: &[&str]) -> bool {
+    let found = select(report, way).map(|error| error.message());
+    found.eq(messages.iter().copied())
 }
 
 #[test]
 fn select_takes_what_stands_beneath(rt: HostRuntime) -> Result<(), Fail> {
-    let report = four_faults(rt.alloc())?;
     let rows: [(&[&str], &[&str]); 5] = [
         (&["a", "b", "c"], &["that seems wrong", "pog"]),
         (&["array", "0", "c"], &["pog"]),
@@ -251,8 +309,7 @@ fn select_takes_what_stands_beneath(rt: HostRuntime) -> Result<(), Fail> {
         (&["b"], &[]),
     ];
     for (way, messages) in rows {
-        let found = select(&report, way).map(|error| error.message());
-        assert!(rt; found.eq(messages.iter().copied()));
+        assert!(rt; is_selected(&four_faults(rt.alloc())?, way, messages));
     }
     Ok(())
 }
@@ -263,6 +320,12 @@ fn is_kept(alloc: Global, handed: CowStr<'static>, text: &str) -> Result<bool, A
         RuleError::Fault(error) => Ok(error.message() == text && error.clone()? == error),
         RuleError::Memory => Err(AllocError),
     }
+}
+
+/// The same of a text that the fault owns.
+fn is_owned_kept(alloc: Global, text: &str) -> Result<bool, AllocError> {
+    let owned = String::from_str(alloc, text)?;
+    is_kept(alloc, CowStr::Owned(owned), text)
 }
 
 #[test]
@@ -280,8 +343,7 @@ fn a_rule_error_keeps_the_text(rt: HostRuntime) -> Result<(), Fail> {
             is_kept(rt.alloc(), CowStr::Borrowed(text), text)?,
             "{text}"
         );
-        let owned = String::from_str(rt.alloc(), text)?;
-        assert!(rt; is_kept(rt.alloc(), CowStr::Owned(owned), text)?, "{text}");
+        assert!(rt; is_owned_kept(rt.alloc(), text)?, "{text}");
     }
     Ok(())
 }
@@ -291,14 +353,23 @@ fn last_of(alloc: Global, path: &Path) -> Result<Given<'_>, AllocError> {
     Ok(path.iter(alloc)?.last())
 }
 
+/// Whether the clone of a path equals it, in order and hash.
+fn is_path_cloned(path: &Path) -> Result<bool, AllocError> {
+    let like = path.clone()?;
+    let is_hashed = hash_of(path) == hash_of(&like);
+    Ok(compared(path, &like) == (Ordering::Equal, true) && is_hashed)
+}
+
+/// Whether the path of so many components is cloned, walked to `[0]`, and printed in so many bytes.
+fn is_long(alloc: Global, size: usize, bytes: usize) -> Result<bool, Fail> {
+    let path = path_to(alloc, size)?;
+    let is_walked = last_of(alloc, &path)? == Some(ZERO);
+    Ok(is_walked && is_path_cloned(&path)? && printed(alloc, &path)?.len() == bytes)
+}
+
 #[test]
 fn a_million_components_need_no_deep_stack(rt: HostRuntime) -> Result<(), Fail> {
-    let path = path_to(rt.alloc(), 1_000_000)?;
-    let like = path.clone()?;
-    assert_eq!(rt; compared(&path, &like), (Ordering::Equal, true));
-    assert_eq!(rt; hash_of(&path), hash_of(&like));
-    assert_eq!(rt; last_of(rt.alloc(), &path)?, Some(ZERO));
     // The digits of all indices, and two brackets for each.
-    assert_eq!(rt; printed(rt.alloc(), &path)?.len(), 7_888_890);
+    assert!(rt; is_long(rt.alloc(), 1_000_000, 7_888_890)?);
     Ok(())
 }

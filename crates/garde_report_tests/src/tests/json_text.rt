@@ -27,8 +27,7 @@ fn the_text_is_that_of_the_tree(rt: HostRuntime) -> Result<(), Fail> {
     let text =
         "{\"errors\":[[[[\"index\",\"7\"],[\"key\",\"a\\\"b\"]],{\"message\":\"not ASCII: \u{e9}\\n\"}],[[[\"none\",\"\"]],{\"message\":\"x\"}],[[],{\"message\":\"\"}]]}";
     for (faults, text) in [(&[] as &[_], r#"{"errors":[]}"#), (&faults, text)] {
-        let report = report_of(rt.alloc(), faults)?;
-        assert!(rt; is_text_of(rt.alloc(), &report, text)?);
+        assert!(rt; is_text_of(rt.alloc(), &report_of(rt.alloc(), faults)?, text)?);
     }
     Ok(())
 }

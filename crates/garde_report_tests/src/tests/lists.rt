@@ -11,30 +11,63 @@ fn has_items(list: &List<char>, items: &[char]) -> bool {
     list.iter().eq(items)
 }
 
+/// Whether a list to which items are appended keeps its own, and so does its clone.
+fn is_left(alloc: Global) -> Result<bool, Fail> {
+    let a = list_of(alloc, &['a'])?;
+    let kept = a.clone()?;
+    let all = a.append(alloc, 'c')?.append(alloc, 'd')?;
+    let is_longer = all.len() == 3 && has_items(&all, &['d', 'c', 'a']);
+    Ok(is_longer && has_items(&a, &['a']) && kept.len() == 1)
+}
+
+/// Whether a list has an item that is appended to none.
+fn is_appended(alloc: Global, item: char) -> Result<bool, Fail> {
+    let list = List::new().append(alloc, item)?;
+    Ok(has_items(&list, &[item]))
+}
+
 #[test]
 fn append_leaves_the_old_list(rt: HostRuntime) -> Result<(), Fail> {
-    let a = list_of(rt.alloc(), &['a'])?;
-    let kept = a.clone()?;
-    let all = a.append(rt.alloc(), 'c')?.append(rt.alloc(), 'd')?;
-    assert_eq!(rt; all.len(), 3);
-    assert!(rt; has_items(&all, &['d', 'c', 'a']));
-    assert!(rt; has_items(&a, &['a']));
-    assert_eq!(rt; kept.len(), 1);
-    let b = List::new().append(rt.alloc(), 'b')?;
-    assert!(rt; has_items(&b, &['b']));
+    assert!(rt; is_left(rt.alloc())?);
+    assert!(rt; is_appended(rt.alloc(), 'b')?);
     Ok(())
+}
+
+/// Whether these stand before the last item of a list.
+fn is_before(alloc: Global, items: &[char], before: &[char]) -> Result<bool, Fail> {
+    let all = list_of(alloc, items)?;
+    Ok(match all.before()? {
+        Some(list) => has_items(&list, before) && list.iter().len() == before.len(),
+        None => false,
+    })
+}
+
+/// Whether the list without items has nothing before its last.
+fn is_none_before() -> Result<bool, Fail> {
+    let none = List::<char>::new();
+    Ok(none.is_empty() && none.before()?.is_none())
 }
 
 #[test]
 fn before_leaves_the_last_item_out(rt: HostRuntime) -> Result<(), Fail> {
-    let all = list_of(rt.alloc(), &['a', 'c', 'd'])?;
-    let before = all.before()?.ok_or("there is an item")?;
-    assert!(rt; has_items(&before, &['c', 'a']));
-    assert_eq!(rt; before.iter().len(), 2);
-    let none = List::<char>::new();
-    assert!(rt; none.is_empty());
-    assert!(rt; none.before()?.is_none());
+    assert!(rt; is_before(rt.alloc(), &['a', 'c', 'd'], &['c', 'a'])?);
+    assert!(rt; is_none_before()?);
     Ok(())
+}
+
+/// Whether the lists of these items are in this order, equal only where that is equality, and of
+/// one hash then.
+fn are_in_order(
+    alloc: Global,
+    items: &[char],
+    others: &[char],
+    order: Ordering,
+) -> Result<bool, Fail> {
+    let list = list_of(alloc, items)?;
+    let other = list_of(alloc, others)?;
+    let same = order == Ordering::Equal;
+    let is_hashed = !same || hash_of(&list) == hash_of(&other);
+    Ok(compared(&list, &other) == (order, same) && is_hashed)
 }
 
 #[test]
@@ -46,38 +79,44 @@ fn fewer_items_come_first(rt: HostRuntime) -> Result<(), Fail> {
         (&['a', 'c'], &['a', 'c'], Ordering::Equal),
     ];
     for (items, others, order) in rows {
-        let list = list_of(rt.alloc(), items)?;
-        let other = list_of(rt.alloc(), others)?;
-        let same = order == Ordering::Equal;
-        assert_eq!(rt; compared(&list, &other), (order, same));
-        assert!(rt; !same || hash_of(&list) == hash_of(&other));
+        assert!(rt; are_in_order(rt.alloc(), items, others, order)?);
     }
     Ok(())
 }
 
+/// Whether the list of these items is shown so.
+fn is_shown(alloc: Global, items: &[char], wanted: &str) -> Result<bool, Fail> {
+    let list = list_of(alloc, items)?;
+    Ok(shown(alloc, &list)?.as_str() == wanted)
+}
+
 #[test]
 fn debug_shows_the_first_item_first(rt: HostRuntime) -> Result<(), Fail> {
-    let list = list_of(rt.alloc(), &['a', 'c', 'd'])?;
-    assert_eq!(rt; shown(rt.alloc(), &list)?.as_str(), "['a', 'c', 'd']");
+    assert!(rt; is_shown(rt.alloc(), &['a', 'c', 'd'], "['a', 'c', 'd']")?);
     Ok(())
 }
 
-/// The list of the numbers below a million.
-fn a_million_numbers(alloc: Global) -> Result<List<u32>, JoinError> {
+/// The list of the numbers below this one.
+fn numbers_below(alloc: Global, size: u32) -> Result<List<u32>, JoinError> {
     let mut list = List::new();
-    for item in 0..1_000_000u32 {
+    for item in 0..size {
         list = list.append(alloc, item)?;
     }
     Ok(list)
 }
 
+/// Whether the list of so many numbers is cloned, walked to 0, and shown in so many bytes.
+fn is_long(alloc: Global, size: u32, bytes: usize) -> Result<bool, Fail> {
+    let list = numbers_below(alloc, size)?;
+    let like = list.clone()?;
+    let is_cloned = compared(&list, &like) == (Ordering::Equal, true);
+    let is_walked = list.iter().last().copied() == Some(0);
+    Ok(is_cloned && is_walked && shown(alloc, &list)?.len() == bytes)
+}
+
 #[test]
 fn a_million_items_need_no_deep_stack(rt: HostRuntime) -> Result<(), Fail> {
-    let list = a_million_numbers(rt.alloc())?;
-    let like = list.clone()?;
-    assert_eq!(rt; compared(&list, &like), (Ordering::Equal, true));
-    assert_eq!(rt; list.iter().last().copied(), Some(0));
     // Nine items of ten have six digits, and between two items stand a comma and a blank.
-    assert_eq!(rt; shown(rt.alloc(), &list)?.len(), 7_888_890);
+    assert!(rt; is_long(rt.alloc(), 1_000_000, 7_888_890)?);
     Ok(())
 }

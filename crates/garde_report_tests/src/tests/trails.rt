@@ -3,7 +3,6 @@
 use crate::samples::printed;
 use garde_report::{Component, Error, Report, RuleError, Trail};
 use std::alloc::{AllocError, Global};
-use std::process::Abort;
 use std::test::Fail;
 
 /// A step on a way.
@@ -20,25 +19,30 @@ fn is_at(trail: &mut Trail<'_>, alloc: Global, text: &str) -> Result<bool, Alloc
     Ok(printed(alloc, &trail.path()?)?.as_str() == text)
 }
 
-/// Asserts each text and count on a way of these steps.
-fn takes_the_steps(rt: &impl Abort, alloc: Global, steps: &[Step]) -> Result<(), Fail> {
-    let mut trail = Trail::new(alloc);
-    for step in steps {
-        match *step {
-            Step::Index(index) => trail.push(Component::index(index))?,
-            Step::Key(text) => trail.push(Component::key(text))?,
-            Step::Pop => {
-                if trail.depth() > 0 {
-                    trail.pop();
-                }
-            }
-            Step::Path(text, nodes) => {
-                assert!(rt; is_at(&mut trail, alloc, text)?, "at {text}");
-                assert_eq!(rt; trail.nodes(), nodes, "at {text}");
+/// Takes a step. Answers whether the path has its text then, and the trail so many nodes.
+fn takes(trail: &mut Trail<'_>, alloc: Global, step: Step) -> Result<bool, AllocError> {
+    match step {
+        Step::Index(index) => trail.push(Component::index(index))?,
+        Step::Key(text) => trail.push(Component::key(text))?,
+        Step::Pop => {
+            if trail.depth() > 0 {
+                trail.pop();
             }
         }
+        Step::Path(text, nodes) => return Ok(is_at(trail, alloc, text)? && trail.nodes() == nodes),
     }
-    Ok(())
+    Ok(true)
+}
+
+/// How many of these steps are taken before the first path or count that is another.
+fn taken(alloc: Global, steps: &[Step]) -> Result<usize, AllocError> {
+    let mut trail = Trail::new(alloc);
+    for (number, step) in steps.iter().enumerate() {
+        if !takes(&mut trail, alloc, *step)? {
+            return Ok(number);
+        }
+    }
+    Ok(steps.len())
 }
 
 #[test]
@@ -55,7 +59,8 @@ fn a_path_is_made_once_and_goes_with_its_component(rt: HostRuntime) -> Result<()
         Step::Pop,
         Step::Path("", 3),
     ];
-    takes_the_steps(&rt, rt.alloc(), &steps)
+    assert_eq!(rt; taken(rt.alloc(), &steps)?, steps.len());
+    Ok(())
 }
 
 #[test]
@@ -75,7 +80,8 @@ fn missing_paths_are_made_from_the_deepest_one_on(rt: HostRuntime) -> Result<(),
         Step::Key("a"),
         Step::Path("a", 5),
     ];
-    takes_the_steps(&rt, rt.alloc(), &steps)
+    assert_eq!(rt; taken(rt.alloc(), &steps)?, steps.len());
+    Ok(())
 }
 
 /// Puts the fault `weak`.
@@ -84,29 +90,42 @@ fn put_weak(trail: &mut Trail<'_>, alloc: Global, report: &mut Report) -> Result
     trail.put(report, Err(RuleError::Fault(weak)))
 }
 
+/// Whether Ok puts nothing into a report, and makes no node.
+fn puts_nothing(trail: &mut Trail<'_>, report: &mut Report) -> Result<bool, AllocError> {
+    trail.put(report, Ok(()))?;
+    Ok(report.is_empty() && trail.nodes() == 0)
+}
+
+/// Whether one fault and one want of memory beneath a key make one line and one node.
+fn puts_a_fault(alloc: Global) -> Result<bool, AllocError> {
+    let mut report = Report::new(alloc);
+    let mut trail = Trail::new(alloc);
+    trail.push(Component::key("a"))?;
+    let is_nothing = puts_nothing(&mut trail, &mut report)?;
+    put_weak(&mut trail, alloc, &mut report)?;
+    let is_refused = trail.put(&mut report, Err(RuleError::Memory)).is_err();
+    let is_one = trail.nodes() == 1 && printed(alloc, &report)?.as_str() == "a: weak\n";
+    Ok(is_nothing && is_refused && is_one)
+}
+
 #[test]
 fn put_appends_a_fault_and_nothing_else(rt: HostRuntime) -> Result<(), Fail> {
-    let mut report = Report::new(rt.alloc());
-    let mut trail = Trail::new(rt.alloc());
-    trail.push(Component::key("a"))?;
-    trail.put(&mut report, Ok(()))?;
-    assert!(rt; report.is_empty());
-    assert_eq!(rt; trail.nodes(), 0);
-    put_weak(&mut trail, rt.alloc(), &mut report)?;
-    assert!(rt; trail.put(&mut report, Err(RuleError::Memory)).is_err());
-    assert_eq!(rt; printed(rt.alloc(), &report)?.as_str(), "a: weak\n");
-    assert_eq!(rt; trail.nodes(), 1);
+    assert!(rt; puts_a_fault(rt.alloc())?);
     Ok(())
+}
+
+/// Whether the path of a way of so many components has as many, and as many nodes.
+fn has_all_its_nodes(alloc: Global, size: usize) -> Result<bool, AllocError> {
+    let mut trail = Trail::new(alloc);
+    for index in 0..size {
+        trail.push(Component::index(index))?;
+    }
+    let length = trail.path()?.len();
+    Ok(length == size && trail.nodes() == size && trail.depth() == size)
 }
 
 #[test]
 fn a_deep_way_has_all_its_nodes(rt: HostRuntime) -> Result<(), Fail> {
-    let mut trail = Trail::new(rt.alloc());
-    for index in 0..12usize {
-        trail.push(Component::index(index))?;
-    }
-    assert_eq!(rt; trail.path()?.len(), 12);
-    assert_eq!(rt; trail.nodes(), 12);
-    assert_eq!(rt; trail.depth(), 12);
+    assert!(rt; has_all_its_nodes(rt.alloc(), 12)?);
     Ok(())
 }

@@ -1,8 +1,8 @@
 //! Tests of IP addresses, on a table of texts.
-use super::assert_answer;
+use super::tells;
 use garde_i18n::DefaultI18n;
 use garde_rules::ip::{self, Ip, IpKind, is_ipv4, is_ipv6};
-use std::alloc::Global;
+use std::alloc::{AllocError, Global};
 use std::test::Fail;
 
 /// Texts, each with the version of the address that it is, or `-` where it is none.
@@ -267,45 +267,52 @@ static ADDRESSES: [(char, &str); 253] = [
     ('-', "1.2.3.4::"),
 ];
 
-/// Whether a text is an address of version 4, and whether it is one of version 6.
-fn versions(text: &str) -> (bool, bool) {
-    (is_ipv4(text), is_ipv6(text))
+/// Whether a text is an address of this version alone, or none where the version is `-`.
+fn is_of_version(text: &str, version: char) -> bool {
+    is_ipv4(text) == (version == '4') && is_ipv6(text) == (version == '6')
 }
 
 #[test]
 fn tells_addresses_by_their_version(rt: HostRuntime) {
     for (version, text) in &ADDRESSES {
-        let wanted = (*version == '4', *version == '6');
-        assert_eq!(rt; versions(text), wanted, "{text}");
+        assert!(rt; is_of_version(text, *version), "{version}: {text}");
     }
 }
+
+/// Whether this is found in a text that is asked for an address of a kind.
+fn finds(alloc: Global, kind: IpKind, text: &str, fault: Option<&str>) -> bool {
+    tells(ip::apply(alloc, &text, (kind,), &DefaultI18n), fault)
+}
+
+/// The kind that is asked for, a text, and the fault that is found.
+static ASKED: [(IpKind, &str, Option<&str>); 8] = [
+    (IpKind::Any, "0.0.0.0", None),
+    (IpKind::Any, "::", None),
+    (IpKind::Any, "1.2.3", Some("not a valid IP address")),
+    (IpKind::Any, "::1.2.3.256", Some("not a valid IP address")),
+    (IpKind::V4, "0.0.0.0", None),
+    (IpKind::V4, "::", Some("not a valid IPv4 address")),
+    (IpKind::V6, "::", None),
+    (IpKind::V6, "0.0.0.0", Some("not a valid IPv6 address")),
+];
 
 #[test]
 fn asks_for_an_address_of_a_kind(rt: HostRuntime) {
-    let rows = [
-        (IpKind::Any, "0.0.0.0", None),
-        (IpKind::Any, "::", None),
-        (IpKind::Any, "1.2.3", Some("not a valid IP address")),
-        (IpKind::Any, "::1.2.3.256", Some("not a valid IP address")),
-        (IpKind::V4, "0.0.0.0", None),
-        (IpKind::V4, "::", Some("not a valid IPv4 address")),
-        (IpKind::V6, "::", None),
-        (IpKind::V6, "0.0.0.0", Some("not a valid IPv6 address")),
-    ];
-    for (kind, text, fault) in rows {
-        assert_answer(
-            &rt,
-            ip::apply(rt.alloc(), &text, (kind,), &DefaultI18n),
-            fault,
-        );
+    for (kind, text, fault) in &ASKED {
+        assert!(rt; finds(rt.alloc(), *kind, text, *fault), "{text}");
     }
 }
 
-/// What the refusal of a text prints, which is no address.
-fn refused(alloc: Global, kind: IpKind) -> Result<String, Fail> {
-    match "1.2.3".validate_ip(kind) {
-        Ok(()) => Err("a fault is missing".into()),
-        Err(error) => Ok(error.to_string(alloc)?),
+/// Whether a value is refused that is asked for an address of a kind, and the refusal prints this.
+fn refusal_prints<T: Ip>(
+    alloc: Global,
+    value: &T,
+    kind: IpKind,
+    printed: &str,
+) -> Result<bool, AllocError> {
+    match value.validate_ip(kind) {
+        Ok(()) => Ok(false),
+        Err(error) => Ok(error.to_string(alloc)?.as_str() == printed),
     }
 }
 
@@ -317,7 +324,10 @@ fn prints_the_kind_that_was_asked_for(rt: HostRuntime) -> Result<(), Fail> {
         (IpKind::V6, "invalid IPv6 address syntax"),
     ];
     for (kind, printed) in rows {
-        assert_eq!(rt; refused(rt.alloc(), kind)?.as_str(), printed);
+        assert!(rt;
+            refusal_prints(rt.alloc(), &"1.2.3", kind, printed)?,
+            "{printed}"
+        );
     }
     Ok(())
 }
@@ -332,21 +342,23 @@ fn prints_the_kind_through_an_option(rt: HostRuntime) -> Result<(), Fail> {
         (IpKind::V6, "0.0.0.0", "invalid IPv6 address syntax"),
     ];
     for (kind, text, printed) in rows {
-        match Some(Some(text)).validate_ip(kind) {
-            Ok(()) => assert!(rt; false, "a fault is missing"),
-            Err(error) => assert_eq!(rt; error.to_string(rt.alloc())?.as_str(), printed),
-        }
+        let option = Some(Some(text));
+        assert!(rt;
+            refusal_prints(rt.alloc(), &option, kind, printed)?,
+            "{text}: {printed}"
+        );
     }
     Ok(())
 }
 
+/// Whether an option passes that is asked for an address of version 4.
+fn passes(option: Option<&str>) -> bool {
+    option.validate_ip(IpKind::V4).is_ok()
+}
+
 #[test]
 fn passes_an_option_without_an_address(rt: HostRuntime) {
-    for (option, passes) in [
-        (None, true),
-        (Some("1.2.3"), false),
-        (Some("1.2.3.4"), true),
-    ] {
-        assert_eq!(rt; option.validate_ip(IpKind::V4).is_ok(), passes);
-    }
+    assert!(rt; passes(None));
+    assert!(rt; !passes(Some("1.2.3")));
+    assert!(rt; passes(Some("1.2.3.4")));
 }

@@ -5,7 +5,7 @@ ghost use Rattle.garde_lengths.specs.Applies.{Applies};
 ghost use Rattle.garde_rules.specs.Holds.{provided, unless};
 ghost use Rattle.garde_rules.specs.Text.{has_prefix, is_ascii_text};
 
-use super::assert_answer;
+use super::tells;
 use garde_i18n::{DefaultI18n, I18n};
 use garde_report::{Component, Report, RuleError, Trail};
 use garde_rules::{adapt, ascii, inner, prefix, when};
@@ -42,44 +42,46 @@ fn label_prefix<H: I18n>(
     )
 }
 
+/// Whether this is found in a text that is asked for ASCII under a condition.
+fn finds(alloc: Global, cond: bool, text: &str, fault: Option<&str>) -> bool {
+    tells(ascii_when(alloc, cond, text, &DefaultI18n), fault)
+}
+
 #[test]
 fn asks_where_the_condition_holds(rt: HostRuntime) {
-    let alloc = rt.alloc();
-    let rows = [
-        (true, "é", Some("not ascii")),
-        (true, "e", None),
-        (false, "é", None),
-    ];
-    for (cond, text, fault) in rows {
-        assert_answer(&rt, ascii_when(alloc, cond, text, &DefaultI18n), fault);
-    }
+    assert!(rt; finds(rt.alloc(), true, "é", Some("not ascii")));
+    assert!(rt; finds(rt.alloc(), true, "e", None));
+    assert!(rt; finds(rt.alloc(), false, "é", None));
+}
+
+/// Whether a rule that passes is called so often under a condition, and the answer is Ok.
+fn is_called(cond: bool, times: u8) -> bool {
+    let mut calls = 0u8;
+    let answer = when(cond, || {
+        calls = calls.wrapping_add(1);
+        Ok(())
+    });
+    answer.is_ok() && calls == times
 }
 
 #[test]
 fn calls_the_rule_once_or_never(rt: HostRuntime) {
-    for (cond, times) in [(false, 0), (true, 1)] {
-        let mut calls = 0u8;
-        let answer = when(cond, || {
-            calls = calls.wrapping_add(1);
-            Ok(())
-        });
-        assert!(rt; answer.is_ok());
-        assert_eq!(rt; calls, times);
-    }
+    assert!(rt; is_called(false, 0));
+    assert!(rt; is_called(true, 1));
+}
+
+/// Whether this is found in the label `t-1` that is asked for its beginning.
+fn finds_in_label(alloc: Global, pattern: &str, fault: Option<&str>) -> Result<bool, AllocError> {
+    let text = String::from_str(alloc, "t-1")?;
+    let answer = label_prefix(alloc, &Label { text }, pattern, &DefaultI18n);
+    Ok(tells(answer, fault))
 }
 
 #[test]
 fn asks_of_the_view(rt: HostRuntime) -> Result<(), Fail> {
-    let alloc = rt.alloc();
-    let label = Label {
-        text: String::from_str(alloc, "t-1")?,
-    };
-    assert_answer(&rt, label_prefix(alloc, &label, "t-", &DefaultI18n), None);
-    assert_answer(
-        &rt,
-        label_prefix(alloc, &label, "x", &DefaultI18n),
-        Some("value does not begin with \"x\""),
-    );
+    let fault = Some("value does not begin with \"x\"");
+    assert!(rt; finds_in_label(rt.alloc(), "t-", None)?);
+    assert!(rt; finds_in_label(rt.alloc(), "x", fault)?);
     Ok(())
 }
 
@@ -100,20 +102,22 @@ fn check_word<'a>(
     put
 }
 
-#[test]
-fn asks_in_a_walk(rt: HostRuntime) -> Result<(), Fail> {
-    let alloc = rt.alloc();
+/// Whether a walk of three words finds faults that print this.
+fn walk_prints(alloc: Global, words: &[&str; 3], text: &str) -> Result<bool, AllocError> {
     let mut trail = Trail::new(alloc);
     let mut report = Report::new(alloc);
     inner::apply(
-        &["é", "ué", "ü"],
+        words,
         &mut trail,
         &mut report,
         |word: &&str, component, trail, report| check_word(alloc, word, component, trail, report),
     )?;
-    assert_eq!(rt;
-        report.to_string(alloc)?.as_str(),
-        "[0]: not ascii\n[2]: not ascii\n"
-    );
+    Ok(report.to_string(alloc)?.as_str() == text)
+}
+
+#[test]
+fn asks_in_a_walk(rt: HostRuntime) -> Result<(), Fail> {
+    let text = "[0]: not ascii\n[2]: not ascii\n";
+    assert!(rt; walk_prints(rt.alloc(), &["é", "ué", "ü"], text)?);
     Ok(())
 }

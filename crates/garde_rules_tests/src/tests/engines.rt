@@ -11,27 +11,37 @@ fn is_found(alloc: Global, source: &str, text: &str) -> Result<bool, Fail> {
     Ok(pattern.is_match(alloc, text)?)
 }
 
+/// A pattern, a text, and whether it is found there.
+static FOUND: [(&str, &str, bool); 7] = [
+    ("^[0-9]{5}$", "12345", true),
+    ("^[0-9]{5}$", "123", false),
+    ("^[0-9]{5}$", "123456", false),
+    ("b+", "abbc", true),
+    ("b+", "", false),
+    ("", "", true),
+    (r"^\w+$", "é", true),
+];
+
 #[test]
 fn matches_anywhere_in_a_text(rt: HostRuntime) -> Result<(), Fail> {
-    let rows = [
-        ("^[0-9]{5}$", "12345", true),
-        ("^[0-9]{5}$", "123", false),
-        ("^[0-9]{5}$", "123456", false),
-        ("b+", "abbc", true),
-        ("b+", "", false),
-        ("", "", true),
-        (r"^\w+$", "é", true),
-    ];
-    for (source, text, found) in rows {
-        assert_eq!(rt; is_found(rt.alloc(), source, text)?, found, "{source}");
+    for (source, text, found) in &FOUND {
+        assert!(rt;
+            is_found(rt.alloc(), source, text)? == *found,
+            "{source}: {text}"
+        );
     }
     Ok(())
 }
 
+/// Whether the pattern of this source keeps it.
+fn keeps(alloc: Global, source: &str) -> Result<bool, Fail> {
+    let pattern = Regex::new(alloc, source)?;
+    Ok(pattern.as_str() == source)
+}
+
 #[test]
 fn keeps_the_source_of_a_pattern(rt: HostRuntime) -> Result<(), Fail> {
-    let pattern = Regex::new(rt.alloc(), "^[0-9]{5}$")?;
-    assert_eq!(rt; pattern.as_str(), "^[0-9]{5}$");
+    assert!(rt; keeps(rt.alloc(), "^[0-9]{5}$")?);
     Ok(())
 }
 
@@ -39,21 +49,45 @@ fn keeps_the_source_of_a_pattern(rt: HostRuntime) -> Result<(), Fail> {
 const LONG: &str =
     "abbc abbc abbc abbc abbc abbc abbc abbc abbc abbc abbc abbc abbc abbc abbc abbc abbc abbc abbc abbc abbbbc";
 
+/// Whether a searcher of the pattern of this source keeps it.
+fn searcher_keeps(alloc: Global, source: &str) -> Result<bool, Fail> {
+    let pattern = Regex::new(alloc, source)?;
+    let searcher = pattern.searcher(alloc)?;
+    Ok(searcher.as_str() == source)
+}
+
+/// How many of these texts, from the first on, one searcher answers as it is said beside them.
+fn answered_in_turn(alloc: Global, source: &str, rows: &[(&str, bool)]) -> Result<usize, Fail> {
+    let pattern = Regex::new(alloc, source)?;
+    let searcher = pattern.searcher(alloc)?;
+    for (row, (text, found)) in rows.iter().enumerate() {
+        if searcher.is_match(alloc, text)? != *found {
+            return Ok(row);
+        }
+    }
+    Ok(rows.len())
+}
+
 #[test]
 fn searches_again_by_one_searcher(rt: HostRuntime) -> Result<(), Fail> {
-    let pattern = Regex::new(rt.alloc(), "b+c$")?;
-    let searcher = pattern.searcher(rt.alloc())?;
-    assert_eq!(rt; searcher.as_str(), "b+c$");
-    for (text, found) in [
+    let rows = [
         ("abbc", true),
         ("bca", false),
         ("", false),
         (LONG, true),
         ("abbc", true),
-    ] {
-        assert_eq!(rt; searcher.is_match(rt.alloc(), text)?, found, "{text}");
-    }
+    ];
+    assert!(rt; searcher_keeps(rt.alloc(), "b+c$")?);
+    assert_eq!(rt; answered_in_turn(rt.alloc(), "b+c$", &rows)?, 5);
     Ok(())
+}
+
+/// Whether a source is refused as a pattern for this reason.
+fn is_refused(alloc: Global, source: &str, refused: PatternRefused) -> bool {
+    match Regex::new(alloc, source) {
+        Ok(_) => false,
+        Err(reason) => reason == refused,
+    }
 }
 
 #[test]
@@ -65,39 +99,47 @@ fn says_why_a_pattern_is_refused(rt: HostRuntime) {
         (r"(?:\pL{1000}){1000}", PatternRefused::Other),
     ];
     for (source, refused) in rows {
-        match Regex::new(rt.alloc(), source) {
-            Ok(_) => assert!(rt; false, "/{source}/ was compiled"),
-            Err(reason) => assert_eq!(rt; reason, refused, "/{source}/"),
-        }
+        assert!(rt; is_refused(rt.alloc(), source, refused), "/{source}/");
     }
 }
 
-/// Whether a text is a URL, or why it is none.
-fn checked(alloc: Global, text: &str) -> Result<Result<(), InvalidUrl>, AllocError> {
-    check_url(alloc, text)
+/// Whether a text is a URL, or refused for this reason, as it is said.
+fn is_checked(
+    alloc: Global,
+    text: &str,
+    wanted: Result<(), InvalidUrl>,
+) -> Result<bool, AllocError> {
+    Ok(check_url(alloc, text)? == wanted)
 }
+
+/// A text, and what is said of it as a URL.
+static LINKS: [(&str, Result<(), InvalidUrl>); 13] = [
+    ("https://example.com/", Ok(())),
+    ("https://example.com:443/a?b#c", Ok(())),
+    ("mailto:a@example.com", Ok(())),
+    ("abc", Err(InvalidUrl::RelativeUrlWithoutBase)),
+    ("", Err(InvalidUrl::RelativeUrlWithoutBase)),
+    ("http://", Err(InvalidUrl::EmptyHost)),
+    ("http://a:65536/", Err(InvalidUrl::InvalidPort)),
+    ("http://1.2.3.256/", Err(InvalidUrl::InvalidIpv4Address)),
+    ("http://[::g]/", Err(InvalidUrl::InvalidIpv6Address)),
+    ("x://a:1\\", Err(InvalidUrl::InvalidPort)),
+    ("x://@", Err(InvalidUrl::EmptyHost)),
+    ("ssh://a b/", Err(InvalidUrl::InvalidDomainCharacter)),
+    ("https://\u{FFFD}/", Err(InvalidUrl::IdnaError)),
+];
 
 #[test]
 fn says_why_a_text_is_no_url(rt: HostRuntime) -> Result<(), Fail> {
-    let rows = [
-        ("https://example.com/", Ok(())),
-        ("https://example.com:443/a?b#c", Ok(())),
-        ("mailto:a@example.com", Ok(())),
-        ("abc", Err(InvalidUrl::RelativeUrlWithoutBase)),
-        ("", Err(InvalidUrl::RelativeUrlWithoutBase)),
-        ("http://", Err(InvalidUrl::EmptyHost)),
-        ("http://a:65536/", Err(InvalidUrl::InvalidPort)),
-        ("http://1.2.3.256/", Err(InvalidUrl::InvalidIpv4Address)),
-        ("http://[::g]/", Err(InvalidUrl::InvalidIpv6Address)),
-        ("x://a:1\\", Err(InvalidUrl::InvalidPort)),
-        ("x://@", Err(InvalidUrl::EmptyHost)),
-        ("ssh://a b/", Err(InvalidUrl::InvalidDomainCharacter)),
-        ("https://\u{FFFD}/", Err(InvalidUrl::IdnaError)),
-    ];
-    for (text, answer) in rows {
-        assert_eq!(rt; checked(rt.alloc(), text)?, answer, "{text}");
+    for (text, answer) in &LINKS {
+        assert!(rt; is_checked(rt.alloc(), text, *answer)?, "{text}");
     }
     Ok(())
+}
+
+/// Whether an error has this reason.
+fn has_reason(error: &ParseError, wanted: Option<InvalidUrl>) -> bool {
+    reason(error) == wanted
 }
 
 #[test]
@@ -113,7 +155,7 @@ fn keeps_the_name_of_an_error(rt: HostRuntime) {
         (ParseError::Overflow, None),
         (ParseError::OutOfMemory, None),
     ];
-    for (error, kept) in rows {
-        assert_eq!(rt; reason(&error), kept);
+    for (row, (error, kept)) in rows.iter().enumerate() {
+        assert!(rt; has_reason(error, *kept), "row {row}");
     }
 }

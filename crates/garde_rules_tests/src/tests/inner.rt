@@ -3,7 +3,6 @@ use garde_report::{Report, Trail};
 use garde_rules::inner::{self, Inner};
 use std::alloc::{AllocError, Global};
 use std::collections::BTreeMap;
-use std::process::Abort;
 use std::test::Fail;
 
 /// Pushes the component of each item, and so leaves it on the trail. Refuses the item 9.
@@ -34,48 +33,59 @@ fn left<C: Inner<u8>>(alloc: Global, field: &C) -> Result<(bool, String), AllocE
     Ok((answer.is_ok(), path.to_string(alloc)?))
 }
 
-/// Asserts whether the walk comes to its end, and the path that it leaves.
-fn assert_left<C: Inner<u8> + Drop>(
-    rt: &impl Abort,
+/// Whether the walk comes to its end or not, as it is said, and leaves this path.
+fn leaves<C: Inner<u8>>(
     alloc: Global,
-    field: C,
+    field: &C,
     done: bool,
     path: &str,
-) -> Result<(), AllocError> {
-    let found = left(alloc, &field)?;
-    assert_eq!(rt; found.0, done);
-    assert_eq!(rt; found.1.as_str(), path);
-    Ok(())
+) -> Result<bool, AllocError> {
+    let (came, left) = left(alloc, field)?;
+    Ok(came == done && left.as_str() == path)
 }
 
 #[test]
 fn each_item_until_a_refusal(rt: HostRuntime) -> Result<(), Fail> {
-    let alloc = rt.alloc();
     let rows: [(&[u8], bool, &str); 3] = [
         (&[1, 2], true, "[0][1]"),
         (&[1, 9, 2], false, "[0]"),
         (&[], true, ""),
     ];
     for (items, done, path) in rows {
-        assert_left(&rt, alloc, items, done, path)?;
+        assert!(rt; leaves(rt.alloc(), &items, done, path)?, "{path}");
     }
     Ok(())
+}
+
+/// Whether the walk of a vector of two items comes to its end, and leaves this path.
+fn vector_leaves(alloc: Global, path: &str) -> Result<bool, AllocError> {
+    let items = vec![in alloc; 1u8, 2]?;
+    leaves(alloc, &items, true, path)
+}
+
+/// Whether the walk of a boxed slice of two items comes to its end, and leaves this path.
+fn box_leaves(alloc: Global, path: &str) -> Result<bool, AllocError> {
+    let items = vec![in alloc; 1u8, 2]?.into_boxed_slice();
+    leaves(alloc, &items, true, path)
 }
 
 #[test]
 fn vectors_arrays_boxes_and_options(rt: HostRuntime) -> Result<(), Fail> {
     let alloc = rt.alloc();
-    assert_left(&rt, alloc, vec![in alloc; 1u8, 2]?, true, "[0][1]")?;
-    let boxed = vec![in alloc; 1u8, 2]?.into_boxed_slice();
-    assert_left(&rt, alloc, boxed, true, "[0][1]")?;
-    assert_left(&rt, alloc, [1u8], true, "[0]")?;
-    assert_left(&rt, alloc, Some(9u8), false, "")?;
-    assert_left(&rt, alloc, None::<u8>, true, "")?;
+    assert!(rt; vector_leaves(alloc, "[0][1]")?);
+    assert!(rt; box_leaves(alloc, "[0][1]")?);
+    assert!(rt; leaves(alloc, &[1u8], true, "[0]")?);
+    assert!(rt; leaves(alloc, &Some(9u8), false, "")?);
+    assert!(rt; leaves(alloc, &None::<u8>, true, "")?);
     Ok(())
 }
 
-/// The path that a walk by the method leaves.
-fn left_by_the_method<C: Inner<u8>>(alloc: Global, field: &C) -> Result<String, AllocError> {
+/// Whether a walk by the method leaves this path.
+fn leaves_by_the_method<C: Inner<u8>>(
+    alloc: Global,
+    field: &C,
+    path: &str,
+) -> Result<bool, AllocError> {
     let mut trail = Trail::new(alloc);
     let mut report = Report::new(alloc);
     field.validate_inner(
@@ -83,26 +93,27 @@ fn left_by_the_method<C: Inner<u8>>(alloc: Global, field: &C) -> Result<String, 
         &mut report,
         |_item: &u8, component, trail, _report| trail.push(component),
     )?;
-    let path = trail.path()?;
-    path.to_string(alloc)
+    let left = trail.path()?;
+    Ok(left.to_string(alloc)?.as_str() == path)
 }
 
 #[test]
 fn the_method_walks_as_the_function(rt: HostRuntime) -> Result<(), Fail> {
-    let path = left_by_the_method(rt.alloc(), &[1u8, 2])?;
-    assert_eq!(rt; path.as_str(), "[0][1]");
+    assert!(rt; leaves_by_the_method(rt.alloc(), &[1u8, 2], "[0][1]")?);
     Ok(())
 }
 
-#[test]
-fn a_map_under_its_keys(rt: HostRuntime) -> Result<(), Fail> {
-    let alloc = rt.alloc();
+/// Whether the walk of a map, whose third item is refused, ends there and leaves this path.
+fn map_leaves(alloc: Global, path: &str) -> Result<bool, AllocError> {
     let mut items = BTreeMap::new(alloc);
     for (key, item) in [("b", 1u8), ("c", 9), ("a", 2), ("d", 3)] {
         items.insert(String::from_str(alloc, key)?, item)?;
     }
-    let found = left(alloc, &items)?;
-    assert!(rt; !found.0);
-    assert_eq!(rt; found.1.as_str(), "a.b");
+    leaves(alloc, &items, false, path)
+}
+
+#[test]
+fn a_map_under_its_keys(rt: HostRuntime) -> Result<(), Fail> {
+    assert!(rt; map_leaves(rt.alloc(), "a.b")?);
     Ok(())
 }

@@ -1,22 +1,20 @@
 //! Tests of patterns.
-use super::assert_answer;
+use super::tells;
 use garde_i18n::DefaultI18n;
 use garde_rules::AsStr;
 use garde_rules::pattern::regex::{PatternRefused, Regex};
 use garde_rules::pattern::{self, Matcher, Pattern};
 use std::alloc::{AllocError, Global};
-use std::process::Abort;
 use std::test::Fail;
 
-/// Asserts what the pattern of five digits answers of a value.
-fn assert_digits<T: Pattern>(rt: &impl Abort, alloc: Global, value: &T, fault: Option<&str>) {
+/// Whether this is found in a value that has to match the pattern of five digits.
+fn digits_tell<T: Pattern>(alloc: Global, value: &T, fault: Option<&str>) -> bool {
     match Regex::new(alloc, "^[0-9]{5}$") {
-        Ok(digits) => assert_answer(
-            rt,
+        Ok(digits) => tells(
             pattern::apply(alloc, value, (&digits,), &DefaultI18n),
             fault,
         ),
-        Err(_) => assert!(rt; false, "the pattern was refused"),
+        Err(_) => false,
     }
 }
 
@@ -24,32 +22,41 @@ fn assert_digits<T: Pattern>(rt: &impl Abort, alloc: Global, value: &T, fault: O
 fn asks_for_a_match(rt: HostRuntime) {
     let fault = Some("does not match pattern /^[0-9]{5}$/");
     for (text, fault) in [("12345", None), ("123", fault), ("", fault)] {
-        assert_digits(&rt, rt.alloc(), &text, fault);
-        assert_digits(&rt, rt.alloc(), &Some(text), fault);
+        assert!(rt; digits_tell(rt.alloc(), &text, fault), "{text}");
+        assert!(rt; digits_tell(rt.alloc(), &Some(text), fault), "{text}");
     }
-    assert_digits(&rt, rt.alloc(), &None::<&str>, None);
+    assert!(rt; digits_tell(rt.alloc(), &None::<&str>, None));
+}
+
+/// Whether a source is refused since it is no pattern.
+fn is_no_pattern(alloc: Global, source: &str) -> bool {
+    match Regex::new(alloc, source) {
+        Ok(_) => false,
+        Err(reason) => reason == PatternRefused::Syntax,
+    }
 }
 
 #[test]
 fn refuses_an_open_group(rt: HostRuntime) {
-    match Regex::new(rt.alloc(), "(") {
-        Ok(_) => assert!(rt; false, "the pattern was compiled"),
-        Err(reason) => assert_eq!(rt; reason, PatternRefused::Syntax),
-    }
+    assert!(rt; is_no_pattern(rt.alloc(), "("));
+}
+
+/// Whether a reason prints this text.
+fn prints(alloc: Global, refused: PatternRefused, text: &str) -> Result<bool, AllocError> {
+    Ok(refused.to_string(alloc)?.as_str() == text)
 }
 
 #[test]
 fn tells_why_a_pattern_was_refused(rt: HostRuntime) -> Result<(), Fail> {
-    let rows = [
-        (PatternRefused::Syntax, "the text is not a pattern"),
-        (
-            PatternRefused::Other,
-            "the pattern is too big, or out of memory",
-        ),
-    ];
-    for (refused, text) in rows {
-        assert!(rt; refused.to_string(rt.alloc())?.as_str() == text);
-    }
+    let other = "the pattern is too big, or out of memory";
+    assert!(rt;
+        prints(
+            rt.alloc(),
+            PatternRefused::Syntax,
+            "the text is not a pattern"
+        )?
+    );
+    assert!(rt; prints(rt.alloc(), PatternRefused::Other, other)?);
     Ok(())
 }
 
@@ -63,12 +70,22 @@ fn is_match<M: Matcher>(alloc: Global, matcher: &M, text: &str) -> Result<bool, 
     matcher.is_match(alloc, text)
 }
 
+/// Whether the pattern of this source lends it.
+fn lends(alloc: Global, source: &str) -> Result<bool, Fail> {
+    let word = Regex::new(alloc, source)?;
+    Ok(lent(&word) == source)
+}
+
+/// Whether the pattern of words matches a text.
+fn is_word(alloc: Global, text: &str) -> Result<bool, Fail> {
+    let word = Regex::new(alloc, r"^\w+$")?;
+    Ok(is_match(alloc, &word, text)?)
+}
+
 #[test]
 fn lends_its_source(rt: HostRuntime) -> Result<(), Fail> {
-    let alloc = rt.alloc();
-    let word = Regex::new(alloc, r"^\w+$")?;
-    assert_eq!(rt; lent(&word), r"^\w+$");
-    assert_eq!(rt; is_match(alloc, &word, "é")?, true);
-    assert_eq!(rt; is_match(alloc, &word, "a b")?, false);
+    assert!(rt; lends(rt.alloc(), r"^\w+$")?);
+    assert!(rt; is_word(rt.alloc(), "é")?);
+    assert!(rt; !is_word(rt.alloc(), "a b")?);
     Ok(())
 }

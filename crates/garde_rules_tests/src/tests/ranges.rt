@@ -1,19 +1,17 @@
 //! Tests of the rule of ranges.
-use super::assert_answer;
+use super::tells;
 use garde_i18n::DefaultI18n;
 use garde_rules::range::{self, Bounds};
 use std::alloc::Global;
-use std::process::Abort;
 
-/// Asserts what a range finds in a value.
-fn assert_range<T: Bounds>(
-    rt: &impl Abort,
+/// Whether a range finds this in a value.
+fn finds<T: Bounds>(
     alloc: Global,
     value: &T,
     bounds: (Option<T::Size>, Option<T::Size>),
     fault: Option<&str>,
-) {
-    assert_answer(rt, range::apply(alloc, value, bounds, &DefaultI18n), fault);
+) -> bool {
+    tells(range::apply(alloc, value, bounds, &DefaultI18n), fault)
 }
 
 #[test]
@@ -25,7 +23,7 @@ fn asks_the_lower_bound_first(rt: HostRuntime) {
         (255, None, None, None),
     ];
     for (value, lo, hi, fault) in rows {
-        assert_range::<u8>(&rt, rt.alloc(), &value, (lo, hi), fault);
+        assert!(rt; finds::<u8>(rt.alloc(), &value, (lo, hi), fault), "{value}");
     }
 }
 
@@ -33,22 +31,22 @@ fn asks_the_lower_bound_first(rt: HostRuntime) {
 fn asks_numbers_without_a_sign(rt: HostRuntime) {
     let alloc = rt.alloc();
     let high = Some("greater than 0");
-    assert_range(&rt, alloc, &u16::MAX, (None, Some(0)), high);
-    assert_range(&rt, alloc, &u32::MAX, (None, Some(0)), high);
-    assert_range(&rt, alloc, &u64::MAX, (None, Some(0)), high);
-    assert_range(&rt, alloc, &u128::MAX, (None, Some(0)), high);
-    assert_range(&rt, alloc, &usize::MAX, (None, Some(0)), high);
+    assert!(rt; finds(alloc, &u16::MAX, (None, Some(0)), high));
+    assert!(rt; finds(alloc, &u32::MAX, (None, Some(0)), high));
+    assert!(rt; finds(alloc, &u64::MAX, (None, Some(0)), high));
+    assert!(rt; finds(alloc, &u128::MAX, (None, Some(0)), high));
+    assert!(rt; finds(alloc, &usize::MAX, (None, Some(0)), high));
 }
 
 #[test]
 fn asks_numbers_with_a_sign(rt: HostRuntime) {
     let alloc = rt.alloc();
     let low = Some("lower than -127");
-    assert_range(&rt, alloc, &i8::MIN, (Some(-127), None), low);
-    assert_range(&rt, alloc, &i16::MIN, (Some(-127), None), low);
-    assert_range(&rt, alloc, &i32::MIN, (Some(-127), None), low);
-    assert_range(&rt, alloc, &i64::MIN, (Some(-127), None), low);
-    assert_range(&rt, alloc, &isize::MIN, (Some(-127), None), low);
+    assert!(rt; finds(alloc, &i8::MIN, (Some(-127), None), low));
+    assert!(rt; finds(alloc, &i16::MIN, (Some(-127), None), low));
+    assert!(rt; finds(alloc, &i32::MIN, (Some(-127), None), low));
+    assert!(rt; finds(alloc, &i64::MIN, (Some(-127), None), low));
+    assert!(rt; finds(alloc, &isize::MIN, (Some(-127), None), low));
     let least = Some("lower than -170141183460469231731687303715884105727");
-    assert_range(&rt, alloc, &i128::MIN, (Some(i128::MIN + 1), None), least);
+    assert!(rt; finds(alloc, &i128::MIN, (Some(i128::MIN + 1), None), least));
 }

@@ -1,24 +1,33 @@
 //! Tests of the rules of texts.
-use super::assert_answer;
+use super::tells;
 use garde_i18n::DefaultI18n;
 use garde_rules::alphanumeric::Alphanumeric;
 use garde_rules::ascii::Ascii;
 use garde_rules::{AsStr, alphanumeric, ascii, contains, prefix, suffix};
+use std::alloc::{AllocError, Global};
 use std::borrow::CowStr;
-use std::process::Abort;
 use std::test::Fail;
+
+/// Whether this is found in a text that is asked for ASCII.
+fn ascii_tells(alloc: Global, text: &str, fault: Option<&str>) -> bool {
+    tells(ascii::apply(alloc, &text, (), &DefaultI18n), fault)
+}
 
 #[test]
 fn asks_for_ascii(rt: HostRuntime) {
-    let alloc = rt.alloc();
     for (text, fault) in [
         ("test", None),
         ("", None),
         ("é", Some("not ascii")),
         ("a\u{80}", Some("not ascii")),
     ] {
-        assert_answer(&rt, ascii::apply(alloc, &text, (), &DefaultI18n), fault);
+        assert!(rt; ascii_tells(rt.alloc(), text, fault), "{text}");
     }
+}
+
+/// Whether this is found in a text that is asked for letters and numbers.
+fn alphanumeric_tells(alloc: Global, text: &str, fault: Option<&str>) -> bool {
+    tells(alphanumeric::apply(alloc, &text, (), &DefaultI18n), fault)
 }
 
 /// Whether a text passes the rule of letters and numbers.
@@ -26,27 +35,32 @@ fn is_alphanumeric(text: &str) -> bool {
     text.validate_alphanumeric()
 }
 
+/// A text, and whether it has letters and numbers alone.
+static LETTERS: [(&str, bool); 7] = [
+    ("", true),
+    ("é", true),
+    ("\u{663}", true),
+    ("\u{2167}", true),
+    ("\u{BD}", true),
+    ("a b", false),
+    ("_", false),
+];
+
 #[test]
 fn asks_for_letters_and_numbers(rt: HostRuntime) {
-    let rows = [
-        ("", true),
-        ("é", true),
-        ("\u{663}", true),
-        ("\u{2167}", true),
-        ("\u{BD}", true),
-        ("a b", false),
-        ("_", false),
-    ];
-    for (text, passes) in rows {
-        assert_eq!(rt; is_alphanumeric(text), passes, "{text}");
+    for (text, passes) in &LETTERS {
+        assert!(rt; is_alphanumeric(text) == *passes, "{text}");
     }
-    let answer = alphanumeric::apply(rt.alloc(), &"a b", (), &DefaultI18n);
-    assert_answer(&rt, answer, Some("not alphanumeric"));
+    assert!(rt; alphanumeric_tells(rt.alloc(), "a b", Some("not alphanumeric")));
+}
+
+/// Whether this is found in a text that is asked for a part.
+fn part_tells(alloc: Global, text: &str, part: &str, fault: Option<&str>) -> bool {
+    tells(contains::apply(alloc, &text, (part,), &DefaultI18n), fault)
 }
 
 #[test]
 fn asks_for_a_part(rt: HostRuntime) {
-    let alloc = rt.alloc();
     let rows = [
         ("abc", "\"", Some("does not contain \"\"\"")),
         ("abc", "ac", Some("does not contain \"ac\"")),
@@ -54,48 +68,51 @@ fn asks_for_a_part(rt: HostRuntime) {
         ("", "", None),
     ];
     for (text, pattern, fault) in rows {
-        assert_answer(
-            &rt,
-            contains::apply(alloc, &text, (pattern,), &DefaultI18n),
-            fault,
-        );
+        assert!(rt; part_tells(rt.alloc(), text, pattern, fault), "{pattern}");
     }
+}
+
+/// Whether this is found in a text that is asked for its beginning.
+fn front_tells(alloc: Global, text: &str, front: &str, fault: Option<&str>) -> bool {
+    tells(prefix::apply(alloc, &text, (front,), &DefaultI18n), fault)
+}
+
+/// Whether this is found in a text that is asked for its end.
+fn end_tells(alloc: Global, text: &str, end: &str, fault: Option<&str>) -> bool {
+    tells(suffix::apply(alloc, &text, (end,), &DefaultI18n), fault)
 }
 
 #[test]
 fn asks_for_a_beginning_and_an_end(rt: HostRuntime) {
-    let alloc = rt.alloc();
     let rows = [
         ("abc", "bc", Some("value does not begin with \"bc\""), None),
         ("abc", "ab", None, Some("does not end with \"ab\"")),
         ("", "", None, None),
     ];
     for (text, pattern, at_front, at_end) in rows {
-        assert_answer(
-            &rt,
-            prefix::apply(alloc, &text, (pattern,), &DefaultI18n),
-            at_front,
+        assert!(rt;
+            front_tells(rt.alloc(), text, pattern, at_front),
+            "{pattern}"
         );
-        assert_answer(
-            &rt,
-            suffix::apply(alloc, &text, (pattern,), &DefaultI18n),
-            at_end,
-        );
+        assert!(rt; end_tells(rt.alloc(), text, pattern, at_end), "{pattern}");
     }
 }
 
-/// Asserts that a value lends this text, and that its rule of ASCII reads it.
-fn assert_lends<T: AsStr>(rt: &impl Abort, value: &T, text: &str) {
-    assert_eq!(rt; value.as_str(), text);
-    assert_eq!(rt; value.validate_ascii(), text.is_ascii());
+/// Whether a value lends this text, and its rule of ASCII reads it.
+fn lends<T: AsStr>(value: &T, text: &str) -> bool {
+    value.as_str() == text && value.validate_ascii() == text.is_ascii()
+}
+
+/// Whether a text that is owned lends itself, and so does a view of it.
+fn owned_lends(alloc: Global, text: &str) -> Result<bool, AllocError> {
+    let owned = String::from_str(alloc, text)?;
+    Ok(lends(&owned, text) && lends(&CowStr::Owned(owned), text))
 }
 
 #[test]
 fn reads_every_type_of_text(rt: HostRuntime) -> Result<(), Fail> {
-    let owned = String::from_str(rt.alloc(), "é")?;
-    assert_lends(&rt, &"é", "é");
-    assert_lends(&rt, &owned, "é");
-    assert_lends(&rt, &CowStr::Owned(owned), "é");
-    assert_lends(&rt, &CowStr::Borrowed("test"), "test");
+    assert!(rt; lends(&"é", "é"));
+    assert!(rt; owned_lends(rt.alloc(), "é")?);
+    assert!(rt; lends(&CowStr::Borrowed("test"), "test"));
     Ok(())
 }

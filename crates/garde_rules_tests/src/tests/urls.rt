@@ -1,13 +1,17 @@
 //! Tests of URLs.
-use super::assert_answer;
+use super::tells;
 use garde_i18n::DefaultI18n;
 use garde_rules::url::{self, InvalidUrl, ParseError, Url, reason};
 use std::alloc::{AllocError, Global};
 use std::test::Fail;
 
+/// Whether this is found in a value that is asked for a URL.
+fn finds<T: Url>(alloc: Global, value: &T, fault: Option<&str>) -> bool {
+    tells(url::apply(alloc, value, (), &DefaultI18n), fault)
+}
+
 #[test]
 fn asks_for_a_url(rt: HostRuntime) {
-    let alloc = rt.alloc();
     let rows = [
         ("https://example.com/", None),
         ("abc", Some("not a valid url: relative URL without a base")),
@@ -18,34 +22,32 @@ fn asks_for_a_url(rt: HostRuntime) {
         ),
     ];
     for (text, fault) in rows {
-        assert_answer(&rt, url::apply(alloc, &text, (), &DefaultI18n), fault);
-        assert_answer(&rt, url::apply(alloc, &Some(text), (), &DefaultI18n), fault);
+        assert!(rt; finds(rt.alloc(), &text, fault), "{text}");
+        assert!(rt; finds(rt.alloc(), &Some(text), fault), "{text}");
     }
-    assert_answer(
-        &rt,
-        url::apply(alloc, &None::<&str>, (), &DefaultI18n),
-        None,
-    );
+    assert!(rt; finds(rt.alloc(), &None::<&str>, None));
 }
 
-/// Whether a text is a URL, or why it is none.
-fn checked(alloc: Global, text: &str) -> Result<Result<(), InvalidUrl>, AllocError> {
-    text.validate_url(alloc)
+/// Whether a text is a URL, or refused for this reason, as it is said.
+fn is_checked(
+    alloc: Global,
+    text: &str,
+    wanted: Result<(), InvalidUrl>,
+) -> Result<bool, AllocError> {
+    Ok(text.validate_url(alloc)? == wanted)
+}
+
+/// Whether an error has this reason.
+fn has_reason(error: &ParseError, wanted: Option<InvalidUrl>) -> bool {
+    reason(error) == wanted
 }
 
 #[test]
 fn says_why_a_text_is_no_url(rt: HostRuntime) -> Result<(), Fail> {
-    let rows = [
-        ("https://example.com/", Ok(())),
-        ("abc", Err(InvalidUrl::RelativeUrlWithoutBase)),
-    ];
-    for (text, answer) in rows {
-        assert_eq!(rt; checked(rt.alloc(), text)?, answer);
-    }
-    assert_eq!(rt;
-        reason(&ParseError::InvalidPort),
-        Some(InvalidUrl::InvalidPort)
-    );
-    assert_eq!(rt; reason(&ParseError::OutOfMemory), None);
+    let relative = Err(InvalidUrl::RelativeUrlWithoutBase);
+    assert!(rt; is_checked(rt.alloc(), "https://example.com/", Ok(()))?);
+    assert!(rt; is_checked(rt.alloc(), "abc", relative)?);
+    assert!(rt; has_reason(&ParseError::InvalidPort, Some(InvalidUrl::InvalidPort)));
+    assert!(rt; has_reason(&ParseError::OutOfMemory, None));
     Ok(())
 }

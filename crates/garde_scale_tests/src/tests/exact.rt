@@ -1,5 +1,5 @@
 //! Exact answers of paths, lists and reports.
-use garde::error::{NoKey, PathComponentKind};
+use garde::error::{NoKey, PathComponentKind, PathIter};
 use garde::rc_list::{JoinError, List};
 use garde::{Error, Path, Report};
 use std::alloc::{AllocError, Global};
@@ -41,36 +41,44 @@ fn shows<T: Debug>(alloc: Global, value: &T, text: &str) -> Result<bool, AllocEr
     Ok(format!(in alloc; "{value:?}")?.as_str() == text)
 }
 
-#[test]
-fn a_component_without_a_name_prints_nothing(rt: HostRuntime) -> Result<(), Fail> {
-    let path = unnamed_between(rt.alloc())?;
-    assert_eq!(rt; path.len(), 3);
-    assert!(rt; prints(rt.alloc(), &path, "a.b")?);
-    let wanted = "Path { components: [(Key, \"a\"), (None, \"\"), (Key, \"b\")] }";
-    assert!(rt; shows(rt.alloc(), &path, wanted)?);
-    Ok(())
+// Whether the path with a component without a name has three, and prints these texts.
+fn unnamed_prints(alloc: Global, text: &str, shown: &str) -> Result<bool, JoinError> {
+    let path = unnamed_between(alloc)?;
+    Ok(path.len() == 3 && prints(alloc, &path, text)? && shows(alloc, &path, shown)?)
 }
 
 #[test]
+fn a_component_without_a_name_prints_nothing(rt: HostRuntime) -> Result<(), Fail> {
+    let shown = "Path { components: [(Key, \"a\"), (None, \"\"), (Key, \"b\")] }";
+    assert!(rt; unnamed_prints(rt.alloc(), "a.b", shown)?);
+    Ok(())
+}
+
+// Whether the path of these keys has as many components, and prints these texts.
+fn keys_print(alloc: Global, texts: &[&str], text: &str, shown: &str) -> Result<bool, JoinError> {
+    let path = keys(alloc, texts)?;
+    Ok(path.len() == texts.len() && prints(alloc, &path, text)? && shows(alloc, &path, shown)?)
+}
+
+/// Keys, what their path prints, and what it prints for a programmer.
+static KEYED: [(&[&str], &str, &str); 3] = [
+    (
+        &["a", "b", "c"],
+        "a.b.c",
+        "Path { components: [(Key, \"a\"), (Key, \"b\"), (Key, \"c\")] }",
+    ),
+    (
+        &["array", "0", "c"],
+        "array.0.c",
+        "Path { components: [(Key, \"array\"), (Key, \"0\"), (Key, \"c\")] }",
+    ),
+    (&["0"], "0", "Path { components: [(Key, \"0\")] }"),
+];
+
+#[test]
 fn a_key_that_is_a_number_is_a_key(rt: HostRuntime) -> Result<(), Fail> {
-    let rows: [(&[&str], &str, &str); 3] = [
-        (
-            &["a", "b", "c"],
-            "a.b.c",
-            "Path { components: [(Key, \"a\"), (Key, \"b\"), (Key, \"c\")] }",
-        ),
-        (
-            &["array", "0", "c"],
-            "array.0.c",
-            "Path { components: [(Key, \"array\"), (Key, \"0\"), (Key, \"c\")] }",
-        ),
-        (&["0"], "0", "Path { components: [(Key, \"0\")] }"),
-    ];
-    for (texts, text, shown) in rows {
-        let path = keys(rt.alloc(), texts)?;
-        assert_eq!(rt; path.len(), texts.len());
-        assert!(rt; prints(rt.alloc(), &path, text)?, "{text}");
-        assert!(rt; shows(rt.alloc(), &path, shown)?, "{text}");
+    for (texts, text, shown) in &KEYED {
+        assert!(rt; keys_print(rt.alloc(), texts, text, shown)?, "{text}");
     }
     Ok(())
 }
@@ -84,69 +92,122 @@ fn indexes(alloc: Global, count: usize) -> Result<Path, JoinError> {
     Ok(path)
 }
 
-// What a walk gives from the front and from the back by turns; a hyphen where it gives nothing.
-fn by_turns(alloc: Global, path: &Path, turns: usize) -> Result<String, AllocError> {
-    let mut walk = path.iter(alloc)?;
-    let mut all = String::new(alloc);
-    for turn in 0..turns {
-        let given = if turn % 2 == 0 {
-            walk.next()
-        } else {
-            walk.next_back()
-        };
-        match given {
-            Some((_, text)) => all.push_str(text)?,
-            None => all.push_str("-")?,
-        }
+// What a walk gives at a turn, from the front or from the back; a hyphen where it gives nothing.
+fn at_turn<'p>(walk: &mut PathIter<'p>, turn: usize) -> &'p str {
+    let given = if turn % 2 == 0 {
+        walk.next()
+    } else {
+        walk.next_back()
+    };
+    match given {
+        Some((_, text)) => text,
+        None => "-",
     }
-    Ok(all)
 }
 
-// Whether a path of so many indexes gives this by twelve turns.
-fn gives(alloc: Global, count: usize, text: &str) -> Result<bool, JoinError> {
-    let path = indexes(alloc, count)?;
-    Ok(by_turns(alloc, &path, 12)?.as_str() == text)
+// Whether a walk gives these texts from the front and from the back by turns.
+fn walk_gives(walk: &mut PathIter<'_>, texts: &[&str]) -> bool {
+    for (turn, text) in texts.iter().enumerate() {
+        if at_turn(walk, turn) != *text {
+            return false;
+        }
+    }
+    true
 }
+
+// Whether a walk of a path gives these texts from the front and from the back by turns.
+fn path_gives(alloc: Global, path: &Path, texts: &[&str]) -> Result<bool, AllocError> {
+    let mut walk = path.iter(alloc)?;
+    Ok(walk_gives(&mut walk, texts))
+}
+
+// Whether a path of so many indexes gives these texts by turns.
+fn gives(alloc: Global, count: usize, texts: &[&str]) -> Result<bool, JoinError> {
+    let path = indexes(alloc, count)?;
+    Ok(path_gives(alloc, &path, texts)?)
+}
+
+/// How many indexes a path has, and what twelve turns of its walk give.
+static TURNS: [(usize, &[&str]); 5] = [
+    (
+        0,
+        &["-", "-", "-", "-", "-", "-", "-", "-", "-", "-", "-", "-"],
+    ),
+    (
+        1,
+        &["0", "-", "-", "-", "-", "-", "-", "-", "-", "-", "-", "-"],
+    ),
+    (
+        8,
+        &["7", "0", "6", "1", "5", "2", "4", "3", "-", "-", "-", "-"],
+    ),
+    (
+        9,
+        &["8", "0", "7", "1", "6", "2", "5", "3", "4", "-", "-", "-"],
+    ),
+    (
+        10,
+        &["9", "0", "8", "1", "7", "2", "6", "3", "5", "4", "-", "-"],
+    ),
+];
 
 #[test]
 fn a_walk_gives_both_ends_by_turns(rt: HostRuntime) -> Result<(), Fail> {
-    for (count, text) in [
-        (0usize, "------------"),
-        (1, "0-----------"),
-        (8, "70615243----"),
-        (9, "807162534---"),
-        (10, "9081726354--"),
-    ] {
-        assert!(rt; gives(rt.alloc(), count, text)?, "{text}");
+    for (count, texts) in &TURNS {
+        assert!(rt; gives(rt.alloc(), *count, texts)?, "{count}");
     }
     Ok(())
 }
 
-// Whether a list of so many numbers, and its clone, are equal.
-fn list_is_its_clone(alloc: Global, count: usize) -> Result<bool, JoinError> {
+// The list of so many numbers.
+fn numbers(alloc: Global, count: usize) -> Result<List<usize>, JoinError> {
     let mut list = List::new();
     for number in 0..count {
         list = list.append(alloc, number)?;
     }
+    Ok(list)
+}
+
+// Whether a list of so many numbers, and its clone, are equal.
+fn list_is_its_clone(alloc: Global, count: usize) -> Result<bool, JoinError> {
+    let list = numbers(alloc, count)?;
     let copy = list.clone()?;
     Ok(copy == list && copy.len() == count)
+}
+
+// Whether a path and its clone are equal and of the same length.
+fn is_its_clone(path: &Path) -> Result<bool, AllocError> {
+    let copy = path.clone()?;
+    Ok(copy == *path && copy.len() == path.len())
 }
 
 // Whether a path of so many indexes, and its clone, are equal.
 fn path_is_its_clone(alloc: Global, count: usize) -> Result<bool, JoinError> {
     let path = indexes(alloc, count)?;
-    let copy = path.clone()?;
-    Ok(copy == path && copy.len() == count)
+    Ok(is_its_clone(&path)? && path.len() == count)
 }
 
-// Whether a report of so many faults, and its clone, are equal.
-fn report_is_its_clone(alloc: Global, count: usize) -> Result<bool, Fail> {
+// The report of so many faults.
+fn faults(alloc: Global, count: usize) -> Result<Report, AllocError> {
     let mut report = Report::new(alloc);
     for number in 0..count {
         report.append(Path::new(alloc, number)?, Error::new(alloc, "x")?)?;
     }
+    Ok(report)
+}
+
+// Whether a report of so many faults, and its clone, are equal.
+fn report_is_its_clone(alloc: Global, count: usize) -> Result<bool, AllocError> {
+    let report = faults(alloc, count)?;
     let copy = report.clone()?.into_inner();
     Ok(copy.len() == count && copy == report.into_inner())
+}
+
+// Whether a path that has a component without a name, and one of keys, are equal to their clones.
+fn named_are_their_clones(alloc: Global) -> Result<bool, JoinError> {
+    let unnamed = unnamed_between(alloc)?;
+    let keyed = keys(alloc, &["a", "0"])?;
+    Ok(is_its_clone(&unnamed)? && is_its_clone(&keyed)?)
 }
 
 #[test]
@@ -156,8 +217,6 @@ fn each_clone_is_equal(rt: HostRuntime) -> Result<(), Fail> {
         assert!(rt; path_is_its_clone(rt.alloc(), count)?, "{count}");
         assert!(rt; report_is_its_clone(rt.alloc(), count)?, "{count}");
     }
-    for path in [unnamed_between(rt.alloc())?, keys(rt.alloc(), &["a", "0"])?] {
-        assert!(rt; path.clone()? == path);
-    }
+    assert!(rt; named_are_their_clones(rt.alloc())?);
     Ok(())
 }

@@ -3,7 +3,6 @@ use garde::i18n::{InvalidCreditCard, InvalidPhoneNumber, InvalidUrl, IpKind};
 use garde::{DefaultI18n, I18n};
 use std::alloc::{AllocError, Global};
 use std::borrow::CowStr;
-use std::process::Abort;
 use std::test::Fail;
 
 /// What a method answers.
@@ -41,17 +40,33 @@ static AROUND: [(&str, &str); 7] = [
     ("does not match ", " field"),
 ];
 
+// Whether the method of this index says of a text, so many times repeated, what stands around it.
+fn says_around<H: I18n>(
+    alloc: Global,
+    h: &H,
+    (index, times): (usize, usize),
+    (front, end): (&str, &str),
+) -> Result<bool, AllocError> {
+    let text = "0123456789abcdeé".repeat(alloc, times)?;
+    let wanted = format!(in alloc; "{front}{text}{end}")?;
+    let said = of_text(alloc, h, index, text.as_str());
+    Ok(is_said(&said, wanted.as_str()))
+}
+
 #[test]
 fn texts_of_nothing_and_of_a_kilobyte(rt: HostRuntime) -> Result<(), Fail> {
     let alloc = rt.alloc();
     for times in [0usize, 1, 64] {
-        let text = "0123456789abcdeé".repeat(alloc, times)?;
-        for (index, (front, end)) in AROUND.iter().enumerate() {
-            let wanted = format!(in alloc; "{front}{text}{end}")?;
-            let directly = of_text(alloc, &DefaultI18n, index, text.as_str());
-            assert!(rt; is_said(&directly, wanted.as_str()), "{wanted}");
-            let referred = of_text(alloc, &&DefaultI18n, index, text.as_str());
-            assert!(rt; is_said(&referred, wanted.as_str()), "{wanted}");
+        for (index, around) in AROUND.iter().enumerate() {
+            let row = (index, times);
+            assert!(rt;
+                says_around(alloc, &DefaultI18n, row, *around)?,
+                "{times} of {index}"
+            );
+            assert!(rt;
+                says_around(alloc, &&DefaultI18n, row, *around)?,
+                "{times} of {index}"
+            );
         }
     }
     Ok(())
@@ -86,15 +101,15 @@ static DATA: [&str; 10] = [
     "not set",
 ];
 
-// Asserts each text of a handler that is the default one.
-fn assert_default<H: I18n>(rt: &impl Abort, alloc: Global, h: &H) {
-    for (index, text) in DATA.iter().enumerate() {
-        assert!(rt; is_said(&of_datum(alloc, h, index), text), "{text}");
-    }
+// Whether the method of this index says this text.
+fn says<H: I18n>(alloc: Global, h: &H, index: usize, text: &str) -> bool {
+    is_said(&of_datum(alloc, h, index), text)
 }
 
 #[test]
 fn texts_of_numbers_and_of_nothing(rt: HostRuntime) {
-    assert_default(&rt, rt.alloc(), &DefaultI18n);
-    assert_default(&rt, rt.alloc(), &&DefaultI18n);
+    for (index, text) in DATA.iter().enumerate() {
+        assert!(rt; says(rt.alloc(), &DefaultI18n, index, text), "{text}");
+        assert!(rt; says(rt.alloc(), &&DefaultI18n, index, text), "{text}");
+    }
 }

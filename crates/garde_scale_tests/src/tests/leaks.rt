@@ -27,7 +27,7 @@ const TIMES: usize = 4000;
 const LONG: &str = "abcdefghijklmnopqrstuvwxyz0123456789";
 
 /// What is made and dropped.
-#[derive(Clone, Copy, Debug)]
+#[derive(Clone, Copy)]
 enum Made {
     Lists,
     Paths,
@@ -42,66 +42,115 @@ enum Made {
     Refused,
 }
 
-static KINDS: [Made; 11] = [
-    Made::Lists,
-    Made::Paths,
-    Made::Ways,
-    Made::Reports,
-    Made::Errors,
-    Made::Trees,
-    Made::Handlers,
-    Made::Patterns,
-    Made::Valid,
-    Made::Invalid,
-    Made::Refused,
+static KINDS: [(&str, Made); 11] = [
+    ("lists", Made::Lists),
+    ("paths", Made::Paths),
+    ("ways", Made::Ways),
+    ("reports", Made::Reports),
+    ("errors", Made::Errors),
+    ("trees", Made::Trees),
+    ("handlers", Made::Handlers),
+    ("patterns", Made::Patterns),
+    ("valid", Made::Valid),
+    ("invalid", Made::Invalid),
+    ("refused", Made::Refused),
 ];
+
+// A list of long texts.
+fn list(alloc: Global) -> Result<List<String>, AllocError> {
+    let mut list = List::new();
+    for _ in 0..9usize {
+        let Ok(longer) = list.append(alloc, String::from_str(alloc, LONG)?) else {
+            return Err(AllocError);
+        };
+        list = longer;
+    }
+    Ok(list)
+}
+
+// The list before a list.
+fn before(list: &List<String>) -> Result<(), AllocError> {
+    let _before = list.before()?;
+    Ok(())
+}
 
 // A list, its clone, and the list before it.
 fn lists(alloc: Global) -> Result<(), AllocError> {
-    let mut list = List::new();
-    for _ in 0..9usize {
-        list = list
-            .append(alloc, String::from_str(alloc, LONG)?)
-            .map_err(|_| AllocError)?;
-    }
-    let _copy = list.clone()?;
-    let _before = list.before()?;
-    Ok(())
+    let list = list(alloc)?;
+    let copy = list.clone()?;
+    before(&copy)
 }
 
 // The path of so many keys.
 fn path_of(alloc: Global, count: usize) -> Result<Path, AllocError> {
     let mut path = Path::empty();
     for _ in 0..count {
-        path = path.join(alloc, LONG).map_err(|_| AllocError)?;
+        let Ok(longer) = path.join(alloc, LONG) else {
+            return Err(AllocError);
+        };
+        path = longer;
     }
     Ok(path)
+}
+
+// The parent of a path.
+fn parent(path: &Path) -> Result<(), AllocError> {
+    let _parent = path.parent()?;
+    Ok(())
+}
+
+// A walk of a path, from which one component is taken.
+fn walk(alloc: Global, path: &Path) -> Result<(), AllocError> {
+    let mut walk = path.iter(alloc)?;
+    let _last = walk.next();
+    Ok(())
+}
+
+// The text of a path.
+fn text(alloc: Global, path: &Path) -> Result<(), AllocError> {
+    let _text = path.to_string(alloc)?;
+    Ok(())
 }
 
 // A path, its parent, a walk of it, and its text.
 fn paths(alloc: Global) -> Result<(), AllocError> {
     let path = path_of(alloc, 9)?;
-    let _parent = path.parent()?;
-    let mut walk = path.iter(alloc)?;
-    let _last = walk.next();
-    let _text = path.to_string(alloc)?;
+    parent(&path)?;
+    walk(alloc, &path)?;
+    text(alloc, &path)
+}
+
+// So many steps down.
+fn go_down(trail: &mut Trail<'static>, steps: usize) -> Result<(), AllocError> {
+    for _ in 0..steps {
+        trail.push(Component::key(LONG))?;
+    }
+    Ok(())
+}
+
+// So many steps up.
+fn go_up(trail: &mut Trail<'static>, steps: usize) {
+    for _ in 0..steps {
+        if trail.depth() > 0 {
+            trail.pop();
+        }
+    }
+}
+
+// The path of a trail.
+fn path(trail: &mut Trail<'static>) -> Result<(), AllocError> {
+    let _path = trail.path()?;
     Ok(())
 }
 
 // A trail after so many steps down, with its path or without it, and so many steps up.
 fn way(alloc: Global, (down, asked, up): (usize, bool, usize)) -> Result<(), AllocError> {
     let mut trail = Trail::new(alloc);
-    for _ in 0..down {
-        trail.push(Component::key(LONG))?;
-    }
+    go_down(&mut trail, down)?;
     if asked {
-        let _path = trail.path()?;
+        path(&mut trail)?;
     }
-    for _ in 0..up {
-        if trail.depth() > 0 {
-            trail.pop();
-        }
-    }
+    go_up(&mut trail, up);
     Ok(())
 }
 
@@ -131,35 +180,71 @@ fn report_of(alloc: Global, count: usize) -> Result<Report, AllocError> {
     Ok(report)
 }
 
-// A report, its clone, its text, and its faults.
+// The text of a report.
+fn lines(alloc: Global, report: &Report) -> Result<(), AllocError> {
+    let _text = report.to_string(alloc)?;
+    Ok(())
+}
+
+// A report, its text, its clone, and its faults.
 fn reports(alloc: Global) -> Result<(), AllocError> {
     let report = report_of(alloc, 9)?;
-    let _text = report.to_string(alloc)?;
+    lines(alloc, &report)?;
     let copy = report.clone()?;
     let _found = select(&copy, &[LONG]).count();
     let _faults = report.into_inner();
     Ok(())
 }
 
-// Errors of a text that is borrowed, and of one that is owned; and want of memory.
-fn errors(alloc: Global) -> Result<(), AllocError> {
+// An error, and its clone.
+fn error(alloc: Global) -> Result<(), AllocError> {
     let error = Error::new(alloc, LONG)?;
     let _copy = error.clone()?;
-    let _borrowed = RuleError::of(alloc, Ok(CowStr::Borrowed(LONG)));
+    Ok(())
+}
+
+// What a rule finds, of a text that is borrowed, and of one that is owned; and want of memory.
+fn found(alloc: Global) -> Result<(), AllocError> {
     let text = String::from_str(alloc, LONG)?;
     let _owned = RuleError::of(alloc, Ok(CowStr::Owned(text)));
+    let _borrowed = RuleError::of(alloc, Ok(CowStr::Borrowed(LONG)));
     let _none = RuleError::of(alloc, Err(AllocError));
+    Ok(())
+}
+
+// The text of want of memory.
+fn want(alloc: Global) -> Result<(), AllocError> {
     let _line = ValidateError::Memory.to_string(alloc)?;
+    Ok(())
+}
+
+// Errors, what rules find, and want of memory.
+fn errors(alloc: Global) -> Result<(), AllocError> {
+    error(alloc)?;
+    found(alloc)?;
+    want(alloc)
+}
+
+// The tree of a report, and the report of the tree.
+fn tree(alloc: Global, report: &Report) -> Result<(), AllocError> {
+    let tree = report_to_json(alloc, report)?;
+    match report_from_json(alloc, &tree) {
+        Ok(_) => Ok(()),
+        Err(_) => Err(AllocError),
+    }
+}
+
+// The text of a tree of a report.
+fn tree_text(alloc: Global, report: &Report) -> Result<(), AllocError> {
+    let _text = report_to_json_text(alloc, report)?;
     Ok(())
 }
 
 // The tree of a report, its text, and the report of the tree.
 fn trees(alloc: Global) -> Result<(), AllocError> {
     let report = report_of(alloc, 2)?;
-    let tree = report_to_json(alloc, &report)?;
-    let _text = report_to_json_text(alloc, &report)?;
-    let _back = report_from_json(alloc, &tree).map_err(|_| AllocError)?;
-    Ok(())
+    tree(alloc, &report)?;
+    tree_text(alloc, &report)
 }
 
 // Work under a handler that holds memory.
@@ -173,15 +258,20 @@ fn handlers(alloc: Global) -> Result<(), AllocError> {
     }
 }
 
+// A searcher of a pattern, and a search.
+fn search(alloc: Global, pattern: &Regex) -> Result<(), AllocError> {
+    let searcher = pattern.searcher(alloc)?;
+    let _found = searcher.is_match(alloc, "x")?;
+    Ok(())
+}
+
 // A pattern, and two searches.
 fn patterns(alloc: Global) -> Result<(), AllocError> {
     let Ok(pattern) = Regex::new(alloc, "^[0-9]+$") else {
         return Err(AllocError);
     };
     let _found = pattern.is_match(alloc, "12345")?;
-    let searcher = pattern.searcher(alloc)?;
-    let _again = searcher.is_match(alloc, "x")?;
-    Ok(())
+    search(alloc, &pattern)
 }
 
 // A document with this tag, and with or without a content.
@@ -213,10 +303,7 @@ fn valid(alloc: Global) -> Result<(), AllocError> {
 // A value that is none, and its report.
 fn invalid(alloc: Global) -> Result<(), AllocError> {
     match Unvalidated::new(document(alloc, LONG, false)?).validate(alloc) {
-        Err(IntoValidError::Report(report)) => {
-            let _text = report.to_string(alloc)?;
-            Ok(())
-        }
+        Err(IntoValidError::Report(report)) => lines(alloc, &report),
         _ => Err(AllocError),
     }
 }
@@ -265,16 +352,20 @@ fn times_made(alloc: Global, kind: Made, crowd: &Vec<Document>) -> usize {
     TIMES
 }
 
-#[test]
-fn what_is_made_is_given_back(rt: HostRuntime) -> Result<(), Fail> {
-    let alloc = rt.alloc();
+// How often objects of a kind could be made in turn while little memory is left.
+fn times_given_back(alloc: Global, kind: Made) -> Result<usize, AllocError> {
     let crowd = crowd(alloc, 300)?;
     let mut hog = Hog::new(alloc)?;
-    for kind in KINDS {
-        hog.leave(BUDGET);
-        let times = times_made(alloc, kind, &crowd);
-        hog.release();
-        assert_eq!(rt; times, TIMES, "{kind:?}");
+    hog.leave(BUDGET);
+    let times = times_made(alloc, kind, &crowd);
+    hog.release();
+    Ok(times)
+}
+
+#[test]
+fn what_is_made_is_given_back(rt: HostRuntime) -> Result<(), Fail> {
+    for (name, kind) in KINDS {
+        assert_eq!(rt; times_given_back(rt.alloc(), kind)?, TIMES, "{name}");
     }
     Ok(())
 }

@@ -1,13 +1,13 @@
 //! Each length of a long text, as a value, with a fault below its bound and one above.
-use super::message;
+use super::tells;
 use garde::fields::{ByteLength, CharLength, GraphemeLength, Length, Utf16Length};
 use garde::rules::Rule;
 use garde::{DefaultI18n, RuleError};
-use std::alloc::Global;
+use std::alloc::{AllocError, Global};
 use std::test::Fail;
 
 /// A unit in which a length is counted.
-#[derive(Clone, Copy, Debug)]
+#[derive(Clone, Copy)]
 enum Unit {
     Simple,
     Bytes,
@@ -75,29 +75,53 @@ static ROWS: [(Unit, (usize, usize), Option<&str>); 20] = [
     (Unit::Utf16, (0, 0), Some("length is greater than 0")),
 ];
 
+// Whether the rule of a length finds this fault in a thousand faces.
+fn finds_in_faces(
+    alloc: Global,
+    unit: Unit,
+    bounds: (usize, usize),
+    fault: Option<&str>,
+) -> Result<bool, AllocError> {
+    let text = "😂".repeat(alloc, 1000)?;
+    Ok(tells(find(alloc, unit, bounds, text.as_str()), fault))
+}
+
 #[test]
 fn each_length_of_a_thousand_faces(rt: HostRuntime) -> Result<(), Fail> {
-    let alloc = rt.alloc();
-    let text = "😂".repeat(alloc, 1000)?;
-    for (unit, bounds, fault) in &ROWS {
-        let answer = find(alloc, *unit, *bounds, text.as_str());
-        assert_eq!(rt; message(&answer), *fault, "{unit:?} {bounds:?}");
+    for (row, (unit, bounds, fault)) in ROWS.iter().enumerate() {
+        assert!(rt;
+            finds_in_faces(rt.alloc(), *unit, *bounds, *fault)?,
+            "row {row}"
+        );
     }
     Ok(())
 }
 
+// Whether the rule of a length that has to be 0 finds this fault in a text.
+fn finds_beyond_none(alloc: Global, unit: Unit, text: &str, fault: Option<&str>) -> bool {
+    tells(find(alloc, unit, (0, 0), text), fault)
+}
+
 #[test]
 fn a_text_of_no_characters(rt: HostRuntime) {
-    for unit in [
+    let long = Some("length is greater than 0");
+    for (row, unit) in [
         Unit::Simple,
         Unit::Bytes,
         Unit::Chars,
         Unit::Graphemes,
         Unit::Utf16,
-    ] {
-        let none = find(rt.alloc(), unit, (0, 0), "");
-        assert_eq!(rt; message(&none), None, "{unit:?}");
-        let one = find(rt.alloc(), unit, (0, 0), "a");
-        assert_eq!(rt; message(&one), Some("length is greater than 0"), "{unit:?}");
+    ]
+    .iter()
+    .enumerate()
+    {
+        assert!(rt;
+            finds_beyond_none(rt.alloc(), *unit, "", None),
+            "no byte, unit {row}"
+        );
+        assert!(rt;
+            finds_beyond_none(rt.alloc(), *unit, "a", long),
+            "one byte, unit {row}"
+        );
     }
 }

@@ -1,6 +1,6 @@
 //! Rules of long texts, by their functions and as values.
-use super::message;
 use super::parcel::{Label, LabelText, Parcel};
+use super::tells;
 use garde::fields::{Adapt, Contains, Pattern, Prefix, Suffix, Url};
 use garde::rules::pattern::regex::Regex;
 use garde::rules::values::MemoryRule;
@@ -32,17 +32,26 @@ static FRONTS: [&str; 6] = [
     "does not end with",
 ];
 
-#[test]
-fn parts_of_a_kilobyte(rt: HostRuntime) -> Result<(), Fail> {
-    let alloc = rt.alloc();
+// Whether the rule of this index passes a text of a kilobyte that is the part itself.
+fn passes_itself(alloc: Global, index: usize) -> Result<bool, AllocError> {
+    let part = "0123456789abcdef".repeat(alloc, 64)?;
+    Ok(tells(find(alloc, index, part.as_str(), part.as_str()), None))
+}
+
+// Whether the rule of this index finds a fault that begins so in a text of other characters.
+fn refuses_another(alloc: Global, index: usize, front: &str) -> Result<bool, AllocError> {
     let part = "0123456789abcdef".repeat(alloc, 64)?;
     let text = "fedcba9876543210".repeat(alloc, 64)?;
+    let fault = format!(in alloc; "{front} \"{part}\"")?;
+    let answer = find(alloc, index, part.as_str(), text.as_str());
+    Ok(tells(answer, Some(fault.as_str())))
+}
+
+#[test]
+fn parts_of_a_kilobyte(rt: HostRuntime) -> Result<(), Fail> {
     for (index, front) in FRONTS.iter().enumerate() {
-        let holds = find(alloc, index, part.as_str(), part.as_str());
-        assert_eq!(rt; message(&holds), None, "at {index}");
-        let fault = format!(in alloc; "{front} \"{part}\"")?;
-        let fails = find(alloc, index, part.as_str(), text.as_str());
-        assert_eq!(rt; message(&fails), Some(fault.as_str()), "at {index}");
+        assert!(rt; passes_itself(rt.alloc(), index)?, "at {index}");
+        assert!(rt; refuses_another(rt.alloc(), index, front)?, "at {index}");
     }
     Ok(())
 }
@@ -65,26 +74,49 @@ const NO_URL: Option<&str> = Some("not a valid url: relative URL without a base"
 
 const NO_CODE: Option<&str> = Some("does not match pattern /^[0-9]+$/");
 
+// A label of a text and of another one, so many times repeated.
+fn label(alloc: Global, front: &str, again: &str, times: usize) -> Result<Label, AllocError> {
+    let rest = again.repeat(alloc, times)?;
+    Ok(Label {
+        text: format!(in alloc; "{front}{rest}")?,
+    })
+}
+
+/// A beginning, what comes again after it, and how often.
+type Parts = (&'static str, &'static str, usize);
+
+// Whether this is answered of a label of these parts, by a function or a value.
+fn is_answered(
+    alloc: Global,
+    way: usize,
+    (front, again, times): Parts,
+    wanted: Option<&str>,
+) -> Result<bool, Fail> {
+    let code = Regex::new(alloc, "^[0-9]+$")?;
+    let label = label(alloc, front, again, times)?;
+    Ok(tells(answer(alloc, way, &label, &code), wanted))
+}
+
 #[test]
 fn links_of_four_and_codes_of_eight_kilobytes(rt: HostRuntime) -> Result<(), Fail> {
-    let alloc = rt.alloc();
-    let code = Regex::new(alloc, "^[0-9]+$")?;
-    let rows = [
-        ("https://example.com/", "path/", 819, None, NO_CODE),
-        ("", "path/", 819, NO_URL, NO_CODE),
-        ("", "01234567", 1024, NO_URL, None),
-        ("x", "01234567", 1024, NO_URL, NO_CODE),
+    let rows: [(Parts, Option<&str>, Option<&str>); 4] = [
+        (("https://example.com/", "path/", 819), None, NO_CODE),
+        (("", "path/", 819), NO_URL, NO_CODE),
+        (("", "01234567", 1024), NO_URL, None),
+        (("x", "01234567", 1024), NO_URL, NO_CODE),
     ];
-    for (front, again, times, link, number) in rows {
-        let label = Label {
-            text: format!(in alloc; "{front}{}", again.repeat(alloc, times)?)?,
-        };
-        for (way, wanted) in [link, link, link, number, number, number]
-            .iter()
-            .enumerate()
-        {
-            let told = answer(alloc, way, &label, &code);
-            assert_eq!(rt; message(&told), *wanted, "{front}{again}");
+    for (row, (parts, link, number)) in rows.iter().enumerate() {
+        for way in 0..3 {
+            assert!(rt;
+                is_answered(rt.alloc(), way, *parts, *link)?,
+                "link {row} by {way}"
+            );
+        }
+        for way in 3..6 {
+            assert!(rt;
+                is_answered(rt.alloc(), way, *parts, *number)?,
+                "code {row} by {way}"
+            );
         }
     }
     Ok(())
@@ -109,16 +141,18 @@ fn told(alloc: Global, parcel: &Parcel, code: &Regex) -> Result<String, AllocErr
     }
 }
 
+// Whether this is told of a parcel of these texts.
+fn is_told(alloc: Global, link: &str, digits: &str, wanted: &str) -> Result<bool, Fail> {
+    let code = Regex::new(alloc, "^[0-9]+$")?;
+    let parcel = parcel(alloc, link, digits)?;
+    Ok(told(alloc, &parcel, &code)?.as_str() == wanted)
+}
+
 #[test]
 fn a_walk_of_long_links_and_codes(rt: HostRuntime) -> Result<(), Fail> {
-    let alloc = rt.alloc();
-    let code = Regex::new(alloc, "^[0-9]+$")?;
-    let good = parcel(alloc, "https://example.com/", "01234567")?;
-    assert_eq!(rt; told(alloc, &good, &code)?.as_str(), "");
-    let bad = parcel(alloc, "", "0123456x")?;
-    assert_eq!(rt;
-        told(alloc, &bad, &code)?.as_str(),
-        "link: not a valid url: relative URL without a base\ncode: does not match pattern /^[0-9]+$/\nlabel: does not match pattern /^[0-9]+$/\n"
-    );
+    let wanted =
+        "link: not a valid url: relative URL without a base\ncode: does not match pattern /^[0-9]+$/\nlabel: does not match pattern /^[0-9]+$/\n";
+    assert!(rt; is_told(rt.alloc(), "https://example.com/", "01234567", "")?);
+    assert!(rt; is_told(rt.alloc(), "", "0123456x", wanted)?);
     Ok(())
 }

@@ -7,7 +7,6 @@ use garde::{Error, IntoValidError, Path, Report, Unvalidated, ValidateError};
 use std::alloc::{AllocError, Global};
 use std::fmt::Display;
 use std::io::{self, Write};
-use std::process::Abort;
 use std::test::Fail;
 
 /// A writer that takes one byte a call.
@@ -32,15 +31,9 @@ impl Write for Narrow {
     }
 }
 
-// Asserts what a value prints.
-fn assert_prints<T: Display>(
-    rt: &impl Abort,
-    alloc: Global,
-    value: &T,
-    text: &str,
-) -> Result<(), AllocError> {
-    assert_eq!(rt; format!(in alloc; "{value}")?.as_str(), text);
-    Ok(())
+// Whether a value prints this text.
+fn prints<T: Display>(alloc: Global, value: &T, text: &str) -> Result<bool, AllocError> {
+    Ok(format!(in alloc; "{value}")?.as_str() == text)
 }
 
 // What a report gives to a writer that takes one byte a call.
@@ -52,63 +45,98 @@ fn written(alloc: Global, report: &Report) -> Vec<u8> {
     writer.taken
 }
 
+// Whether what refuses a text that is no address of this kind prints this text.
+fn refusal_prints(alloc: Global, kind: IpKind, text: &str) -> Result<bool, AllocError> {
+    match "x".validate_ip(kind) {
+        Ok(()) => Ok(false),
+        Err(refused) => prints(alloc, &refused, text),
+    }
+}
+
 #[test]
 fn reasons_and_kinds(rt: HostRuntime) -> Result<(), Fail> {
     let alloc = rt.alloc();
-    assert_prints(&rt, alloc, &InvalidUrl::EmptyHost, "empty host")?;
-    assert_prints(&rt, alloc, &InvalidCreditCard::Other, "invalid credit card")?;
-    assert_prints(
-        &rt,
-        alloc,
-        &InvalidPhoneNumber::Other,
-        "invalid phone number",
-    )?;
+    assert!(rt; prints(alloc, &InvalidUrl::EmptyHost, "empty host")?);
+    assert!(rt; prints(alloc, &InvalidCreditCard::Other, "invalid credit card")?);
+    assert!(rt; prints(alloc, &InvalidPhoneNumber::Other, "invalid phone number")?);
     for (kind, text, error) in [
         (IpKind::Any, "IP", "invalid IP address syntax"),
         (IpKind::V4, "IPv4", "invalid IPv4 address syntax"),
         (IpKind::V6, "IPv6", "invalid IPv6 address syntax"),
     ] {
-        assert_prints(&rt, alloc, &kind, text)?;
-        if let Err(refused) = "x".validate_ip(kind) {
-            assert_prints(&rt, alloc, &refused, error)?;
-        }
+        assert!(rt; prints(alloc, &kind, text)?, "{text}");
+        assert!(rt; refusal_prints(alloc, kind, error)?, "{error}");
     }
     Ok(())
 }
 
-// A report of one fault at this path.
-fn report(alloc: Global, path: Path) -> Result<Report, AllocError> {
+// A report of one fault at an index.
+fn report(alloc: Global) -> Result<Report, AllocError> {
+    let path = Path::new(alloc, 7usize)?;
     let mut report = Report::new(alloc);
     report.append(path, Error::new(alloc, "not ascii: \u{e9}")?)?;
     Ok(report)
 }
 
+// Whether components without a name, with an index and with a key print what they hold.
+fn components_print(alloc: Global) -> Result<bool, AllocError> {
+    Ok(
+        prints(alloc, &NoKey::default(), "")?
+            && prints(alloc, &Component::index(7), "7")?
+            && prints(alloc, &Component::key("a.b"), "a.b")?,
+    )
+}
+
+// Whether the path of an index prints this text.
+fn path_prints(alloc: Global, text: &str) -> Result<bool, AllocError> {
+    let path = Path::new(alloc, 7usize)?;
+    prints(alloc, &path, text)
+}
+
+// Whether an error prints its message.
+fn error_prints(alloc: Global, message: &str) -> Result<bool, AllocError> {
+    let error = Error::new(alloc, message)?;
+    prints(alloc, &error, message)
+}
+
 #[test]
 fn parts_of_reports(rt: HostRuntime) -> Result<(), Fail> {
-    let alloc = rt.alloc();
-    assert_prints(&rt, alloc, &NoKey::default(), "")?;
-    assert_prints(&rt, alloc, &Component::index(7), "7")?;
-    assert_prints(&rt, alloc, &Component::key("a.b"), "a.b")?;
-    assert_prints(&rt, alloc, &Path::new(alloc, 7usize)?, "[7]")?;
-    assert_prints(&rt, alloc, &Error::new(alloc, "weak")?, "weak")?;
+    assert!(rt; components_print(rt.alloc())?);
+    assert!(rt; path_prints(rt.alloc(), "[7]")?);
+    assert!(rt; error_prints(rt.alloc(), "weak")?);
     Ok(())
+}
+
+// Whether a report prints this line, also to a writer that takes one byte a call.
+fn report_prints(alloc: Global, line: &str) -> Result<bool, AllocError> {
+    let told = report(alloc)?;
+    Ok(prints(alloc, &told, line)? && written(alloc, &told).as_slice() == line.as_bytes())
+}
+
+// Whether the refusal of a value prints this line.
+fn refusal_of_a_value_prints(alloc: Global, line: &str) -> Result<bool, AllocError> {
+    let told = ValidateError::Report(report(alloc)?);
+    prints(alloc, &told, line)
+}
+
+// Whether the refusal to make a value a valid one prints this line.
+fn refusal_of_a_valid_prints(alloc: Global, line: &str) -> Result<bool, AllocError> {
+    let told: IntoValidError<()> = IntoValidError::Report(report(alloc)?);
+    prints(alloc, &told, line)
+}
+
+// Whether want of memory prints this text, by either refusal.
+fn want_prints(alloc: Global, text: &str) -> Result<bool, AllocError> {
+    let none = IntoValidError::Memory(Unvalidated::new(()));
+    Ok(prints(alloc, &ValidateError::Memory, text)? && prints(alloc, &none, text)?)
 }
 
 #[test]
 fn reports_and_refusals(rt: HostRuntime) -> Result<(), Fail> {
-    let alloc = rt.alloc();
     let line = "[7]: not ascii: \u{e9}\n";
-    let told = report(alloc, Path::new(alloc, 7usize)?)?;
-    assert_prints(&rt, alloc, &told, line)?;
-    assert_eq!(rt; written(alloc, &told).as_slice(), line.as_bytes());
-    assert_prints(&rt, alloc, &ValidateError::Report(told), line)?;
-    assert_prints(&rt, alloc, &ValidateError::Memory, "out of memory")?;
-    let told: IntoValidError<()> = IntoValidError::Report(report(
-        alloc,
-        Path::new(alloc, 7usize)?,
-    )?);
-    assert_prints(&rt, alloc, &told, line)?;
-    let none = IntoValidError::Memory(Unvalidated::new(()));
-    assert_prints(&rt, alloc, &none, "out of memory")?;
+    assert!(rt; report_prints(rt.alloc(), line)?);
+    assert!(rt; refusal_of_a_value_prints(rt.alloc(), line)?);
+    assert!(rt; refusal_of_a_valid_prints(rt.alloc(), line)?);
+    assert!(rt; want_prints(rt.alloc(), "out of memory")?);
     Ok(())
 }

@@ -1,11 +1,11 @@
 //! Each reason why a value is no card number, no phone number or no URL, in the text of the fault.
 ghost use Rattle.garde.specs.Fields.{Result, Some};
 
-use super::message;
+use super::tells;
 use garde::i18n::{InvalidCreditCard, InvalidPhoneNumber, InvalidUrl};
 use garde::rules::values::MemoryRule;
 use garde::rules::{Rule, credit_card, phone_number, url};
-use garde::{DefaultI18n, RuleError, fields};
+use garde::{DefaultI18n, fields};
 use std::alloc::{AllocError, Global};
 
 /// A value that gives this answer when it is asked for a credit card number.
@@ -67,24 +67,28 @@ static CARDS: [(InvalidCreditCard, &str); 5] = [
     ),
 ];
 
-// What is found in a card, by the function, under a reference to the handler too, and as a value.
-fn of_card(alloc: Global, way: usize, card: Card) -> Result<(), RuleError> {
-    match way {
+// Whether this is found in a card: by the function, under a reference to the handler too, and as a
+// value.
+fn card_tells(alloc: Global, way: usize, card: Card, fault: Option<&str>) -> bool {
+    let answer = match way {
         0 => credit_card::apply(alloc, &card, (), &DefaultI18n),
         1 => credit_card::apply(alloc, &card, (), &&DefaultI18n),
         _ => fields::CreditCard.find(alloc, &card, &DefaultI18n),
-    }
+    };
+    tells(answer, fault)
 }
 
 #[test]
 fn each_reason_of_a_card(rt: HostRuntime) {
     for way in 0..3 {
         for (reason, text) in &CARDS {
-            let answer = of_card(rt.alloc(), way, Card(Err(*reason)));
-            assert_eq!(rt; message(&answer), Some(*text));
+            let card = Card(Err(*reason));
+            assert!(rt;
+                card_tells(rt.alloc(), way, card, Some(*text)),
+                "{text}, by {way}"
+            );
         }
-        let answer = of_card(rt.alloc(), way, Card(Ok(())));
-        assert_eq!(rt; message(&answer), None);
+        assert!(rt; card_tells(rt.alloc(), way, Card(Ok(())), None), "by {way}");
     }
 }
 
@@ -120,24 +124,31 @@ static PHONES: [(InvalidPhoneNumber, &str); 8] = [
     ),
 ];
 
-// What is found in a phone, by the function, under a reference to the handler too, and as a value.
-fn of_phone(alloc: Global, way: usize, phone: Phone) -> Result<(), RuleError> {
-    match way {
+// Whether this is found in a phone: by the function, under a reference to the handler too, and as a
+// value.
+fn phone_tells(alloc: Global, way: usize, phone: Phone, fault: Option<&str>) -> bool {
+    let answer = match way {
         0 => phone_number::apply(alloc, &phone, (), &DefaultI18n),
         1 => phone_number::apply(alloc, &phone, (), &&DefaultI18n),
         _ => fields::PhoneNumber.find(alloc, &phone, &DefaultI18n),
-    }
+    };
+    tells(answer, fault)
 }
 
 #[test]
 fn each_reason_of_a_phone(rt: HostRuntime) {
     for way in 0..3 {
         for (reason, text) in &PHONES {
-            let answer = of_phone(rt.alloc(), way, Phone(Err(*reason)));
-            assert_eq!(rt; message(&answer), Some(*text));
+            let phone = Phone(Err(*reason));
+            assert!(rt;
+                phone_tells(rt.alloc(), way, phone, Some(*text)),
+                "{text}, by {way}"
+            );
         }
-        let answer = of_phone(rt.alloc(), way, Phone(Ok(())));
-        assert_eq!(rt; message(&answer), None);
+        assert!(rt;
+            phone_tells(rt.alloc(), way, Phone(Ok(())), None),
+            "by {way}"
+        );
     }
 }
 
@@ -182,24 +193,28 @@ static LINKS: [(InvalidUrl, &str); 11] = [
     (InvalidUrl::Other, "not a valid url: invalid url"),
 ];
 
-// What is found in a link, by the function, under a reference to the handler too, and as a value.
-fn of_link(alloc: Global, way: usize, link: Link) -> Result<(), RuleError> {
-    match way {
+// Whether this is found in a link: by the function, under a reference to the handler too, and as a
+// value.
+fn link_tells(alloc: Global, way: usize, link: Link, fault: Option<&str>) -> bool {
+    let answer = match way {
         0 => url::apply(alloc, &link, (), &DefaultI18n),
         1 => url::apply(alloc, &link, (), &&DefaultI18n),
         _ => fields::Url.find_in_memory(alloc, &link, &DefaultI18n),
-    }
+    };
+    tells(answer, fault)
 }
 
 #[test]
 fn each_reason_of_a_link(rt: HostRuntime) {
     for way in 0..3 {
         for (reason, text) in &LINKS {
-            let answer = of_link(rt.alloc(), way, Link(Err(*reason)));
-            assert_eq!(rt; message(&answer), Some(*text));
+            let link = Link(Err(*reason));
+            assert!(rt;
+                link_tells(rt.alloc(), way, link, Some(*text)),
+                "{text}, by {way}"
+            );
         }
-        let answer = of_link(rt.alloc(), way, Link(Ok(())));
-        assert_eq!(rt; message(&answer), None);
+        assert!(rt; link_tells(rt.alloc(), way, Link(Ok(())), None), "by {way}");
     }
 }
 
@@ -217,12 +232,21 @@ static TEXTS: [(&str, &str); 7] = [
     ("abc", "not a valid url: relative URL without a base"),
 ];
 
+// Whether the function finds this fault in a text.
+fn is_refused(alloc: Global, text: &str, fault: &str) -> bool {
+    tells(url::apply(alloc, &text, (), &DefaultI18n), Some(fault))
+}
+
+// Whether the rule as a value finds this fault in an option.
+fn option_is_refused(alloc: Global, option: Option<&str>, fault: &str) -> bool {
+    let answer = fields::Url.find_in_memory(alloc, &option, &DefaultI18n);
+    tells(answer, Some(fault))
+}
+
 #[test]
 fn each_reason_of_a_text(rt: HostRuntime) {
     for (text, fault) in &TEXTS {
-        let answer = url::apply(rt.alloc(), text, (), &DefaultI18n);
-        assert_eq!(rt; message(&answer), Some(*fault));
-        let answer = fields::Url.find_in_memory(rt.alloc(), &Some(*text), &DefaultI18n);
-        assert_eq!(rt; message(&answer), Some(*fault));
+        assert!(rt; is_refused(rt.alloc(), text, fault), "{text}");
+        assert!(rt; option_is_refused(rt.alloc(), Some(*text), fault), "{text}");
     }
 }

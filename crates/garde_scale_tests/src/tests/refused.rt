@@ -16,7 +16,7 @@ const FORM: &str =
 const TEXT: &str = "a[0]: lorem\na[1]: ispum\na[2]: dolor\nb.c: dolor\n";
 
 /// A call, with the object that it is made on.
-#[derive(Clone, Copy, Debug)]
+#[derive(Clone, Copy)]
 enum Call {
     Join,
     Write,
@@ -41,7 +41,9 @@ fn path(alloc: Global) -> Result<Path, JoinError> {
 }
 
 fn join(alloc: Global, memory: &mut Scarce) -> Result<Met, AllocError> {
-    let path = path(alloc).map_err(|_| AllocError)?;
+    let Ok(path) = path(alloc) else {
+        return Err(AllocError);
+    };
     memory.begin();
     let answer = path.join(alloc, 1usize);
     memory.end();
@@ -53,10 +55,21 @@ fn join(alloc: Global, memory: &mut Scarce) -> Result<Met, AllocError> {
     })
 }
 
+// The tree of the form.
+fn tree(alloc: Global) -> Result<Value, AllocError> {
+    match Value::from_str(alloc, FORM) {
+        Ok(tree) => Ok(tree),
+        Err(_) => Err(AllocError),
+    }
+}
+
 // The report of the form.
 fn report(alloc: Global) -> Result<Report, AllocError> {
-    let tree = Value::from_str(alloc, FORM).map_err(|_| AllocError)?;
-    report_from_json(alloc, &tree).map_err(|_| AllocError)
+    let tree = tree(alloc)?;
+    match report_from_json(alloc, &tree) {
+        Ok(report) => Ok(report),
+        Err(_) => Err(AllocError),
+    }
 }
 
 fn write(alloc: Global, memory: &mut Scarce) -> Result<Met, AllocError> {
@@ -84,7 +97,7 @@ fn write_text(alloc: Global, memory: &mut Scarce) -> Result<Met, AllocError> {
 }
 
 fn read(alloc: Global, memory: &mut Scarce) -> Result<Met, AllocError> {
-    let tree = Value::from_str(alloc, FORM).map_err(|_| AllocError)?;
+    let tree = tree(alloc)?;
     memory.begin();
     let answer = report_from_json(alloc, &tree);
     memory.end();
@@ -96,21 +109,31 @@ fn read(alloc: Global, memory: &mut Scarce) -> Result<Met, AllocError> {
     })
 }
 
+// Whether a call comes to want of memory while there is little, and to its answer in the end.
+fn meets_each_budget(alloc: Global, call: Call) -> Result<bool, AllocError> {
+    let mut memory = Scarce::taken(alloc)?;
+    let met = call.in_turn(alloc, &mut memory)?;
+    Ok(matches!(met, Met::Ample))
+}
+
 #[test]
 fn each_budget_of_memory(rt: HostRuntime) -> Result<(), Fail> {
-    let mut memory = Scarce::taken(rt.alloc())?;
-    for call in [Call::Join, Call::Write, Call::WriteText, Call::Read] {
-        let met = call.in_turn(rt.alloc(), &mut memory)?;
-        assert_eq!(rt; met, Met::Ample, "at {call:?}");
+    for (name, call) in [
+        ("join", Call::Join),
+        ("write", Call::Write),
+        ("write text", Call::WriteText),
+        ("read", Call::Read),
+    ] {
+        assert!(rt; meets_each_budget(rt.alloc(), call)?, "at {name}");
     }
     Ok(())
 }
 
-/// A message of 30 bytes, and one of 31.
-const MESSAGES: [&str; 2] = [
-    "abcdefghijklmnopqrstuvwxyz0123",
-    "abcdefghijklmnopqrstuvwxyz01234",
-];
+/// A message of 30 bytes.
+const THIRTY: &str = "abcdefghijklmnopqrstuvwxyz0123";
+
+/// A message of 31 bytes.
+const LONGER: &str = "abcdefghijklmnopqrstuvwxyz01234";
 
 // Whether an error of a message, one of a borrowed text, and a copy of one could be made.
 fn made(alloc: Global, message: &'static str, kept: &Error) -> [bool; 3] {
@@ -122,16 +145,20 @@ fn made(alloc: Global, message: &'static str, kept: &Error) -> [bool; 3] {
     ]
 }
 
+// Whether each error of a message can be made without memory, or none of them.
+fn is_made(alloc: Global, message: &'static str, without_memory: bool) -> Result<bool, AllocError> {
+    let kept = Error::new(alloc, message)?;
+    let mut memory = Scarce::taken(alloc)?;
+    memory.begin();
+    let made = made(alloc, message, &kept);
+    memory.end();
+    Ok(made == [without_memory; 3])
+}
+
 #[test]
 fn a_message_of_thirty_bytes_takes_no_memory(rt: HostRuntime) -> Result<(), Fail> {
-    let alloc = rt.alloc();
-    for (message, without_memory) in MESSAGES.into_iter().zip([true, false]) {
-        let kept = Error::new(alloc, message)?;
-        let mut memory = Scarce::taken(alloc)?;
-        memory.begin();
-        let made = made(alloc, message, &kept);
-        memory.end();
-        assert_eq!(rt; made, [without_memory; 3], "{message}");
+    for (message, without_memory) in [(THIRTY, true), (LONGER, false)] {
+        assert!(rt; is_made(rt.alloc(), message, without_memory)?, "{message}");
     }
     Ok(())
 }

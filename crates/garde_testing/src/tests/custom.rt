@@ -9,6 +9,7 @@ use garde::i18n::{InvalidCreditCard, InvalidPhoneNumber, InvalidUrl, IpKind};
 use std::alloc::{AllocError, Global};
 use std::borrow::CowStr;
 use std::process::Abort;
+use std::test::Fail;
 
 /// A handler whose texts all begin with `custom: `.
 #[derive(Drop)]
@@ -128,98 +129,71 @@ impl I18n for Custom {
     }
 }
 
-// Asserts what a handler said.
-fn assert_says(rt: &impl Abort, said: Result<CowStr<'static>, AllocError>, text: &str) {
-    let same = match &said {
-        Ok(said) => said.as_str() == text,
-        Err(AllocError) => false,
-    };
-    assert!(rt; same, "at {text}");
+/// What the handler says of each request.
+static TEXTS: [&str; 17] = [
+    "custom: too short, need at least 3",
+    "custom: too long, maximum is 20",
+    "custom: value too small, minimum is 1",
+    "custom: value too large, maximum is 99",
+    "custom: invalid credit card - InvalidLength",
+    "custom: doesn't match /[a-z]+/",
+    "custom: missing required text 'hello'",
+    "custom: bad URL - Overflow",
+    "custom: must start with 'www.'",
+    "custom: must end with '.org'",
+    "custom: phone number error - Invalid",
+    "custom: phone number error - TooShortNsn",
+    "custom: not a valid IPv6 IP",
+    "custom: must match confirm_password",
+    "custom: contains non-ASCII characters",
+    "custom: only letters and numbers allowed",
+    "custom: this field is required",
+];
+
+// What a handler answers where it is asked for the text of this index.
+fn said<H: I18n>(alloc: Global, h: &H, index: usize) -> Result<CowStr<'static>, AllocError> {
+    match index {
+        0 => h.length_lower_than(alloc, 3),
+        1 => h.length_greater_than(alloc, 20),
+        2 => h.range_lower_than(alloc, "1"),
+        3 => h.range_greater_than(alloc, "99"),
+        4 => h.credit_card_invalid(alloc, InvalidCreditCard::InvalidLength),
+        5 => h.pattern_no_match(alloc, "[a-z]+"),
+        6 => h.contains_missing(alloc, "hello"),
+        7 => h.url_invalid(alloc, InvalidUrl::Overflow),
+        8 => h.prefix_missing(alloc, "www."),
+        9 => h.suffix_missing(alloc, ".org"),
+        10 => h.phone_number_invalid(alloc, InvalidPhoneNumber::Invalid),
+        11 => h.phone_number_invalid(alloc, InvalidPhoneNumber::TooShortNsn),
+        12 => h.ip_invalid(alloc, IpKind::V6),
+        13 => h.matches_field_mismatch(alloc, "confirm_password"),
+        14 => h.ascii_invalid(alloc),
+        15 => h.alphanumeric_invalid(alloc),
+        _ => h.required_not_set(alloc),
+    }
 }
 
-// Asserts the texts of bounds, cards, patterns, URLs and parts of texts.
-fn assert_says_of_texts<H: I18n>(rt: &impl Abort, alloc: Global, h: &H) {
-    assert_says(
-        rt,
-        h.length_lower_than(alloc, 3),
-        "custom: too short, need at least 3",
-    );
-    assert_says(
-        rt,
-        h.length_greater_than(alloc, 20),
-        "custom: too long, maximum is 20",
-    );
-    assert_says(
-        rt,
-        h.range_lower_than(alloc, "1"),
-        "custom: value too small, minimum is 1",
-    );
-    assert_says(
-        rt,
-        h.range_greater_than(alloc, "99"),
-        "custom: value too large, maximum is 99",
-    );
-    let card = h.credit_card_invalid(alloc, InvalidCreditCard::InvalidLength);
-    assert_says(rt, card, "custom: invalid credit card - InvalidLength");
-    assert_says(
-        rt,
-        h.pattern_no_match(alloc, "[a-z]+"),
-        "custom: doesn't match /[a-z]+/",
-    );
-    assert_says(
-        rt,
-        h.contains_missing(alloc, "hello"),
-        "custom: missing required text 'hello'",
-    );
-    let url = h.url_invalid(alloc, InvalidUrl::Overflow);
-    assert_says(rt, url, "custom: bad URL - Overflow");
-    assert_says(
-        rt,
-        h.prefix_missing(alloc, "www."),
-        "custom: must start with 'www.'",
-    );
-    assert_says(
-        rt,
-        h.suffix_missing(alloc, ".org"),
-        "custom: must end with '.org'",
-    );
+// Whether a handler says this where it is asked for the text of this index.
+fn says<H: I18n>(alloc: Global, h: &H, index: usize, text: &str) -> Result<bool, AllocError> {
+    Ok(said(alloc, h, index)?.as_str() == text)
 }
 
-// Asserts the other texts.
-fn assert_says_of_others<H: I18n>(rt: &impl Abort, alloc: Global, h: &H) {
-    let phone = h.phone_number_invalid(alloc, InvalidPhoneNumber::Invalid);
-    assert_says(rt, phone, "custom: phone number error - Invalid");
-    let phone = h.phone_number_invalid(alloc, InvalidPhoneNumber::TooShortNsn);
-    assert_says(rt, phone, "custom: phone number error - TooShortNsn");
-    assert_says(
-        rt,
-        h.ip_invalid(alloc, IpKind::V6),
-        "custom: not a valid IPv6 IP",
-    );
-    let field = h.matches_field_mismatch(alloc, "confirm_password");
-    assert_says(rt, field, "custom: must match confirm_password");
-    assert_says(
-        rt,
-        h.ascii_invalid(alloc),
-        "custom: contains non-ASCII characters",
-    );
-    let letters = h.alphanumeric_invalid(alloc);
-    assert_says(rt, letters, "custom: only letters and numbers allowed");
-    assert_says(
-        rt,
-        h.required_not_set(alloc),
-        "custom: this field is required",
-    );
+// Asserts each text of a handler.
+fn assert_says<H: I18n>(rt: &impl Abort, alloc: Global, h: &H) -> Result<(), AllocError> {
+    for (index, text) in TEXTS.iter().enumerate() {
+        assert!(rt; says(alloc, h, index, text)?, "at {text}");
+    }
+    Ok(())
 }
 
 #[test]
-fn says_its_own_texts(rt: HostRuntime) {
-    assert_says_of_texts(&rt, rt.alloc(), &Custom);
-    assert_says_of_others(&rt, rt.alloc(), &Custom);
+fn says_its_own_texts(rt: HostRuntime) -> Result<(), Fail> {
+    assert_says(&rt, rt.alloc(), &Custom)?;
+    Ok(())
 }
 
 #[test]
-fn says_them_through_a_reference(rt: HostRuntime) {
-    assert_says_of_texts(&rt, rt.alloc(), &&Custom);
-    assert_says_of_others(&rt, rt.alloc(), &&Custom);
+fn says_them_through_a_reference(rt: HostRuntime) -> Result<(), Fail> {
+    assert_says(&rt, rt.alloc(), &&Custom)?;
+    Ok(())
 }

@@ -4,7 +4,7 @@ ghost use Rattle.garde_report.specs.declared.error.component.Kind.TheVariants.{K
 
 use super::custom::Custom;
 use super::user::User;
-use super::walks::{Four, four, user, walked};
+use super::walks::{Four, eight, is_told, twelve, user, walked};
 use garde::error::{Kind, PathComponentKind};
 use garde::json::{path_from_json, path_to_json};
 use garde::rc_list::JoinError;
@@ -19,7 +19,7 @@ use std::test::Fail;
 const MANY: usize = 1_000_000;
 
 /// A number that keeps the text it is written with.
-#[derive(Debug, Drop, PartialEq, Eq, PartialOrd, Ord)]
+#[derive(Drop, PartialEq, Eq, PartialOrd, Ord)]
 struct Hex {
     number: u32,
     text: String,
@@ -39,57 +39,70 @@ impl PathComponentKind for Hex {
     }
 }
 
+// Whether twelve lists round a valid user tell nothing and make no path.
+fn is_silent_when_deep(alloc: Global) -> Result<bool, AllocError> {
+    is_told(alloc, &twelve(alloc, "test")?, &(), &DefaultI18n, ("", 0))
+}
+
 #[test]
 fn a_deep_valid_value_makes_no_path(rt: HostRuntime) -> Result<(), Fail> {
-    let alloc = rt.alloc();
-    let lists = four(alloc, four(alloc, four(alloc, user(alloc, "test")?)?)?)?;
-    let (text, nodes) = walked(alloc, &lists, &(), &DefaultI18n)?;
-    assert!(rt; text.is_empty());
-    assert_eq!(rt; nodes, 0);
+    assert!(rt; is_silent_when_deep(rt.alloc())?);
     Ok(())
 }
 
 type Eight<T> = Four<Four<T>>;
 
-type Forty<T> = Eight<Eight<Eight<Eight<Eight<T>>>>>;
+type ThirtyTwo<T> = Eight<Eight<Eight<Eight<T>>>>;
 
-// A value in lists, eight deep.
-fn eight<T: Drop>(alloc: Global, value: T) -> Result<Eight<T>, AllocError> {
-    four(alloc, four(alloc, value)?)
+// A value in lists, sixteen deep.
+fn sixteen<T: Drop>(alloc: Global, value: T) -> Result<Eight<Eight<T>>, AllocError> {
+    eight(alloc, eight(alloc, value)?)
+}
+
+// A value in lists, thirty-two deep.
+fn thirty_two<T: Drop>(alloc: Global, value: T) -> Result<ThirtyTwo<T>, AllocError> {
+    sixteen(alloc, sixteen(alloc, value)?)
 }
 
 // A value in lists, forty deep.
-fn forty<T: Drop>(alloc: Global, value: T) -> Result<Forty<T>, AllocError> {
-    let sixteen = eight(alloc, eight(alloc, value)?)?;
-    let thirty_two = eight(alloc, eight(alloc, sixteen)?)?;
-    eight(alloc, thirty_two)
+fn forty<T: Drop>(alloc: Global, value: T) -> Result<ThirtyTwo<Eight<T>>, AllocError> {
+    thirty_two(alloc, eight(alloc, value)?)
+}
+
+// Whether forty lists round a wrong user tell forty indexes, then the field and its fault.
+fn is_told_when_forty_deep(alloc: Global) -> Result<bool, AllocError> {
+    let lists = forty(alloc, user(alloc, "ab")?)?;
+    let (text, nodes) = walked(alloc, &lists, &(), &DefaultI18n)?;
+    Ok(nodes == 41 && text.len() == 40 * 3 + ".username: length is lower than 3\n".len())
 }
 
 #[test]
 fn a_nest_of_forty_lists(rt: HostRuntime) -> Result<(), Fail> {
-    let lists = forty(rt.alloc(), user(rt.alloc(), "ab")?)?;
-    let (text, nodes) = walked(rt.alloc(), &lists, &(), &DefaultI18n)?;
-    assert_eq!(rt; nodes, 41);
-    // Forty times the index, then the field and its fault.
-    assert_eq!(rt;
-        text.len(),
-        40 * 3 + ".username: length is lower than 3\n".len()
-    );
+    assert!(rt; is_told_when_forty_deep(rt.alloc())?);
     Ok(())
 }
 
-#[test]
-fn a_computed_key_is_kept(rt: HostRuntime) -> Result<(), Fail> {
-    let alloc = rt.alloc();
+// A user under a key that is computed.
+fn under_a_computed_key(alloc: Global) -> Result<BTreeMap<Hex, User>, AllocError> {
     let mut users = BTreeMap::new(alloc);
     let key = Hex {
         number: 15,
         text: String::from_str(alloc, "0x0f")?,
     };
     users.insert(key, user(alloc, "ab")?)?;
-    let (text, nodes) = walked(alloc, &users, &(), &DefaultI18n)?;
-    assert_eq!(rt; text.as_str(), "0x0f.username: length is lower than 3\n");
-    assert_eq!(rt; nodes, 2);
+    Ok(users)
+}
+
+// Whether the user is told under the text of the key.
+fn is_told_under_a_computed_key(alloc: Global) -> Result<bool, AllocError> {
+    let users = under_a_computed_key(alloc)?;
+    let text = "0x0f.username: length is lower than 3\n";
+    is_told(alloc, &users, &(), &DefaultI18n, (text, 2))
+}
+
+#[test]
+fn a_computed_key_is_kept(rt: HostRuntime) -> Result<(), Fail> {
+    assert!(rt; is_told_under_a_computed_key(rt.alloc())?);
     Ok(())
 }
 
@@ -100,14 +113,21 @@ fn under_a_long_key(alloc: Global, size: usize) -> Result<BTreeMap<String, User>
     Ok(users)
 }
 
+// Whether a user is told under the whole of a key of so many letters.
+fn is_told_under_a_long_key(alloc: Global, size: usize) -> Result<bool, AllocError> {
+    let users = under_a_long_key(alloc, size)?;
+    let (text, nodes) = walked(alloc, &users, &(), &Custom)?;
+    let after = ".username: custom: too short, need at least 3\n";
+    Ok(
+        nodes == 2
+            && text.len().checked_sub(after.len()) == Some(size)
+            && text.as_str().ends_with(after),
+    )
+}
+
 #[test]
 fn a_key_of_a_megabyte(rt: HostRuntime) -> Result<(), Fail> {
-    let users = under_a_long_key(rt.alloc(), MANY)?;
-    let (text, nodes) = walked(rt.alloc(), &users, &(), &Custom)?;
-    let after = ".username: custom: too short, need at least 3\n";
-    assert_eq!(rt; text.len().checked_sub(after.len()), Some(MANY));
-    assert!(rt; text.as_str().ends_with(after));
-    assert_eq!(rt; nodes, 2);
+    assert!(rt; is_told_under_a_long_key(rt.alloc(), MANY)?);
     Ok(())
 }
 
@@ -128,18 +148,23 @@ fn tells_each(report: &Report, keys: &[&str]) -> bool {
             .all(|key| select(report, &[*key, "username"]).count() == 1)
 }
 
+/// Keys that look like paths, or like parts of one.
+const KEYS: &[&str] = &[
+    "", ".", "a.b", "[0]", "a: b", "a\nb", "username", "\u{0}", "😂",
+];
+
+// Whether users under these keys are told each under its own.
+fn stay_apart(alloc: Global, keys: &[&str]) -> Result<bool, AllocError> {
+    let users = under_keys(alloc, keys)?;
+    Ok(match users.validate(alloc) {
+        Err(ValidateError::Report(report)) => tells_each(&report, keys),
+        _ => false,
+    })
+}
+
 #[test]
 fn keys_that_look_like_paths_stay_apart(rt: HostRuntime) -> Result<(), Fail> {
-    let alloc = rt.alloc();
-    let keys = [
-        "", ".", "a.b", "[0]", "a: b", "a\nb", "username", "\u{0}", "😂",
-    ];
-    let users = under_keys(alloc, &keys)?;
-    let told = match users.validate(alloc) {
-        Err(ValidateError::Report(report)) => tells_each(&report, &keys),
-        _ => false,
-    };
-    assert!(rt; told);
+    assert!(rt; stay_apart(rt.alloc(), KEYS)?);
     Ok(())
 }
 
@@ -159,17 +184,22 @@ fn of_one_path(alloc: Global, count: usize) -> Result<Report, AllocError> {
     Ok(report)
 }
 
-// How many bytes a report prints.
-fn printed_len(alloc: Global, report: &Report) -> Result<usize, AllocError> {
-    Ok(report.to_string(alloc)?.len())
+// Whether a report of so many faults prints five bytes of each.
+fn prints_each(alloc: Global, count: usize) -> Result<bool, AllocError> {
+    let report = of_one_path(alloc, count)?;
+    Ok(report.to_string(alloc)?.len() == count.wrapping_mul(5))
+}
+
+// Whether the copy of a report of so many faults has each of them.
+fn is_copied_whole(alloc: Global, count: usize) -> Result<bool, AllocError> {
+    let copy: Report = of_one_path(alloc, count)?.clone()?;
+    Ok(select(&copy, &["a"]).count() == count)
 }
 
 #[test]
 fn a_million_faults_in_one_report(rt: HostRuntime) -> Result<(), Fail> {
-    let report = of_one_path(rt.alloc(), MANY)?;
-    assert_eq!(rt; printed_len(rt.alloc(), &report)?, MANY.wrapping_mul(5));
-    let copy: Report = report.clone()?;
-    assert_eq!(rt; select(&copy, &["a"]).count(), MANY);
+    assert!(rt; prints_each(rt.alloc(), MANY)?);
+    assert!(rt; is_copied_whole(rt.alloc(), MANY)?);
     Ok(())
 }
 
@@ -182,15 +212,15 @@ fn path_to(alloc: Global, size: usize) -> Result<Path, JoinError> {
     Ok(path)
 }
 
-// Whether a path is read back from its tree.
-fn is_read_back(alloc: Global, path: &Path) -> Result<bool, AllocError> {
-    let tree = path_to_json(alloc, path)?;
-    Ok(matches!(&path_from_json(alloc, &tree), Ok(back) if back == path))
+// Whether a path of so many indexes is read back from its tree.
+fn is_read_back(alloc: Global, size: usize) -> Result<bool, Fail> {
+    let path = path_to(alloc, size)?;
+    let tree = path_to_json(alloc, &path)?;
+    Ok(matches!(&path_from_json(alloc, &tree), Ok(back) if *back == path))
 }
 
 #[test]
 fn a_million_components_are_read_back(rt: HostRuntime) -> Result<(), Fail> {
-    let path = path_to(rt.alloc(), MANY)?;
-    assert!(rt; is_read_back(rt.alloc(), &path)?);
+    assert!(rt; is_read_back(rt.alloc(), MANY)?);
     Ok(())
 }

@@ -8,7 +8,7 @@ use garde::{I18n, Report, Trail, Validate};
 use std::alloc::{AllocError, Global};
 
 /// A person.
-#[derive(Debug, Drop)]
+#[derive(Drop)]
 pub struct Person {
     pub name: String,
     pub age: u32,
@@ -48,7 +48,7 @@ impl Validate for Person {
 }
 
 /// Where a person lives. Its context is the pattern of its code.
-#[derive(Debug, Drop)]
+#[derive(Drop)]
 pub struct Home {
     pub street: String,
     pub city: String,
@@ -95,7 +95,7 @@ impl Validate for Home {
 }
 
 /// A person, a home and a text.
-#[derive(Debug, Drop)]
+#[derive(Drop)]
 pub struct Account {
     pub user: Person,
     pub address: Home,

@@ -44,92 +44,103 @@ impl Calls for Scenario {
     }
 }
 
+/// All scenarios.
+const ALL: &[Scenario] = &[
+    Scenario::Append,
+    Scenario::Join,
+    Scenario::Iter,
+    Scenario::ReportAppend,
+    Scenario::ReportClone,
+    Scenario::ToJson,
+    Scenario::FromJson,
+    Scenario::Texts,
+    Scenario::Rules,
+    Scenario::Compile,
+    Scenario::OnUsers,
+    Scenario::Nest,
+    Scenario::Typed,
+];
+
+// Whether a scenario ends well under budgets of memory that grow from nothing.
+fn is_ample_in_turn(alloc: Global, calls: Scenario) -> Result<bool, AllocError> {
+    let mut memory = Scarce::taken(alloc)?;
+    Ok(calls.in_turn(alloc, &mut memory)? == Met::Ample)
+}
+
 #[test]
 fn each_budget_of_memory(rt: HostRuntime) -> Result<(), Fail> {
-    let mut memory = Scarce::taken(rt.alloc())?;
-    let all = [
-        Scenario::Append,
-        Scenario::Join,
-        Scenario::Iter,
-        Scenario::ReportAppend,
-        Scenario::ReportClone,
-        Scenario::ToJson,
-        Scenario::FromJson,
-        Scenario::Texts,
-        Scenario::Rules,
-        Scenario::Compile,
-        Scenario::OnUsers,
-        Scenario::Nest,
-        Scenario::Typed,
-    ];
-    for calls in all {
-        let met = calls.in_turn(rt.alloc(), &mut memory)?;
-        assert_eq!(rt; met, Met::Ample, "at {calls:?}");
+    for calls in ALL {
+        assert!(rt; is_ample_in_turn(rt.alloc(), *calls)?, "at {calls:?}");
     }
     Ok(())
 }
 
+// Makes the calls of a scenario once.
+fn once(alloc: Global, calls: Scenario) -> Result<(), Fail> {
+    Ok(calls.once(alloc)?.ample()?)
+}
+
 #[test]
 fn list_append(rt: HostRuntime) -> Result<(), Fail> {
-    Ok(Scenario::Append.once(rt.alloc())?.ample()?)
+    once(rt.alloc(), Scenario::Append)
 }
 
 #[test]
 fn path_join(rt: HostRuntime) -> Result<(), Fail> {
-    Ok(Scenario::Join.once(rt.alloc())?.ample()?)
+    once(rt.alloc(), Scenario::Join)
 }
 
 #[test]
 fn path_iter(rt: HostRuntime) -> Result<(), Fail> {
-    Ok(Scenario::Iter.once(rt.alloc())?.ample()?)
+    once(rt.alloc(), Scenario::Iter)
 }
 
 #[test]
 fn report_append(rt: HostRuntime) -> Result<(), Fail> {
-    Ok(Scenario::ReportAppend.once(rt.alloc())?.ample()?)
+    once(rt.alloc(), Scenario::ReportAppend)
 }
 
 #[test]
 fn report_clone(rt: HostRuntime) -> Result<(), Fail> {
-    Ok(Scenario::ReportClone.once(rt.alloc())?.ample()?)
+    once(rt.alloc(), Scenario::ReportClone)
 }
 
 #[test]
 fn report_to_json(rt: HostRuntime) -> Result<(), Fail> {
-    Ok(Scenario::ToJson.once(rt.alloc())?.ample()?)
+    once(rt.alloc(), Scenario::ToJson)
 }
 
 #[test]
 fn report_from_json(rt: HostRuntime) -> Result<(), Fail> {
-    Ok(Scenario::FromJson.once(rt.alloc())?.ample()?)
+    once(rt.alloc(), Scenario::FromJson)
 }
 
 #[test]
 fn handler_texts(rt: HostRuntime) -> Result<(), Fail> {
-    Ok(Scenario::Texts.once(rt.alloc())?.ample()?)
+    once(rt.alloc(), Scenario::Texts)
 }
 
 #[test]
 fn rules_apply(rt: HostRuntime) -> Result<(), Fail> {
-    Ok(Scenario::Rules.once(rt.alloc())?.ample()?)
+    once(rt.alloc(), Scenario::Rules)
 }
 
 #[test]
 fn regex_new(rt: HostRuntime) -> Result<(), Fail> {
-    Ok(Scenario::Compile.once(rt.alloc())?.ample()?)
+    once(rt.alloc(), Scenario::Compile)
 }
 
 #[test]
 fn walk_on_users(rt: HostRuntime) -> Result<(), Fail> {
-    Ok(Scenario::OnUsers.once(rt.alloc())?.ample()?)
+    once(rt.alloc(), Scenario::OnUsers)
 }
 
 #[test]
 fn nest_of_twelve(rt: HostRuntime) -> Result<(), Fail> {
-    Ok(Scenario::Nest.once(rt.alloc())?.ample()?)
+    once(rt.alloc(), Scenario::Nest)
 }
 
 #[test]
 fn unvalidated(rt: HostRuntime) -> Result<(), Fail> {
-    Ok(Scenario::Typed.once(rt.alloc())?.ample()?)
+    once(rt.alloc(), Scenario::Typed)
 }

@@ -61,7 +61,10 @@ const FORM: &str =
 
 // The tree of the form.
 fn form(alloc: Global) -> Result<Value, AllocError> {
-    Value::from_str(alloc, FORM).map_err(|_| AllocError)
+    let Ok(tree) = Value::from_str(alloc, FORM) else {
+        return Err(AllocError);
+    };
+    Ok(tree)
 }
 
 pub fn write(alloc: Global, memory: &mut Scarce) -> Result<Met, AllocError> {

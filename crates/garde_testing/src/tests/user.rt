@@ -1,4 +1,4 @@
-//! Users, as sets, heaps and maps can hold them.
+//! Users.
 ghost use Rattle.garde.specs.Author.{codes, length, string_bytes, ◌and◌, field, ascii, length_in};
 
 use garde::fields::{Ascii, Field, Fields, Is, Length};
@@ -6,7 +6,7 @@ use garde::{I18n, Report, Trail, Validate};
 use std::alloc::{AllocError, Global};
 
 /// A user, whose name has 3 to 25 bytes, all of them ASCII.
-#[derive(Debug, Drop, PartialEq, Eq, PartialOrd, Ord, Hash)]
+#[derive(Debug, Drop)]
 pub struct User {
     pub username: String,
 }

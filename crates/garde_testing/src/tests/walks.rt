@@ -16,6 +16,14 @@ pub fn user(alloc: Global, name: &str) -> Result<User, AllocError> {
     })
 }
 
+/// What an answer tells. That of a valid value tells nothing.
+pub fn told(alloc: Global, answer: Result<(), ValidateError>) -> Result<String, AllocError> {
+    match answer {
+        Ok(()) => Ok(String::new(alloc)),
+        Err(refusal) => refusal.to_string(alloc),
+    }
+}
+
 /// What a walk on a new trail tells, and the nodes that it made.
 pub fn walked<T: Validate, H: I18n>(
     alloc: Global,
@@ -25,11 +33,20 @@ pub fn walked<T: Validate, H: I18n>(
 ) -> Result<(String, usize), AllocError> {
     let mut trail = Trail::new(alloc);
     let answer = value.validate_on(alloc, ctx, &mut trail, h);
-    let text = match answer {
-        Ok(()) => String::new(alloc),
-        Err(refusal) => refusal.to_string(alloc)?,
-    };
-    Ok((text, trail.nodes()))
+    let nodes = trail.nodes();
+    Ok((told(alloc, answer)?, nodes))
+}
+
+/// Whether a walk on a new trail tells just this, and makes so many nodes.
+pub fn is_told<T: Validate, H: I18n>(
+    alloc: Global,
+    value: &T,
+    ctx: &T::Context,
+    h: &H,
+    (text, nodes): (&str, usize),
+) -> Result<bool, AllocError> {
+    let (told, made) = walked(alloc, value, ctx, h)?;
+    Ok(told.as_str() == text && made == nodes)
 }
 
 const FAULTS: &[&str] = &["old", "not ascii", "length is lower than 3"];
@@ -40,7 +57,7 @@ fn begins(report: &Report) -> bool {
 }
 
 pub fn on_users(alloc: Global, memory: &mut Scarce) -> Result<Met, AllocError> {
-    let users = vec![in alloc; Some(user(alloc, "é")?)]?;
+    let users = one(alloc, Some(user(alloc, "é")?))?;
     let mut report = report_of(alloc, &FAULTS[..1])?;
     let mut trail = Trail::new(alloc);
     trail.push(Component::key("users"))?;
@@ -72,15 +89,31 @@ pub fn one<T: Drop>(alloc: Global, value: T) -> Result<Vec<T>, AllocError> {
     }
 }
 
+/// A value in lists, two deep.
+pub fn two<T: Drop>(alloc: Global, value: T) -> Result<Vec<Vec<T>>, AllocError> {
+    one(alloc, one(alloc, value)?)
+}
+
 /// A value in lists, four deep.
 pub fn four<T: Drop>(alloc: Global, value: T) -> Result<Four<T>, AllocError> {
-    one(alloc, one(alloc, one(alloc, one(alloc, value)?)?)?)
+    two(alloc, two(alloc, value)?)
+}
+
+/// A value in lists, eight deep.
+pub fn eight<T: Drop>(alloc: Global, value: T) -> Result<Four<Four<T>>, AllocError> {
+    four(alloc, four(alloc, value)?)
+}
+
+/// A user of this name in twelve lists, one in the other.
+pub fn twelve(alloc: Global, name: &str) -> Result<Four<Four<Four<User>>>, AllocError> {
+    let user = user(alloc, name)?;
+    eight(alloc, four(alloc, user)?)
 }
 
 const NESTED: &str = "[0][0][0][0][0][0][0][0][0][0][0][0].username: length is lower than 3\n";
 
 pub fn nest(alloc: Global, memory: &mut Scarce) -> Result<Met, AllocError> {
-    let lists = four(alloc, four(alloc, four(alloc, user(alloc, "ab")?)?)?)?;
+    let lists = twelve(alloc, "ab")?;
     let mut trail = Trail::new(alloc);
     memory.begin();
     let answer = lists.validate_on(alloc, &(), &mut trail, &DefaultI18n);
@@ -98,7 +131,7 @@ pub fn nest(alloc: Global, memory: &mut Scarce) -> Result<Met, AllocError> {
 }
 
 pub fn typed(alloc: Global, memory: &mut Scarce) -> Result<Met, AllocError> {
-    let users = Unvalidated::new(vec![in alloc; Some(user(alloc, "é")?)]?);
+    let users = Unvalidated::new(one(alloc, Some(user(alloc, "é")?))?);
     memory.begin();
     let answer = users.validate(alloc);
     memory.end();

@@ -6,7 +6,7 @@ use garde::{Component, I18n, Report, Trail, Validate};
 use std::alloc::{AllocError, Global};
 
 /// A number of at least 1.
-#[derive(Clone, Copy, Debug)]
+#[derive(Drop)]
 pub struct Badge {
     pub number: u8,
 }

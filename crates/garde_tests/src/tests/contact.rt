@@ -7,7 +7,7 @@ use garde::{I18n, Report, Trail, Validate};
 use std::alloc::{AllocError, Global};
 
 /// How someone is reached.
-#[derive(Debug, Drop)]
+#[derive(Drop)]
 pub enum Contact {
     Mail(String),
     Silent,

@@ -6,7 +6,7 @@ use garde::{I18n, Report, Trail, Validate};
 use std::alloc::{AllocError, Global};
 
 /// Two values of one type.
-#[derive(Debug, Drop)]
+#[derive(Drop)]
 pub struct Couple<T> {
     pub left: T,
     pub right: T,

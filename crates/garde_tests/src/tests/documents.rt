@@ -1,5 +1,5 @@
 //! A document, of which it depends on its switches what is asked.
-use crate::tests::containers::assert_told;
+use crate::tests::containers::is_told;
 use garde::samples::{Document, Tag};
 use std::alloc::{AllocError, Global};
 use std::test::Fail;
@@ -23,27 +23,35 @@ pub fn document(
     })
 }
 
+/// A document's switches, content and tag, and what is told of it.
+type Row<'a> = ((bool, bool), Option<&'a str>, &'a str, &'a str);
+
+const ROWS: &[Row<'static>] = &[
+    (
+        (true, true),
+        Some("é"),
+        "t-1",
+        "content: not ascii\ncontent: length is lower than 10\nnodes: 1",
+    ),
+    ((false, false), Some("é"), "t-1", "nodes: 0"),
+    ((true, true), None, "t-1", "content: not set\nnodes: 1"),
+    (
+        (false, true),
+        Some("é"),
+        "x",
+        "content: length is lower than 10\ntag: value does not begin with \"t-\"\nnodes: 2",
+    ),
+];
+
+/// Whether just that is told of a row's document.
+fn is_row(alloc: Global, &(switches, content, tag, text): &Row<'_>) -> Result<bool, AllocError> {
+    is_told(alloc, &document(alloc, switches, content, tag)?, text)
+}
+
 #[test]
 fn each_rule_under_its_condition(rt: HostRuntime) -> Result<(), Fail> {
-    let rows = [
-        (
-            (true, true),
-            Some("é"),
-            "t-1",
-            "content: not ascii\ncontent: length is lower than 10\nnodes: 1",
-        ),
-        ((false, false), Some("é"), "t-1", "nodes: 0"),
-        ((true, true), None, "t-1", "content: not set\nnodes: 1"),
-        (
-            (false, true),
-            Some("é"),
-            "x",
-            "content: length is lower than 10\ntag: value does not begin with \"t-\"\nnodes: 2",
-        ),
-    ];
-    for (switches, content, tag, text) in rows {
-        let document = document(rt.alloc(), switches, content, tag)?;
-        assert_told(&rt, rt.alloc(), document, text)?;
+    for row in ROWS {
+        assert!(rt; is_row(rt.alloc(), row)?, "at {}", row.3);
     }
     Ok(())
 }

@@ -24,26 +24,39 @@ fn is_match(alloc: Global, source: &str, text: &str) -> anyhow::Result<bool> {
     Ok(Regex::new(alloc, source)?.is_match(alloc, text)?)
 }
 
-/// What an error tells, or nothing of an answer.
-fn told<T: Drop>(alloc: Global, answer: anyhow::Result<T>) -> Result<String, Fail> {
+/// Whether an error prints this text. An answer prints nothing.
+fn prints_as<T: Drop>(alloc: Global, answer: anyhow::Result<T>, text: &str) -> Result<bool, Fail> {
     match answer {
-        Ok(_) => Ok(String::new(alloc)),
-        Err(error) => Ok(error.to_string(alloc)?),
+        Ok(_) => Ok(text.is_empty()),
+        Err(error) => Ok(error.to_string(alloc)?.as_str() == text),
     }
+}
+
+/// Whether the way to a valid user of this name prints this text.
+fn user_prints_as(alloc: Global, name: &str, text: &str) -> Result<bool, Fail> {
+    prints_as(alloc, valid_user(alloc, name), text)
+}
+
+/// Whether the way to the depth of a user of too short a name prints this text.
+fn depth_prints_as(alloc: Global, text: &str) -> Result<bool, Fail> {
+    let user = User {
+        username: String::from_str(alloc, "ab")?,
+    };
+    prints_as(alloc, depth_of_user(alloc, &user), text)
+}
+
+/// Whether the way to the answer of a pattern for `a` prints this text.
+fn match_prints_as(alloc: Global, source: &str, text: &str) -> Result<bool, Fail> {
+    prints_as(alloc, is_match(alloc, source, "a"), text)
 }
 
 #[test]
 fn errors_lead_into_anyhow(rt: HostRuntime) -> Result<(), Fail> {
-    let alloc = rt.alloc();
     let short = "username: length is lower than 3\n";
-    assert_eq!(rt; told(alloc, valid_user(alloc, "ab"))?.as_str(), short);
-    assert_eq!(rt; told(alloc, valid_user(alloc, "test"))?.as_str(), "");
-    let user = User {
-        username: String::from_str(alloc, "ab")?,
-    };
-    assert_eq!(rt; told(alloc, depth_of_user(alloc, &user))?.as_str(), short);
-    let open = "the text is not a pattern";
-    assert_eq!(rt; told(alloc, is_match(alloc, "(", "a"))?.as_str(), open);
-    assert_eq!(rt; told(alloc, is_match(alloc, "^a$", "a"))?.as_str(), "");
+    assert!(rt; user_prints_as(rt.alloc(), "ab", short)?);
+    assert!(rt; user_prints_as(rt.alloc(), "test", "")?);
+    assert!(rt; depth_prints_as(rt.alloc(), short)?);
+    assert!(rt; match_prints_as(rt.alloc(), "(", "the text is not a pattern")?);
+    assert!(rt; match_prints_as(rt.alloc(), "^a$", "")?);
     Ok(())
 }

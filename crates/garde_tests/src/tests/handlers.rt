@@ -10,7 +10,7 @@ use std::alloc::{AllocError, Global};
 use std::borrow::CowStr;
 
 /// A handler that gives a label, which it borrows, and behind it the bound of a length.
-#[derive(Clone, Copy, Debug)]
+#[derive(Drop)]
 pub struct Labelled<'l>(pub &'l str);
 
 impl Labelled<'_> {
@@ -142,7 +142,7 @@ impl I18n for Labelled<'_> {
 }
 
 /// A handler whose texts are all empty.
-#[derive(Clone, Copy, Debug)]
+#[derive(Drop)]
 pub struct Silent;
 
 impl I18n for Silent {

@@ -7,7 +7,7 @@ use garde::{I18n, Report, Trail, Validate};
 use std::alloc::{AllocError, Global};
 
 /// A number of at most 4, under the key `id`.
-#[derive(Clone, Copy, Debug)]
+#[derive(Clone, Copy)]
 pub struct Identifier {
     pub id: u64,
 }
@@ -38,7 +38,7 @@ impl Validate for Identifier {
 }
 
 /// A name of 10 bytes of ASCII at least, and numbers.
-#[derive(Debug, Drop)]
+#[derive(Drop)]
 pub struct Item {
     pub name: String,
     pub identifiers: Vec<Identifier>,

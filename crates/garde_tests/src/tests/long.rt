@@ -7,7 +7,7 @@ use garde::{I18n, Report, Trail, Validate};
 use std::alloc::{AllocError, Global};
 
 /// A text of 5 bytes at least, under the key `s`.
-#[derive(Debug, Drop)]
+#[derive(Drop)]
 pub struct Long {
     pub s: String,
 }

@@ -2,7 +2,6 @@
 use garde::fields::{Ascii, Each, Field, Fields, Is, Length};
 use garde::{DefaultI18n, Report, Trail};
 use std::alloc::{AllocError, Global};
-use std::process::Abort;
 use std::test::Fail;
 
 /// A field that is not ASCII.
@@ -27,16 +26,14 @@ fn each_of(alloc: Global, names: &[&str]) -> Result<String, AllocError> {
     Ok(text)
 }
 
-/// Asserts that of these fields each is told.
-fn assert_each<'a, F: Fields<'a>>(
-    rt: &impl Abort,
+/// Whether of these fields each is told.
+fn is_each_told<'a, F: Fields<'a>>(
     alloc: Global,
     fields: &F,
     names: &[&str],
-) -> Result<(), AllocError> {
+) -> Result<bool, AllocError> {
     let text = each_of(alloc, names)?;
-    assert_eq!(rt; told(alloc, fields)?.as_str(), text.as_str());
-    Ok(())
+    Ok(told(alloc, fields)?.as_str() == text.as_str())
 }
 
 #[test]
@@ -48,23 +45,25 @@ fn each_field_of_a_tuple(rt: HostRuntime) -> Result<(), Fail> {
     let d = accented("d", &e);
     let all = ["a", "b", "c", "d", "a", "b", "c", "d", "a", "b", "c", "d"];
     let fields = (a, b, c, d, a, b, c, d, a, b, c, d);
-    assert_each(&rt, rt.alloc(), &fields, &all)?;
+    assert!(rt; is_each_told(rt.alloc(), &fields, &all)?);
     let some = ["a", "b", "c", "d", "c"];
-    assert_each(&rt, rt.alloc(), &(a, b, c, d, c), &some)?;
+    assert!(rt; is_each_told(rt.alloc(), &(a, b, c, d, c), &some)?);
     Ok(())
 }
 
-#[test]
-fn each_check_of_a_tuple(rt: HostRuntime) -> Result<(), Fail> {
-    let alloc = rt.alloc();
+/// Whether this is told of a list of one text under four checks.
+fn is_told_of_checks(alloc: Global, text: &str) -> Result<bool, AllocError> {
     let texts = vec![in alloc; "é"]?.into_boxed_slice();
     let long = Is(Length { min: 3, max: 9 });
     let short = Is(Length { min: 0, max: 1 });
     let checks = Each((Is(Ascii), long, short, Is(Ascii)));
-    let text = told(alloc, &Field("texts", &texts, checks))?;
-    assert_eq!(rt;
-        text.as_str(),
-        "texts[0]: not ascii\ntexts[0]: length is lower than 3\ntexts[0]: length is greater than 1\ntexts[0]: not ascii\n"
-    );
+    Ok(told(alloc, &Field("texts", &texts, checks))?.as_str() == text)
+}
+
+#[test]
+fn each_check_of_a_tuple(rt: HostRuntime) -> Result<(), Fail> {
+    let text =
+        "texts[0]: not ascii\ntexts[0]: length is lower than 3\ntexts[0]: length is greater than 1\ntexts[0]: not ascii\n";
+    assert!(rt; is_told_of_checks(rt.alloc(), text)?);
     Ok(())
 }

@@ -7,7 +7,7 @@ use garde::{I18n, Report, Trail, Validate};
 use std::alloc::{AllocError, Global};
 
 /// One name at least, each of them set, of ASCII and not empty.
-#[derive(Debug, Drop)]
+#[derive(Drop)]
 pub struct Names {
     pub items: Vec<Option<String>>,
 }

@@ -11,7 +11,7 @@ use garde::{I18n, Report, Trail, Validate};
 use std::alloc::{AllocError, Global};
 
 /// A tag, an address, a host, a site and a temperature.
-#[derive(Debug, Drop)]
+#[derive(Drop)]
 pub struct Profile {
     pub tag: String,
     pub address: String,

@@ -9,7 +9,7 @@ use std::alloc::{AllocError, Global};
 use std::borrow::CowStr;
 
 /// How many tags a form may have, and how many bytes a city.
-#[derive(Debug, Drop)]
+#[derive(Drop)]
 pub struct Limits {
     pub most: usize,
 }
@@ -23,7 +23,7 @@ impl Default for Limits {
 }
 
 /// The rule that a password has 12 bytes at least, with a message of its own.
-#[derive(Clone, Copy, Debug)]
+#[derive(Drop)]
 pub struct Strong;
 
 impl Rule<String> for Strong {
@@ -39,7 +39,7 @@ impl Rule<String> for Strong {
 }
 
 /// A part of the form.
-#[derive(Debug, Drop)]
+#[derive(Drop)]
 pub struct Address {
     pub street: String,
     pub city: String,
@@ -79,7 +79,7 @@ impl Validate for Address {
 }
 
 /// A form.
-#[derive(Debug, Drop)]
+#[derive(Drop)]
 pub struct Signup {
     pub name: String,
     pub password: String,

@@ -16,7 +16,7 @@ pub struct Span {
 }
 
 /// The rule that a span does not end before it begins, with a message of its own.
-#[derive(Clone, Copy, Debug)]
+#[derive(Drop)]
 pub struct InOrder;
 
 impl Rule<Span> for InOrder {
