@@ -37,6 +37,11 @@ asks message holds = found (told_unless message holds)
 abbrev pub told : Literal → Option Fault → Visits
 told message fault = found (with_message message fault)
 
+-- a rule of the library that is asked of an option as a whole: an option without a value passes. The walks are those of
+-- `optional`, where the rule is asked of what the option holds.
+abbrev pub of_option : {A : Type 0} → (A → Option Fault) → Option A → Visits
+of_option rule v = found (finds.of_option rule v)
+
 -- a reference to a value, as a rule of one's own holds its context: where it points says nothing
 abbrev pub lent : {A : Type 0} → A → Bor A
 lent v = record { ref_ptr = (0, 0); now = v }

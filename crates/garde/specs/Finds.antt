@@ -39,6 +39,11 @@ told_unless message holds = elim holds as (λ _. Option Fault) [ true ↦ None |
 abbrev pub with_message : Literal → Option Fault → Option Fault
 with_message message fault = option_map (λ _. own (codes message)) fault
 
+-- what a rule finds that is asked of an option as a whole: of an option without a value nothing
+abbrev pub of_option : {A : Type 0} → (A → Option Fault) → Option A → Option Fault
+of_option rule None = None
+of_option rule (Some v) = rule v
+
 -- every byte of a text is below 128; every character is a letter or a number
 abbrev pub ascii : {Z : Type 0} → String Z → Option Fault
 ascii s = unless (is_ascii_text (string_bytes s)) datum.not_ascii

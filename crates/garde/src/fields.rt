@@ -4,7 +4,7 @@
 //!
 //! ```text
 //! (
-//!     Field("name", &self.name, (Is(Ascii), Is(Length { min: 3, max: 25 }))),
+//!     Field("name", &self.name, (Is(Ascii), Is(length!(min = 3, max = 25)))),
 //!     Field("tags", &self.tags, Each(Is(Ascii))),
 //!     Field("address", &self.address, Dive(ctx)),
 //! )
@@ -14,6 +14,7 @@
 //! and states `visits` by the words of `garde.specs.Author` in the same shape. Such an
 //! implementation needs no proof file.
 
+mod bounds;
 mod check;
 mod condition;
 mod each;

@@ -9,6 +9,7 @@ ghost use Rattle.std.specs.BTreeSet.{btree_set_len};
 ghost use Rattle.garde.specs.Author.{Fault, key_part, unit_count, grapheme_count};
 ghost use Rattle.garde.specs.Fields.{Known, Any, Option, Some, None, Ok, codes, string_bytes, byte_count, char_count, ◌and◌};
 ghost use Rattle.garde.specs.Fields as words;
+ghost use Rattle.garde.specs.Tree.{Tree};
 ghost use Rattle.garde.specs.Words.{is_ascii_text, is_alphanumeric_text, is_ip_text, has_part, has_prefix, has_suffix, matches_source, url_answer};
 
 use garde::Validate;
@@ -42,6 +43,15 @@ pub fn options<A: Validate>(value: &Option<A>, c: &A::Context)
         ↔ IfSome value.now (λ x. Known (A.visits x c.now)) }
     ensures inside { Known (words.inside (λ x. A.visits x c.now) value.now)
         ↔ IfSome value.now (λ x. Known (A.visits x c.now)) }
+{}
+
+/// Of a rule that is asked of an option as a whole: what it asks of the value that the option holds. The
+/// trees are those of the rule under `optional`.
+pub fn whole_options<A>(value: &Option<A>)
+    ensures of_option { (rule : A → Option Fault) → Known (words.of_option rule value.now)
+        ↔ IfSome value.now (λ x. rule x ≡ None) }
+    ensures as_optional { (rule : A → Option Fault) → (tree : Tree) → (words.of_option rule value.now).trees tree
+        ↔ (words.optional (λ x. words.found (rule x)) value.now).trees tree }
 {}
 
 /// Of the items of a list.

@@ -2,8 +2,8 @@
 ghost use Rattle.garde.specs.Fields.{Visits, field, item, signed_between, minus, pos};
 ghost use Rattle.garde_user.specs.declared.data.Data.TheVariants.{Struct, Tuple};
 
-use garde::fields::{Field, Fields, Is, Range, check_under};
-use garde::{Component, I18n, Report, Trail, Validate};
+use garde::fields::{Field, Fields, Is, check_under};
+use garde::{Component, I18n, Report, Trail, Validate, range};
 use std::alloc::{AllocError, Global};
 
 /// A number from -10 to 10, with a name or with a place.
@@ -31,7 +31,7 @@ impl Validate for Data {
         report: &mut Report,
         h: &H,
     ) -> Result<(), AllocError> {
-        let within = Is(Range::between(-10, 10));
+        let within = Is(range!(min = -10, max = 10));
         match self {
             Data::Struct { field } => {
                 Field("field", field, within).visit(alloc, trail, report, h)

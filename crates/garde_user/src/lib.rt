@@ -8,12 +8,12 @@ pub mod login;
 pub mod names;
 pub mod order;
 pub mod payment;
+pub mod profile;
 pub mod recursive;
 pub mod signup;
+pub mod stay;
 pub mod stock;
 pub mod table;
 pub mod tag;
 pub mod team;
-#[cfg(test)]
-mod tests;
 pub mod username;

@@ -1,8 +1,8 @@
 //! Two texts, each under the rules of its field.
 ghost use Rattle.garde.specs.Fields.{◌and◌, field, ascii, length_between, length_min};
 
-use garde::fields::{Ascii, Field, Fields, Is, Length};
-use garde::{I18n, Report, Trail, Validate};
+use garde::fields::{Ascii, Field, Fields, Is};
+use garde::{I18n, Report, Trail, Validate, length};
 use std::alloc::{AllocError, Global};
 
 /// Who logs in: a name of 3 to 25 bytes of ASCII, and a password of 15 bytes at least.
@@ -38,9 +38,9 @@ impl Validate for Login {
             Field(
                 "username",
                 username,
-                (Is(Ascii), Is(Length::between(3, 25))),
+                (Is(Ascii), Is(length!(min = 3, max = 25))),
             ),
-            Field("password", password, Is(Length::min(15))),
+            Field("password", password, Is(length!(min = 15))),
         )
             .visit(alloc, trail, report, h)
     }

@@ -1,8 +1,8 @@
 //! A type of seven fields.
 ghost use Rattle.garde.specs.Fields.{◌and◌, field, ascii, length_between, chars_between, range_between, each, optional};
 
-use garde::fields::{Ascii, CharLength, Each, Field, Fields, IfSome, Is, Length, Range};
-use garde::{I18n, Report, Trail, Validate};
+use garde::fields::{Ascii, Each, Field, Fields, IfSome, Is};
+use garde::{I18n, Report, Trail, Validate, length, range};
 use std::alloc::{AllocError, Global};
 
 /// What is sent, to whom and where.
@@ -47,31 +47,17 @@ impl Validate for Order {
             parcels,
         } = self;
         (
-            Field(
-                "number",
-                number,
-                Is(Range {
-                    min: Some(1),
-                    max: Some(99999),
-                }),
-            ),
+            Field("number", number, Is(range!(min = 1, max = 99999))),
             Field(
                 "customer",
                 customer,
-                (Is(Ascii), Is(Length { min: 3, max: 25 })),
+                (Is(Ascii), Is(length!(min = 3, max = 25))),
             ),
-            Field("street", street, Is(Length { min: 1, max: 60 })),
-            Field("town", town, Is(Length { min: 1, max: 40 })),
-            Field("lines", lines, Each(Is(Length { min: 1, max: 80 }))),
-            Field("note", note, IfSome(Is(CharLength { min: 1, max: 200 }))),
-            Field(
-                "parcels",
-                parcels,
-                Is(Range {
-                    min: Some(1),
-                    max: Some(20),
-                }),
-            ),
+            Field("street", street, Is(length!(min = 1, max = 60))),
+            Field("town", town, Is(length!(min = 1, max = 40))),
+            Field("lines", lines, Each(Is(length!(min = 1, max = 80)))),
+            Field("note", note, IfSome(Is(length!(chars, min = 1, max = 200)))),
+            Field("parcels", parcels, Is(range!(min = 1, max = 20))),
         )
             .visit(alloc, trail, report, h)
     }

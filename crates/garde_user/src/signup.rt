@@ -4,11 +4,10 @@ ghost use Rattle.garde.specs.Fields.{◌and◌, not, Some, None, codes, string_b
 ghost use Rattle.garde.specs.Finds as rules;
 
 use garde::fields::{
-    CharLength, Field, Fields, IfSome, Is, Length, Matches, Range, Required, Rule, Suffix, When,
-    WithMessage,
+    Field, Fields, IfSome, Is, Matches, Required, Rule, Suffix, When, WithMessage,
 };
 use garde::rules::ip::{is_ipv4, is_ipv6};
-use garde::{I18n, Report, RuleError, Trail, Validate};
+use garde::{I18n, Report, RuleError, Trail, Validate, length, range};
 use std::alloc::{AllocError, Global};
 use std::borrow::CowStr;
 
@@ -73,19 +72,16 @@ impl Validate for Signup {
             host,
             terms,
         } = self;
-        let long = WithMessage(Length { min: 3, max: 25 }, "choose a longer name");
+        let long = WithMessage(length!(min = 3, max = 25), "choose a longer name");
         let same = Matches {
             field: "password",
             other: password,
         };
-        let adult = IfSome(Is(Range {
-            min: Some(18),
-            max: Some(120),
-        }));
+        let adult = IfSome(Is(range!(min = 18, max = 120)));
         let named = !is_address(host.as_str());
         (
             Field("name", name, Is(long)),
-            Field("password", password, Is(CharLength::min(12))),
+            Field("password", password, Is(length!(chars, min = 12))),
             Field("again", again, Is(same)),
             Field("age", age, (Is(Required), adult)),
             Field("host", host, When(named, Is(Suffix(".org")))),

@@ -1,8 +1,8 @@
 //! Maps and a set: values under keys that are texts or numbers.
 ghost use Rattle.garde.specs.Fields.{◌and◌, field, ascii, length_max, range_between, map_between, each_value, each_numbered, each_signed, set_max, each_of_set};
 
-use garde::fields::{Ascii, Each, Field, Fields, Is, Length, Range};
-use garde::{I18n, Report, Trail, Validate};
+use garde::fields::{Ascii, Each, Field, Fields, Is};
+use garde::{I18n, Report, Trail, Validate, length, range};
 use std::alloc::{AllocError, Global};
 use std::collections::{BTreeMap, BTreeSet};
 
@@ -21,7 +21,7 @@ impl Validate for Stock {
 
     ghost visits = { λ v _.
         field "pieces" (map_between 1 100 v.pieces and each_value (λ count. range_between 1 999 count) v.pieces)
-        and field "shelves" (each_numbered (λ name. ascii name) v.shelves)
+        and field "shelves" (map_between 1 9 v.shelves and each_numbered (λ name. ascii name) v.shelves)
         and field "floors" (each_signed (λ name. length_max 20 name) v.floors)
         and field "marks" (set_max 9 v.marks and each_of_set (λ mark. length_max 8 mark) v.marks) };
 
@@ -39,18 +39,19 @@ impl Validate for Stock {
             floors,
             marks,
         } = self;
-        let counts = Each(Is(Range {
-            min: Some(1),
-            max: Some(999),
-        }));
+        let counts = Each(Is(range!(min = 1, max = 999)));
         (
-            Field("pieces", pieces, (Is(Length::between(1, 100)), counts)),
-            Field("shelves", shelves, Each(Is(Ascii))),
-            Field("floors", floors, Each(Is(Length { min: 0, max: 20 }))),
+            Field("pieces", pieces, (Is(length!(min = 1, max = 100)), counts)),
+            Field(
+                "shelves",
+                shelves,
+                (Is(length!(min = 1, max = 9)), Each(Is(Ascii))),
+            ),
+            Field("floors", floors, Each(Is(length!(max = 20)))),
             Field(
                 "marks",
                 marks,
-                (Is(Length::max(9)), Each(Is(Length { min: 0, max: 8 }))),
+                (Is(length!(max = 9)), Each(Is(length!(max = 8)))),
             ),
         )
             .visit(alloc, trail, report, h)

@@ -1,8 +1,8 @@
 //! Items in items, each level under rules of its own.
 ghost use Rattle.garde.specs.Fields.{◌and◌, field, ascii, length_min, items_min, each};
 
-use garde::fields::{Ascii, Each, Field, Fields, Is, Length};
-use garde::{I18n, Report, Trail, Validate};
+use garde::fields::{Ascii, Each, Field, Fields, Is};
+use garde::{I18n, Report, Trail, Validate, length};
 use std::alloc::{AllocError, Global};
 
 /// Rows of one cell at least, each of ASCII and not empty.
@@ -27,10 +27,7 @@ impl Validate for Table {
         h: &H,
     ) -> Result<(), AllocError> {
         let Self { rows } = self;
-        let not_empty = Is(Length {
-            min: 1,
-            max: usize::MAX,
-        });
+        let not_empty = Is(length!(min = 1));
         let cells = Each((Is(Ascii), not_empty));
         Field("rows", rows, Each((not_empty, cells))).visit(alloc, trail, report, h)
     }

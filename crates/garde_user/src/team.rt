@@ -1,8 +1,8 @@
 //! A value with parts: items, a part of a type of its own, and an option.
 ghost use Rattle.garde.specs.Fields.{◌and◌, field, ascii, length_between, chars_between, u8_min, items_between, each, optional};
 
-use garde::fields::{Ascii, CharLength, Dive, Each, Field, Fields, IfSome, Is, Length, Range};
-use garde::{I18n, Report, Trail, Validate};
+use garde::fields::{Ascii, Dive, Each, Field, Fields, IfSome, Is};
+use garde::{I18n, Report, Trail, Validate, length, range};
 use std::alloc::{AllocError, Global};
 
 /// What a league asks of its teams.
@@ -38,8 +38,8 @@ impl Validate for Member {
     ) -> Result<(), AllocError> {
         let Self { nickname, age } = self;
         (
-            Field("nickname", nickname, Is(CharLength::between(1, 20))),
-            Field("age", age, Is(Range::min(ctx.least_age))),
+            Field("nickname", nickname, Is(length!(chars, min = 1, max = 20))),
+            Field("age", age, Is(range!(min = ctx.least_age))),
         )
             .visit(alloc, trail, report, h)
     }
@@ -78,12 +78,16 @@ impl Validate for Team {
             captain,
             motto,
         } = self;
-        let few = Length::between(1, ctx.most_members);
+        let few = length!(min = 1, max = ctx.most_members);
         (
-            Field("name", name, (Is(Ascii), Is(Length::between(3, 25)))),
+            Field("name", name, (Is(Ascii), Is(length!(min = 3, max = 25)))),
             Field("members", members, (Is(few), Each(Dive(ctx)))),
             Field("captain", captain, Dive(ctx)),
-            Field("motto", motto, IfSome(Is(CharLength { min: 1, max: 40 }))),
+            Field(
+                "motto",
+                motto,
+                IfSome(Is(length!(chars, min = 1, max = 40))),
+            ),
         )
             .visit(alloc, trail, report, h)
     }

@@ -1,8 +1,8 @@
 //! New types round a text, and a value that holds one of them.
 ghost use Rattle.garde.specs.Fields.{field, item, length_min};
 
-use garde::fields::{Check, Dive, Field, Fields, Is, Length, check_under};
-use garde::{Component, I18n, Report, Trail, Validate};
+use garde::fields::{Check, Dive, Field, Fields, Is, check_under};
+use garde::{Component, I18n, Report, Trail, Validate, length};
 use std::alloc::{AllocError, Global};
 
 /// A name that is transparent: what is told of it stands where the name stands.
@@ -23,7 +23,7 @@ impl Validate for Username {
         h: &H,
     ) -> Result<(), AllocError> {
         let Self(name) = self;
-        Is(Length::min(3)).check(alloc, name, trail, report, h)
+        Is(length!(min = 3)).check(alloc, name, trail, report, h)
     }
 }
 
@@ -45,7 +45,7 @@ impl Validate for NumberedUsername {
         h: &H,
     ) -> Result<(), AllocError> {
         let Self(name) = self;
-        let long = Is(Length::min(3));
+        let long = Is(length!(min = 3));
         check_under(alloc, Component::index(0), &long, name, trail, report, h)
     }
 }

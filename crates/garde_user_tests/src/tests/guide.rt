@@ -1,11 +1,13 @@
 //! The whole reports of the guide's types.
 use super::told;
-use crate::order::Order;
-use crate::payment::{CardText, Payment, PhoneText};
-use crate::signup::Signup;
-use crate::stock::Stock;
-use crate::tag::Tag;
 use garde::Validate;
+use garde_user::order::Order;
+use garde_user::payment::{CardText, Payment, PhoneText};
+use garde_user::profile::Profile;
+use garde_user::signup::Signup;
+use garde_user::stay::Stay;
+use garde_user::stock::Stock;
+use garde_user::tag::Tag;
 use std::alloc::{AllocError, Global};
 use std::collections::{BTreeMap, BTreeSet};
 use std::test::Fail;
@@ -52,6 +54,57 @@ fn keys_that_are_texts_and_numbers(rt: HostRuntime) -> Result<(), Fail> {
         "pieces.pears: greater than 999\nshelves[4000000000]: not ascii\nfloors[-1]: length is greater than 20\nmarks[0]: length is greater than 8\n"
     );
     Ok(())
+}
+
+#[test]
+fn a_field_compared_with_another(rt: HostRuntime) -> Result<(), Fail> {
+    let alloc = rt.alloc();
+    let rows = [
+        (8, 9, ""),
+        (8, 8, "departure: leave after you arrive\n"),
+        (
+            7,
+            6,
+            "arrival: closed on Mondays\ndeparture: leave after you arrive\n",
+        ),
+    ];
+    for (arrival, departure, told) in rows {
+        let stay = Stay { arrival, departure };
+        assert_eq!(rt; super::told(alloc, stay.validate(alloc))?.as_str(), told);
+    }
+    Ok(())
+}
+
+#[test]
+fn options_that_are_asked_as_a_whole(rt: HostRuntime) -> Result<(), Fail> {
+    let alloc = rt.alloc();
+    let rows = [
+        (Some("abc"), Some(18), Some("a"), ""),
+        (None, None, None, "name: not set\n"),
+        (
+            Some("ab"),
+            Some(17),
+            Some("é"),
+            "name: length is lower than 3\nage: lower than 18\nmotto: not ascii\n",
+        ),
+    ];
+    for (name, age, motto, told) in rows {
+        let profile = Profile {
+            name: owned(alloc, name)?,
+            age,
+            motto: owned(alloc, motto)?,
+        };
+        assert_eq!(rt; super::told(alloc, profile.validate(alloc))?.as_str(), told);
+    }
+    Ok(())
+}
+
+/// The text as one that is owned, where there is one.
+fn owned(alloc: Global, text: Option<&str>) -> Result<Option<String>, AllocError> {
+    match text {
+        Some(text) => Ok(Some(String::from_str(alloc, text)?)),
+        None => Ok(None),
+    }
 }
 
 /// Who signs up, under a name and from a host.

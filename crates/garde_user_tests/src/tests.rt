@@ -5,13 +5,14 @@ mod handlers;
 mod modules;
 mod recursive;
 mod walks;
+mod written;
 
-use crate::data::Data;
-use crate::login::Login;
-use crate::table::Table;
-use crate::team::{League, Member, Team};
-use crate::username::{NumberedUsername, User, Username};
 use garde::{Validate, ValidateError};
+use garde_user::data::Data;
+use garde_user::login::Login;
+use garde_user::table::Table;
+use garde_user::team::{League, Member, Team};
+use garde_user::username::{NumberedUsername, User, Username};
 use std::alloc::{AllocError, Global};
 use std::test::Fail;
 

@@ -1,8 +1,8 @@
 //! Reports under other handlers than the default one.
 use super::guide::signup;
 use super::told;
-use crate::german::German;
 use garde::{CodeI18n, I18n, Validate};
+use garde_user::german::German;
 use std::alloc::{AllocError, Global};
 use std::test::Fail;
 

@@ -1,0 +1,35 @@
+use Rattle.std.proofs.Common.{refl, rules, arith}
+use Rattle.garde.specs.Author.{within}
+use Rattle.garde.proofs.Author.{placed_item, visited_below, visited_text_calls, visited_full, visited_level, visited_poppable, visited_stop, visited_then, visited_within}
+use Rattle.garde_user.specs.MenuVisits.{menu_level}
+use Rattle.garde_user.specs.declared.recursive.menu.Menu.{size-Menu}
+use Rattle.garde_user.proofs.Smaller.{menu_smaller}
+use Rattle.garde_user.proofs.recursive.menu.+fn-walk-apply+walk.Goals as goal
+
+pub apply-returns-in_err-push : goal.apply-returns-in_err-push
+apply-returns-in_err-push g t c = visited_full _ _ refl c.in_err-push.ensures.err c.in_err-push.ensures.full c.from_residual.ensures.0
+
+pub apply-returns : goal.apply-returns
+apply-returns g t c = visited_below _ _ c.push.ensures.valid c.in_ok-push.ensures.ok (visited_within menu_level size-Menu _ _ c.requires c.walk-told.ensures) c.pop.ensures
+
+pub returns-in_err-visit : goal.returns-in_err-visit
+returns-in_err-visit g t c = visited_level menu_level size-Menu _ (visited_stop _ _ c.visit.ensures (search rules) c.from_residual.ensures.0)
+
+pub returns-in_err-push : goal.returns-in_err-push
+returns-in_err-push g t c = visited_level menu_level size-Menu _ (visited_then _ _ c.visit.ensures (search rules)
+    (visited_full _ _ refl c.in_err-push.ensures.err c.in_err-push.ensures.full c.from_residual-in_err-push.ensures.0))
+
+pub apply-told-requires : goal.apply-told-requires
+apply-told-requires g t c κs = (
+  (refl, tt),
+  λ x k trail report has.
+      let less = menu_smaller c.args.menu.now x.now (placed_item _ 0 _ _ _ has) in
+      (omega (arith, c.decreases, less), (λ a m. m, less)),
+)
+
+pub pop-requires : goal.pop-requires
+pop-requires g t c = visited_poppable _ _ c.in_ok-push.ensures.ok (visited_text_calls _ (g.H.I18n.text c.args.h.now) (within menu_level size-Menu c.args.menu.now) _ c.apply-told.ensures (search rules))
+
+pub returns : goal.returns
+returns g t c = visited_level menu_level size-Menu _ (visited_then _ _ c.visit.ensures (search rules)
+    (visited_below _ _ c.push.ensures.valid (rw c.key.ensures at c.in_ok-push.ensures.ok) (visited_text_calls _ _ (within menu_level size-Menu c.args.menu.now) _ c.apply-told.ensures (search rules)) c.pop.ensures))

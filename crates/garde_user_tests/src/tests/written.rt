@@ -1,0 +1,51 @@
+//! Rules whose bounds are written as the derive of the Rust crate reads them.
+use garde::fields::{ByteLength, CharLength, GraphemeLength, Length, Range, Utf16Length};
+use garde::{length, range};
+use std::test::Fail;
+
+/// A bound that is computed where the rule is made.
+fn most() -> usize {
+    300
+}
+
+#[test]
+fn lengths_by_their_bounds(rt: HostRuntime) -> Result<(), Fail> {
+    let rows = [
+        (length!(min = 3), Length::min(3)),
+        (length!(max = most()), Length::max(300)),
+        (length!(equal = most()), Length::equal(300)),
+        (length!(min = 3, max = most()), Length::between(3, 300)),
+        (length!(simple, min = 3), Length::min(3)),
+    ];
+    for (written, made) in rows {
+        assert_eq!(rt; written, made);
+    }
+    Ok(())
+}
+
+#[test]
+fn lengths_in_their_units(rt: HostRuntime) -> Result<(), Fail> {
+    assert_eq!(rt; length!(bytes, min = 3), ByteLength::min(3));
+    assert_eq!(rt; length!(chars, max = 25), CharLength::max(25));
+    assert_eq!(rt; length!(graphemes, equal = 5), GraphemeLength::equal(5));
+    assert_eq!(rt;
+        length!(utf16, min = 3, max = 25),
+        Utf16Length::between(3, 25)
+    );
+    Ok(())
+}
+
+#[test]
+fn ranges_by_their_bounds(rt: HostRuntime) -> Result<(), Fail> {
+    const TOP: i32 = 120;
+    let rows = [
+        (range!(min = -18), Range::min(-18)),
+        (range!(max = TOP), Range::max(120)),
+        (range!(equal = TOP + 1), Range::equal(121)),
+        (range!(min = 18, max = TOP), Range::between(18, 120)),
+    ];
+    for (written, made) in rows {
+        assert_eq!(rt; written, made);
+    }
+    Ok(())
+}
