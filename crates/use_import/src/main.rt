@@ -1,0 +1,128 @@
+//! Reads a stock list in CSV on standard input, a row at a time, and tells the faults of each row:
+//! all of them, or as many at most as its first word says.
+#![tactic(auto)]
+
+mod row;
+
+use crate::row::{COLUMNS, Row};
+use anyhow::{Result, anyhow};
+use csv::{ErrorKind, Reader, StringRecord, StringRecordsIntoIter};
+use garde::{Component, DefaultI18n, Report, Trail, Validate, ValidateError};
+use std::alloc::Global;
+use std::io::{BufWriter, Read, Write};
+use std::process::ExitCode;
+use std::{env, io};
+
+/// How many faults are to be told at most.
+fn most(word: Option<String>) -> Result<usize> {
+    let Some(word) = word else {
+        return Ok(usize::MAX);
+    };
+    match word.as_str().parse() {
+        Ok(number) if number > 0 => Ok(number),
+        _ => Err(anyhow!("the word must be a number from 1")),
+    }
+}
+
+/// Whether a header row has the columns of a list.
+fn has_columns(header: &StringRecord) -> bool {
+    for (place, column) in COLUMNS.iter().enumerate() {
+        if header.get(place) != Some(*column) {
+            return false;
+        }
+    }
+    header.len() == COLUMNS.len()
+}
+
+/// Why a record is no row, where the records behind it can be read.
+fn reason(error: &csv::Error) -> Option<&'static str> {
+    match error.kind() {
+        ErrorKind::UnequalLengths { .. } => Some("not as many fields as in the header"),
+        ErrorKind::Utf8 { .. } => Some("not UTF-8"),
+        _ => None,
+    }
+}
+
+/// Tells so many faults of a report at most, and says how many it told.
+fn tell<W: Write>(report: &Report, most: usize, out: &mut W) -> io::Result<usize> {
+    for (path, error) in report.iter().take(most) {
+        writeln!(out, "{path}: {error}")?;
+    }
+    Ok(report.len().min(most))
+}
+
+/// Tells so many faults of a row at most, and says how many it told.
+fn check<W: Write>(
+    alloc: Global,
+    index: usize,
+    row: &Row,
+    most: usize,
+    out: &mut W,
+) -> Result<usize> {
+    let mut trail = Trail::new(alloc);
+    trail.push(Component::index(index))?;
+    match row.validate_on(alloc, &(), &mut trail, &DefaultI18n) {
+        Ok(()) => Ok(0),
+        Err(ValidateError::Report(report)) => Ok(tell(&report, most, out)?),
+        Err(ValidateError::Memory) => Err(anyhow!("out of memory")),
+    }
+}
+
+/// Tells the faults of one row after the other, so many at most. The answer is whether there was
+/// none.
+fn import<R: Read + Drop, W: Write>(
+    alloc: Global,
+    rows: StringRecordsIntoIter<R>,
+    most: usize,
+    out: &mut W,
+) -> Result<bool> {
+    let mut left = most;
+    for (index, record) in rows.enumerate() {
+        let told = match record {
+            Ok(record) => check(alloc, index, &Row::of(alloc, &record)?, left, out)?,
+            Err(error) => {
+                let Some(reason) = reason(&error) else {
+                    return Err(anyhow!("{error}"));
+                };
+                writeln!(out, "[{index}]: {reason}")?;
+                1
+            }
+        };
+        left = left.saturating_sub(told);
+        if left == 0 {
+            break;
+        }
+    }
+    Ok(left == most)
+}
+
+/// The rows of a list, whose header row has been read.
+fn rows<R: Read + Drop>(alloc: Global, list: R) -> Result<StringRecordsIntoIter<R>> {
+    let mut reader = Reader::from_reader(alloc, list);
+    match reader.headers() {
+        Ok(header) if has_columns(header) => {}
+        Ok(_) => return Err(anyhow!("the columns must be code, name, quantity, price, page")),
+        Err(error) => return Err(anyhow!("{error}")),
+    }
+    Ok(reader.into_records())
+}
+
+/// Whether each row of the list on standard input is valid.
+fn run(rt: &HostRuntime) -> Result<bool> {
+    let most = most(env::args(rt)?.nth(1))?;
+    let mut out = BufWriter::new(rt.alloc(), io::writer(rt))?;
+    let valid = import(rt.alloc(), rows(rt.alloc(), rt.stdin())?, most, &mut out)?;
+    out.flush()?;
+    Ok(valid)
+}
+
+fn main(rt: HostRuntime) -> ExitCode {
+    match run(&rt) {
+        Ok(true) => ExitCode::SUCCESS,
+        Ok(false) => ExitCode::FAILURE,
+        Err(error) => {
+            let _ = eprintln!(rt; "use_import: {error}");
+            ExitCode::from(2)
+        }
+    }
+}

@@ -1,0 +1,68 @@
+//! Copies files, as far as its command line goes: reads the settings by `clap`, tells every fault of
+//! them on standard error, and prints what would be done.
+#![tactic(auto)]
+
+mod line;
+mod settings;
+
+use crate::line::matches_of;
+use crate::settings::{Settings, share};
+use anyhow::{Context, Result, bail};
+use garde::error::Report;
+use garde::{IntoValidError, Unvalidated, Valid};
+use std::env;
+use std::process::ExitCode;
+
+/// The status of a command line that is refused, as `clap` has it.
+const USAGE: u8 = 2;
+
+/// Tells each fault in a line, as `clap` tells its own.
+fn refuse(rt: &HostRuntime, report: &Report) -> Result<ExitCode> {
+    for (path, fault) in report.iter() {
+        eprintln!(rt; "error: {path}: {fault}")?;
+    }
+    eprintln!(rt; "\nFor more information, try '--help'.")?;
+    Ok(ExitCode::from(USAGE))
+}
+
+/// Prints what valid settings ask for.
+fn plan(rt: &HostRuntime, settings: &Valid<Settings>) -> Result<ExitCode> {
+    let count = settings.files.len();
+    let jobs = settings.jobs;
+    let most = share(settings);
+    println!(rt; "files: {count}\njobs: {jobs}\nfiles a job at most: {most}")?;
+    Ok(ExitCode::SUCCESS)
+}
+
+fn run(rt: &HostRuntime) -> Result<ExitCode> {
+    let alloc = rt.alloc();
+    let all = env::args(rt).context("the command line is not read")?;
+    let words: Vec<String> = all.collect(alloc)?;
+    let matches = match matches_of(alloc, &words) {
+        Ok(matches) => matches,
+        Err(error) => {
+            error.print(rt)?;
+            return Ok(if error.use_stderr() {
+                ExitCode::from(USAGE)
+            } else {
+                ExitCode::SUCCESS
+            });
+        }
+    };
+    let settings = Settings::of(alloc, &matches)?;
+    match Unvalidated::new(settings).validate(alloc) {
+        Ok(settings) => plan(rt, &settings),
+        Err(IntoValidError::Report(report)) => refuse(rt, &report),
+        Err(IntoValidError::Memory(_)) => bail!("out of memory"),
+    }
+}
+
+fn main(rt: HostRuntime) -> ExitCode {
+    match run(&rt) {
+        Ok(status) => status,
+        Err(error) => {
+            let _ = eprintln!(rt; "error: {error:#}");
+            ExitCode::FAILURE
+        }
+    }
+}

@@ -1,0 +1,90 @@
+//! The settings of a program that copies files, and what is asked of them.
+ghost use Rattle.std.specs.Prelude.{◌≤◌, ◌*◌, vec_len};
+ghost use Rattle.garde.specs.Fields.{◌and◌, field, V4, items_between, each, suffix, range_between, required, optional, ip, when};
+
+use clap::ArgMatches;
+use garde::fields::{Each, Field, Fields, IfSome, Ip, Is, Length, Range, Required, Suffix, When};
+use garde::i18n::IpKind;
+use garde::{I18n, Report, Trail, Valid, Validate};
+use std::alloc::{AllocError, Global};
+
+/// What is to be copied, and how.
+#[derive(Drop)]
+pub struct Settings {
+    /// How many jobs copy side by side.
+    pub jobs: u8,
+    /// The address that files are uploaded to.
+    pub remote: Option<String>,
+    /// Whether the files are uploaded, which wants an address.
+    pub upload: bool,
+    /// The names of the files.
+    pub files: Vec<String>,
+}
+
+/// The names of the files that a command line has.
+fn files_of(alloc: Global, matches: &ArgMatches<'_>) -> Result<Vec<String>, AllocError> {
+    let mut files = Vec::new(alloc);
+    if let Some(names) = matches.get_strs("FILE") {
+        for name in names {
+            files.push(String::from_str(alloc, name)?)?;
+        }
+    }
+    Ok(files)
+}
+
+impl Settings {
+    /// The settings that a command line spells, not validated yet.
+    pub fn of(alloc: Global, matches: &ArgMatches<'_>) -> Result<Settings, AllocError> {
+        let remote = match matches.get_str("remote") {
+            Some(remote) => Some(String::from_str(alloc, remote)?),
+            None => None,
+        };
+        Ok(Settings {
+            jobs: matches.get_one::<u8>("jobs").unwrap_or(1),
+            remote,
+            upload: matches.get_flag("upload"),
+            files: files_of(alloc, matches)?,
+        })
+    }
+}
+
+impl Validate for Settings {
+    type Context = ();
+
+    ghost visits = { λ v _.
+        field "--jobs" (range_between 1 16 v.jobs)
+        and field "--remote" (when v.upload (required v.remote) and optional (λ remote. ip V4 remote) v.remote)
+        and field "FILE" (items_between 1 3 v.files and each (λ file. suffix ".csv" file) v.files) };
+
+    fn validate_into<'a, H: I18n>(
+        &'a self,
+        alloc: Global,
+        _ctx: &(),
+        trail: &mut Trail<'a>,
+        report: &mut Report,
+        h: &H,
+    ) -> Result<(), AllocError> {
+        let Self {
+            jobs,
+            remote,
+            upload,
+            files,
+        } = self;
+        let wanted = When(*upload, Is(Required));
+        let named = Each(Is(Suffix(".csv")));
+        (
+            Field("--jobs", jobs, Is(Range::between(1, 16))),
+            Field("--remote", remote, (wanted, IfSome(Is(Ip(IpKind::V4))))),
+            Field("FILE", files, (Is(Length::between(1, 3)), named)),
+        )
+            .visit(alloc, trail, report, h)
+    }
+}
+
+/// How many files a job copies at most. Valid settings have a job, so nothing is tested.
+#[tactic(auto, unfolding(garde::specs::Fields::Known))]
+pub fn share(settings: &Valid<Settings>) -> usize
+    ensures { vec_len settings.now.files ≤ result * settings.now.jobs }
+{
+    settings.files.len().div_ceil(usize::from(settings.jobs))
+}
