@@ -1,8 +1,12 @@
 -- Lemmas on visits of values that hold values of their own type.
-use Rattle.std.proofs.Common.{◌≡◌, ℕ, zero, suc, ◌<◌, List, Bool, true, false, nat_lt, ltb→lt, lt→ltb, T, Result, refl, ap, sym, subst, arith}
+use Rattle.std.proofs.Common.{◌≡◌, ℕ, zero, suc, ◌+◌, ◌<◌, ◌≤◌, List, [], ◌∷◌, Bool, true, false, nat_lt, ltb→lt, lt→ltb, T, Result, refl, ap, sym, subst, arith}
+use Rattle.std.specs.List.{Contains}
+use denote.Param.Weighed.{most}
 use Rattle.garde_i18n.specs.Datum.{Datum}
+use Rattle.garde_report.specs.Part.{Part}
 use Rattle.garde_report.specs.Report.{Entry}
 use Rattle.garde_report.specs.Trace.{Trace}
+use Rattle.garde_rules.specs.Inner.{numbered, placed}
 use Rattle.garde.specs.Visits.{Visits, Visited, when}
 use Rattle.garde.specs.Nested.{nested, nested_to, within}
 use Rattle.garde.proofs.Visiting.{visited_when}
@@ -49,3 +53,12 @@ module _ {text : Datum → List ℕ} {E : Type 0} {A : Type 0} (level : (A → V
   pub visited_within : (v x : A) {before after : Trace} {old new : List Entry} {result : Result Unit E} → size x < size v → Visited (nested level size x) text before after old new result → Visited (within level size v x) text before after old new result
   unfolding within
   visited_within v x smaller told = visited_when (nat_lt (size x) (size v)) (nested level size x) (is_less _ _ smaller) told
+
+smaller_from : {A : Type 0} (size : A → ℕ) (place : ℕ → Part) (k : ℕ) (xs : List A) (p : Part) (x : A) → Contains (numbered place k xs) (p, x) → size x ≤ most size xs
+smaller_from size place k [] p x (n, lt, is) = absurd (omega (arith, lt))
+smaller_from size place k (y ∷ ys) p x (zero, lt, is) = let same : size y ≡ size x = ap (λ e. size e.1) is in omega (arith, same)
+smaller_from size place k (y ∷ ys) p x (suc n, lt, is) = let less = smaller_from size place (k + 1) ys p x (n, omega (arith, lt), is) in omega (arith, less)
+
+-- each of these values is at most as large as the largest of them
+pub smaller_in : {A : Type 0} (size : A → ℕ) (place : ℕ → Part) (xs : List A) {p : Part} {x : A} → Contains (placed place xs) (p, x) → size x ≤ most size xs
+smaller_in size place xs {p} {x} has = smaller_from size place 0 xs p x has

@@ -3,6 +3,7 @@ pub use Rattle.std.specs.Prelude.{codes, length, string_bytes}
 pub use Rattle.garde.specs.Visits.{Visits, Visited, item, inside}
 unfoldable pub use Rattle.garde.specs.Visits.{Known, none, only, found, taking, ◌and◌, below, items, entries, items_in_any_order, entries_in_any_order, optional, when}
 unfoldable pub use Rattle.garde.specs.Nested.{nested, within}
+pub use Rattle.garde.specs.Nested.{in_map, in_vec, nest_visits}
 pub use Rattle.garde_report.specs.Part.{key_part, index_part, signed_index_part, part_of}
 pub use Rattle.garde_rules.specs.{Fault, rule, own, byte_count, char_count, unit_count, grapheme_count}
 pub use Rattle.garde_i18n.specs.declared.reasons.IpKind.TheVariants.{Any, V4, V6}

@@ -3,7 +3,7 @@
 use Prim.Native.String.{String as Literal}
 pub use Rattle.std.specs.Prelude.{codes, string_bytes, ◌≡◌, ◌==◌, Result, Ok, Err, nat_eq, nat_lt, nat_le, ◌||◌, ◌&&◌, not, true, false, Bool, pos, Some, None, Option, if◌then◌else◌}
 pub use Rattle.garde.specs.Finds.{with_message, told_unless}
-pub use Rattle.garde.specs.Author.{Visits, item, inside, none, found, taking, ◌and◌, below, items, entries, items_in_any_order, entries_in_any_order, optional, when, own, Any, V4, V6}
+pub use Rattle.garde.specs.Author.{Visits, item, inside, none, found, taking, ◌and◌, below, items, entries, items_in_any_order, entries_in_any_order, optional, when, own, Any, V4, V6, in_map, in_vec, nest_visits}
 unfoldable pub use Rattle.garde.specs.Visits.{Known}
 pub use Rattle.garde_rules.specs.{byte_count, char_count}
 pub use Rattle.garde_rules.specs.IpText.{is_ipv4_text, is_ipv6_text}

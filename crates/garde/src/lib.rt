@@ -4,6 +4,7 @@
 mod containers;
 pub mod fields;
 pub mod laws;
+pub mod recursive;
 mod refusal;
 pub mod samples;
 mod unvalidated;

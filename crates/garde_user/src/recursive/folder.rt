@@ -1,12 +1,12 @@
 //! Folders, which hold folders in a vector.
-ghost use Rattle.std.specs.Prelude.{◌<◌};
-ghost use Rattle.garde.specs.Author.{Visited, below, nested, part_of, within};
-ghost use Rattle.garde_user.specs.FolderVisits.{folder_level};
-ghost use Rattle.garde_user.specs.declared.recursive.folder.Folder.{size-Folder};
+ghost use Rattle.std.proofs.Common.{arith};
+ghost use Rattle.garde.proofs.Author.{smaller_in};
+ghost use Rattle.garde.specs.Fields.{field, in_vec, length_between, nest_visits};
+ghost use Rattle.garde_user.specs.declared.recursive.folder.Folder.{out-Folder, size-Folder, size_is-Folder};
 
 use garde::fields::{Field, Fields, Is, Length};
-use garde::rules::inner;
-use garde::{Component, I18n, Report, Trail, Validate};
+use garde::recursive::{Recursive, walk};
+use garde::{I18n, Report, Trail, Validate};
 use std::alloc::{AllocError, Global};
 
 /// A folder and the folders in it, each with a name of 1 to 9 bytes.
@@ -16,12 +16,25 @@ pub struct Folder {
     pub folders: Vec<Folder>,
 }
 
-impl Validate for Folder {
+impl Recursive for Folder {
     type Context = ();
 
-    ghost visits = { λ v _. nested folder_level size-Folder v };
+    type Children = Vec<Folder>;
 
-    fn validate_into<'a, H: I18n>(
+    ghost nest = { record {
+      own = λ v _. field "name" (length_between 1 9 (out-Folder v).name);
+      name = "folders";
+      held = λ v. in_vec (out-Folder v).folders;
+      size = size-Folder;
+    } };
+
+    ghost smaller = { λ v k x has. omega (arith, size_is-Folder v, smaller_in size-Folder _ _ has) };
+
+    fn children(&self) -> (&'static str, &Vec<Folder>) {
+        ("folders", &self.folders)
+    }
+
+    fn visit_own<'a, H: I18n>(
         &'a self,
         alloc: Global,
         _ctx: &(),
@@ -29,38 +42,23 @@ impl Validate for Folder {
         report: &mut Report,
         h: &H,
     ) -> Result<(), AllocError> {
-        walk(alloc, self, trail, report, h)
+        Field("name", &self.name, Is(Length { min: 1, max: 9 })).visit(alloc, trail, report, h)
     }
 }
 
-fn walk<'a, H: I18n>(
-    alloc: Global,
-    folder: &'a Folder,
-    trail: &mut Trail<'a>,
-    report: &mut Report,
-    h: &H,
-) -> Result<(), AllocError>
-    ensures { Visited (nested folder_level size-Folder folder.now) (H.text h.now)
-        trail.old trail.new report.old report.new result }
-{
-    Field("name", &folder.name, Is(Length { min: 1, max: 9 })).visit(alloc, trail, report, h)?;
-    trail.push(Component::key("folders"))?;
-    let told = inner::apply(
-        &folder.folders,
-        trail,
-        report,
-        |child, component, trail, report|
-            requires { size-Folder child.now < size-Folder folder.now }
-            ensures { Visited (below (part_of component.entry) (within folder_level size-Folder folder.entry.now child.now))
-                (H.text h.entry.now) trail.old trail.new report.old report.new result }
-        {
-            let _parent = folder;
-            trail.push(component)?;
-            let told = walk(alloc, child, trail, report, h);
-            trail.pop();
-            told
-        },
-    );
-    trail.pop();
-    told
+impl Validate for Folder {
+    type Context = ();
+
+    ghost visits = { nest_visits ⟦<Folder as Recursive>⟧.nest };
+
+    fn validate_into<'a, H: I18n>(
+        &'a self,
+        alloc: Global,
+        ctx: &(),
+        trail: &mut Trail<'a>,
+        report: &mut Report,
+        h: &H,
+    ) -> Result<(), AllocError> {
+        walk(alloc, self, ctx, trail, report, h)
+    }
 }

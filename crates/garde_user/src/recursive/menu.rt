@@ -1,12 +1,12 @@
 //! Menus, which hold menus in a map.
-ghost use Rattle.std.specs.Prelude.{◌<◌};
-ghost use Rattle.garde.specs.Author.{Visited, below, nested, part_of, within};
-ghost use Rattle.garde_user.specs.MenuVisits.{menu_level};
-ghost use Rattle.garde_user.specs.declared.recursive.menu.Menu.{size-Menu};
+ghost use Rattle.std.proofs.Common.{arith};
+ghost use Rattle.garde.proofs.Author.{smaller_in};
+ghost use Rattle.garde.specs.Fields.{field, in_map, length_between, nest_visits};
+ghost use Rattle.garde_user.specs.declared.recursive.menu.Menu.{out-Menu, size-Menu, size_is-Menu};
 
 use garde::fields::{Field, Fields, Is, Length};
-use garde::rules::inner;
-use garde::{Component, I18n, Report, Trail, Validate};
+use garde::recursive::{Recursive, walk};
+use garde::{I18n, Report, Trail, Validate};
 use std::alloc::{AllocError, Global};
 use std::collections::BTreeMap;
 
@@ -17,12 +17,25 @@ pub struct Menu {
     pub menus: BTreeMap<String, Menu>,
 }
 
-impl Validate for Menu {
+impl Recursive for Menu {
     type Context = ();
 
-    ghost visits = { λ v _. nested menu_level size-Menu v };
+    type Children = BTreeMap<String, Menu>;
 
-    fn validate_into<'a, H: I18n>(
+    ghost nest = { record {
+      own = λ v _. field "label" (length_between 1 20 (out-Menu v).label);
+      name = "menus";
+      held = λ v. in_map (out-Menu v).menus;
+      size = size-Menu;
+    } };
+
+    ghost smaller = { λ v k x has. omega (arith, size_is-Menu v, smaller_in size-Menu _ _ has) };
+
+    fn children(&self) -> (&'static str, &BTreeMap<String, Menu>) {
+        ("menus", &self.menus)
+    }
+
+    fn visit_own<'a, H: I18n>(
         &'a self,
         alloc: Global,
         _ctx: &(),
@@ -30,38 +43,23 @@ impl Validate for Menu {
         report: &mut Report,
         h: &H,
     ) -> Result<(), AllocError> {
-        walk(alloc, self, trail, report, h)
+        Field("label", &self.label, Is(Length { min: 1, max: 20 })).visit(alloc, trail, report, h)
     }
 }
 
-fn walk<'a, H: I18n>(
-    alloc: Global,
-    menu: &'a Menu,
-    trail: &mut Trail<'a>,
-    report: &mut Report,
-    h: &H,
-) -> Result<(), AllocError>
-    ensures { Visited (nested menu_level size-Menu menu.now) (H.text h.now)
-        trail.old trail.new report.old report.new result }
-{
-    Field("label", &menu.label, Is(Length { min: 1, max: 20 })).visit(alloc, trail, report, h)?;
-    trail.push(Component::key("menus"))?;
-    let told = inner::apply(
-        &menu.menus,
-        trail,
-        report,
-        |child, component, trail, report|
-            requires { size-Menu child.now < size-Menu menu.now }
-            ensures { Visited (below (part_of component.entry) (within menu_level size-Menu menu.entry.now child.now))
-                (H.text h.entry.now) trail.old trail.new report.old report.new result }
-        {
-            let _parent = menu;
-            trail.push(component)?;
-            let told = walk(alloc, child, trail, report, h);
-            trail.pop();
-            told
-        },
-    );
-    trail.pop();
-    told
+impl Validate for Menu {
+    type Context = ();
+
+    ghost visits = { nest_visits ⟦<Menu as Recursive>⟧.nest };
+
+    fn validate_into<'a, H: I18n>(
+        &'a self,
+        alloc: Global,
+        ctx: &(),
+        trail: &mut Trail<'a>,
+        report: &mut Report,
+        h: &H,
+    ) -> Result<(), AllocError> {
+        walk(alloc, self, ctx, trail, report, h)
+    }
 }
