@@ -299,23 +299,6 @@ fn names(alloc: Global) -> Result<Names, AllocError> {
     Ok(Names { items })
 }
 
-fn is_told_of_names(alloc: Global, text: &str) -> Result<bool, AllocError> {
-    is_told(alloc, &names(alloc)?, text)
-}
-
-fn is_told_of_no_names(alloc: Global, text: &str) -> Result<bool, AllocError> {
-    let items = Vec::new(alloc);
-    is_told(alloc, &Names { items }, text)
-}
-
-#[test]
-fn two_walks_of_one_list(rt: HostRuntime) -> Result<(), Fail> {
-    let text = "items[0]: not set\nitems[1]: not ascii\nitems[2]: length is lower than 1\nnodes: 6";
-    assert!(rt; is_told_of_names(rt.alloc(), text)?);
-    assert!(rt; is_told_of_no_names(rt.alloc(), "items: length is lower than 1\nnodes: 1")?);
-    Ok(())
-}
-
 /// The paths of a report, a line each.
 fn paths_of(alloc: Global, report: &Report) -> Result<String, AllocError> {
     let mut paths = String::new(alloc);
