@@ -1,4 +1,6 @@
 //! Tests of walks over items.
+ghost use Rattle.std.specs.Prelude.{◌<◌};
+
 use garde_report::{Report, Trail};
 use garde_rules::inner::{self, Inner};
 use std::alloc::{AllocError, Global};
@@ -115,5 +117,32 @@ fn map_leaves(alloc: Global, path: &str) -> Result<bool, AllocError> {
 #[test]
 fn a_map_under_its_keys(rt: HostRuntime) -> Result<(), Fail> {
     assert!(rt; map_leaves(rt.alloc(), "a.b")?);
+    Ok(())
+}
+
+/// Whether a walk of 1 and 2 leaves this path. Its closure divides by each item, so it asks that
+/// none is 0.
+fn leaves_and_divides(alloc: Global, path: &str) -> Result<bool, AllocError> {
+    let items = [1u8, 2];
+    let mut trail = Trail::new(alloc);
+    let mut report = Report::new(alloc);
+    inner::apply(
+        &items,
+        &mut trail,
+        &mut report,
+        |item: &u8, component, trail, _report|
+            requires { 0 < item.now }
+        {
+            let _share = 100 / *item;
+            trail.push(component)
+        },
+    )?;
+    let left = trail.path()?;
+    Ok(left.to_string(alloc)?.as_str() == path)
+}
+
+#[test]
+fn a_closure_that_asks_something_of_each_item(rt: HostRuntime) -> Result<(), Fail> {
+    assert!(rt; leaves_and_divides(rt.alloc(), "[0][1]")?);
     Ok(())
 }
