@@ -10,7 +10,8 @@ pub(crate) struct Way<T> {
     depth: usize,
     // The first items, of which the first `depth` count where there are at most 8.
     near: [T; 8],
-    // All items, where there are more than 8.
+    // Where there are more than 8 items, they stand here first. Behind them may stand some that were
+    // taken, so that taking one is a subtraction.
     far: Vec<T>,
 }
 
@@ -62,7 +63,7 @@ impl<T: Copy> Way<T> {
         ensures { result.now ≡ self.now }
     {
         if self.depth > 8 {
-            self.far.as_slice()
+            &self.far[..self.depth]
         } else {
             &self.near[..self.depth]
         }
@@ -76,11 +77,12 @@ impl<T: Copy> Way<T> {
         ensures err { OnErr result (self.new ≡ self.old) }
         ensures full { OnErr result (8 ≤ length self.old) }
     {
-        if self.depth < 8 {
-            self.near[self.depth] = item;
-            self.depth += 1;
+        let depth = self.depth;
+        if depth < 8 {
+            self.near[depth] = item;
+            self.depth = depth + 1;
         } else {
-            make_room(self.depth, &self.near, &mut self.far)?;
+            make_room(depth, &self.near, &mut self.far)?;
             self.far.push_reserved(item);
             self.depth = self.far.len();
         }
@@ -93,39 +95,40 @@ impl<T: Copy> Way<T> {
         requires { 0 < length self.old }
         ensures { self.new ≡ take (length self.old - 1) self.old }
     {
-        if self.depth > 8 {
-            self.pop_far();
-        } else {
-            self.depth -= 1;
-        }
-    }
-
-    // `pop` where there are more than 8 items.
-    #[inline(never)]
-    fn pop_far(&mut self)
-        requires { 8 < length self.old }
-        ensures { self.new ≡ take (length self.old - 1) self.old }
-    {
-        self.far.pop();
         self.depth -= 1;
     }
 }
 
-// Puts all items where the far ones are, with room for one more. There are 8 at least.
+// Puts all items where the far ones are, and nothing behind them, with room for one more. There are 8
+// at least.
 #[inline(never)]
+#[tactic(auto, using(crate::proofs::FarItems::first_kept))]
 fn make_room<T: Copy>(depth: usize, near: &[T; 8], far: &mut Vec<T>) -> Result<(), AllocError>
     requires full { 8 ≤ depth }
     requires way { IsWay depth near.now far.old.items }
     ensures ok { OnOk result (far.new.items ≡ way_items depth near.now far.old.items) }
+    ensures first { OnOk result (take 8 far.new.items ≡ near.now) }
+    ensures all { OnOk result (length far.new.items ≡ depth) }
     ensures room { OnOk result (vec_len far.new < vec_capacity far.new) }
     ensures way { OnErr result (IsWay depth near.now far.new.items) }
     ensures same { OnErr result (way_items depth near.now far.new.items
         ≡ way_items depth near.now far.old.items) }
 {
     if depth == 8 {
-        far.clear();
-        far.extend_from_slice(near)?;
+        return copy_near(near, far);
     }
+    far.truncate(depth);
+    far.reserve(1)?;
+    Ok(())
+}
+
+// Puts the near items where the far ones are, with room for one more.
+fn copy_near<T: Copy>(near: &[T; 8], far: &mut Vec<T>) -> Result<(), AllocError>
+    ensures ok { OnOk result (far.new.items ≡ near.now) }
+    ensures room { OnOk result (vec_len far.new < vec_capacity far.new) }
+{
+    far.clear();
+    far.extend_from_slice(near)?;
     far.reserve(1)?;
     Ok(())
 }

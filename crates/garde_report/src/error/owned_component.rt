@@ -118,9 +118,10 @@ impl Ord for OwnedComponent {
     ghost matches_eq = { part_cmp-ties };
 
     fn cmp(&self, other: &OwnedComponent) -> Ordering {
-        self.kind()
-            .cmp(&other.kind())
-            .then(self.text().cmp(other.text()))
+        match self.kind().cmp(&other.kind()) {
+            Ordering::Equal => self.text().cmp(other.text()),
+            order => order,
+        }
     }
 }
 

@@ -49,7 +49,7 @@ impl Ipv4Reader {
         requires { digit < 10 }
         ensures { result ≡ read_digit self digit }
     {
-        if self.digits >= 3 || (self.digits > 0 && self.value == 0) {
+        if self.digits > 0 && (self.value == 0 || self.digits >= 3) {
             return None;
         }
         let value = u16::from(self.value) * 10 + u16::from(digit);
