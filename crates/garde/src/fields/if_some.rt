@@ -15,6 +15,7 @@ pub struct IfSome<C>(pub C);
 impl<'a, T, C: Check<'a, T>> Check<'a, Option<T>> for IfSome<C> {
     ghost visits = { λ check v. optional (λ x. C.visits check.0 x) v };
 
+    #[inline(always)]
     fn check<H: I18n>(
         &self,
         alloc: Global,
