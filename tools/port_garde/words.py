@@ -5,9 +5,6 @@ from .scope import SIGNED, UNSIGNED, Conditions, Seen, is_option, is_path, is_te
 from .source import Type
 from .tokens import Refusal
 
-LENGTHS = {
-    "simple": "Length", "bytes": "ByteLength", "chars": "CharLength", "graphemes": "GraphemeLength", "utf16": "Utf16Length",
-}
 TEXT_LENGTHS = {"simple": "length", "bytes": "length", "chars": "chars", "graphemes": "graphemes", "utf16": "utf16"}
 BYTE_COUNTS = {
     "simple": "byte_count", "bytes": "byte_count", "chars": "char_count", "graphemes": "bytes.grapheme_count",
@@ -217,8 +214,7 @@ class Checks:
 
     def length(self, rule, seen):
         """The rule about a length, in its mode."""
-        name = self.field(LENGTHS[rule.mode])
-        code = self.bounds_code(name, rule)
+        code = self.bounds_code(rule)
         stated = [self.bound(rule.bounds[it], False)[1] for it in ("min", "max", "equal") if it in rule.bounds]
         return code, " ".join([self.length_word(rule, seen, ending(rule)), *stated, self.counted(rule, seen)])
 
@@ -258,7 +254,7 @@ class Checks:
             told = f"`range` of the type `{self.writer.type_text(seen.type)}`"
             raise Refusal(rule.line, f"{told}: there are no bounds{floats} here")
         signed = kind in SIGNED
-        code = self.bounds_code(self.field("Range"), rule, signed)
+        code = self.bounds_code(rule, signed)
         end = ending(rule)
         family = "signed" if signed else "range"
         word = f"{kind}_{end}" if end == "min" or (signed and end == "max") else f"{family}_{end}"
@@ -278,15 +274,12 @@ class Checks:
         code, spec, _ = self.scope.place(it.value, it.line)
         return code, spec
 
-    def bounds_code(self, name, rule, signed=False):
-        """A rule with bounds, as a literal."""
-        given = {key: self.bound(value, signed)[0] for key, value in rule.bounds.items()}
-        low, high = given.get("min", given.get("equal")), given.get("max", given.get("equal"))
-        if name == "Range":
-            ends = (f"Some({it})" if it else "None" for it in (low, high))
-        else:
-            ends = (low or "0", high or "usize::MAX")
-        return Literal(name, tuple(zip(("min", "max"), map(Word, ends))))
+    def bounds_code(self, rule, signed=False):
+        """A rule with bounds, by the macro of its name."""
+        self.uses.others.add(f"garde::{rule.name}")
+        given = [rule.mode] if rule.mode not in ("", "simple") else []
+        given += [f"{it} = {self.bound(rule.bounds[it], signed)[0]}" for it in ("min", "max", "equal") if it in rule.bounds]
+        return Word(f"{rule.name}!({', '.join(given)})")
 
 
 def ending(rule):

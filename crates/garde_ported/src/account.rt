@@ -1,8 +1,8 @@
 //! An account: texts under the rules of texts, and one that is given twice.
 ghost use Rattle.garde.specs.Fields.{◌and◌, alphanumeric, ascii, chars_max, field, length_between, length_min, matches_text};
 
-use garde::fields::{Alphanumeric, Ascii, CharLength, Field, Fields, Is, Length, Matches};
-use garde::{I18n, Report, Trail, Validate};
+use garde::fields::{Alphanumeric, Ascii, Field, Fields, Is, Matches};
+use garde::{I18n, Report, Trail, Validate, length};
 use std::alloc::{AllocError, Global};
 
 /// Who has an account.
@@ -44,16 +44,9 @@ impl Validate for Account {
             Field(
                 "username",
                 username,
-                (Is(Ascii), Is(Length { min: 3, max: 25 })),
+                (Is(Ascii), Is(length!(min = 3, max = 25))),
             ),
-            Field(
-                "password",
-                password,
-                Is(Length {
-                    min: 15,
-                    max: usize::MAX,
-                }),
-            ),
+            Field("password", password, Is(length!(min = 15))),
             Field(
                 "again",
                 again,
@@ -65,7 +58,7 @@ impl Validate for Account {
             Field(
                 "code",
                 code,
-                (Is(Alphanumeric), Is(CharLength { min: 0, max: 8 })),
+                (Is(Alphanumeric), Is(length!(chars, max = 8))),
             ),
         )
             .visit(alloc, trail, report, h)

@@ -2,8 +2,8 @@
 ghost use Rattle.garde.specs.Fields.{◌and◌, each, field, found, length_max, lent, prefix};
 
 use crate::own::{CouponTermsRule, IsEven, IsInSeason, TagText};
-use garde::fields::{Adapt, Each, Field, Fields, Is, Length, Prefix};
-use garde::{I18n, Report, Trail, Validate};
+use garde::fields::{Adapt, Each, Field, Fields, Is, Prefix};
+use garde::{I18n, Report, Trail, Validate, length};
 use std::alloc::{AllocError, Global};
 
 /// What is asked of coupons.
@@ -80,7 +80,7 @@ impl Validate for Coupon {
                 tag,
                 (
                     Is(Adapt(TagText, Prefix("t-"))),
-                    Is(Adapt(TagText, Length { min: 0, max: 6 })),
+                    Is(Adapt(TagText, length!(max = 6))),
                 ),
             ),
             Field("terms", terms, Is(CouponTermsRule)),

@@ -3,8 +3,8 @@ ghost use Rattle.std.specs.Prelude.{length};
 ghost use Rattle.garde.specs.Fields.{◌and◌, ascii, count_max, each_value, entries_in_any_order, field, hash_map_max, hash_set_min, items, items_in_any_order, length_max, range_max, string_bytes};
 ghost use Rattle.garde.specs.Author as bytes;
 
-use garde::fields::{Ascii, Dive, Each, Field, Fields, Is, Length, Range};
-use garde::{I18n, Report, Trail, Validate};
+use garde::fields::{Ascii, Dive, Each, Field, Fields, Is};
+use garde::{I18n, Report, Trail, Validate, length, range};
 use std::alloc::{AllocError, Global};
 use std::collections::{BTreeMap, HashMap, HashSet, LinkedList, VecDeque};
 use std::rc::Rc;
@@ -29,15 +29,7 @@ impl Validate for Door {
         h: &H,
     ) -> Result<(), AllocError> {
         let Self { width } = self;
-        Field(
-            "width",
-            width,
-            Is(Range {
-                min: None,
-                max: Some(15),
-            }),
-        )
-        .visit(alloc, trail, report, h)
+        Field("width", width, Is(range!(max = 15))).visit(alloc, trail, report, h)
     }
 }
 
@@ -89,56 +81,25 @@ impl Validate for Depot {
             Field(
                 "counts",
                 counts,
-                (
-                    Is(Length { min: 0, max: 1 }),
-                    Each(Is(Range {
-                        min: None,
-                        max: Some(9),
-                    })),
-                ),
+                (Is(length!(max = 1)), Each(Is(range!(max = 9)))),
             ),
             Field("names", names, Each(Is(Ascii))),
             Field(
                 "keys",
                 keys,
-                (
-                    Is(Length {
-                        min: 1,
-                        max: usize::MAX,
-                    }),
-                    Each(Is(Length { min: 0, max: 4 })),
-                ),
+                (Is(length!(min = 1)), Each(Is(length!(max = 4)))),
             ),
             Field(
                 "queue",
                 queue,
-                (
-                    Is(Length { min: 0, max: 1 }),
-                    Each(Is(Range {
-                        min: None,
-                        max: Some(9),
-                    })),
-                ),
+                (Is(length!(max = 1)), Each(Is(range!(max = 9)))),
             ),
             Field(
                 "chain",
                 chain,
-                (
-                    Is(Length { min: 0, max: 1 }),
-                    Each(Is(Range {
-                        min: None,
-                        max: Some(9),
-                    })),
-                ),
+                (Is(length!(max = 1)), Each(Is(range!(max = 9)))),
             ),
-            Field(
-                "digits",
-                digits,
-                Each(Is(Range {
-                    min: None,
-                    max: Some(9),
-                })),
-            ),
+            Field("digits", digits, Each(Is(range!(max = 9)))),
             Field("gate", gate, Dive(ctx)),
             Field("doors", doors, Each(Dive(ctx))),
         )

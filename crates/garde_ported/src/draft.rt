@@ -1,8 +1,8 @@
 //! Fields without an attribute, where the type allows them, and names that stand for something else in an implementation.
 ghost use Rattle.garde.specs.Fields.{◌and◌, field, length_min, range_max};
 
-use garde::fields::{Field, Fields, Is, Length, Range};
-use garde::{I18n, Report, Trail, Validate};
+use garde::fields::{Field, Fields, Is};
+use garde::{I18n, Report, Trail, Validate, length, range};
 use std::alloc::{AllocError, Global};
 
 /// A draft.
@@ -34,22 +34,8 @@ impl Validate for Draft {
             h: the_h,
         } = self;
         (
-            Field(
-                "report",
-                the_report,
-                Is(Length {
-                    min: 1,
-                    max: usize::MAX,
-                }),
-            ),
-            Field(
-                "h",
-                the_h,
-                Is(Range {
-                    min: None,
-                    max: Some(9),
-                }),
-            ),
+            Field("report", the_report, Is(length!(min = 1))),
+            Field("h", the_h, Is(range!(max = 9))),
         )
             .visit(alloc, trail, report, h)
     }

@@ -2,8 +2,8 @@
 ghost use Rattle.garde.specs.Fields.{◌and◌, ascii, field, item, length_max, length_min, minus, none, pos, range_max, signed_between, Visits};
 ghost use Rattle.garde_ported.specs.declared.event.Event.TheVariants.{Move, Say, Wait, Pair, Stop, Mark};
 
-use garde::fields::{Ascii, Field, Fields, Is, Item, Length, Range};
-use garde::{I18n, Report, Trail, Validate};
+use garde::fields::{Ascii, Field, Fields, Is, Item};
+use garde::{I18n, Report, Trail, Validate, length, range};
 use std::alloc::{AllocError, Global};
 
 /// What happens.
@@ -51,15 +51,9 @@ impl Validate for Event {
     ) -> Result<(), AllocError> {
         match self {
             Event::Move { steps } => {
-                Field(
-                    "steps",
-                    steps,
-                    Is(Range {
-                        min: Some(-10),
-                        max: Some(10),
-                    }),
+                Field("steps", steps, Is(range!(min = -10, max = 10))).visit(
+                    alloc, trail, report, h,
                 )
-                .visit(alloc, trail, report, h)
             }
             Event::Say {
                 text,
@@ -67,43 +61,18 @@ impl Validate for Event {
                 report: the_report,
             } => {
                 (
-                    Field(
-                        "text",
-                        text,
-                        (
-                            Is(Ascii),
-                            Is(Length {
-                                min: 1,
-                                max: usize::MAX,
-                            }),
-                        ),
-                    ),
-                    Field("report", the_report, Is(Length { min: 0, max: 3 })),
+                    Field("text", text, (Is(Ascii), Is(length!(min = 1)))),
+                    Field("report", the_report, Is(length!(max = 3))),
                 )
                     .visit(alloc, trail, report, h)
             }
             Event::Wait(value) => {
-                Item(
-                    0,
-                    value,
-                    Is(Range {
-                        min: None,
-                        max: Some(60),
-                    }),
-                )
-                .visit(alloc, trail, report, h)
+                Item(0, value, Is(range!(max = 60))).visit(alloc, trail, report, h)
             }
             Event::Pair(first, second) => {
                 (
                     Item(0, first, Is(Ascii)),
-                    Item(
-                        1,
-                        second,
-                        Is(Length {
-                            min: 2,
-                            max: usize::MAX,
-                        }),
-                    ),
+                    Item(1, second, Is(length!(min = 2))),
                 )
                     .visit(alloc, trail, report, h)
             }

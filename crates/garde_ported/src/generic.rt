@@ -3,8 +3,8 @@ ghost use Rattle.garde.specs.Fields.{◌and◌, ascii, each, field, item, items,
 ghost use Rattle.garde.specs.Author as bytes;
 ghost use Rattle.garde_ported.specs.declared.generic.Choice.TheVariants.{Part, Name, Neither};
 
-use garde::fields::{Ascii, Dive, Each, Field, Fields, IfSome, Is, Item, Range};
-use garde::{I18n, Report, Trail, Validate};
+use garde::fields::{Ascii, Dive, Each, Field, Fields, IfSome, Is, Item};
+use garde::{I18n, Report, Trail, Validate, range};
 use std::alloc::{AllocError, Global};
 
 /// Two parts under one context.
@@ -119,15 +119,7 @@ impl<const N: usize> Validate for Grid<N> {
         h: &H,
     ) -> Result<(), AllocError> {
         let Self { cells } = self;
-        Field(
-            "cells",
-            cells,
-            Each(Is(Range {
-                min: None,
-                max: Some(9),
-            })),
-        )
-        .visit(alloc, trail, report, h)
+        Field("cells", cells, Each(Is(range!(max = 9)))).visit(alloc, trail, report, h)
     }
 }
 

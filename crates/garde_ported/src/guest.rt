@@ -1,10 +1,8 @@
 //! Options: rules of what they hold, and the rule that they hold something.
 ghost use Rattle.garde.specs.Fields.{◌and◌, ascii, each, field, inside, items_max, length_min, optional, range_between, range_max, required, url};
 
-use garde::fields::{
-    Ascii, Each, Field, Fields, IfSome, Is, IsInMemory, Length, Range, Required, Url,
-};
-use garde::{I18n, Report, Trail, Validate};
+use garde::fields::{Ascii, Each, Field, Fields, IfSome, Is, IsInMemory, Required, Url};
+use garde::{I18n, Report, Trail, Validate, length, range};
 use std::alloc::{AllocError, Global};
 
 /// Who comes.
@@ -46,27 +44,12 @@ impl Validate for Guest {
             Field(
                 "age",
                 age,
-                (
-                    Is(Required),
-                    IfSome(Is(Range {
-                        min: Some(18),
-                        max: Some(120),
-                    })),
-                ),
+                (Is(Required), IfSome(Is(range!(min = 18, max = 120)))),
             ),
             Field(
                 "nickname",
                 nickname,
-                (
-                    IfSome((
-                        Is(Ascii),
-                        Is(Length {
-                            min: 2,
-                            max: usize::MAX,
-                        }),
-                    )),
-                    Is(Required),
-                ),
+                (IfSome((Is(Ascii), Is(length!(min = 2)))), Is(Required)),
             ),
             Field("site", site, IfSome(IsInMemory(Url))),
             Field("motto", motto, Each(Is(Ascii))),
@@ -74,11 +57,8 @@ impl Validate for Guest {
                 "seats",
                 seats,
                 (
-                    IfSome(Is(Length { min: 0, max: 2 })),
-                    Each(Each(IfSome(Is(Range {
-                        min: None,
-                        max: Some(9),
-                    })))),
+                    IfSome(Is(length!(max = 2))),
+                    Each(Each(IfSome(Is(range!(max = 9))))),
                 ),
             ),
         )

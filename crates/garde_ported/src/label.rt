@@ -5,11 +5,8 @@ ghost use Rattle.garde.specs.Fields.{◌and◌, byte_count, char_count, codes, c
 ghost use Rattle.garde.specs.Author as bytes;
 
 use crate::own::IsShort;
-use garde::fields::{
-    Alphanumeric, Ascii, CharLength, Contains, Each, Field, Fields, GraphemeLength, IfSome, Is,
-    Length, Prefix,
-};
-use garde::{I18n, Report, Trail, Validate};
+use garde::fields::{Alphanumeric, Ascii, Contains, Each, Field, Fields, IfSome, Is, Prefix};
+use garde::{I18n, Report, Trail, Validate, length};
 use std::alloc::{AllocError, Global};
 use std::borrow::CowStr;
 
@@ -49,25 +46,19 @@ impl<'t> Validate for Label<'t> {
             mark,
         } = self;
         (
-            Field("name", name, (Is(Ascii), Is(Length { min: 1, max: 9 }))),
+            Field("name", name, (Is(Ascii), Is(length!(min = 1, max = 9)))),
             Field(
                 "also",
                 also,
                 (
-                    Is(Length { min: 0, max: 2 }),
-                    Each((Is(Prefix("b")), Is(CharLength { min: 0, max: 2 }))),
+                    Is(length!(max = 2)),
+                    Each((Is(Prefix("b")), Is(length!(chars, max = 2)))),
                 ),
             ),
             Field(
                 "code",
                 code,
-                IfSome((
-                    Is(Contains("-")),
-                    Is(GraphemeLength {
-                        min: 2,
-                        max: usize::MAX,
-                    }),
-                )),
+                IfSome((Is(Contains("-")), Is(length!(graphemes, min = 2)))),
             ),
             Field("text", text, Is(Alphanumeric)),
             Field("mark", mark, Is(IsShort)),

@@ -2,10 +2,8 @@
 ghost use Rattle.std.specs.Prelude.{is_some, ◌&&◌, ◌||◌};
 ghost use Rattle.garde.specs.Fields.{◌and◌, ascii, each, field, items_min, length_between, length_max, length_min, nat_le, not, optional, prefix, range_max, required, when};
 
-use garde::fields::{
-    Ascii, Each, Field, Fields, IfSome, Is, Length, Prefix, Range, Required, When,
-};
-use garde::{I18n, Report, Trail, Validate};
+use garde::fields::{Ascii, Each, Field, Fields, IfSome, Is, Prefix, Required, When};
+use garde::{I18n, Report, Trail, Validate, length, range};
 use std::alloc::{AllocError, Global};
 
 /// What a printer takes.
@@ -65,7 +63,7 @@ impl Validate for Page {
                 content,
                 (
                     When(*plain, IfSome(Is(Ascii))),
-                    When(*short, IfSome(Is(Length { min: 10, max: 100 }))),
+                    When(*short, IfSome(Is(length!(min = 10, max = 100)))),
                     Is(Required),
                 ),
             ),
@@ -73,55 +71,27 @@ impl Validate for Page {
                 "notes",
                 notes,
                 (
-                    When(!press.strict, Each(Is(Length { min: 0, max: 4 }))),
-                    When(
-                        press.strict,
-                        Is(Length {
-                            min: 1,
-                            max: usize::MAX,
-                        }),
-                    ),
+                    When(!press.strict, Each(Is(length!(max = 4)))),
+                    When(press.strict, Is(length!(min = 1))),
                 ),
             ),
             Field(
                 "title",
                 title,
-                When(
-                    *plain && !*short,
-                    (Is(Prefix("p-")), Is(Length { min: 0, max: 6 })),
-                ),
+                When(*plain && !*short, (Is(Prefix("p-")), Is(length!(max = 6)))),
             ),
             Field("author", author, When(*plain || *short, Is(Ascii))),
             Field(
                 "source",
                 source,
-                When(
-                    content.is_some(),
-                    Is(Length {
-                        min: 1,
-                        max: usize::MAX,
-                    }),
-                ),
+                When(content.is_some(), Is(length!(min = 1))),
             ),
             Field(
                 "volume",
                 volume,
-                (
-                    When(*number >= 10, Is(Ascii)),
-                    Is(Length {
-                        min: 1,
-                        max: usize::MAX,
-                    }),
-                ),
+                (When(*number >= 10, Is(Ascii)), Is(length!(min = 1))),
             ),
-            Field(
-                "number",
-                number,
-                Is(Range {
-                    min: None,
-                    max: Some(99),
-                }),
-            ),
+            Field("number", number, Is(range!(max = 99))),
         )
             .visit(alloc, trail, report, h)
     }

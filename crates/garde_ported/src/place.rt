@@ -1,12 +1,9 @@
 //! Where something is: texts with parts, addresses, and each unit in which a text is counted.
 ghost use Rattle.garde.specs.Fields.{◌and◌, Any, chars_max, contains, field, graphemes_between, ip, length_equal, length_min, prefix, suffix, url, utf16_max, V4, V6};
 
-use garde::fields::{
-    ByteLength, CharLength, Contains, Field, Fields, GraphemeLength, Ip, Is, IsInMemory, Length,
-    Prefix, Suffix, Url, Utf16Length,
-};
+use garde::fields::{Contains, Field, Fields, Ip, Is, IsInMemory, Prefix, Suffix, Url};
 use garde::i18n::IpKind;
-use garde::{I18n, Report, Trail, Validate};
+use garde::{I18n, Report, Trail, Validate, length};
 use std::alloc::{AllocError, Global};
 
 /// A place on the network.
@@ -61,24 +58,18 @@ impl Validate for Place {
             Field(
                 "tag",
                 tag,
-                (Is(Prefix("t-")), Is(ByteLength { min: 5, max: 5 })),
+                (Is(Prefix("t-")), Is(length!(bytes, equal = 5))),
             ),
             Field("host", host, Is(Ip(IpKind::Any))),
             Field("old", old, Is(Ip(IpKind::V4))),
             Field("new", new, Is(Ip(IpKind::V6))),
             Field("site", site, IsInMemory(Url)),
-            Field("sign", sign, Is(GraphemeLength { min: 1, max: 3 })),
-            Field("short", short, Is(Utf16Length { min: 0, max: 2 })),
+            Field("sign", sign, Is(length!(graphemes, min = 1, max = 3))),
+            Field("short", short, Is(length!(utf16, max = 2))),
             Field(
                 "title",
                 title,
-                (
-                    Is(Length {
-                        min: 2,
-                        max: usize::MAX,
-                    }),
-                    Is(CharLength { min: 0, max: 4 }),
-                ),
+                (Is(length!(min = 2)), Is(length!(chars, max = 4))),
             ),
         )
             .visit(alloc, trail, report, h)

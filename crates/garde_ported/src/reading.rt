@@ -1,8 +1,8 @@
 //! Numbers, with a sign and without, under each kind of bounds.
 ghost use Rattle.garde.specs.Fields.{◌and◌, field, i16_min, i64_max, minus, pos, range_between, range_equal, range_max, signed_between, signed_equal, u8_min};
 
-use garde::fields::{Field, Fields, Is, Range};
-use garde::{I18n, Report, Trail, Validate};
+use garde::fields::{Field, Fields, Is};
+use garde::{I18n, Report, Trail, Validate, range};
 use std::alloc::{AllocError, Global};
 
 /// What an instrument shows.
@@ -50,70 +50,14 @@ impl Validate for Reading {
             drift,
         } = self;
         (
-            Field(
-                "age",
-                age,
-                Is(Range {
-                    min: Some(18),
-                    max: None,
-                }),
-            ),
-            Field(
-                "height",
-                height,
-                Is(Range {
-                    min: None,
-                    max: Some(5000),
-                }),
-            ),
-            Field(
-                "kind",
-                kind,
-                Is(Range {
-                    min: Some(7),
-                    max: Some(7),
-                }),
-            ),
-            Field(
-                "channel",
-                channel,
-                Is(Range {
-                    min: Some(1),
-                    max: Some(255),
-                }),
-            ),
-            Field(
-                "coldest",
-                coldest,
-                Is(Range {
-                    min: Some(-40),
-                    max: None,
-                }),
-            ),
-            Field(
-                "depth",
-                depth,
-                Is(Range {
-                    min: None,
-                    max: Some(-1),
-                }),
-            ),
-            Field(
-                "tilt",
-                tilt,
-                Is(Range {
-                    min: Some(-10),
-                    max: Some(10),
-                }),
-            ),
-            Field(
-                "drift",
-                drift,
-                Is(Range {
-                    min: Some(0),
-                    max: Some(0),
-                }),
-            ),
+            Field("age", age, Is(range!(min = 18))),
+            Field("height", height, Is(range!(max = 5000))),
+            Field("kind", kind, Is(range!(equal = 7))),
+            Field("channel", channel, Is(range!(min = 1, max = 255))),
+            Field("coldest", coldest, Is(range!(min = -40))),
+            Field("depth", depth, Is(range!(max = -1))),
+            Field("tilt", tilt, Is(range!(min = -10, max = 10))),
+            Field("drift", drift, Is(range!(equal = 0))),
         )
             .visit(alloc, trail, report, h)
     }

@@ -1,8 +1,8 @@
 //! Collections: how many items there are, and rules of each.
 ghost use Rattle.garde.specs.Fields.{◌and◌, alphanumeric, ascii, each, each_numbered, each_of_set, each_value, field, items_between, items_min, length_equal, length_max, length_min, map_max, range_between, set_min};
 
-use garde::fields::{Alphanumeric, Ascii, Each, Field, Fields, Is, Length, Range};
-use garde::{I18n, Report, Trail, Validate};
+use garde::fields::{Alphanumeric, Ascii, Each, Field, Fields, Is};
+use garde::{I18n, Report, Trail, Validate, length, range};
 use std::alloc::{AllocError, Global};
 use std::collections::{BTreeMap, BTreeSet};
 
@@ -46,48 +46,27 @@ impl Validate for Shop {
                 "names",
                 names,
                 (
-                    Is(Length { min: 1, max: 3 }),
-                    Each((
-                        Is(Ascii),
-                        Is(Length {
-                            min: 2,
-                            max: usize::MAX,
-                        }),
-                    )),
+                    Is(length!(min = 1, max = 3)),
+                    Each((Is(Ascii), Is(length!(min = 2)))),
                 ),
             ),
             Field(
                 "pieces",
                 pieces,
-                (
-                    Is(Length { min: 0, max: 2 }),
-                    Each(Is(Range {
-                        min: Some(1),
-                        max: Some(999),
-                    })),
-                ),
+                (Is(length!(max = 2)), Each(Is(range!(min = 1, max = 999)))),
             ),
             Field("shelves", shelves, Each(Is(Alphanumeric))),
             Field(
                 "marks",
                 marks,
-                (
-                    Is(Length {
-                        min: 1,
-                        max: usize::MAX,
-                    }),
-                    Each(Is(Length { min: 0, max: 8 })),
-                ),
+                (Is(length!(min = 1)), Each(Is(length!(max = 8)))),
             ),
             Field(
                 "rows",
                 rows,
                 Each((
-                    Is(Length {
-                        min: 1,
-                        max: usize::MAX,
-                    }),
-                    Each((Is(Ascii), Is(Length { min: 1, max: 1 }))),
+                    Is(length!(min = 1)),
+                    Each((Is(Ascii), Is(length!(equal = 1)))),
                 )),
             ),
         )

@@ -1,8 +1,8 @@
 //! Parts that validate themselves, under a context and parts of it.
 ghost use Rattle.garde.specs.Fields.{◌and◌, ascii, chars_between, each, field, inside, items_between, optional, u8_min};
 
-use garde::fields::{Ascii, CharLength, Dive, Each, Field, Fields, IfSome, Is, Length, Range};
-use garde::{I18n, Report, Trail, Validate};
+use garde::fields::{Ascii, Dive, Each, Field, Fields, IfSome, Is};
+use garde::{I18n, Report, Trail, Validate, length, range};
 use std::alloc::{AllocError, Global};
 
 /// What is asked of a member.
@@ -44,21 +44,11 @@ impl Validate for Member {
     ) -> Result<(), AllocError> {
         let Self { age, title } = self;
         (
-            Field(
-                "years",
-                age,
-                Is(Range {
-                    min: Some(terms.age),
-                    max: None,
-                }),
-            ),
+            Field("years", age, Is(range!(min = terms.age))),
             Field(
                 "title",
                 title,
-                Is(CharLength {
-                    min: 1,
-                    max: terms.title,
-                }),
+                Is(length!(chars, min = 1, max = terms.title)),
             ),
         )
             .visit(alloc, trail, report, h)
@@ -105,10 +95,7 @@ impl Validate for Team {
                 "members",
                 members,
                 (
-                    Is(Length {
-                        min: 1,
-                        max: league.most,
-                    }),
+                    Is(length!(min = 1, max = league.most)),
                     Each(Dive(&league.members)),
                 ),
             ),

@@ -1,9 +1,9 @@
 //! Texts under patterns: compiled ones of a context, and one in quotes.
 ghost use Rattle.garde.specs.Fields.{◌and◌, ascii, each, field, optional, pattern, range_max};
 
-use garde::fields::{Ascii, Dive, Each, Field, Fields, IfSome, Is, IsInMemory, Pattern, Range};
+use garde::fields::{Ascii, Dive, Each, Field, Fields, IfSome, Is, IsInMemory, Pattern};
 use garde::rules::pattern::regex::Regex;
-use garde::{I18n, Report, Trail, Validate};
+use garde::{I18n, Report, Trail, Validate, range};
 use std::alloc::{AllocError, Global};
 
 /// The compiled patterns of visitors.
@@ -115,14 +115,6 @@ impl Validate for Desk {
         h: &H,
     ) -> Result<(), AllocError> {
         let Self { floor } = self;
-        Field(
-            "floor",
-            floor,
-            Is(Range {
-                min: None,
-                max: Some(9),
-            }),
-        )
-        .visit(alloc, trail, report, h)
+        Field("floor", floor, Is(range!(max = 9))).visit(alloc, trail, report, h)
     }
 }

@@ -1,8 +1,8 @@
 //! New types, tuples, a type with a parameter, and a unit.
 ghost use Rattle.garde.specs.Fields.{◌and◌, ascii, each, field, item, length_max, length_min, none, range_max};
 
-use garde::fields::{Ascii, Dive, Each, Field, Fields, Is, Item, Length, Range, Transparent};
-use garde::{I18n, Report, Trail, Validate};
+use garde::fields::{Ascii, Dive, Each, Field, Fields, Is, Item, Transparent};
+use garde::{I18n, Report, Trail, Validate, length, range};
 use std::alloc::{AllocError, Global};
 
 /// A name that adds no component.
@@ -23,14 +23,7 @@ impl Validate for Nickname {
         h: &H,
     ) -> Result<(), AllocError> {
         let Self(value) = self;
-        Transparent(
-            value,
-            Is(Length {
-                min: 3,
-                max: usize::MAX,
-            }),
-        )
-        .visit(alloc, trail, report, h)
+        Transparent(value, Is(length!(min = 3))).visit(alloc, trail, report, h)
     }
 }
 
@@ -54,7 +47,7 @@ impl Validate for Code {
         h: &H,
     ) -> Result<(), AllocError> {
         let Self { text } = self;
-        Transparent(text, (Is(Ascii), Is(Length { min: 0, max: 4 }))).visit(alloc, trail, report, h)
+        Transparent(text, (Is(Ascii), Is(length!(max = 4)))).visit(alloc, trail, report, h)
     }
 }
 
@@ -76,15 +69,7 @@ impl Validate for Numbered {
         h: &H,
     ) -> Result<(), AllocError> {
         let Self(value) = self;
-        Item(
-            0,
-            value,
-            Is(Length {
-                min: 3,
-                max: usize::MAX,
-            }),
-        )
-        .visit(alloc, trail, report, h)
+        Item(0, value, Is(length!(min = 3))).visit(alloc, trail, report, h)
     }
 }
 
@@ -108,14 +93,7 @@ impl Validate for Triple {
         let Self(first, _, third) = self;
         (
             Item(0, first, Is(Ascii)),
-            Item(
-                2,
-                third,
-                Is(Range {
-                    min: None,
-                    max: Some(9),
-                }),
-            ),
+            Item(2, third, Is(range!(max = 9))),
         )
             .visit(alloc, trail, report, h)
     }
@@ -146,14 +124,7 @@ impl<T: Validate> Validate for Holder<T> {
         let Self { value, label } = self;
         (
             Field("value", value, Dive(ctx)),
-            Field(
-                "label",
-                label,
-                Is(Length {
-                    min: 1,
-                    max: usize::MAX,
-                }),
-            ),
+            Field("label", label, Is(length!(min = 1))),
         )
             .visit_of(self, alloc, trail, report, h)
     }
