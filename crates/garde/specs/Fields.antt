@@ -1,8 +1,9 @@
 -- The words in which the author of a type says what a visit of its fields comes by, each field handed to its rule as it is. A name, a
 -- pattern or a message is written as "text". The words of `Author` say the same of bytes and of lists.
 use Prim.Native.String.{String as Literal}
-pub use Rattle.std.specs.Prelude.{codes, string_bytes, ◌≡◌, ◌==◌, Result, Ok, Err, nat_eq, nat_lt, nat_le, ◌||◌, ◌&&◌, not, true, false, Bool, pos, Some, None, Option, if◌then◌else◌}
-pub use Rattle.garde.specs.Finds.{with_message, told_unless}
+pub use Rattle.std.specs.Prelude.{codes, string_bytes, vec_len, ◌≡◌, ◌==◌, Result, Ok, Err, nat_eq, nat_lt, nat_le, ◌||◌, ◌&&◌, not, true, false, Bool, pos, Some, None, Option, if◌then◌else◌}
+pub use Rattle.garde.specs.Operators.{both, either, choose, product, quotient, remainder, Equals, IsAtMost}
+pub use Rattle.garde.specs.Finds.{with_message, told_unless, own_unless}
 pub use Rattle.garde.specs.Author.{Visits, item, inside, none, found, taking, ◌and◌, below, items, entries, items_in_any_order, entries_in_any_order, optional, when, own, Any, V4, V6, in_map, in_vec, nest_visits}
 unfoldable pub use Rattle.garde.specs.Visits.{Known}
 pub use Rattle.garde_rules.specs.{byte_count, char_count}
@@ -19,7 +20,6 @@ use Rattle.garde_i18n.specs.declared.reasons.InvalidCreditCard.{InvalidCreditCar
 use Rattle.garde_i18n.specs.declared.reasons.InvalidPhoneNumber.{InvalidPhoneNumber}
 use Rattle.garde_rules.specs.Reasons.{card_fault, phone_fault}
 use Rattle.garde_rules.specs.{Fault}
-use Rattle.garde.specs.Author as bytes
 use Rattle.garde.specs.Finds as finds
 
 -- a field, by its name
@@ -38,7 +38,7 @@ abbrev pub told : Literal → Option Fault → Visits
 told message fault = found (with_message message fault)
 
 -- a rule of the library that is asked of an option as a whole: an option without a value passes. The walks are those of
--- `optional`, where the rule is asked of what the option holds.
+-- `optional`, where the rule is asked of what the option holds. A pattern or a URL is asked by `taking (of_option ..)`.
 abbrev pub of_option : {A : Type 0} → (A → Option Fault) → Option A → Visits
 of_option rule v = found (finds.of_option rule v)
 
@@ -48,10 +48,10 @@ lent v = record { ref_ptr = (0, 0); now = v }
 
 -- the pattern of this source matches anywhere in a text; a text is an absolute URL
 abbrev pub pattern : {Z : Type 0} → List ℕ → String Z → Visits
-pattern source s = bytes.pattern source (string_bytes s)
+pattern source s = taking (found (finds.pattern source s))
 
 abbrev pub url : {Z : Type 0} → String Z → Visits
-url s = bytes.url (string_bytes s)
+url s = taking (found (finds.url s))
 
 -- a card number, and a phone number, of whose type this is the answer
 abbrev pub credit_card : Result (Unit {0}) InvalidCreditCard → Visits
@@ -101,6 +101,13 @@ ip kind s = found (finds.ip kind s)
 -- a text equals that of the field of this name, which stands last
 abbrev pub matches_text : {Z : Type 0} → Literal → String Z → String Z → Visits
 matches_text name s other = found (finds.matches_text name s other)
+
+-- the conditions that a text is an address of version 4, and of version 6
+abbrev pub is_ipv4 : {Z : Type 0} → String Z → Bool
+is_ipv4 s = is_ipv4_text (string_bytes s)
+
+abbrev pub is_ipv6 : {Z : Type 0} → String Z → Bool
+is_ipv6 s = is_ipv6_text (string_bytes s)
 
 -- how long a text is, in bytes: at least, at most, just so many, or between two numbers
 abbrev pub length_min : {Z : Type 0} → ℕ → String Z → Visits

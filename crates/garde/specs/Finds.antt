@@ -1,6 +1,6 @@
 -- What the rules find in a field, which is handed to them as it is. A pattern, a name or a message is written as "text".
 use Prim.Native.String.{String as Literal}
-use Rattle.std.specs.Prelude.{ℕ, ℤ, pos, negsuc, ◌-◌, ◌^◌, Bool, true, false, Option, Some, None, is_some, option_map, String, string_bytes, string_eq, Vec, vec_len, codes}
+use Rattle.std.specs.Prelude.{ℕ, ℤ, List, pos, negsuc, ◌-◌, ◌^◌, Bool, true, false, Option, Some, None, is_some, option_map, String, string_bytes, string_eq, Vec, vec_len, codes}
 use Rattle.std.specs.BTreeMap.{BTreeMap, btree_map_len}
 use Rattle.std.specs.BTreeSet.{BTreeSet, btree_set_len}
 use Rattle.std.specs.HashMap.{HashMap, hash_map_len}
@@ -8,10 +8,11 @@ use Rattle.std.specs.HashSet.{HashSet, hash_set_len}
 use Rattle.std.specs.Fmt.{decimal, signed_decimal}
 use Rattle.garde_i18n.specs.Datum as datum
 use Rattle.garde_i18n.specs.declared.reasons.IpKind.{IpKind}
-use Rattle.garde_rules.specs.{Fault, own, bounds_answer, length_fault, byte_count, char_count, unit_count, grapheme_count}
+use Rattle.garde_rules.specs.{Fault, own, bounds_answer, length_fault, byte_count, char_count, unit_count, grapheme_count, matches_source, url_answer}
 use Rattle.garde_rules.specs.Holds.{unless}
 use Rattle.garde_rules.specs.IpText.{is_ip_text}
 use Rattle.garde_rules.specs.Range.{range_fault, int_bounds_answer}
+use Rattle.garde_rules.specs.Reasons.{url_fault, read_answer}
 use Rattle.garde_rules.specs.Text.{is_ascii_text, is_alphanumeric_text, has_part, has_prefix, has_suffix}
 
 -- a length is between two numbers, both allowed; at least so much; at most so much
@@ -31,9 +32,12 @@ unsigned min max n = range_fault (decimal min) (decimal max) (bounds_answer min 
 abbrev pub signed : ℤ → ℤ → ℤ → Option Fault
 signed min max n = range_fault (signed_decimal min) (signed_decimal max) (int_bounds_answer min max n)
 
--- what a rule of one's own finds where its condition fails: this message
+-- what a rule of one's own finds where its condition fails: this message, or this text, which the rule holds
 abbrev pub told_unless : Literal → Bool → Option Fault
 told_unless message holds = elim holds as (λ _. Option Fault) [ true ↦ None | false ↦ Some (own (codes message)) ]
+
+abbrev pub own_unless : List ℕ → Bool → Option Fault
+own_unless text holds = elim holds as (λ _. Option Fault) [ true ↦ None | false ↦ Some (own text) ]
 
 -- what a rule finds, told by this message in place of the handler's
 abbrev pub with_message : Literal → Option Fault → Option Fault
@@ -60,6 +64,14 @@ prefix pattern s = unless (has_prefix (codes pattern) (string_bytes s)) (datum.p
 
 abbrev pub suffix : {Z : Type 0} → Literal → String Z → Option Fault
 suffix pattern s = unless (has_suffix (codes pattern) (string_bytes s)) (datum.suffix (codes pattern))
+
+-- the pattern of this source matches anywhere in a text; a text is an absolute URL. A visit that asks it is `taking`, since
+-- memory may be taken for the answer.
+abbrev pub pattern : {Z : Type 0} → List ℕ → String Z → Option Fault
+pattern source s = unless (matches_source source (string_bytes s)) (datum.pattern source)
+
+abbrev pub url : {Z : Type 0} → String Z → Option Fault
+url s = url_fault (read_answer (url_answer (string_bytes s)))
 
 -- a text is an address of this kind
 abbrev pub ip : {Z : Type 0} → IpKind → String Z → Option Fault

@@ -11,6 +11,7 @@ pub mod Reading
 pub mod Author
 pub mod Words
 pub mod Validated
+pub mod Operators
 pub mod Finds
 pub mod Fields
 pub mod Handlers

@@ -2,7 +2,7 @@
 //! nothing, and its contract is a law of all values.
 #![tactic(auto, unfolding(garde::specs::Fields::Known))]
 
-ghost use Rattle.std.specs.Prelude.{◌≡◌, ◌≤◌, ◌≤ℤ◌, ◌↔◌, IfSome, IsSome, IsTrue, string_eq, vec_len};
+ghost use Rattle.std.specs.Prelude.{◌≡◌, ◌≤◌, ◌≤ℤ◌, ◌↔◌, ◌⊎◌, ℕ, List, IfSome, IsSome, IsTrue, not, string_eq, vec_len};
 ghost use Rattle.std.specs.List.{All};
 ghost use Rattle.std.specs.BTreeMap.{btree_map_len};
 ghost use Rattle.std.specs.BTreeSet.{btree_set_len};
@@ -52,6 +52,8 @@ pub fn whole_options<A>(value: &Option<A>)
         ↔ IfSome value.now (λ x. rule x ≡ None) }
     ensures as_optional { (rule : A → Option Fault) → (tree : Tree) → (words.of_option rule value.now).trees tree
         ↔ (words.optional (λ x. words.found (rule x)) value.now).trees tree }
+    ensures taking { (rule : A → Option Fault) → (tree : Tree) → (words.taking (words.of_option rule value.now)).trees tree
+        ↔ (words.optional (λ x. words.taking (words.found (rule x))) value.now).trees tree }
 {}
 
 /// Of the items of a list.
@@ -119,6 +121,15 @@ pub fn numbers(n: u32, min: u32, max: u32, i: i32, low: i32, high: i32)
 pub fn own(holds: bool)
     ensures asks { Known (words.asks "message" holds) ↔ IsTrue holds }
     ensures told { (fault : Option Fault) → Known (words.told "message" fault) ↔ (fault ≡ None) }
+    ensures own_unless { (text : List ℕ) → Known (words.found (words.own_unless text holds)) ↔ IsTrue holds }
+{}
+
+/// Of two conditions that make one, and of a choice by a condition.
+pub fn choices(a: bool, b: bool, one: u32, other: u32)
+    ensures both { IsTrue (words.both a b) ↔ (IsTrue a × IsTrue b) }
+    ensures either { IsTrue (words.either a b) ↔ (IsTrue a ⊎ IsTrue b) }
+    ensures one { IsTrue a → words.choose a one other ≡ one }
+    ensures other { IsTrue (not a) → words.choose a one other ≡ other }
 {}
 
 /// Of a compiled pattern, of a URL, of a card and of a phone.

@@ -1,6 +1,5 @@
 //! Numbers of cards and phones, whose types say themselves what is one.
-ghost use Rattle.std.specs.Prelude.{◌==◌, if◌then◌else◌};
-ghost use Rattle.garde.specs.Fields.{◌and◌, nat_le, Ok, Err, byte_count, string_bytes, field, credit_card, phone_number};
+ghost use Rattle.garde.specs.Fields.{◌and◌, choose, nat_eq, nat_le, Ok, Err, byte_count, string_bytes, field, credit_card, phone_number};
 ghost use Rattle.garde.specs.Cards.{InvalidLength};
 ghost use Rattle.garde.specs.Phones.{TooLong};
 
@@ -15,7 +14,7 @@ use std::alloc::{AllocError, Global};
 pub struct CardText(pub String);
 
 impl credit_card::CreditCard for CardText {
-    ghost answer = { λ v. if byte_count (string_bytes v.0) == 16 then Ok tt else Err InvalidLength };
+    ghost answer = { λ v. choose (nat_eq (byte_count (string_bytes v.0)) 16) (Ok tt) (Err InvalidLength) };
 
     fn validate_credit_card(&self) -> Result<(), InvalidCreditCard> {
         if self.0.len() == 16 {
@@ -31,7 +30,7 @@ impl credit_card::CreditCard for CardText {
 pub struct PhoneText(pub String);
 
 impl phone_number::PhoneNumber for PhoneText {
-    ghost answer = { λ v. if nat_le (byte_count (string_bytes v.0)) 15 then Ok tt else Err TooLong };
+    ghost answer = { λ v. choose (nat_le (byte_count (string_bytes v.0)) 15) (Ok tt) (Err TooLong) };
 
     fn validate_phone_number(&self) -> Result<(), InvalidPhoneNumber> {
         if self.0.len() <= 15 {

@@ -1,6 +1,5 @@
 //! Fields that depend on one another, conditions, rules of one's own and messages of one's own.
-ghost use Rattle.std.specs.Prelude.{◌≡◌, ◌||◌, if◌then◌else◌};
-ghost use Rattle.garde.specs.Fields.{◌and◌, not, Some, None, codes, string_bytes, own, field, length_between, chars_min, suffix, required, range_between, optional, when, matches_text, asks, told, is_ipv4_text, is_ipv6_text};
+ghost use Rattle.garde.specs.Fields.{◌and◌, Equals, not, either, field, length_between, chars_min, suffix, required, range_between, optional, when, matches_text, asks, told, told_unless, is_ipv4, is_ipv6, is_ipv4_text, is_ipv6_text};
 ghost use Rattle.garde.specs.Finds as rules;
 
 use garde::fields::{
@@ -16,7 +15,7 @@ use std::borrow::CowStr;
 pub struct Accepted;
 
 impl Rule<bool> for Accepted {
-    ghost finds = { λ _ accepted. if accepted then None else Some (own (codes "accept the terms")) };
+    ghost finds = { λ _ accepted. told_unless "accept the terms" accepted };
 
     fn find<H: I18n>(&self, alloc: Global, value: &bool, _h: &H) -> Result<(), RuleError> {
         if *value {
@@ -40,7 +39,7 @@ pub struct Signup {
 
 /// Whether a host is an address.
 fn is_address(host: &str) -> bool
-    ensures { result ≡ (is_ipv4_text host.now || is_ipv6_text host.now) }
+    ensures { Equals result (either (is_ipv4_text host.now) (is_ipv6_text host.now)) }
 {
     is_ipv4(host) || is_ipv6(host)
 }
@@ -53,7 +52,7 @@ impl Validate for Signup {
         and field "password" (chars_min 12 v.password)
         and field "again" (matches_text "password" v.again v.password)
         and field "age" (required v.age and optional (λ age. range_between 18 120 age) v.age)
-        and field "host" (when (not (is_ipv4_text (string_bytes v.host) || is_ipv6_text (string_bytes v.host))) (suffix ".org" v.host))
+        and field "host" (when (not (either (is_ipv4 v.host) (is_ipv6 v.host))) (suffix ".org" v.host))
         and field "terms" (asks "accept the terms" v.terms) };
 
     fn validate_into<'a, H: I18n>(

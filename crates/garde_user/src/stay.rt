@@ -1,6 +1,5 @@
 //! A field that is compared with another one, by a rule that holds the other's value.
-ghost use Rattle.std.specs.Prelude.{◌==◌, ◌%◌};
-ghost use Rattle.garde.specs.Fields.{◌and◌, not, nat_lt, field, asks, told_unless};
+ghost use Rattle.garde.specs.Fields.{◌and◌, not, nat_eq, nat_lt, remainder, field, asks, told_unless};
 
 use garde::fields::{Field, Fields, Is, Rule};
 use garde::{I18n, Report, RuleError, Trail, Validate};
@@ -12,7 +11,7 @@ use std::borrow::CowStr;
 pub struct NoMonday;
 
 impl Rule<u32> for NoMonday {
-    ghost finds = { λ _ day. told_unless "closed on Mondays" (not (day % 7 == 0)) };
+    ghost finds = { λ _ day. told_unless "closed on Mondays" (not (nat_eq (remainder day 7) 0)) };
 
     fn find<H: I18n>(&self, alloc: Global, value: &u32, _h: &H) -> Result<(), RuleError> {
         if *value % 7 != 0 {
@@ -50,7 +49,7 @@ impl Validate for Stay {
     type Context = ();
 
     ghost visits = { λ v _.
-        field "arrival" (asks "closed on Mondays" (not (v.arrival % 7 == 0)))
+        field "arrival" (asks "closed on Mondays" (not (nat_eq (remainder v.arrival 7) 0)))
         and field "departure" (asks "leave after you arrive" (nat_lt v.arrival v.departure)) };
 
     fn validate_into<'a, H: I18n>(

@@ -1,6 +1,5 @@
 //! The whole configuration, and what is known of a valid one.
-ghost use Rattle.std.specs.Prelude.{◌≡◌, ◌/◌};
-ghost use Rattle.garde.specs.Fields.{◌and◌, each_value, field, map_between, u32_min};
+ghost use Rattle.garde.specs.Fields.{◌and◌, Equals, each_value, field, map_between, quotient, u32_min};
 
 use crate::logging::Logging;
 use crate::server::Server;
@@ -84,7 +83,7 @@ impl Validate for Config {
 /// tested.
 #[tactic(auto, unfolding(garde::specs::Fields::Known))]
 pub fn share(config: &Valid<Config>) -> u16
-    ensures { result ≡ config.now.server.connections / config.now.server.workers }
+    ensures { Equals result (quotient config.now.server.connections config.now.server.workers) }
 {
     config.server.connections / config.server.workers
 }

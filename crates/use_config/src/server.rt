@@ -1,6 +1,5 @@
 //! Where the service listens, and how much it takes.
-ghost use Rattle.std.specs.Prelude.{◌≡◌, ◌||◌};
-ghost use Rattle.garde.specs.Fields.{◌and◌, not, string_bytes, field, optional, pattern, range_between, suffix, u16_min, when, is_ipv4_text, is_ipv6_text};
+ghost use Rattle.garde.specs.Fields.{◌and◌, Equals, either, field, is_ipv4, is_ipv4_text, is_ipv6, is_ipv6_text, not, optional, pattern, range_between, suffix, u16_min, when};
 
 use garde::fields::{Dive, Field, Fields, IfSome, Is, IsInMemory, Pattern, Range, Suffix, When};
 use garde::rules::ip::{is_ipv4, is_ipv6};
@@ -58,7 +57,7 @@ pub struct Server {
 
 /// Whether a host is an address.
 fn is_address(host: &str) -> bool
-    ensures { result ≡ (is_ipv4_text host.now || is_ipv6_text host.now) }
+    ensures { Equals result (either (is_ipv4_text host.now) (is_ipv6_text host.now)) }
 {
     is_ipv4(host) || is_ipv6(host)
 }
@@ -68,7 +67,7 @@ impl Validate for Server {
     type Context = Regex;
 
     ghost visits = { λ v names.
-        field "host" (when (not (is_ipv4_text (string_bytes v.host) || is_ipv6_text (string_bytes v.host))) (pattern names v.host))
+        field "host" (when (not (either (is_ipv4 v.host) (is_ipv6 v.host))) (pattern names v.host))
         and field "port" (u16_min 1 v.port)
         and field "workers" (range_between 1 64 v.workers)
         and field "tls" (optional (λ tls. ⟦<Tls as Validate>⟧.visits tls tt) v.tls) };

@@ -1,6 +1,5 @@
 //! The settings of a program that copies files, and what is asked of them.
-ghost use Rattle.std.specs.Prelude.{◌≤◌, ◌*◌, vec_len};
-ghost use Rattle.garde.specs.Fields.{◌and◌, field, V4, items_between, each, suffix, range_between, required, optional, ip, when};
+ghost use Rattle.garde.specs.Fields.{◌and◌, IsAtMost, V4, each, field, ip, items_between, optional, product, range_between, required, suffix, vec_len, when};
 
 use clap::ArgMatches;
 use garde::fields::{Each, Field, Fields, IfSome, Ip, Is, Length, Range, Required, Suffix, When};
@@ -84,7 +83,7 @@ impl Validate for Settings {
 /// How many files a job copies at most. Valid settings have a job, so nothing is tested.
 #[tactic(auto, unfolding(garde::specs::Fields::Known))]
 pub fn share(settings: &Valid<Settings>) -> usize
-    ensures { vec_len settings.now.files ≤ result * settings.now.jobs }
+    ensures { IsAtMost (vec_len settings.now.files) (product result settings.now.jobs) }
 {
     settings.files.len().div_ceil(usize::from(settings.jobs))
 }

@@ -1,5 +1,5 @@
 //! A handler whose texts are Czech.
-ghost use Rattle.std.specs.Prelude.{◌≡◌};
+ghost use Rattle.garde.specs.Fields.{Equals};
 ghost use Rattle.use_signup.specs.CzechText.{characters, czech_text};
 
 use garde::I18n;
@@ -51,7 +51,7 @@ pub struct Czech;
 
 /// The word for so many characters: Czech has a form for 1, one for 2 to 4, and one for the rest.
 fn unit(count: usize) -> &'static str
-    ensures { result.now ≡ characters count }
+    ensures { Equals result.now (characters count) }
 {
     match count {
         1 => ONE,

@@ -1,6 +1,5 @@
 //! A form to sign up with: what is asked of each field, in one expression.
-ghost use Rattle.std.specs.Prelude.{◌≡◌, if◌then◌else◌};
-ghost use Rattle.garde.specs.Fields.{◌and◌, Some, None, own, found, field, alphanumeric, chars_between, length_between, matches_text, optional, prefix, range_between, required};
+ghost use Rattle.garde.specs.Fields.{◌and◌, Equals, Some, alphanumeric, chars_between, field, found, length_between, matches_text, optional, own_unless, prefix, range_between, required};
 
 use garde::fields::{
     Alphanumeric, CharLength, Field, Fields, IfSome, Is, Length, Matches, Prefix, Range, Required,
@@ -23,7 +22,7 @@ pub struct Words {
 pub struct Accepted(pub &'static str);
 
 impl Rule<bool> for Accepted {
-    ghost finds = { λ rule accepted. if accepted then None else Some (own rule.0.now) };
+    ghost finds = { λ rule accepted. own_unless rule.0.now accepted };
 
     fn find<H: I18n>(&self, alloc: Global, accepted: &bool, _h: &H) -> Result<(), RuleError> {
         if *accepted {
@@ -104,7 +103,7 @@ impl Validate for SignUp {
 /// How old someone is who may sign up. A valid form has an age, so nothing is tested.
 #[tactic(auto, unfolding(garde::specs::Fields::Known))]
 pub fn age_of(form: &Valid<SignUp>) -> u8
-    ensures { form.now.age ≡ Some result }
+    ensures { Equals form.now.age (Some result) }
 {
     form.age.unwrap()
 }

@@ -79,20 +79,24 @@ fn a_field_compared_with_another(rt: HostRuntime) -> Result<(), Fail> {
 fn options_that_are_asked_as_a_whole(rt: HostRuntime) -> Result<(), Fail> {
     let alloc = rt.alloc();
     let rows = [
-        (Some("abc"), Some(18), Some("a"), ""),
-        (None, None, None, "name: not set\n"),
         (
-            Some("ab"),
-            Some(17),
-            Some("é"),
-            "name: length is lower than 3\nage: lower than 18\nmotto: not ascii\n",
+            (Some("abc"), Some(18)),
+            (Some("a"), Some("http://example.org")),
+            "",
+        ),
+        ((None, None), (None, None), "name: not set\n"),
+        (
+            (Some("ab"), Some(17)),
+            (Some("é"), Some("example")),
+            "name: length is lower than 3\nage: lower than 18\nmotto: not ascii\npage: not a valid url: relative URL without a base\n",
         ),
     ];
-    for (name, age, motto, told) in rows {
+    for ((name, age), (motto, page), told) in rows {
         let profile = Profile {
             name: owned(alloc, name)?,
             age,
             motto: owned(alloc, motto)?,
+            page: owned(alloc, page)?,
         };
         assert_eq!(rt; super::told(alloc, profile.validate(alloc))?.as_str(), told);
     }
