@@ -1,5 +1,5 @@
 //! Each text of the default handler, of the least and the greatest data.
-use garde::i18n::{InvalidCreditCard, InvalidPhoneNumber, InvalidUrl, IpKind};
+use garde::i18n::IpKind;
 use garde::{DefaultI18n, I18n};
 use std::alloc::{AllocError, Global};
 use std::borrow::CowStr;
