@@ -55,7 +55,7 @@ impl Validate for SignUp {
         and field "password_again" (matches_text "password" v.password_again v.password)
         and field "age" (required v.age and optional (λ age. range_between 18 120 age) v.age)
         and field "phone" (optional (λ phone. prefix "+" phone and length_between 9 16 phone) v.phone)
-        and field "terms" (found (⟦<Accepted as Rule<bool>>⟧.finds (record { 0 = words.terms }) v.terms)) };
+        and field "terms" (found (own_unless words.terms.now v.terms)) };
 
     fn validate_into<'a, H: I18n>(
         &'a self,
