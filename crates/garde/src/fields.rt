@@ -1,18 +1,20 @@
 //! What is checked of a value, said as a value.
 //!
-//! An author of a type writes its `Validate` implementation as one expression, for instance
+//! An author of a type takes the value apart and says what is checked of each field by one
+//! expression, for instance
 //!
 //! ```text
+//! let Self { name, tags, address } = self;
 //! (
-//!     Field("name", &self.name, (Is(Ascii), Is(length!(min = 3, max = 25)))),
-//!     Field("tags", &self.tags, Each(Is(Ascii))),
-//!     Field("address", &self.address, Dive(ctx)),
+//!     Field("name", name, (Is(Ascii), Is(length!(min = 3, max = 25)))),
+//!     Field("tags", tags, Each(Is(Ascii))),
+//!     Field("address", address, Dive(ctx)),
 //! )
 //!     .visit(alloc, trail, report, h)
 //! ```
 //!
-//! and states `visits` by the words of `garde.specs.Author` in the same shape. Such an
-//! implementation needs no proof file.
+//! and states `visits` by the words of `garde.specs.Fields` in the same shape. A field that is
+//! forgotten does not compile. Such an implementation needs no proof file.
 
 mod bounds;
 mod check;

@@ -56,18 +56,24 @@ impl Validate for Document {
         report: &mut Report,
         h: &H,
     ) -> Result<(), AllocError> {
+        let Self {
+            check_format,
+            check_length,
+            content,
+            tag,
+        } = self;
         let length = Length { min: 10, max: 100 };
         (
             Field(
                 "content",
-                &self.content,
+                content,
                 (
-                    When(self.check_format, IfSome(Is(Ascii))),
-                    When(self.check_length, IfSome(Is(length))),
+                    When(*check_format, IfSome(Is(Ascii))),
+                    When(*check_length, IfSome(Is(length))),
                     Is(Required),
                 ),
             ),
-            Field("tag", &self.tag, Is(Adapt(TagText, Prefix("t-")))),
+            Field("tag", tag, Is(Adapt(TagText, Prefix("t-")))),
         )
             .visit(alloc, trail, report, h)
     }

@@ -32,6 +32,7 @@ impl Validate for Name {
         report: &mut Report,
         h: &H,
     ) -> Result<(), AllocError> {
-        Field("text", &self.text, Is(Ascii)).visit(alloc, trail, report, h)
+        let Self { text } = self;
+        Field("text", text, Is(Ascii)).visit(alloc, trail, report, h)
     }
 }

@@ -30,7 +30,8 @@ impl Validate for Address {
         report: &mut Report,
         h: &H,
     ) -> Result<(), AllocError> {
-        Is(Ip(IpKind::Any)).check(alloc, &self.0, trail, report, h)
+        let Self(text) = self;
+        Is(Ip(IpKind::Any)).check(alloc, text, trail, report, h)
     }
 }
 
@@ -60,17 +61,23 @@ impl Validate for Body {
         report: &mut Report,
         h: &H,
     ) -> Result<(), AllocError> {
+        let Self {
+            user,
+            age,
+            tags,
+            addresses,
+        } = self;
         let years = Range {
             min: Some(18),
             max: Some(120),
         };
         let tag = (Is(Alphanumeric), Is(CharLength { min: 1, max: 20 }));
-        let tags = (Is(Length { min: 0, max: 5 }), Each(tag));
+        let few = (Is(Length { min: 0, max: 5 }), Each(tag));
         (
-            Transparent(&self.user, Dive(ctx)),
-            Field("age", &self.age, (Is(Required), Is(years))),
-            Field("tags", &self.tags, tags),
-            Field("addresses", &self.addresses, Dive(ctx)),
+            Transparent(user, Dive(ctx)),
+            Field("age", age, (Is(Required), Is(years))),
+            Field("tags", tags, few),
+            Field("addresses", addresses, Dive(ctx)),
         )
             .visit(alloc, trail, report, h)
     }

@@ -25,7 +25,8 @@ impl Validate for User {
         report: &mut Report,
         h: &H,
     ) -> Result<(), AllocError> {
+        let Self { username } = self;
         let rules = (Is(Ascii), Is(Length { min: 3, max: 25 }));
-        Field("username", &self.username, rules).visit(alloc, trail, report, h)
+        Field("username", username, rules).visit(alloc, trail, report, h)
     }
 }

@@ -58,13 +58,9 @@ impl Validate for Ledger {
         report: &mut Report,
         h: &H,
     ) -> Result<(), AllocError> {
-        inner::apply(
-            &self.owners,
-            trail,
-            report,
-            |owner, component, trail, report| {
-                check_under(alloc, component, &Is(Ascii), owner, trail, report, h)
-            },
-        )
+        let Self { owners } = self;
+        inner::apply(owners, trail, report, |owner, component, trail, report| {
+            check_under(alloc, component, &Is(Ascii), owner, trail, report, h)
+        })
     }
 }

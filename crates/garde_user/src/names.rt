@@ -29,8 +29,9 @@ impl Validate for Names {
         report: &mut Report,
         h: &H,
     ) -> Result<(), AllocError> {
+        let Self { items } = self;
         let some = Is(NOT_EMPTY);
-        Field("items", &self.items, (some, EachSet, EachText)).visit(alloc, trail, report, h)
+        Field("items", items, (some, EachSet, EachText)).visit(alloc, trail, report, h)
     }
 }
 

@@ -31,17 +31,18 @@ impl Validate for Person {
         report: &mut Report,
         h: &H,
     ) -> Result<(), AllocError> {
+        let Self { name, age, phone } = self;
         (
-            Field("name", &self.name, Is(Length { min: 3, max: 20 })),
+            Field("name", name, Is(Length { min: 3, max: 20 })),
             Field(
                 "age",
-                &self.age,
+                age,
                 Is(Range {
                     min: Some(18),
                     max: Some(120),
                 }),
             ),
-            Field("phone", &self.phone, Is(Required)),
+            Field("phone", phone, Is(Required)),
         )
             .visit(alloc, trail, report, h)
     }
@@ -71,10 +72,15 @@ impl Validate for Home {
         report: &mut Report,
         h: &H,
     ) -> Result<(), AllocError> {
+        let Self {
+            street,
+            city,
+            zip_code,
+        } = self;
         (
             Field(
                 "street",
-                &self.street,
+                street,
                 Is(Length {
                     min: 5,
                     max: usize::MAX,
@@ -82,13 +88,13 @@ impl Validate for Home {
             ),
             Field(
                 "city",
-                &self.city,
+                city,
                 Is(Length {
                     min: 2,
                     max: usize::MAX,
                 }),
             ),
-            Field("zip_code", &self.zip_code, IsInMemory(Pattern(ctx))),
+            Field("zip_code", zip_code, IsInMemory(Pattern(ctx))),
         )
             .visit(alloc, trail, report, h)
     }
@@ -118,12 +124,13 @@ impl Validate for Account {
         report: &mut Report,
         h: &H,
     ) -> Result<(), AllocError> {
+        let Self { user, address, bio } = self;
         (
-            Field("user", &self.user, Dive(&())),
-            Field("address", &self.address, Dive(ctx)),
+            Field("user", user, Dive(&())),
+            Field("address", address, Dive(ctx)),
             Field(
                 "bio",
-                &self.bio,
+                bio,
                 Is(Length {
                     min: 10,
                     max: usize::MAX,

@@ -24,8 +24,9 @@ impl Validate for Badge {
         report: &mut Report,
         h: &H,
     ) -> Result<(), AllocError> {
+        let Self { number } = self;
         trail.push(Component::key("number"))?;
-        let answer = range::apply(alloc, &self.number, (Some(1), None), h);
+        let answer = range::apply(alloc, number, (Some(1), None), h);
         let told = trail.put(report, answer);
         trail.pop();
         told

@@ -26,9 +26,10 @@ impl<T: Validate> Validate for Couple<T> {
         report: &mut Report,
         h: &H,
     ) -> Result<(), AllocError> {
+        let Self { left, right } = self;
         (
-            Field("left", &self.left, Dive(ctx)),
-            Field("right", &self.right, Dive(ctx)),
+            Field("left", left, Dive(ctx)),
+            Field("right", right, Dive(ctx)),
         )
             .visit_of(self, alloc, trail, report, h)
     }

@@ -25,9 +25,10 @@ impl Validate for Identifier {
         report: &mut Report,
         h: &H,
     ) -> Result<(), AllocError> {
+        let Self { id } = self;
         Field(
             "id",
-            &self.id,
+            id,
             Is(Range {
                 min: None,
                 max: Some(4),
@@ -59,7 +60,8 @@ impl Validate for Item {
         report: &mut Report,
         h: &H,
     ) -> Result<(), AllocError> {
-        let name = (
+        let Self { name, identifiers } = self;
+        let plain = (
             Is(Ascii),
             Is(Length {
                 min: 10,
@@ -67,8 +69,8 @@ impl Validate for Item {
             }),
         );
         (
-            Field("name", &self.name, name),
-            Field("identifiers", &self.identifiers, Each(Dive(ctx))),
+            Field("name", name, plain),
+            Field("identifiers", identifiers, Each(Dive(ctx))),
         )
             .visit(alloc, trail, report, h)
     }

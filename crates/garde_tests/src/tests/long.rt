@@ -25,9 +25,10 @@ impl Validate for Long {
         report: &mut Report,
         h: &H,
     ) -> Result<(), AllocError> {
+        let Self { s } = self;
         Field(
             "s",
-            &self.s,
+            s,
             Is(Length {
                 min: 5,
                 max: usize::MAX,

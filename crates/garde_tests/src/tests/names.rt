@@ -28,12 +28,13 @@ impl Validate for Names {
         report: &mut Report,
         h: &H,
     ) -> Result<(), AllocError> {
+        let Self { items } = self;
         let not_empty = Is(Length {
             min: 1,
             max: usize::MAX,
         });
         let text = (Is(Ascii), not_empty);
         let rules = (not_empty, Each(Is(Required)), Each(Each(text)));
-        Field("items", &self.items, rules).visit(alloc, trail, report, h)
+        Field("items", items, rules).visit(alloc, trail, report, h)
     }
 }

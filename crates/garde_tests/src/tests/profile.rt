@@ -43,20 +43,28 @@ impl Validate for Profile {
         report: &mut Report,
         h: &H,
     ) -> Result<(), AllocError> {
-        let address = (Is(Prefix("https://")), Is(Contains(".")), Is(Suffix("/")));
+        let Self {
+            tag,
+            address,
+            phone,
+            host,
+            site,
+            degrees,
+        } = self;
+        let secure = (Is(Prefix("https://")), Is(Contains(".")), Is(Suffix("/")));
         (
             Field(
                 "tag",
-                &self.tag,
+                tag,
                 (Is(Alphanumeric), Is(CharLength { min: 1, max: 20 })),
             ),
-            Field("address", &self.address, address),
-            Field("phone", &self.phone, Is(Required)),
-            Field("host", &self.host, Is(Ip(IpKind::Any))),
-            Field("site", &self.site, IsInMemory(Url)),
+            Field("address", address, secure),
+            Field("phone", phone, Is(Required)),
+            Field("host", host, Is(Ip(IpKind::Any))),
+            Field("site", site, IsInMemory(Url)),
             Field(
                 "degrees",
-                &self.degrees,
+                degrees,
                 Is(Range {
                     min: Some(-10),
                     max: Some(10),

@@ -62,17 +62,18 @@ impl Validate for Address {
         report: &mut Report,
         h: &H,
     ) -> Result<(), AllocError> {
+        let Self { street, city, code } = self;
         (
-            Field("street", &self.street, Is(Ascii)),
+            Field("street", street, Is(Ascii)),
             Field(
                 "city",
-                &self.city,
+                city,
                 Is(Length {
                     min: 1,
                     max: ctx.most,
                 }),
             ),
-            Field("code", &self.code, Is(Length { min: 5, max: 5 })),
+            Field("code", code, Is(Length { min: 5, max: 5 })),
         )
             .visit(alloc, trail, report, h)
     }
@@ -104,16 +105,18 @@ impl Validate for Signup {
         report: &mut Report,
         h: &H,
     ) -> Result<(), AllocError> {
+        let Self {
+            name,
+            password,
+            tags,
+            address,
+        } = self;
         (
-            Field(
-                "name",
-                &self.name,
-                (Is(Ascii), Is(Length { min: 3, max: 25 })),
-            ),
-            Field("password", &self.password, Is(Strong)),
+            Field("name", name, (Is(Ascii), Is(Length { min: 3, max: 25 }))),
+            Field("password", password, Is(Strong)),
             Field(
                 "tags",
-                &self.tags,
+                tags,
                 (
                     Is(Length {
                         min: 0,
@@ -122,7 +125,7 @@ impl Validate for Signup {
                     Each(Is(Ascii)),
                 ),
             ),
-            Field("address", &self.address, Dive(ctx)),
+            Field("address", address, Dive(ctx)),
         )
             .visit(alloc, trail, report, h)
     }

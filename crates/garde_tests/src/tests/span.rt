@@ -23,7 +23,8 @@ impl Rule<Span> for InOrder {
     ghost finds = { λ _ span. if nat_lt span.to span.from then Some (own (codes "backwards")) else None };
 
     fn find<H: I18n>(&self, alloc: Global, span: &Span, _h: &H) -> Result<(), RuleError> {
-        if span.to < span.from {
+        let Span { from, to } = span;
+        if to < from {
             Err(RuleError::of(alloc, Ok(CowStr::Borrowed("backwards"))))
         } else {
             Ok(())
