@@ -6,6 +6,7 @@ unfoldable pub use Rattle.garde.specs.Nested.{nested, within}
 pub use Rattle.garde.specs.Nested.{in_map, in_vec, nest_visits}
 pub use Rattle.garde_report.specs.Part.{key_part, index_part, signed_index_part, part_of}
 pub use Rattle.garde_rules.specs.{Fault, rule, own, byte_count, char_count, unit_count, grapheme_count}
+pub use Rattle.garde_rules.specs.Inner.{placed}
 pub use Rattle.garde_i18n.specs.declared.reasons.IpKind.TheVariants.{Any, V4, V6}
 use Rattle.std.specs.Prelude.{ℕ, ℤ, List, Bool, Option, is_some, string_bytes}
 use Rattle.std.specs.Fmt.{decimal, signed_decimal}

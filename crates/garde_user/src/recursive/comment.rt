@@ -42,8 +42,9 @@ impl Recursive for Comment {
         report: &mut Report,
         h: &H,
     ) -> Result<(), AllocError> {
-        let text = Is(CharLength { min: 1, max: 280 });
-        Field("text", &self.text, text).visit(alloc, trail, report, h)
+        let Self { text, replies: _ } = self;
+        let asked = Is(CharLength { min: 1, max: 280 });
+        Field("text", text, asked).visit(alloc, trail, report, h)
     }
 }
 

@@ -42,7 +42,8 @@ impl Recursive for Folder {
         report: &mut Report,
         h: &H,
     ) -> Result<(), AllocError> {
-        Field("name", &self.name, Is(Length { min: 1, max: 9 })).visit(alloc, trail, report, h)
+        let Self { name, folders: _ } = self;
+        Field("name", name, Is(Length { min: 1, max: 9 })).visit(alloc, trail, report, h)
     }
 }
 

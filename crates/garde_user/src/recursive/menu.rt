@@ -43,7 +43,8 @@ impl Recursive for Menu {
         report: &mut Report,
         h: &H,
     ) -> Result<(), AllocError> {
-        Field("label", &self.label, Is(Length { min: 1, max: 20 })).visit(alloc, trail, report, h)
+        let Self { label, menus: _ } = self;
+        Field("label", label, Is(Length { min: 1, max: 20 })).visit(alloc, trail, report, h)
     }
 }
 

@@ -42,7 +42,8 @@ impl<T: Validate> Recursive for Tree<T> {
         report: &mut Report,
         h: &H,
     ) -> Result<(), AllocError> {
-        Field("value", &self.value, Dive(ctx)).visit(alloc, trail, report, h)
+        let Self { value, children: _ } = self;
+        Field("value", value, Dive(ctx)).visit(alloc, trail, report, h)
     }
 }
 
