@@ -10,6 +10,4 @@ pub mod panel;
 pub mod parcel;
 pub mod seat;
 pub mod tariff;
-#[cfg(test)]
-mod tests;
 pub mod words;

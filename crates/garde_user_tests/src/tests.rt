@@ -2,6 +2,7 @@
 mod bounds;
 mod guide;
 mod handlers;
+mod known;
 mod modules;
 mod recursive;
 mod walks;

@@ -1,14 +1,14 @@
-//! Each caller on valid values, and what is not valid.
-use crate::basket::{Basket, first};
-use crate::bill::{Bill, share};
-use crate::level::{Level, byte};
-use crate::made;
-use crate::page::{Page, baskets, first_of, first_of_first};
-use crate::panel::{Panel, Reading, gain, gain_on_panel, on_panel};
-use crate::parcel::{Parcel, recipient};
-use crate::seat::{Seat, price};
-use crate::tariff::{Tariff, standard};
+//! Code that relies on valid values, on valid ones, and what is not valid.
 use garde::{Unvalidated, Valid, Validate};
+use garde_known::basket::{Basket, first};
+use garde_known::bill::{Bill, share};
+use garde_known::level::{Level, byte};
+use garde_known::made;
+use garde_known::page::{Page, baskets, first_of, first_of_first};
+use garde_known::panel::{Panel, Reading, gain, gain_on_panel, on_panel};
+use garde_known::parcel::{Parcel, recipient};
+use garde_known::seat::{Seat, price};
+use garde_known::tariff::{Tariff, standard};
 use std::alloc::{AllocError, Global};
 use std::collections::BTreeMap;
 use std::test::Fail;
