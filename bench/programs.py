@@ -1,0 +1,45 @@
+"""Programs that are measured and are no crates of the gate: their files end in `.rt.txt`."""
+import os
+import pathlib
+import subprocess
+import sys
+import tempfile
+
+HERE = pathlib.Path(__file__).resolve().parent
+CRATES = HERE.parent / "crates"
+# The crates that each program lists, and those below them.
+LISTED, BELOW = ("garde", "garde_json"), ("garde_i18n", "garde_report", "garde_lengths", "garde_engines", "garde_rules")
+
+
+def run(words, room):
+    done = subprocess.run(words, cwd=room, stdout=subprocess.PIPE, stderr=subprocess.STDOUT, text=True)
+    if done.returncode:
+        sys.exit(f"the program was not built: {done.stdout[-2000:]}")
+
+
+def build(folder):
+    """Proves and builds the program of a folder over the libraries that `rt ci` built, unless none of its files changed since.
+    Gives where it lies, in bench/out/."""
+    files, made = list((HERE / folder).glob("*.rt.txt")), HERE / "out" / f"garde_{folder}"
+    if made.is_file() and made.stat().st_mtime > max(it.stat().st_mtime for it in files):
+        return made
+    said = subprocess.run(["rt", "doc"], check=True, capture_output=True, text=True).stdout
+    kit = pathlib.Path(said.strip()).parent
+    made.parent.mkdir(exist_ok=True)
+    words = [kit / "bin/rattle", "build", "--crate-name", made.name, "src/main.rt", "--links", f"{made.name}=", "--jobs", str(os.cpu_count())]
+    words += ["--antt-project", kit / "rattle/logic/antt-project.json", "--logic-built", kit / "logic_built", "--toolchain", kit / "toolchain"]
+    for it in ("std", "serde_json"):
+        words += ["--extern", f"{it}={kit}/rlibs/{it}.rlib"]
+    for it in LISTED:
+        words += ["--extern", f"{it}={CRATES}/{it}/out/rlib/{it}.rlib"]
+    for it in [*(CRATES / it / "out/rlib" for it in LISTED + BELOW), kit / "rlibs"]:
+        words += ["-L", f"dependency={it}"]
+    with tempfile.TemporaryDirectory() as room:
+        source = pathlib.Path(room, "src")
+        source.mkdir()
+        for it in files:
+            (source / it.name[: -len(".txt")]).write_text(it.read_text(encoding="utf-8"), encoding="utf-8")
+        run([*words, "-o", f"{room}/made.o"], room)
+        linked = [kit / "bin/rattle-link", "--target", "x86_64-unknown-linux-gnu", "--toolchain", kit / "toolchain", "-o", made, f"{room}/made.o"]
+        run([*linked, kit / "c/libos_c.a", kit / "c/liblibc_c.a"], room)
+    return made
