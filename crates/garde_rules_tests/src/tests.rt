@@ -5,6 +5,7 @@ mod conditions;
 mod engines;
 mod inner;
 mod laws;
+mod lengths;
 mod numbers;
 mod options;
 mod patterns;

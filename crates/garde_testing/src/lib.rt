@@ -1,5 +1,5 @@
-//! Tests that need several crates: memory that runs out, hostile values, and handlers of an
-//! author's own.
+//! Tests that need several crates: memory that runs out, hostile values, handlers of an author's
+//! own, and values at scale and at the limits.
 #![tactic(auto)]
 
 #[cfg(test)]

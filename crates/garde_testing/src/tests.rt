@@ -7,6 +7,7 @@ mod people;
 mod refusals;
 mod reports;
 mod rules;
+mod scale;
 mod starved;
 mod texts;
 mod user;

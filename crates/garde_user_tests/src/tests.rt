@@ -4,6 +4,7 @@ mod guide;
 mod handlers;
 mod known;
 mod modules;
+mod ported;
 mod recursive;
 mod walks;
 mod written;

@@ -1,6 +1,0 @@
-//! The tests of `garde_lengths` and `garde_i18n`, by their public calls. They stand in a crate of their
-//! own, since the tests within a crate prove all of it once more.
-#![tactic(auto)]
-
-#[cfg(test)]
-mod tests;
