@@ -85,6 +85,11 @@ fn asks_of_the_view(rt: HostRuntime) -> Result<(), Fail> {
     Ok(())
 }
 
+/// What is found in a word of less than three bytes that is asked for ASCII.
+fn word_answer(alloc: Global, word: &str) -> Result<(), RuleError> {
+    ascii_when(alloc, word.len() < 3, word, &DefaultI18n)
+}
+
 /// Asks a word of less than three bytes for ASCII, beneath its component.
 fn check_word<'a>(
     alloc: Global,
@@ -94,10 +99,7 @@ fn check_word<'a>(
     report: &mut Report,
 ) -> Result<(), AllocError> {
     trail.push(component)?;
-    let put = trail.put(
-        report,
-        ascii_when(alloc, word.len() < 3, word, &DefaultI18n),
-    );
+    let put = trail.put(report, word_answer(alloc, word));
     trail.pop();
     put
 }

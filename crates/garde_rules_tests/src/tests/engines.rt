@@ -1,5 +1,5 @@
 //! Tests of the engines, on tables of patterns and of texts.
-use garde_engines::patterns::{PatternRefused, Regex};
+use garde_engines::patterns::{PatternRefused, Regex, Searcher};
 use garde_engines::urls::{ParseError, check_url, reason};
 use garde_i18n::InvalidUrl;
 use std::alloc::{AllocError, Global};
@@ -49,17 +49,17 @@ fn keeps_the_source_of_a_pattern(rt: HostRuntime) -> Result<(), Fail> {
 const LONG: &str =
     "abbc abbc abbc abbc abbc abbc abbc abbc abbc abbc abbc abbc abbc abbc abbc abbc abbc abbc abbc abbc abbbbc";
 
-/// Whether a searcher of the pattern of this source keeps it.
-fn searcher_keeps(alloc: Global, source: &str) -> Result<bool, Fail> {
-    let pattern = Regex::new(alloc, source)?;
-    let searcher = pattern.searcher(alloc)?;
-    Ok(searcher.as_str() == source)
+/// Whether a searcher of a pattern keeps this source.
+fn searcher_keeps(alloc: Global, pattern: &Regex, source: &str) -> Result<bool, AllocError> {
+    Ok(pattern.searcher(alloc)?.as_str() == source)
 }
 
-/// How many of these texts, from the first on, one searcher answers as it is said beside them.
-fn answered_in_turn(alloc: Global, source: &str, rows: &[(&str, bool)]) -> Result<usize, Fail> {
-    let pattern = Regex::new(alloc, source)?;
-    let searcher = pattern.searcher(alloc)?;
+/// How many of these texts, from the first on, a searcher answers as it is said beside them.
+fn answered(
+    alloc: Global,
+    searcher: &Searcher<'_>,
+    rows: &[(&str, bool)],
+) -> Result<usize, AllocError> {
     for (row, (text, found)) in rows.iter().enumerate() {
         if searcher.is_match(alloc, text)? != *found {
             return Ok(row);
@@ -68,17 +68,29 @@ fn answered_in_turn(alloc: Global, source: &str, rows: &[(&str, bool)]) -> Resul
     Ok(rows.len())
 }
 
+/// How many of these texts one searcher of a pattern answers so.
+fn answered_in_turn(
+    alloc: Global,
+    pattern: &Regex,
+    rows: &[(&str, bool)],
+) -> Result<usize, AllocError> {
+    answered(alloc, &pattern.searcher(alloc)?, rows)
+}
+
+/// Texts, and whether the pattern `b+c$` is found there.
+static IN_TURN: [(&str, bool); 5] = [
+    ("abbc", true),
+    ("bca", false),
+    ("", false),
+    (LONG, true),
+    ("abbc", true),
+];
+
 #[test]
 fn searches_again_by_one_searcher(rt: HostRuntime) -> Result<(), Fail> {
-    let rows = [
-        ("abbc", true),
-        ("bca", false),
-        ("", false),
-        (LONG, true),
-        ("abbc", true),
-    ];
-    assert!(rt; searcher_keeps(rt.alloc(), "b+c$")?);
-    assert_eq!(rt; answered_in_turn(rt.alloc(), "b+c$", &rows)?, 5);
+    let pattern = Regex::new(rt.alloc(), "b+c$")?;
+    assert!(rt; searcher_keeps(rt.alloc(), &pattern, "b+c$")?);
+    assert_eq!(rt; answered_in_turn(rt.alloc(), &pattern, &IN_TURN)?, 5);
     Ok(())
 }
 

@@ -1,11 +1,28 @@
 //! Tests of walks over items.
 ghost use Rattle.std.specs.Prelude.{◌<◌};
 
-use garde_report::{Report, Trail};
+use garde_report::{Component, Path, Report, Trail};
 use garde_rules::inner::{self, Inner};
 use std::alloc::{AllocError, Global};
 use std::collections::BTreeMap;
 use std::test::Fail;
+
+/// Pushes a component.
+fn push<'a>(trail: &mut Trail<'a>, component: Component<'a>) -> Result<(), AllocError> {
+    trail.push(component)
+}
+
+/// Pushes the component of an item. Refuses the item 9.
+fn push_unless_9<'a>(
+    trail: &mut Trail<'a>,
+    component: Component<'a>,
+    item: u8,
+) -> Result<(), AllocError> {
+    if item == 9 {
+        return Err(AllocError);
+    }
+    push(trail, component)
+}
 
 /// Pushes the component of each item, and so leaves it on the trail. Refuses the item 9.
 fn push_all<'a, C: Inner<u8>>(
@@ -17,22 +34,18 @@ fn push_all<'a, C: Inner<u8>>(
         field,
         trail,
         report,
-        |item: &u8, component, trail, _report| {
-            if *item == 9 {
-                return Err(AllocError);
-            }
-            trail.push(component)
-        },
+        |item: &u8, component, trail, _report| push_unless_9(trail, component, *item),
     )
 }
 
-/// Whether the walk came to its end, and the path that it left.
-fn left<C: Inner<u8>>(alloc: Global, field: &C) -> Result<(bool, String), AllocError> {
-    let mut trail = Trail::new(alloc);
-    let mut report = Report::new(alloc);
-    let answer = push_all(field, &mut trail, &mut report);
-    let path = trail.path()?;
-    Ok((answer.is_ok(), path.to_string(alloc)?))
+/// Whether a path prints this text.
+fn prints(alloc: Global, path: &Path, text: &str) -> Result<bool, AllocError> {
+    Ok(path.to_string(alloc)?.as_str() == text)
+}
+
+/// Whether a trail is at this path.
+fn is_at(alloc: Global, trail: &mut Trail<'_>, path: &str) -> Result<bool, AllocError> {
+    prints(alloc, &trail.path()?, path)
 }
 
 /// Whether the walk comes to its end or not, as it is said, and leaves this path.
@@ -42,8 +55,10 @@ fn leaves<C: Inner<u8>>(
     done: bool,
     path: &str,
 ) -> Result<bool, AllocError> {
-    let (came, left) = left(alloc, field)?;
-    Ok(came == done && left.as_str() == path)
+    let mut trail = Trail::new(alloc);
+    let mut report = Report::new(alloc);
+    let answer = push_all(field, &mut trail, &mut report);
+    Ok(answer.is_ok() == done && is_at(alloc, &mut trail, path)?)
 }
 
 #[test]
@@ -71,15 +86,36 @@ fn box_leaves(alloc: Global, path: &str) -> Result<bool, AllocError> {
     leaves(alloc, &items, true, path)
 }
 
+/// Whether the walk of an array of one item comes to its end, and leaves this path.
+fn array_leaves(alloc: Global, path: &str) -> Result<bool, AllocError> {
+    leaves(alloc, &[1u8], true, path)
+}
+
+/// Whether the walk of an option comes to its end or not, as it is said, and leaves nothing.
+fn option_leaves(alloc: Global, option: Option<u8>, done: bool) -> Result<bool, AllocError> {
+    leaves(alloc, &option, done, "")
+}
+
 #[test]
 fn vectors_arrays_boxes_and_options(rt: HostRuntime) -> Result<(), Fail> {
     let alloc = rt.alloc();
     assert!(rt; vector_leaves(alloc, "[0][1]")?);
     assert!(rt; box_leaves(alloc, "[0][1]")?);
-    assert!(rt; leaves(alloc, &[1u8], true, "[0]")?);
-    assert!(rt; leaves(alloc, &Some(9u8), false, "")?);
-    assert!(rt; leaves(alloc, &None::<u8>, true, "")?);
+    assert!(rt; array_leaves(alloc, "[0]")?);
+    assert!(rt; option_leaves(alloc, Some(9), false)?);
+    assert!(rt; option_leaves(alloc, None, true)?);
     Ok(())
+}
+
+/// Pushes the component of each item, by the method.
+fn push_all_by_the_method<'a, C: Inner<u8>>(
+    field: &'a C,
+    trail: &mut Trail<'a>,
+    report: &mut Report,
+) -> Result<(), AllocError> {
+    field.validate_inner(trail, report, |_item: &u8, component, trail, _report| {
+        push(trail, component)
+    })
 }
 
 /// Whether a walk by the method leaves this path.
@@ -90,13 +126,8 @@ fn leaves_by_the_method<C: Inner<u8>>(
 ) -> Result<bool, AllocError> {
     let mut trail = Trail::new(alloc);
     let mut report = Report::new(alloc);
-    field.validate_inner(
-        &mut trail,
-        &mut report,
-        |_item: &u8, component, trail, _report| trail.push(component),
-    )?;
-    let left = trail.path()?;
-    Ok(left.to_string(alloc)?.as_str() == path)
+    push_all_by_the_method(field, &mut trail, &mut report)?;
+    is_at(alloc, &mut trail, path)
 }
 
 #[test]
@@ -134,11 +165,10 @@ fn leaves_and_divides(alloc: Global, path: &str) -> Result<bool, AllocError> {
             requires { 0 < item.now }
         {
             let _share = 100 / *item;
-            trail.push(component)
+            push(trail, component)
         },
     )?;
-    let left = trail.path()?;
-    Ok(left.to_string(alloc)?.as_str() == path)
+    is_at(alloc, &mut trail, path)
 }
 
 #[test]

@@ -6,6 +6,7 @@ mod options;
 mod texts;
 mod urls;
 
+use super::tells;
 use garde_i18n::DefaultI18n;
 use garde_lengths::OutOfBounds;
 use garde_lengths::length::simple;
@@ -13,18 +14,10 @@ use garde_report::RuleError;
 use std::process::Abort;
 use std::test::Fail;
 
-/// What an answer tells: nothing where it is Ok.
-fn message(answer: &Result<(), RuleError>) -> Option<&str> {
-    match answer {
-        Ok(()) => None,
-        Err(RuleError::Fault(error)) => Some(error.message()),
-        Err(RuleError::Memory) => Some("out of memory"),
-    }
-}
-
 /// Asserts that the answer is Ok where no text is given, and else the fault with this text.
 fn assert_answer(rt: &impl Abort, answer: Result<(), RuleError>, text: Option<&str>) {
-    assert_eq!(rt; message(&answer), text);
+    let wanted = text.unwrap_or("no fault");
+    assert!(rt; tells(answer, text), "{wanted}");
 }
 
 #[test]

@@ -7,13 +7,23 @@ use garde_rules::pattern::{self, Matcher, Pattern};
 use std::alloc::{AllocError, Global};
 use std::test::Fail;
 
+/// Whether this is found in a value that has to match a pattern.
+fn pattern_tells<T: Pattern>(
+    alloc: Global,
+    value: &T,
+    pattern: &Regex,
+    fault: Option<&str>,
+) -> bool {
+    tells(
+        pattern::apply(alloc, value, (pattern,), &DefaultI18n),
+        fault,
+    )
+}
+
 /// Whether this is found in a value that has to match the pattern of five digits.
 fn digits_tell<T: Pattern>(alloc: Global, value: &T, fault: Option<&str>) -> bool {
     match Regex::new(alloc, "^[0-9]{5}$") {
-        Ok(digits) => tells(
-            pattern::apply(alloc, value, (&digits,), &DefaultI18n),
-            fault,
-        ),
+        Ok(digits) => pattern_tells(alloc, value, &digits, fault),
         Err(_) => false,
     }
 }
@@ -71,21 +81,24 @@ fn is_match<M: Matcher>(alloc: Global, matcher: &M, text: &str) -> Result<bool, 
 }
 
 /// Whether the pattern of this source lends it.
-fn lends(alloc: Global, source: &str) -> Result<bool, Fail> {
-    let word = Regex::new(alloc, source)?;
-    Ok(lent(&word) == source)
+fn lends(alloc: Global, source: &str) -> bool {
+    match Regex::new(alloc, source) {
+        Ok(word) => lent(&word) == source,
+        Err(_) => false,
+    }
 }
 
-/// Whether the pattern of words matches a text.
-fn is_word(alloc: Global, text: &str) -> Result<bool, Fail> {
-    let word = Regex::new(alloc, r"^\w+$")?;
-    Ok(is_match(alloc, &word, text)?)
+/// Whether the pattern of words matches a text or not, as it is said.
+fn word_tells(alloc: Global, text: &str, wanted: bool) -> bool {
+    match Regex::new(alloc, r"^\w+$") {
+        Ok(word) => is_match(alloc, &word, text) == Ok(wanted),
+        Err(_) => false,
+    }
 }
 
 #[test]
-fn lends_its_source(rt: HostRuntime) -> Result<(), Fail> {
-    assert!(rt; lends(rt.alloc(), r"^\w+$")?);
-    assert!(rt; is_word(rt.alloc(), "é")?);
-    assert!(rt; !is_word(rt.alloc(), "a b")?);
-    Ok(())
+fn lends_its_source(rt: HostRuntime) {
+    assert!(rt; lends(rt.alloc(), r"^\w+$"));
+    assert!(rt; word_tells(rt.alloc(), "é", true));
+    assert!(rt; word_tells(rt.alloc(), "a b", false));
 }

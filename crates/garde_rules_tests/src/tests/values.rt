@@ -27,13 +27,17 @@ fn finds_the_same_in_texts(rt: HostRuntime) {
 }
 
 /// Whether a text that is owned matches itself.
-fn owned_matches(alloc: Global, text: &str) -> Result<bool, AllocError> {
-    let owned = String::from_str(alloc, text)?;
+fn matches_itself(alloc: Global, owned: &String) -> bool {
     let same = Matches {
         field: "password",
-        other: &owned,
+        other: owned,
     };
-    Ok(finds(alloc, &same, &owned, None))
+    finds(alloc, &same, owned, None)
+}
+
+/// Whether a text matches itself where it is owned.
+fn owned_matches(alloc: Global, text: &str) -> Result<bool, AllocError> {
+    Ok(matches_itself(alloc, &String::from_str(alloc, text)?))
 }
 
 /// Whether this is found in a text that has to match another one.

@@ -2,6 +2,7 @@
 use super::assert_answer;
 use garde_i18n::DefaultI18n;
 use garde_lengths::length::{HasBytes, HasChars, HasSimpleLength, bytes, chars, simple};
+use std::alloc::Global;
 use std::boxed::BoxedSlice;
 use std::collections::{BTreeMap, BTreeSet, BinaryHeap, HashMap, HashSet, LinkedList, VecDeque};
 use std::process::Abort;
@@ -54,18 +55,26 @@ fn assert_two_bytes<T: HasBytes + Drop>(rt: &impl Abort, octets: T) {
     assert_eq!(rt; octets.num_bytes(), 2);
 }
 
+/// Asserts that a vector of two characters is too short for three, and its boxed slice has two.
+fn assert_letters(rt: &impl Abort, alloc: Global, letters: Vec<char>) {
+    let low = chars::apply(alloc, &letters, (3, usize::MAX), &DefaultI18n);
+    assert_answer(rt, low, Some("length is lower than 3"));
+    assert_two_chars(rt, letters.into_boxed_slice());
+}
+
+/// Asserts that a vector of two bytes, and its boxed slice, has two.
+fn assert_octets(rt: &impl Abort, octets: Vec<u8>) {
+    assert_eq!(rt; octets.num_bytes(), 2);
+    assert_two_bytes(rt, octets.into_boxed_slice());
+}
+
 #[test]
 fn counts_the_bytes_and_characters_of_lists(rt: HostRuntime) -> Result<(), Fail> {
     let alloc = rt.alloc();
-    let letters: Vec<char> = vec![in alloc; 'a', 'b']?;
-    let low = chars::apply(alloc, &letters, (3, usize::MAX), &DefaultI18n);
-    assert_answer(&rt, low, Some("length is lower than 3"));
-    assert_two_chars(&rt, letters.into_boxed_slice());
+    assert_letters(&rt, alloc, vec![in alloc; 'a', 'b']?);
     assert_two_chars(&rt, ['a', 'b'].as_slice());
     assert_two_chars(&rt, RcSlice::from_slice(alloc, &['a', 'b'])?);
-    let octets: Vec<u8> = vec![in alloc; 0, 255]?;
-    assert_eq!(rt; octets.num_bytes(), 2);
-    assert_two_bytes(&rt, octets.into_boxed_slice());
+    assert_octets(&rt, vec![in alloc; 0, 255]?);
     assert_two_bytes(&rt, [0u8, 255].as_slice());
     assert_two_bytes(&rt, RcSlice::from_slice(alloc, &[0u8, 255])?);
     Ok(())

@@ -57,6 +57,11 @@ fn answer<H: I18n>(
     }
 }
 
+/// Whether a text that a handler gave is this one.
+fn is_text(given: &CowStr<'static>, text: &str) -> bool {
+    given.as_str() == text
+}
+
 /// Whether the handler answers this text.
 fn says<H: I18n>(
     alloc: Global,
@@ -64,7 +69,7 @@ fn says<H: I18n>(
     asked: Asked<'_>,
     text: &str,
 ) -> Result<bool, AllocError> {
-    Ok(answer(alloc, handler, asked)?.as_str() == text)
+    Ok(is_text(&answer(alloc, handler, asked)?, text))
 }
 
 /// Asserts that the handler, and a reference to it, answer each row's text.

@@ -9,7 +9,7 @@ use garde_lengths::length::simple::Length;
 use garde_lengths::length::utf16::{self, Utf16Length};
 use garde_lengths::length::{HasBytes, HasChars, HasGraphemes, HasSimpleLength, HasUtf16CodeUnits};
 use garde_lengths::{OutOfBounds, Rule};
-use std::alloc::Global;
+use std::alloc::{AllocError, Global};
 use std::borrow::CowStr;
 use std::boxed::BoxedStr;
 use std::process::Abort;
@@ -66,12 +66,18 @@ fn counts_every_type_of_text_alike(rt: HostRuntime) -> Result<(), Fail> {
     Ok(())
 }
 
-#[test]
-fn counts_a_text_of_many_blocks(rt: HostRuntime) -> Result<(), Fail> {
-    let mut text = String::new(rt.alloc());
-    for _ in 0..100 {
+/// A text of so many blocks, each of characters of one, two, three and four bytes.
+fn blocks(alloc: Global, count: usize) -> Result<String, AllocError> {
+    let mut text = String::new(alloc);
+    for _ in 0..count {
         text.push_str("aé日😂")?;
     }
+    Ok(text)
+}
+
+#[test]
+fn counts_a_text_of_many_blocks(rt: HostRuntime) -> Result<(), Fail> {
+    let text = blocks(rt.alloc(), 100)?;
     assert_eq!(rt; counts(&text), [1000, 400, 400, 1000, 500]);
     for (min, max, chars, units) in [
         (0, 1000, Ok(()), Ok(())),

@@ -28,88 +28,92 @@ fn assert_prints<T: Display + Debug>(
     Ok(())
 }
 
+/// The reasons of URLs, with their texts and their names.
+static URLS: [(InvalidUrl, &str, &str); 11] = [
+    (InvalidUrl::EmptyHost, "empty host", "EmptyHost"),
+    (
+        InvalidUrl::IdnaError,
+        "invalid international domain name",
+        "IdnaError",
+    ),
+    (
+        InvalidUrl::InvalidPort,
+        "invalid port number",
+        "InvalidPort",
+    ),
+    (
+        InvalidUrl::InvalidIpv4Address,
+        "invalid IPv4 address",
+        "InvalidIpv4Address",
+    ),
+    (
+        InvalidUrl::InvalidIpv6Address,
+        "invalid IPv6 address",
+        "InvalidIpv6Address",
+    ),
+    (
+        InvalidUrl::InvalidDomainCharacter,
+        "invalid domain character",
+        "InvalidDomainCharacter",
+    ),
+    (
+        InvalidUrl::RelativeUrlWithoutBase,
+        "relative URL without a base",
+        "RelativeUrlWithoutBase",
+    ),
+    (
+        InvalidUrl::RelativeUrlWithCannotBeABaseBase,
+        "relative URL with a cannot-be-a-base base",
+        "RelativeUrlWithCannotBeABaseBase",
+    ),
+    (
+        InvalidUrl::SetHostOnCannotBeABaseUrl,
+        "a cannot-be-a-base URL doesn’t have a host to set",
+        "SetHostOnCannotBeABaseUrl",
+    ),
+    (
+        InvalidUrl::Overflow,
+        "URLs more than 4 GB are not supported",
+        "Overflow",
+    ),
+    (InvalidUrl::Other, "invalid url", "Other"),
+];
+
 #[test]
 fn prints_the_reasons_of_urls(rt: HostRuntime) -> Result<(), Fail> {
-    let rows = [
-        (InvalidUrl::EmptyHost, "empty host", "EmptyHost"),
-        (
-            InvalidUrl::IdnaError,
-            "invalid international domain name",
-            "IdnaError",
-        ),
-        (
-            InvalidUrl::InvalidPort,
-            "invalid port number",
-            "InvalidPort",
-        ),
-        (
-            InvalidUrl::InvalidIpv4Address,
-            "invalid IPv4 address",
-            "InvalidIpv4Address",
-        ),
-        (
-            InvalidUrl::InvalidIpv6Address,
-            "invalid IPv6 address",
-            "InvalidIpv6Address",
-        ),
-        (
-            InvalidUrl::InvalidDomainCharacter,
-            "invalid domain character",
-            "InvalidDomainCharacter",
-        ),
-        (
-            InvalidUrl::RelativeUrlWithoutBase,
-            "relative URL without a base",
-            "RelativeUrlWithoutBase",
-        ),
-        (
-            InvalidUrl::RelativeUrlWithCannotBeABaseBase,
-            "relative URL with a cannot-be-a-base base",
-            "RelativeUrlWithCannotBeABaseBase",
-        ),
-        (
-            InvalidUrl::SetHostOnCannotBeABaseUrl,
-            "a cannot-be-a-base URL doesn’t have a host to set",
-            "SetHostOnCannotBeABaseUrl",
-        ),
-        (
-            InvalidUrl::Overflow,
-            "URLs more than 4 GB are not supported",
-            "Overflow",
-        ),
-        (InvalidUrl::Other, "invalid url", "Other"),
-    ];
-    assert_prints(&rt, rt.alloc(), &rows)?;
+    assert_prints(&rt, rt.alloc(), &URLS)?;
     assert_ne!(rt; InvalidUrl::EmptyHost, InvalidUrl::IdnaError);
     Ok(())
 }
 
+/// The reasons of credit cards, with their texts and their names.
+static CARDS: [(InvalidCreditCard, &str, &str); 5] = [
+    (
+        InvalidCreditCard::InvalidFormat,
+        "invalid format",
+        "InvalidFormat",
+    ),
+    (
+        InvalidCreditCard::InvalidLength,
+        "invalid length",
+        "InvalidLength",
+    ),
+    (
+        InvalidCreditCard::InvalidLuhn,
+        "invalid luhn",
+        "InvalidLuhn",
+    ),
+    (
+        InvalidCreditCard::UnknownType,
+        "unknown type",
+        "UnknownType",
+    ),
+    (InvalidCreditCard::Other, "invalid credit card", "Other"),
+];
+
 #[test]
 fn prints_the_reasons_of_credit_cards(rt: HostRuntime) -> Result<(), Fail> {
-    let rows = [
-        (
-            InvalidCreditCard::InvalidFormat,
-            "invalid format",
-            "InvalidFormat",
-        ),
-        (
-            InvalidCreditCard::InvalidLength,
-            "invalid length",
-            "InvalidLength",
-        ),
-        (
-            InvalidCreditCard::InvalidLuhn,
-            "invalid luhn",
-            "InvalidLuhn",
-        ),
-        (
-            InvalidCreditCard::UnknownType,
-            "unknown type",
-            "UnknownType",
-        ),
-        (InvalidCreditCard::Other, "invalid credit card", "Other"),
-    ];
-    assert_prints(&rt, rt.alloc(), &rows)?;
+    assert_prints(&rt, rt.alloc(), &CARDS)?;
     assert_ne!(rt;
         InvalidCreditCard::InvalidFormat,
         InvalidCreditCard::InvalidLength
@@ -117,43 +121,45 @@ fn prints_the_reasons_of_credit_cards(rt: HostRuntime) -> Result<(), Fail> {
     Ok(())
 }
 
+/// The reasons of phone numbers, with their texts and their names.
+static PHONES: [(InvalidPhoneNumber, &str, &str); 8] = [
+    (
+        InvalidPhoneNumber::Invalid,
+        "not a valid phone number",
+        "Invalid",
+    ),
+    (InvalidPhoneNumber::NotANumber, "not a number", "NotANumber"),
+    (
+        InvalidPhoneNumber::InvalidCountryCode,
+        "invalid country code",
+        "InvalidCountryCode",
+    ),
+    (
+        InvalidPhoneNumber::TooShortAfterIdd,
+        "the number is too short after IDD",
+        "TooShortAfterIdd",
+    ),
+    (
+        InvalidPhoneNumber::TooShortNsn,
+        "the number is too short after the country code",
+        "TooShortNsn",
+    ),
+    (
+        InvalidPhoneNumber::TooLong,
+        "the number is too long",
+        "TooLong",
+    ),
+    (
+        InvalidPhoneNumber::MalformedInteger,
+        "malformed integer part in phone number",
+        "MalformedInteger",
+    ),
+    (InvalidPhoneNumber::Other, "invalid phone number", "Other"),
+];
+
 #[test]
 fn prints_the_reasons_of_phone_numbers(rt: HostRuntime) -> Result<(), Fail> {
-    let rows = [
-        (
-            InvalidPhoneNumber::Invalid,
-            "not a valid phone number",
-            "Invalid",
-        ),
-        (InvalidPhoneNumber::NotANumber, "not a number", "NotANumber"),
-        (
-            InvalidPhoneNumber::InvalidCountryCode,
-            "invalid country code",
-            "InvalidCountryCode",
-        ),
-        (
-            InvalidPhoneNumber::TooShortAfterIdd,
-            "the number is too short after IDD",
-            "TooShortAfterIdd",
-        ),
-        (
-            InvalidPhoneNumber::TooShortNsn,
-            "the number is too short after the country code",
-            "TooShortNsn",
-        ),
-        (
-            InvalidPhoneNumber::TooLong,
-            "the number is too long",
-            "TooLong",
-        ),
-        (
-            InvalidPhoneNumber::MalformedInteger,
-            "malformed integer part in phone number",
-            "MalformedInteger",
-        ),
-        (InvalidPhoneNumber::Other, "invalid phone number", "Other"),
-    ];
-    assert_prints(&rt, rt.alloc(), &rows)?;
+    assert_prints(&rt, rt.alloc(), &PHONES)?;
     assert_ne!(rt; InvalidPhoneNumber::Invalid, InvalidPhoneNumber::NotANumber);
     Ok(())
 }
