@@ -21,7 +21,7 @@ mod user;
 use crate::tests::badge::Badge;
 use crate::tests::contact::Contact;
 use crate::tests::couple::Couple;
-use crate::tests::handlers::{Labelled, Silent};
+use crate::tests::handlers::{Labelled, SILENT};
 use crate::tests::item::{Identifier, Item};
 use crate::tests::long::Long;
 use crate::tests::profile::Profile;
@@ -57,11 +57,17 @@ fn prints_as(
     Ok(told(alloc, answer)?.as_str() == text)
 }
 
+/// Puts a tag at the end of a list.
+fn put_tag(alloc: Global, tags: &mut Vec<String>, tag: &str) -> Result<(), AllocError> {
+    tags.push(String::from_str(alloc, tag)?)?;
+    Ok(())
+}
+
 /// A list of these tags.
 fn tags_of(alloc: Global, tags: &[&str]) -> Result<Vec<String>, AllocError> {
     let mut kept = Vec::new(alloc);
     for tag in tags {
-        kept.push(String::from_str(alloc, tag)?)?;
+        put_tag(alloc, &mut kept, tag)?;
     }
     Ok(kept)
 }
@@ -93,10 +99,8 @@ fn each_field_under_its_name(rt: HostRuntime) -> Result<(), Fail> {
 
 /// A row that is empty, and one that holds a box of an address.
 fn rows(alloc: Global, home: &Address) -> Result<Vec<Option<Box<&Address>>>, AllocError> {
-    let mut rows = Vec::new(alloc);
-    rows.push(None)?;
-    rows.push(Some(Box::new(alloc, home)?))?;
-    Ok(rows)
+    let home = Box::new(alloc, home)?;
+    Ok(vec![in alloc; None, Some(home)]?)
 }
 
 /// Whether this is told of the rows of an address without a city.
@@ -184,14 +188,30 @@ fn is_said_by_default(alloc: Global, text: &str) -> Result<bool, AllocError> {
     prints_as(alloc, two_bytes(alloc)?.validate(alloc), text)
 }
 
-/// Whether an outer handler speaks before and after an inner one, and the inner one between.
+/// Whether the inner handler says this.
+fn inner_says(alloc: Global, text: &str) -> Result<bool, AllocError> {
+    with_i18n(Labelled::of("INNER:"), |inner| says(alloc, inner, text))
+}
+
+/// Whether a handler speaks before and after an inner one, and the inner one between.
+fn says_around<H: I18n>(
+    alloc: Global,
+    outer: &H,
+    by_outer: &str,
+    by_inner: &str,
+) -> Result<bool, AllocError> {
+    let before = says(alloc, outer, by_outer)?;
+    let between = inner_says(alloc, by_inner)?;
+    let after = says(alloc, outer, by_outer)?;
+    Ok(before && between && after)
+}
+
+/// Whether an outer handler and an inner one speak in turn.
 fn speak_in_turn(alloc: Global, by_outer: &str, by_inner: &str) -> Result<bool, AllocError> {
-    let [outside, inside, again] = with_i18n(Labelled("OUTER:"), |outer| {
-        let outside = says(alloc, outer, by_outer);
-        let inside = with_i18n(Labelled("INNER:"), |inner| says(alloc, inner, by_inner));
-        [outside, inside, says(alloc, outer, by_outer)]
-    });
-    Ok(outside? && inside? && again?)
+    with_i18n(
+        Labelled::of("OUTER:"),
+        |outer| says_around(alloc, outer, by_outer, by_inner),
+    )
 }
 
 #[test]
@@ -205,14 +225,19 @@ fn the_inner_handler_speaks_inside(rt: HostRuntime) -> Result<(), Fail> {
 
 /// Whether a reference to a handler of this label says this.
 fn is_said_by(alloc: Global, label: &str, text: &str) -> Result<bool, AllocError> {
-    says(alloc, &&Labelled(label), text)
+    says(alloc, &&Labelled::of(label), text)
+}
+
+/// How many bytes a handler of a label says.
+fn length_said(alloc: Global, label: &str) -> Result<usize, AllocError> {
+    Ok(said(alloc, &&Labelled::of(label))?.len())
 }
 
 /// Whether a label of so many letters is said whole.
 fn is_said_whole(alloc: Global, size: usize) -> Result<bool, AllocError> {
     let label = "m".repeat(alloc, size)?;
-    let text = said(alloc, &&Labelled(label.as_str()))?;
-    Ok(text.len().checked_sub("s: 5\n".len()) == Some(size))
+    let length = length_said(alloc, label.as_str())?;
+    Ok(length.checked_sub("s: 5\n".len()) == Some(size))
 }
 
 #[test]
@@ -237,7 +262,7 @@ fn a_handler_borrows_its_label(rt: HostRuntime) -> Result<(), Fail> {
 /// Whether this is told of a wrong form by a handler that says nothing.
 fn is_told_in_silence(alloc: Global, text: &str) -> Result<bool, AllocError> {
     let signup = wrong_form(alloc, &[], "Brno")?;
-    let answer = signup.validate_with_i18n(alloc, &Limits { most: 9 }, &Silent);
+    let answer = signup.validate_with_i18n(alloc, &Limits { most: 9 }, &SILENT);
     prints_as(alloc, answer, text)
 }
 
@@ -247,11 +272,16 @@ fn own_messages_stay(rt: HostRuntime) -> Result<(), Fail> {
     Ok(())
 }
 
+/// Two wrong identifiers.
+fn wrong_identifiers(alloc: Global) -> Result<Vec<Identifier>, AllocError> {
+    Ok(vec![in alloc; Identifier { id: 10 }, Identifier { id: 20 }]?)
+}
+
 /// An item with a wrong name and two wrong identifiers.
 fn wrong_item(alloc: Global) -> Result<Item, AllocError> {
     Ok(Item {
         name: String::from_str(alloc, "😂")?,
-        identifiers: vec![in alloc; Identifier { id: 10 }, Identifier { id: 20 }]?,
+        identifiers: wrong_identifiers(alloc)?,
     })
 }
 
@@ -279,16 +309,22 @@ fn selects_the_faults_of_a_part(rt: HostRuntime) -> Result<(), Fail> {
     Ok(())
 }
 
-/// A profile of which nothing is right.
-fn wrong_profile(alloc: Global) -> Result<Profile, AllocError> {
+/// A profile of this tag and address, of which nothing else is right.
+fn profile_of(alloc: Global, tag: String, address: String) -> Result<Profile, AllocError> {
     Ok(Profile {
-        tag: String::from_str(alloc, "a b")?,
-        address: String::from_str(alloc, "localhost")?,
+        tag,
+        address,
         phone: None,
         host: String::from_str(alloc, "1.2.3")?,
         site: String::from_str(alloc, "abc")?,
         degrees: 100,
     })
+}
+
+/// A profile of which nothing is right.
+fn wrong_profile(alloc: Global) -> Result<Profile, AllocError> {
+    let tag = String::from_str(alloc, "a b")?;
+    profile_of(alloc, tag, String::from_str(alloc, "localhost")?)
 }
 
 /// Whether this is told of the profile.
@@ -307,14 +343,12 @@ fn each_rule_has_its_text(rt: HostRuntime) -> Result<(), Fail> {
 /// A list of one user with a wrong name.
 fn wrong_users(alloc: Global) -> Result<Vec<Option<User>>, AllocError> {
     let username = String::from_str(alloc, "é")?;
-    let mut users = Vec::new(alloc);
-    users.push(Some(User { username }))?;
-    Ok(users)
+    Ok(vec![in alloc; Some(User { username })]?)
 }
 
 /// Whether this is told of the users by a handler that says nothing.
 fn is_told_of_users_in_silence(alloc: Global, text: &str) -> Result<bool, AllocError> {
-    let answer = wrong_users(alloc)?.validate_with_i18n(alloc, &(), &Silent);
+    let answer = wrong_users(alloc)?.validate_with_i18n(alloc, &(), &SILENT);
     prints_as(alloc, answer, text)
 }
 

@@ -21,16 +21,24 @@ fn user(alloc: Global, name: &str) -> Result<User, AllocError> {
     })
 }
 
-/// The report's text, and the number of nodes that it took.
-fn told<V: Validate<Context = ()>>(alloc: Global, value: &V) -> Result<String, AllocError> {
-    let mut trail = Trail::new(alloc);
-    let answer = value.validate_on(alloc, &(), &mut trail, &DefaultI18n);
-    let nodes = trail.nodes();
+/// The report's text, and this number of nodes.
+fn told_of(
+    alloc: Global,
+    answer: Result<(), ValidateError>,
+    nodes: usize,
+) -> Result<String, AllocError> {
     match answer {
         Ok(()) => format!(in alloc; "nodes: {nodes}"),
         Err(ValidateError::Report(report)) => format!(in alloc; "{report}nodes: {nodes}"),
         Err(ValidateError::Memory) => Err(AllocError),
     }
+}
+
+/// The report's text, and the number of nodes that it took.
+fn told<V: Validate<Context = ()>>(alloc: Global, value: &V) -> Result<String, AllocError> {
+    let mut trail = Trail::new(alloc);
+    let answer = value.validate_on(alloc, &(), &mut trail, &DefaultI18n);
+    told_of(alloc, answer, trail.nodes())
 }
 
 /// Whether just this is told of a value, and of the number of nodes that it took.
@@ -106,37 +114,29 @@ fn hash_set(alloc: Global) -> Result<HashSet<User>, AllocError> {
     Ok(users)
 }
 
-/// Whether a text is what the hash set tells, where `ab` and `é` stand at these places of its order.
-fn is_told_at(alloc: Global, text: &str, ab: usize, e: usize) -> Result<bool, AllocError> {
-    let short = format!(in alloc; "[{ab}].username: length is lower than 3\n")?;
-    let accented = format!(in alloc;
-        "[{e}].username: not ascii\n[{e}].username: length is lower than 3\n"
-    )?;
-    let whole = if ab < e {
-        format!(in alloc; "{short}{accented}nodes: 4")?
-    } else {
-        format!(in alloc; "{accented}{short}nodes: 4")?
-    };
-    Ok(whole.as_str() == text)
-}
-
-/// The places at which `ab` and `é` can stand.
-const PLACES: &[(usize, usize)] = &[(0, 1), (0, 2), (1, 0), (1, 2), (2, 0), (2, 1)];
+/// What the hash set tells, by the places at which `ab` and `é` stand in its order.
+const ORDERS: &[&str] = &[
+    "[0].username: length is lower than 3\n[1].username: not ascii\n[1].username: length is lower than 3\nnodes: 4",
+    "[0].username: length is lower than 3\n[2].username: not ascii\n[2].username: length is lower than 3\nnodes: 4",
+    "[0].username: not ascii\n[0].username: length is lower than 3\n[1].username: length is lower than 3\nnodes: 4",
+    "[1].username: length is lower than 3\n[2].username: not ascii\n[2].username: length is lower than 3\nnodes: 4",
+    "[0].username: not ascii\n[0].username: length is lower than 3\n[2].username: length is lower than 3\nnodes: 4",
+    "[1].username: not ascii\n[1].username: length is lower than 3\n[2].username: length is lower than 3\nnodes: 4",
+];
 
 /// Whether a text is what the hash set tells in some order.
-fn is_told_in_some_order(alloc: Global, text: &str) -> Result<bool, AllocError> {
-    for &(ab, e) in PLACES {
-        if is_told_at(alloc, text, ab, e)? {
-            return Ok(true);
+fn is_told_in_some_order(text: &str) -> bool {
+    for told in ORDERS {
+        if *told == text {
+            return true;
         }
     }
-    Ok(false)
+    false
 }
 
 /// Whether each fault of the hash set is told at the place at which its item came.
 fn is_told_of_a_hash_set(alloc: Global) -> Result<bool, AllocError> {
-    let text = told(alloc, &hash_set(alloc)?)?;
-    is_told_in_some_order(alloc, text.as_str())
+    Ok(is_told_in_some_order(told(alloc, &hash_set(alloc)?)?.as_str()))
 }
 
 #[test]
@@ -229,11 +229,16 @@ fn tuples_in_tuples(rt: HostRuntime) -> Result<(), Fail> {
     Ok(())
 }
 
+/// Puts what is told of a user at this place whose name is too short.
+fn put_too_short(alloc: Global, text: &mut String, index: usize) -> Result<(), AllocError> {
+    text.push_str(&format!(in alloc; "[{index}].username: length is lower than 3\n")?)
+}
+
 /// What is told of a tuple of so many users whose names are too short.
 fn each_too_short(alloc: Global, count: usize) -> Result<String, AllocError> {
     let mut text = String::new(alloc);
     for index in 0..count {
-        text.push_str(&format!(in alloc; "[{index}].username: length is lower than 3\n")?)?;
+        put_too_short(alloc, &mut text, index)?;
     }
     format!(in alloc; "{text}nodes: {}", count.saturating_mul(2))
 }
@@ -292,10 +297,8 @@ fn each_item_of_a_long_tuple(rt: HostRuntime) -> Result<(), Fail> {
 
 /// A name that is not set, one that is not ASCII, and an empty one.
 fn names(alloc: Global) -> Result<Names, AllocError> {
-    let mut items = Vec::new(alloc);
-    items.push(None)?;
-    items.push(Some(String::from_str(alloc, "é")?))?;
-    items.push(Some(String::new(alloc)))?;
+    let accented = String::from_str(alloc, "é")?;
+    let items = vec![in alloc; None, Some(accented), Some(String::new(alloc))]?;
     Ok(Names { items })
 }
 

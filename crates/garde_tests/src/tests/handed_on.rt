@@ -3,7 +3,7 @@
 use crate::tests::user::User;
 use garde::rules::pattern::regex::Regex;
 use garde::{Path, Unvalidated, Valid, Validate};
-use std::alloc::Global;
+use std::alloc::{AllocError, Global};
 use std::test::Fail;
 
 /// The user of this name, where it is a valid one.
@@ -12,11 +12,15 @@ fn valid_user(alloc: Global, name: &str) -> anyhow::Result<Valid<User>> {
     Ok(Unvalidated::new(User { username }).validate(alloc)?)
 }
 
+/// How many components the path `users[0]` has.
+fn depth(alloc: Global) -> anyhow::Result<usize> {
+    Ok(Path::new(alloc, "users")?.join(alloc, 0u32)?.len())
+}
+
 /// How many components the path `users[0]` has, if the user at its end is valid.
 fn depth_of_user(alloc: Global, user: &User) -> anyhow::Result<usize> {
     user.validate(alloc)?;
-    let path = Path::new(alloc, "users")?.join(alloc, 0u32)?;
-    Ok(path.len())
+    depth(alloc)
 }
 
 /// Whether a pattern matches a text.
@@ -24,21 +28,30 @@ fn is_match(alloc: Global, source: &str, text: &str) -> anyhow::Result<bool> {
     Ok(Regex::new(alloc, source)?.is_match(alloc, text)?)
 }
 
-/// Whether an error prints this text. An answer prints nothing.
-fn prints_as<T: Drop>(alloc: Global, answer: anyhow::Result<T>, text: &str) -> Result<bool, Fail> {
+/// What an error prints. An answer prints nothing.
+fn printed<T: Drop>(alloc: Global, answer: anyhow::Result<T>) -> Result<String, AllocError> {
     match answer {
-        Ok(_) => Ok(text.is_empty()),
-        Err(error) => Ok(error.to_string(alloc)?.as_str() == text),
+        Ok(_) => Ok(String::new(alloc)),
+        Err(error) => error.to_string(alloc),
     }
 }
 
+/// Whether an error prints this text. An answer prints nothing.
+fn prints_as<T: Drop>(
+    alloc: Global,
+    answer: anyhow::Result<T>,
+    text: &str,
+) -> Result<bool, AllocError> {
+    Ok(printed(alloc, answer)?.as_str() == text)
+}
+
 /// Whether the way to a valid user of this name prints this text.
-fn user_prints_as(alloc: Global, name: &str, text: &str) -> Result<bool, Fail> {
+fn user_prints_as(alloc: Global, name: &str, text: &str) -> Result<bool, AllocError> {
     prints_as(alloc, valid_user(alloc, name), text)
 }
 
 /// Whether the way to the depth of a user of too short a name prints this text.
-fn depth_prints_as(alloc: Global, text: &str) -> Result<bool, Fail> {
+fn depth_prints_as(alloc: Global, text: &str) -> Result<bool, AllocError> {
     let user = User {
         username: String::from_str(alloc, "ab")?,
     };
@@ -46,7 +59,7 @@ fn depth_prints_as(alloc: Global, text: &str) -> Result<bool, Fail> {
 }
 
 /// Whether the way to the answer of a pattern for `a` prints this text.
-fn match_prints_as(alloc: Global, source: &str, text: &str) -> Result<bool, Fail> {
+fn match_prints_as(alloc: Global, source: &str, text: &str) -> Result<bool, AllocError> {
     prints_as(alloc, is_match(alloc, source, "a"), text)
 }
 

@@ -2,6 +2,7 @@
 
 use crate::tests::span::Span;
 use crate::tests::user::User;
+use garde::Report;
 use garde::validate::{IntoValidError, Unvalidated, Valid};
 use std::alloc::{AllocError, Global};
 use std::fmt::Debug;
@@ -10,10 +11,7 @@ use std::test::Fail;
 // One user of this name, and no second one.
 fn users(alloc: Global, name: &str) -> Result<Vec<Option<User>>, AllocError> {
     let username = String::from_str(alloc, name)?;
-    let mut users = Vec::new(alloc);
-    users.push(Some(User { username }))?;
-    users.push(None)?;
-    Ok(users)
+    Ok(vec![in alloc; Some(User { username }), None]?)
 }
 
 // Whether a value is shown to a programmer as this text.
@@ -46,12 +44,22 @@ fn a_valid_value_is_handed_on(rt: HostRuntime) -> Result<(), Fail> {
     Ok(())
 }
 
-// Whether the report of users of this name prints this text.
-fn is_reported_as(alloc: Global, name: &str, text: &str) -> Result<bool, Fail> {
+// The report of users of this name.
+fn report_of(alloc: Global, name: &str) -> Result<Report, Fail> {
     match Unvalidated::new(users(alloc, name)?).validate_with(alloc, &()) {
-        Err(IntoValidError::Report(report)) => Ok(report.to_string(alloc)?.as_str() == text),
+        Err(IntoValidError::Report(report)) => Ok(report),
         _ => Err("it has faults".into()),
     }
+}
+
+// What the report of users of this name prints.
+fn reported(alloc: Global, name: &str) -> Result<String, Fail> {
+    Ok(report_of(alloc, name)?.to_string(alloc)?)
+}
+
+// Whether the report of users of this name prints this text.
+fn is_reported_as(alloc: Global, name: &str, text: &str) -> Result<bool, Fail> {
+    Ok(reported(alloc, name)?.as_str() == text)
 }
 
 #[test]
