@@ -1,4 +1,5 @@
 //! Code that relies on valid values, on valid ones, and what is not valid.
+use super::text;
 use garde::{Unvalidated, Valid, Validate};
 use garde_known::basket::{Basket, first};
 use garde_known::bill::{Bill, share};
@@ -32,10 +33,6 @@ where
     Unvalidated::new(value).validate(alloc).is_err()
 }
 
-fn text(alloc: Global, text: &str) -> Result<String, AllocError> {
-    String::from_str(alloc, text)
-}
-
 /// A basket of these articles.
 fn basket(alloc: Global, names: &[&str]) -> Result<Basket, AllocError> {
     let mut articles = Vec::new(alloc);
@@ -45,55 +42,84 @@ fn basket(alloc: Global, names: &[&str]) -> Result<Basket, AllocError> {
     Ok(Basket { articles })
 }
 
+/// Whether this is the first of these articles of a valid basket.
+fn is_first(alloc: Global, names: &[&str], name: &str) -> Result<bool, Fail> {
+    let basket = valid(alloc, basket(alloc, names)?)?;
+    Ok(first(&basket).as_str() == name)
+}
+
+/// Whether a basket without articles is refused.
+fn is_empty_basket_refused(alloc: Global) -> Result<bool, AllocError> {
+    Ok(is_refused(alloc, basket(alloc, &[])?))
+}
+
 #[test]
 fn the_first_article(rt: HostRuntime) -> Result<(), Fail> {
-    let alloc = rt.alloc();
-    let basket_of_two = valid(alloc, basket(alloc, &["pears", "plums"])?)?;
-    assert_eq!(rt; first(&basket_of_two).as_str(), "pears");
-    assert!(rt; is_refused(alloc, basket(alloc, &[])?));
+    assert!(rt; is_first(rt.alloc(), &["pears", "plums"], "pears")?);
+    assert!(rt; is_empty_basket_refused(rt.alloc())?);
     Ok(())
+}
+
+/// The share of each guest in a valid bill.
+fn share_of(alloc: Global, cents: u32, guests: u32) -> Result<u32, Fail> {
+    Ok(share(&valid(alloc, Bill { cents, guests })?))
 }
 
 #[test]
 fn a_share_of_a_bill(rt: HostRuntime) -> Result<(), Fail> {
-    let alloc = rt.alloc();
-    let rows = [(100, 3, 33), (7, 40, 0), (u32::MAX, 1, u32::MAX)];
-    for (cents, guests, each) in rows {
-        let bill = valid(alloc, Bill { cents, guests })?;
-        assert_eq!(rt; share(&bill), each);
-    }
-    for guests in [0, 41] {
-        assert!(rt; is_refused(alloc, Bill { cents: 1, guests }));
-    }
+    assert_eq!(rt; share_of(rt.alloc(), 100, 3)?, 33);
+    assert_eq!(rt; share_of(rt.alloc(), 7, 40)?, 0);
+    assert_eq!(rt; share_of(rt.alloc(), u32::MAX, 1)?, u32::MAX);
+    let nobody = Bill {
+        cents: 1,
+        guests: 0,
+    };
+    assert!(rt; is_refused(rt.alloc(), nobody));
+    let too_many = Bill {
+        cents: 1,
+        guests: 41,
+    };
+    assert!(rt; is_refused(rt.alloc(), too_many));
     Ok(())
+}
+
+/// The price of a valid seat in this row.
+fn price_of(alloc: Global, row: usize) -> Result<u32, Fail> {
+    let prices = [900, 900, 800, 800, 700, 700, 600, 500];
+    Ok(price(&valid(alloc, Seat { row })?, &prices))
 }
 
 #[test]
 fn the_price_of_a_row(rt: HostRuntime) -> Result<(), Fail> {
-    let alloc = rt.alloc();
-    let prices = [900, 900, 800, 800, 700, 700, 600, 500];
-    for (row, cents) in [(0, 900), (6, 600), (7, 500)] {
-        let seat = valid(alloc, Seat { row })?;
-        assert_eq!(rt; price(&seat, &prices), cents);
-    }
-    assert!(rt; is_refused(alloc, Seat { row: 8 }));
+    assert_eq!(rt; price_of(rt.alloc(), 0)?, 900);
+    assert_eq!(rt; price_of(rt.alloc(), 6)?, 600);
+    assert_eq!(rt; price_of(rt.alloc(), 7)?, 500);
+    assert!(rt; is_refused(rt.alloc(), Seat { row: 8 }));
     Ok(())
+}
+
+/// Whether a parcel to someone of this name goes there.
+fn goes_to(alloc: Global, name: &str) -> Result<bool, Fail> {
+    let parcel = Parcel {
+        sender: None,
+        recipient: Some(text(alloc, name)?),
+    };
+    Ok(recipient(&valid(alloc, parcel)?).as_str() == name)
+}
+
+/// Whether a parcel from someone of this name to nobody is refused.
+fn is_lost(alloc: Global, name: &str) -> Result<bool, AllocError> {
+    let parcel = Parcel {
+        sender: Some(text(alloc, name)?),
+        recipient: None,
+    };
+    Ok(is_refused(alloc, parcel))
 }
 
 #[test]
 fn to_whom_a_parcel_goes(rt: HostRuntime) -> Result<(), Fail> {
-    let alloc = rt.alloc();
-    let parcel = Parcel {
-        sender: None,
-        recipient: Some(text(alloc, "Ada")?),
-    };
-    let parcel = valid(alloc, parcel)?;
-    assert_eq!(rt; recipient(&parcel).as_str(), "Ada");
-    let lost = Parcel {
-        sender: Some(text(alloc, "Bea")?),
-        recipient: None,
-    };
-    assert!(rt; is_refused(alloc, lost));
+    assert!(rt; goes_to(rt.alloc(), "Ada")?);
+    assert!(rt; is_lost(rt.alloc(), "Bea")?);
     Ok(())
 }
 
@@ -116,12 +142,20 @@ fn tariff(alloc: Global, kind: &str) -> Result<Tariff, AllocError> {
     Ok(Tariff { prices })
 }
 
+/// The price of a standard letter in a valid tariff.
+fn standard_price(alloc: Global, kind: &str) -> Result<u32, Fail> {
+    Ok(standard(&valid(alloc, tariff(alloc, kind)?)?))
+}
+
+/// Whether a tariff without a standard letter is refused.
+fn is_tariff_refused(alloc: Global, kind: &str) -> Result<bool, AllocError> {
+    Ok(is_refused(alloc, tariff(alloc, kind)?))
+}
+
 #[test]
 fn the_price_of_a_standard_letter(rt: HostRuntime) -> Result<(), Fail> {
-    let alloc = rt.alloc();
-    let tariff_of_two = valid(alloc, tariff(alloc, "standard")?)?;
-    assert_eq!(rt; standard(&tariff_of_two), 120);
-    assert!(rt; is_refused(alloc, tariff(alloc, "slow")?));
+    assert_eq!(rt; standard_price(rt.alloc(), "standard")?, 120);
+    assert!(rt; is_tariff_refused(rt.alloc(), "slow")?);
     Ok(())
 }
 
@@ -192,28 +226,54 @@ fn firsts_of(alloc: Global, baskets: &[Valid<Basket>]) -> Result<String, AllocEr
     Ok(text)
 }
 
+/// A valid page of two baskets.
+fn page_of_two(alloc: Global) -> Result<Valid<Page<Basket>>, Fail> {
+    valid(alloc, page(alloc, &["figs"])?)
+}
+
+/// Whether the first article of all is this one.
+fn is_first_of_first(alloc: Global, name: &str) -> Result<bool, Fail> {
+    Ok(first_of_first(&page_of_two(alloc)?).as_str() == name)
+}
+
+/// Whether these are the first articles of the page.
+fn are_firsts(alloc: Global, names: &str) -> Result<bool, Fail> {
+    Ok(firsts(alloc, &page_of_two(alloc)?)?.as_str() == names)
+}
+
+/// Whether these are the first articles of the baskets that are taken out of the page.
+fn are_firsts_of_parts(alloc: Global, names: &str) -> Result<bool, Fail> {
+    let parts = baskets(alloc, page_of_two(alloc)?)?;
+    Ok(firsts_of(alloc, &parts)?.as_str() == names)
+}
+
+/// Whether a page with a basket without articles is refused.
+fn is_page_refused(alloc: Global) -> Result<bool, AllocError> {
+    Ok(is_refused(alloc, page(alloc, &[])?))
+}
+
 #[test]
 fn the_first_article_of_each_basket(rt: HostRuntime) -> Result<(), Fail> {
-    let alloc = rt.alloc();
-    let page_of_two = valid(alloc, page(alloc, &["figs"])?)?;
-    assert_eq!(rt; first_of_first(&page_of_two).as_str(), "pears");
-    assert_eq!(rt; firsts(alloc, &page_of_two)?.as_str(), "pears figs ");
-    let parts = baskets(alloc, page_of_two)?;
-    assert_eq!(rt; firsts_of(alloc, &parts)?.as_str(), "pears figs ");
-    assert!(rt; is_refused(alloc, page(alloc, &[])?));
+    assert!(rt; is_first_of_first(rt.alloc(), "pears")?);
+    assert!(rt; are_firsts(rt.alloc(), "pears figs ")?);
+    assert!(rt; are_firsts_of_parts(rt.alloc(), "pears figs ")?);
+    assert!(rt; is_page_refused(rt.alloc())?);
     Ok(())
+}
+
+/// Whether a page of a basket with this article is made, of which it is the first.
+fn is_first_of_made(alloc: Global, name: &str) -> Result<bool, AllocError> {
+    let page = made::page(alloc, made::basket(alloc, text(alloc, name)?)?)?;
+    Ok(first_of_first(&page).as_str() == name)
 }
 
 #[test]
 fn values_that_are_made(rt: HostRuntime) -> Result<(), Fail> {
-    let alloc = rt.alloc();
     assert_eq!(rt; share(&made::for_two(901)), 450);
     for (guests, each) in [(0, None), (1, Some(80)), (40, Some(2)), (41, None)] {
         let bill = made::bill(80, guests);
         assert!(rt; bill.map(|bill| share(&bill)) == each);
     }
-    let basket = made::basket(alloc, text(alloc, "figs")?)?;
-    let page = made::page(alloc, basket)?;
-    assert_eq!(rt; first_of_first(&page).as_str(), "figs");
+    assert!(rt; is_first_of_made(rt.alloc(), "figs")?);
     Ok(())
 }

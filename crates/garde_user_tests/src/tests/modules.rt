@@ -1,4 +1,5 @@
 //! Each module that `garde` passes on from the crates below it.
+use super::login;
 use garde::error::{Component, Kind, PathComponentKind};
 use garde::i18n::{DefaultI18n, IpKind};
 use garde::json::{report_from_json, report_to_json};
@@ -10,14 +11,6 @@ use garde::{Error, Path, Report, RuleError, Unvalidated, Valid, ValidateError, s
 use garde_user::login::Login;
 use std::alloc::{AllocError, Global};
 use std::test::Fail;
-
-fn login(alloc: Global, password: &str) -> Result<Login, AllocError> {
-    Ok(Login {
-        username: String::from_str(alloc, "test")?,
-        password: String::from_str(alloc, password)?,
-        remember: false,
-    })
-}
 
 /// A report of one fault.
 fn report(alloc: Global) -> Result<Report, Fail> {
@@ -35,18 +28,31 @@ fn messages(alloc: Global, report: &Report, way: &[&str]) -> Result<String, Allo
     Ok(text)
 }
 
-/// Whether a trail gives the path of the component that is pushed.
-fn is_trail_at(alloc: Global, key: &str) -> Result<bool, AllocError> {
+/// The path of a trail onto which this component is pushed.
+fn path_at(alloc: Global, key: &str) -> Result<Path, AllocError> {
     let mut trail = Trail::new(alloc);
     trail.push(Component::key(key))?;
-    let at = trail.path()?;
-    let made = Path::new(alloc, key)?;
-    Ok(at == made)
+    trail.path()
+}
+
+/// Whether a path is the one of this component.
+fn is_path_of(alloc: Global, path: &Path, key: &str) -> Result<bool, AllocError> {
+    Ok(*path == Path::new(alloc, key)?)
+}
+
+/// Whether a trail gives the path of the component that is pushed.
+fn is_trail_at(alloc: Global, key: &str) -> Result<bool, AllocError> {
+    is_path_of(alloc, &path_at(alloc, key)?, key)
+}
+
+/// How many items a list has to which one is appended.
+fn length_of_one(alloc: Global) -> Result<usize, Fail> {
+    Ok(List::new().append(alloc, 'a')?.len())
 }
 
 #[test]
 fn lists_and_trails(rt: HostRuntime) -> Result<(), Fail> {
-    assert_eq!(rt; List::new().append(rt.alloc(), 'a')?.len(), 1);
+    assert_eq!(rt; length_of_one(rt.alloc())?, 1);
     assert!(rt; is_trail_at(rt.alloc(), "a")?);
     assert!(rt; usize::component_kind() == Kind::Index);
     Ok(())
@@ -61,18 +67,32 @@ fn is_read_back(alloc: Global, report: &Report, text: &str) -> Result<bool, Fail
     Ok(back.to_string(alloc)?.as_str() == text)
 }
 
+/// Whether these are the messages of a report at and beneath a way.
+fn has_messages(
+    alloc: Global,
+    report: &Report,
+    way: &[&str],
+    text: &str,
+) -> Result<bool, AllocError> {
+    Ok(messages(alloc, report, way)?.as_str() == text)
+}
+
 /// Whether an outcome is refused with this message.
 fn is_refused(outcome: garde::Result, message: &str) -> bool {
     matches!(&outcome, Err(error) if error.message() == message)
 }
 
+/// Whether an outcome of an error of this message is refused with it.
+fn is_refused_with(alloc: Global, message: &str) -> Result<bool, AllocError> {
+    Ok(is_refused(Err(Error::new(alloc, message)?), message))
+}
+
 #[test]
 fn reports_and_their_trees(rt: HostRuntime) -> Result<(), Fail> {
-    let alloc = rt.alloc();
-    let report = report(alloc)?;
-    assert!(rt; is_read_back(alloc, &report, "a: weak\n")?);
-    assert_eq!(rt; messages(alloc, &report, &["a"])?.as_str(), "weak");
-    assert!(rt; is_refused(Err(Error::new(alloc, "weak")?), "weak"));
+    let report = report(rt.alloc())?;
+    assert!(rt; is_read_back(rt.alloc(), &report, "a: weak\n")?);
+    assert!(rt; has_messages(rt.alloc(), &report, &["a"], "weak")?);
+    assert!(rt; is_refused_with(rt.alloc(), "weak")?);
     Ok(())
 }
 
@@ -93,13 +113,15 @@ fn rules_and_handlers(rt: HostRuntime) -> Result<(), Fail> {
 
 /// Whether the login of a password becomes a valid one, of this name.
 fn is_valid(alloc: Global, password: &str, username: &str) -> Result<bool, AllocError> {
-    let made: Result<Valid<Login>, _> = Unvalidated::new(login(alloc, password)?).validate(alloc);
+    let made: Result<Valid<Login>, _> = Unvalidated::new(login(alloc, "test", password)?).validate(
+        alloc,
+    );
     Ok(matches!(&made, Ok(valid) if valid.username.as_str() == username))
 }
 
 /// Whether the login of a password is refused, and so many nodes are made for its report.
 fn is_refused_on(alloc: Global, password: &str, nodes: usize) -> Result<bool, AllocError> {
-    let weak = login(alloc, password)?;
+    let weak = login(alloc, "test", password)?;
     let mut trail = Trail::new(alloc);
     let answer = weak.validate_on(alloc, &(), &mut trail, &DefaultI18n);
     Ok(matches!(answer, Err(ValidateError::Report(_))) && trail.nodes() == nodes)

@@ -6,8 +6,13 @@ mod parts;
 mod rules;
 mod strings;
 
-use garde::{Validate, ValidateError};
+use garde::{Report, Validate, ValidateError};
 use std::alloc::{AllocError, Global};
+
+/// Whether a report prints this text.
+fn prints(alloc: Global, report: &Report, text: &str) -> Result<bool, AllocError> {
+    Ok(report.to_string(alloc)?.as_str() == text)
+}
 
 /// Whether the report's text is this one. That of a valid value is empty.
 fn tells<V: Validate>(
@@ -18,16 +23,22 @@ fn tells<V: Validate>(
 ) -> Result<bool, AllocError> {
     match value.validate_with(alloc, ctx) {
         Ok(()) => Ok(text.is_empty()),
-        Err(ValidateError::Report(report)) => Ok(report.to_string(alloc)?.as_str() == text),
+        Err(ValidateError::Report(report)) => prints(alloc, &report, text),
         Err(ValidateError::Memory) => Err(AllocError),
     }
+}
+
+/// Puts a text at the end of a list.
+fn put(alloc: Global, texts: &mut Vec<String>, text: &str) -> Result<(), AllocError> {
+    texts.push(String::from_str(alloc, text)?)?;
+    Ok(())
 }
 
 /// Texts, the first of which is the last one of the list.
 fn texts(alloc: Global, from: &[&str]) -> Result<Vec<String>, AllocError> {
     let mut found = Vec::new(alloc);
     for text in from.iter().rev() {
-        found.push(String::from_str(alloc, *text)?)?;
+        put(alloc, &mut found, text)?;
     }
     Ok(found)
 }

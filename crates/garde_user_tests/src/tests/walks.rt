@@ -1,4 +1,5 @@
 //! What is told of lists that are walked by closures.
+use super::owned;
 use garde::{DefaultI18n, Trail, Validate, ValidateError};
 use garde_user::ledger::{Ledger, Pairs};
 use garde_user::names::Names;
@@ -6,7 +7,7 @@ use std::alloc::{AllocError, Global};
 use std::test::Fail;
 
 /// The report's text, and the number of nodes that it took.
-pub fn told<V: Validate<Context = ()>>(alloc: Global, value: &V) -> Result<String, AllocError> {
+fn told<V: Validate<Context = ()>>(alloc: Global, value: &V) -> Result<String, AllocError> {
     let mut trail = Trail::new(alloc);
     let answer = value.validate_on(alloc, &(), &mut trail, &DefaultI18n);
     let nodes = trail.nodes();
@@ -26,42 +27,51 @@ pub fn is_told<V: Validate<Context = ()>>(
     Ok(told(alloc, value)?.as_str() == text)
 }
 
+/// Puts a name at the end of a list, where there is one.
+fn put(
+    alloc: Global,
+    names: &mut Vec<Option<String>>,
+    name: Option<&str>,
+) -> Result<(), AllocError> {
+    names.push(owned(alloc, name)?)?;
+    Ok(())
+}
+
 /// The texts that stand there, as names.
 fn names(alloc: Global, texts: &[Option<&str>]) -> Result<Names, AllocError> {
     let mut items = Vec::new(alloc);
     for text in texts {
-        items.push(match text {
-            Some(text) => Some(String::from_str(alloc, text)?),
-            None => None,
-        })?;
+        put(alloc, &mut items, *text)?;
     }
     Ok(Names { items })
 }
 
+/// Whether this is told of names.
+fn is_told_of_names(alloc: Global, texts: &[Option<&str>], text: &str) -> Result<bool, AllocError> {
+    is_told(alloc, &names(alloc, texts)?, text)
+}
+
 #[test]
 fn two_walks_by_closures(rt: HostRuntime) -> Result<(), Fail> {
-    let rows: [(&[Option<&str>], &str); 2] = [
-        (
-            &[None, Some("é"), Some("")],
-            "items[0]: not set\nitems[1]: not ascii\nitems[2]: length is lower than 1\nnodes: 6",
-        ),
-        (&[], "items: length is lower than 1\nnodes: 1"),
-    ];
-    for (texts, text) in rows {
-        assert!(rt;
-            is_told(rt.alloc(), &names(rt.alloc(), texts)?, text)?,
-            "{text}"
-        );
-    }
+    let each = "items[0]: not set\nitems[1]: not ascii\nitems[2]: length is lower than 1\nnodes: 6";
+    assert!(rt; is_told_of_names(rt.alloc(), &[None, Some("é"), Some("")], each)?);
+    let none = "items: length is lower than 1\nnodes: 1";
+    assert!(rt; is_told_of_names(rt.alloc(), &[], none)?);
     Ok(())
+}
+
+fn pair(alloc: Global, key: &str, owner: &str) -> Result<(String, String), AllocError> {
+    Ok((
+        String::from_str(alloc, key)?,
+        String::from_str(alloc, owner)?,
+    ))
 }
 
 /// A ledger of these pairs of a key and an owner.
 fn ledger(alloc: Global, pairs: &[(&str, &str)]) -> Result<Ledger, AllocError> {
     let mut rows = Vec::new(alloc);
     for (key, owner) in pairs {
-        let key = String::from_str(alloc, key)?;
-        rows.push((key, String::from_str(alloc, owner)?))?;
+        rows.push(pair(alloc, key, owner)?)?;
     }
     Ok(Ledger {
         owners: Pairs { rows },

@@ -107,7 +107,7 @@ fn guest_tells(
     tells(alloc, &guest(alloc, age, from, seats)?, &(), text)
 }
 
-static GUESTS: [(Option<u8>, &[&str], &[Option<u8>], &str); 3] = [
+const GUESTS: &[(Option<u8>, &[&str], &[Option<u8>], &str)] = &[
     (
         Some(18),
         &["ab", "https://a.org", "c"],
@@ -123,19 +123,14 @@ static GUESTS: [(Option<u8>, &[&str], &[Option<u8>], &str); 3] = [
     (None, &[], &[], "age: not set\nnickname: not set\n"),
 ];
 
-/// How many of the rows hold before the first that does not.
-fn guests_told(alloc: Global) -> Result<usize, AllocError> {
-    for (place, (age, from, seats, text)) in GUESTS.iter().enumerate() {
-        if !guest_tells(alloc, *age, from, seats, text)? {
-            return Ok(place);
-        }
-    }
-    Ok(GUESTS.len())
-}
-
 #[test]
 fn options_with_and_without_a_value(rt: HostRuntime) -> Result<(), Fail> {
-    assert_eq!(rt; guests_told(rt.alloc())?, GUESTS.len());
+    for (place, (age, from, seats, text)) in GUESTS.iter().enumerate() {
+        assert!(rt;
+            guest_tells(rt.alloc(), *age, from, seats, text)?,
+            "row {place}"
+        );
+    }
     Ok(())
 }
 
@@ -207,16 +202,12 @@ fn depot_tells(
     tells(alloc, &depot(alloc, digits, name, width)?, &(), text)
 }
 
-static GOOD: &[u8] = &[9];
-
-static BAD: &[u8] = &[10, 11];
-
 const BAD_DEPOT: &str =
     "counts.a: greater than 9\nnames[7]: not ascii\nkeys[0]: length is greater than 4\nqueue: length is greater than 1\nqueue[0]: greater than 9\nqueue[1]: greater than 9\nchain: length is greater than 1\nchain[0]: greater than 9\nchain[1]: greater than 9\ndigits[2]: greater than 9\ngate.width: greater than 15\ndoors.a.width: greater than 15\n";
 
 #[test]
 fn each_collection_of_a_depot(rt: HostRuntime) -> Result<(), Fail> {
-    assert!(rt; depot_tells(rt.alloc(), GOOD, "abcd", 15, "")?);
-    assert!(rt; depot_tells(rt.alloc(), BAD, "é123", 16, BAD_DEPOT)?);
+    assert!(rt; depot_tells(rt.alloc(), &[9], "abcd", 15, "")?);
+    assert!(rt; depot_tells(rt.alloc(), &[10, 11], "é123", 16, BAD_DEPOT)?);
     Ok(())
 }

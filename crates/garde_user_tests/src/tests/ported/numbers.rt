@@ -5,7 +5,7 @@ use garde_ported::reading::Reading;
 use std::alloc::{AllocError, Global};
 use std::test::Fail;
 
-static READINGS: [(Reading, &str); 2] = [
+const READINGS: &[(Reading, &str)] = &[
     (
         Reading {
             age: 18,
@@ -34,19 +34,11 @@ static READINGS: [(Reading, &str); 2] = [
     ),
 ];
 
-/// How many of the rows hold before the first that does not.
-fn readings_told(alloc: Global) -> Result<usize, AllocError> {
-    for (place, (reading, text)) in READINGS.iter().enumerate() {
-        if !tells(alloc, reading, &(), text)? {
-            return Ok(place);
-        }
-    }
-    Ok(READINGS.len())
-}
-
 #[test]
 fn each_number_within_its_bounds(rt: HostRuntime) -> Result<(), Fail> {
-    assert_eq!(rt; readings_told(rt.alloc())?, READINGS.len());
+    for (place, (reading, text)) in READINGS.iter().enumerate() {
+        assert!(rt; tells(rt.alloc(), reading, &(), text)?, "row {place}");
+    }
     Ok(())
 }
 
@@ -61,7 +53,7 @@ enum Of {
     Mark,
 }
 
-static EVENTS: [(Of, u8, &str, &str); 10] = [
+const EVENTS: &[(Of, u8, &str, &str)] = &[
     (Of::Move, 10, "", ""),
     (Of::Move, 11, "", "steps: greater than 10\n"),
     (Of::Say, 0, "abc", ""),
@@ -109,18 +101,13 @@ fn event_tells(
     tells(alloc, &event(alloc, of, number, from)?, &(), text)
 }
 
-/// How many of the rows hold before the first that does not.
-fn events_told(alloc: Global) -> Result<usize, AllocError> {
-    for (place, (of, number, from, text)) in EVENTS.iter().enumerate() {
-        if !event_tells(alloc, *of, *number, from, text)? {
-            return Ok(place);
-        }
-    }
-    Ok(EVENTS.len())
-}
-
 #[test]
 fn each_variant_in_its_way(rt: HostRuntime) -> Result<(), Fail> {
-    assert_eq!(rt; events_told(rt.alloc())?, EVENTS.len());
+    for (place, (of, number, from, text)) in EVENTS.iter().enumerate() {
+        assert!(rt;
+            event_tells(rt.alloc(), *of, *number, from, text)?,
+            "row {place}"
+        );
+    }
     Ok(())
 }

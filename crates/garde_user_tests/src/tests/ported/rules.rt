@@ -1,5 +1,6 @@
 //! Types with conditions, patterns and rules of their own.
 use super::{next, tells, texts};
+use crate::tests::owned;
 use garde::rules::pattern::regex::Regex;
 use garde_ported::coupon::{Coupon, Discount, Season, Tag};
 use garde_ported::page::{Page, Press};
@@ -19,7 +20,7 @@ struct Row {
     told: &'static str,
 }
 
-static PAGES: [Row; 4] = [
+const PAGES: &[Row] = &[
     Row {
         plain: true,
         short: false,
@@ -62,17 +63,10 @@ static PAGES: [Row; 4] = [
     },
 ];
 
-fn content_of(alloc: Global, text: Option<&str>) -> Result<Option<String>, AllocError> {
-    match text {
-        Some(text) => Ok(Some(String::from_str(alloc, text)?)),
-        None => Ok(None),
-    }
-}
-
 fn page(alloc: Global, row: &Row) -> Result<Page, AllocError> {
     let mut all = texts(alloc, &row.texts)?;
     let notes = texts(alloc, row.notes)?;
-    let content = content_of(alloc, row.content)?;
+    let content = owned(alloc, row.content)?;
     Ok(Page {
         plain: row.plain,
         short: row.short,
@@ -91,19 +85,11 @@ fn page_tells(alloc: Global, row: &Row) -> Result<bool, AllocError> {
     tells(alloc, &page(alloc, row)?, &press, row.told)
 }
 
-/// How many of the rows hold before the first that does not.
-fn pages_told(alloc: Global) -> Result<usize, AllocError> {
-    for (place, row) in PAGES.iter().enumerate() {
-        if !page_tells(alloc, row)? {
-            return Ok(place);
-        }
-    }
-    Ok(PAGES.len())
-}
-
 #[test]
 fn rules_under_conditions(rt: HostRuntime) -> Result<(), Fail> {
-    assert_eq!(rt; pages_told(rt.alloc())?, PAGES.len());
+    for (place, row) in PAGES.iter().enumerate() {
+        assert!(rt; page_tells(rt.alloc(), row)?, "row {place}");
+    }
     Ok(())
 }
 
@@ -162,7 +148,7 @@ enum Of {
     Visitor,
 }
 
-static MATCHED: [(Of, [&str; 2], &str); 4] = [
+const MATCHED: &[(Of, [&str; 2], &str)] = &[
     (Of::Badge, ["AB1", "red"], ""),
     (
         Of::Badge,
@@ -185,19 +171,11 @@ fn is_told(alloc: Global, of: Of, from: &[&str], text: &str) -> Result<bool, All
     }
 }
 
-/// How many of the rows hold before the first that does not.
-fn matched_told(alloc: Global) -> Result<usize, AllocError> {
-    for (place, (of, from, text)) in MATCHED.iter().enumerate() {
-        if !is_told(alloc, *of, from, text)? {
-            return Ok(place);
-        }
-    }
-    Ok(MATCHED.len())
-}
-
 #[test]
 fn compiled_patterns(rt: HostRuntime) -> Result<(), Fail> {
-    assert_eq!(rt; matched_told(rt.alloc())?, MATCHED.len());
+    for (place, (of, from, text)) in MATCHED.iter().enumerate() {
+        assert!(rt; is_told(rt.alloc(), *of, from, text)?, "row {place}");
+    }
     Ok(())
 }
 
@@ -227,44 +205,16 @@ fn discount_tells(alloc: Global, percent: u8, text: &str) -> Result<bool, AllocE
     tells(alloc, &discount(alloc, percent)?, &season, text)
 }
 
-static COUPONS: [(u32, &str, bool, &str); 2] = [
-    (2, "t-1234", true, ""),
-    (
-        3,
-        "1234567",
-        false,
-        "number: not even\ntag: value does not begin with \"t-\"\ntag: length is greater than 6\nterms: accept the terms\n",
-    ),
-];
+const BAD_COUPON: &str =
+    "number: not even\ntag: value does not begin with \"t-\"\ntag: length is greater than 6\nterms: accept the terms\n";
 
-static DISCOUNTS: [(u8, &str); 2] = [
-    (20, ""),
-    (21, "percent: not in season\nfurther[0]: not in season\n"),
-];
-
-/// How many of the coupons' rows hold before the first that does not.
-fn coupons_told(alloc: Global) -> Result<usize, AllocError> {
-    for (place, (number, tag, terms, text)) in COUPONS.iter().enumerate() {
-        if !coupon_tells(alloc, *number, tag, *terms, text)? {
-            return Ok(place);
-        }
-    }
-    Ok(COUPONS.len())
-}
-
-/// How many of the discounts' rows hold before the first that does not.
-fn discounts_told(alloc: Global) -> Result<usize, AllocError> {
-    for (place, (percent, text)) in DISCOUNTS.iter().enumerate() {
-        if !discount_tells(alloc, *percent, text)? {
-            return Ok(place);
-        }
-    }
-    Ok(DISCOUNTS.len())
-}
+const BAD_DISCOUNT: &str = "percent: not in season\nfurther[0]: not in season\n";
 
 #[test]
 fn rules_of_ones_own(rt: HostRuntime) -> Result<(), Fail> {
-    assert_eq!(rt; coupons_told(rt.alloc())?, COUPONS.len());
-    assert_eq!(rt; discounts_told(rt.alloc())?, DISCOUNTS.len());
+    assert!(rt; coupon_tells(rt.alloc(), 2, "t-1234", true, "")?);
+    assert!(rt; coupon_tells(rt.alloc(), 3, "1234567", false, BAD_COUPON)?);
+    assert!(rt; discount_tells(rt.alloc(), 20, "")?);
+    assert!(rt; discount_tells(rt.alloc(), 21, BAD_DISCOUNT)?);
     Ok(())
 }
