@@ -1,4 +1,5 @@
 //! Tests that need several crates.
+mod asked;
 mod custom;
 mod hostile;
 mod nested;
@@ -10,5 +11,6 @@ mod rules;
 mod scale;
 mod starved;
 mod texts;
+mod told;
 mod user;
 mod walks;

@@ -1,19 +1,28 @@
-//! A handler with texts of its own.
+//! A handler with texts and memory of its own.
 ghost use Rattle.std.specs.Prelude.{◌++◌, codes};
 ghost use Rattle.std.specs.Fmt.{decimal};
 ghost use Rattle.garde_i18n.specs.Datum as datum;
 ghost use Rattle.garde_i18n.specs.Reasons.{card_name, url_name, phone_name, ip_kind_text};
 
+use super::asked::{Asked, Row, assert_says};
 use garde::I18n;
 use garde::i18n::{InvalidCreditCard, InvalidPhoneNumber, InvalidUrl, IpKind};
 use std::alloc::{AllocError, Global};
 use std::borrow::CowStr;
-use std::process::Abort;
 use std::test::Fail;
 
-/// A handler whose texts all begin with `custom: `.
+/// A handler whose texts all begin with `custom: `, and which holds bytes.
 #[derive(Drop)]
-pub struct Custom;
+pub struct Custom {
+    pub weight: Vec<u8>,
+}
+
+/// The handler, with no bytes.
+pub fn weightless(alloc: Global) -> Custom {
+    Custom {
+        weight: Vec::new(alloc),
+    }
+}
 
 impl I18n for Custom {
     ghost text = { λ _ asked. elim asked [
@@ -130,70 +139,63 @@ impl I18n for Custom {
 }
 
 /// What the handler says of each request.
-static TEXTS: [&str; 17] = [
-    "custom: too short, need at least 3",
-    "custom: too long, maximum is 20",
-    "custom: value too small, minimum is 1",
-    "custom: value too large, maximum is 99",
-    "custom: invalid credit card - InvalidLength",
-    "custom: doesn't match /[a-z]+/",
-    "custom: missing required text 'hello'",
-    "custom: bad URL - Overflow",
-    "custom: must start with 'www.'",
-    "custom: must end with '.org'",
-    "custom: phone number error - Invalid",
-    "custom: phone number error - TooShortNsn",
-    "custom: not a valid IPv6 IP",
-    "custom: must match confirm_password",
-    "custom: contains non-ASCII characters",
-    "custom: only letters and numbers allowed",
-    "custom: this field is required",
+static TEXTS: [Row; 17] = [
+    (Asked::LengthLower(3), "custom: too short, need at least 3"),
+    (Asked::LengthGreater(20), "custom: too long, maximum is 20"),
+    (
+        Asked::RangeLower("1"),
+        "custom: value too small, minimum is 1",
+    ),
+    (
+        Asked::RangeGreater("99"),
+        "custom: value too large, maximum is 99",
+    ),
+    (
+        Asked::Card(InvalidCreditCard::InvalidLength),
+        "custom: invalid credit card - InvalidLength",
+    ),
+    (Asked::Pattern("[a-z]+"), "custom: doesn't match /[a-z]+/"),
+    (
+        Asked::Contains("hello"),
+        "custom: missing required text 'hello'",
+    ),
+    (
+        Asked::Url(InvalidUrl::Overflow),
+        "custom: bad URL - Overflow",
+    ),
+    (Asked::Prefix("www."), "custom: must start with 'www.'"),
+    (Asked::Suffix(".org"), "custom: must end with '.org'"),
+    (
+        Asked::Phone(InvalidPhoneNumber::Invalid),
+        "custom: phone number error - Invalid",
+    ),
+    (
+        Asked::Phone(InvalidPhoneNumber::TooShortNsn),
+        "custom: phone number error - TooShortNsn",
+    ),
+    (Asked::Ip(IpKind::V6), "custom: not a valid IPv6 IP"),
+    (
+        Asked::Matches("confirm_password"),
+        "custom: must match confirm_password",
+    ),
+    (Asked::Ascii, "custom: contains non-ASCII characters"),
+    (
+        Asked::Alphanumeric,
+        "custom: only letters and numbers allowed",
+    ),
+    (Asked::Required, "custom: this field is required"),
 ];
-
-// What a handler answers where it is asked for the text of this index.
-fn said<H: I18n>(alloc: Global, h: &H, index: usize) -> Result<CowStr<'static>, AllocError> {
-    match index {
-        0 => h.length_lower_than(alloc, 3),
-        1 => h.length_greater_than(alloc, 20),
-        2 => h.range_lower_than(alloc, "1"),
-        3 => h.range_greater_than(alloc, "99"),
-        4 => h.credit_card_invalid(alloc, InvalidCreditCard::InvalidLength),
-        5 => h.pattern_no_match(alloc, "[a-z]+"),
-        6 => h.contains_missing(alloc, "hello"),
-        7 => h.url_invalid(alloc, InvalidUrl::Overflow),
-        8 => h.prefix_missing(alloc, "www."),
-        9 => h.suffix_missing(alloc, ".org"),
-        10 => h.phone_number_invalid(alloc, InvalidPhoneNumber::Invalid),
-        11 => h.phone_number_invalid(alloc, InvalidPhoneNumber::TooShortNsn),
-        12 => h.ip_invalid(alloc, IpKind::V6),
-        13 => h.matches_field_mismatch(alloc, "confirm_password"),
-        14 => h.ascii_invalid(alloc),
-        15 => h.alphanumeric_invalid(alloc),
-        _ => h.required_not_set(alloc),
-    }
-}
-
-// Whether a handler says this where it is asked for the text of this index.
-fn says<H: I18n>(alloc: Global, h: &H, index: usize, text: &str) -> Result<bool, AllocError> {
-    Ok(said(alloc, h, index)?.as_str() == text)
-}
-
-// Asserts each text of a handler.
-fn assert_says<H: I18n>(rt: &impl Abort, alloc: Global, h: &H) -> Result<(), AllocError> {
-    for (index, text) in TEXTS.iter().enumerate() {
-        assert!(rt; says(alloc, h, index, text)?, "at {text}");
-    }
-    Ok(())
-}
 
 #[test]
 fn says_its_own_texts(rt: HostRuntime) -> Result<(), Fail> {
-    assert_says(&rt, rt.alloc(), &Custom)?;
+    let h = weightless(rt.alloc());
+    assert_says(&rt, rt.alloc(), &h, &TEXTS)?;
     Ok(())
 }
 
 #[test]
 fn says_them_through_a_reference(rt: HostRuntime) -> Result<(), Fail> {
-    assert_says(&rt, rt.alloc(), &&Custom)?;
+    let h = weightless(rt.alloc());
+    assert_says(&rt, rt.alloc(), &&h, &TEXTS)?;
     Ok(())
 }

@@ -2,12 +2,12 @@
 ghost use Rattle.std.specs.String.{string_bytes};
 ghost use Rattle.garde_report.specs.declared.error.component.Kind.TheVariants.{Key};
 
-use super::custom::Custom;
+use super::custom::weightless;
+use super::paths::indexes;
 use super::user::User;
 use super::walks::{Four, eight, is_told, twelve, user, walked};
 use garde::error::{Kind, PathComponentKind};
 use garde::json::{path_from_json, path_to_json};
-use garde::rc_list::JoinError;
 use garde::{
     Component, DefaultI18n, Error, I18n, Path, Report, Trail, Validate, ValidateError, select,
 };
@@ -52,28 +52,46 @@ fn a_deep_valid_value_makes_no_path(rt: HostRuntime) -> Result<(), Fail> {
 
 type Eight<T> = Four<Four<T>>;
 
-type ThirtyTwo<T> = Eight<Eight<Eight<Eight<T>>>>;
-
 // A value in lists, sixteen deep.
 fn sixteen<T: Drop>(alloc: Global, value: T) -> Result<Eight<Eight<T>>, AllocError> {
     eight(alloc, eight(alloc, value)?)
 }
 
-// A value in lists, thirty-two deep.
-fn thirty_two<T: Drop>(alloc: Global, value: T) -> Result<ThirtyTwo<T>, AllocError> {
-    sixteen(alloc, sixteen(alloc, value)?)
+/// How many nodes a walk makes, and how many bytes it tells.
+type Size = (usize, usize);
+
+// Whether a walk of a value has this size.
+fn is_of_size<T: Validate<Context = ()>>(
+    alloc: Global,
+    value: &T,
+    size: Size,
+) -> Result<bool, AllocError> {
+    let (text, nodes) = walked(alloc, value, &(), &DefaultI18n)?;
+    Ok((nodes, text.len()) == size)
 }
 
-// A value in lists, forty deep.
-fn forty<T: Drop>(alloc: Global, value: T) -> Result<ThirtyTwo<Eight<T>>, AllocError> {
-    thirty_two(alloc, eight(alloc, value)?)
+// Whether a walk of a value in lists, sixteen deep, has this size.
+fn is_of_size_in_sixteen<T: Validate<Context = ()> + Drop>(
+    alloc: Global,
+    value: T,
+    size: Size,
+) -> Result<bool, AllocError> {
+    is_of_size(alloc, &sixteen(alloc, value)?, size)
+}
+
+// Whether a walk of a value in lists, thirty-two deep, has this size.
+fn is_of_size_in_thirty_two<T: Validate<Context = ()> + Drop>(
+    alloc: Global,
+    value: T,
+    size: Size,
+) -> Result<bool, AllocError> {
+    is_of_size_in_sixteen(alloc, sixteen(alloc, value)?, size)
 }
 
 // Whether forty lists round a wrong user tell forty indexes, then the field and its fault.
 fn is_told_when_forty_deep(alloc: Global) -> Result<bool, AllocError> {
-    let lists = forty(alloc, user(alloc, "ab")?)?;
-    let (text, nodes) = walked(alloc, &lists, &(), &DefaultI18n)?;
-    Ok(nodes == 41 && text.len() == 40 * 3 + ".username: length is lower than 3\n".len())
+    let bytes = 40 * 3 + ".username: length is lower than 3\n".len();
+    is_of_size_in_thirty_two(alloc, eight(alloc, user(alloc, "ab")?)?, (41, bytes))
 }
 
 #[test]
@@ -116,7 +134,7 @@ fn under_a_long_key(alloc: Global, size: usize) -> Result<BTreeMap<String, User>
 // Whether a user is told under the whole of a key of so many letters.
 fn is_told_under_a_long_key(alloc: Global, size: usize) -> Result<bool, AllocError> {
     let users = under_a_long_key(alloc, size)?;
-    let (text, nodes) = walked(alloc, &users, &(), &Custom)?;
+    let (text, nodes) = walked(alloc, &users, &(), &weightless(alloc))?;
     let after = ".username: custom: too short, need at least 3\n";
     Ok(
         nodes == 2
@@ -142,10 +160,12 @@ fn under_keys(alloc: Global, keys: &[&str]) -> Result<HashMap<String, User>, All
 
 // Whether each key has one fault of its own in a report, and no other fault is there.
 fn tells_each(report: &Report, keys: &[&str]) -> bool {
+    for key in keys {
+        if select(report, &[*key, "username"]).count() != 1 {
+            return false;
+        }
+    }
     report.iter().count() == keys.len()
-        && keys
-            .iter()
-            .all(|key| select(report, &[*key, "username"]).count() == 1)
 }
 
 /// Keys that look like paths, or like parts of one.
@@ -203,18 +223,9 @@ fn a_million_faults_in_one_report(rt: HostRuntime) -> Result<(), Fail> {
     Ok(())
 }
 
-// The path of so many indexes.
-fn path_to(alloc: Global, size: usize) -> Result<Path, JoinError> {
-    let mut path = Path::empty();
-    for index in 0..size {
-        path = path.join(alloc, index)?;
-    }
-    Ok(path)
-}
-
 // Whether a path of so many indexes is read back from its tree.
-fn is_read_back(alloc: Global, size: usize) -> Result<bool, Fail> {
-    let path = path_to(alloc, size)?;
+fn is_read_back(alloc: Global, size: usize) -> Result<bool, AllocError> {
+    let path = indexes(alloc, size)?;
     let tree = path_to_json(alloc, &path)?;
     Ok(matches!(&path_from_json(alloc, &tree), Ok(back) if *back == path))
 }

@@ -1,22 +1,30 @@
-//! Lists and paths where memory runs out.
+//! Lists and paths, also where memory runs out.
 
 use garde::Path;
+use garde::error::PathComponentKind;
 use garde::rc_list::{JoinError, List};
 use garde_hog::{Met, Scarce};
 use std::alloc::{AllocError, Global};
 
+/// The list with one item more.
+pub fn longer<T: Drop>(alloc: Global, list: &List<T>, item: T) -> Result<List<T>, AllocError> {
+    match list.append(alloc, item) {
+        Ok(longer) => Ok(longer),
+        Err(_) => Err(AllocError),
+    }
+}
+
 // The list of `a`, `c` and `d`.
-fn letters(alloc: Global) -> Result<List<char>, JoinError> {
-    List::new()
-        .append(alloc, 'a')?
-        .append(alloc, 'c')?
-        .append(alloc, 'd')
+fn letters(alloc: Global) -> Result<List<char>, AllocError> {
+    let mut list = List::new();
+    for letter in ['a', 'c', 'd'] {
+        list = longer(alloc, &list, letter)?;
+    }
+    Ok(list)
 }
 
 pub fn append(alloc: Global, memory: &mut Scarce) -> Result<Met, AllocError> {
-    let Ok(list) = letters(alloc) else {
-        return Err(AllocError);
-    };
+    let list = letters(alloc)?;
     memory.begin();
     let answer = list.append(alloc, 'e');
     memory.end();
@@ -28,14 +36,32 @@ pub fn append(alloc: Global, memory: &mut Scarce) -> Result<Met, AllocError> {
     })
 }
 
-// The path of these indexes.
-fn path_of(alloc: Global, indexes: usize) -> Result<Path, AllocError> {
+/// The path with one component more.
+pub fn beneath<K: PathComponentKind + Drop>(
+    alloc: Global,
+    path: &Path,
+    component: K,
+) -> Result<Path, AllocError> {
+    match path.join(alloc, component) {
+        Ok(longer) => Ok(longer),
+        Err(_) => Err(AllocError),
+    }
+}
+
+/// The path of these keys.
+pub fn keys(alloc: Global, texts: &[&str]) -> Result<Path, AllocError> {
     let mut path = Path::empty();
-    for index in 0..indexes {
-        match path.join(alloc, index) {
-            Ok(longer) => path = longer,
-            Err(_) => return Err(AllocError),
-        }
+    for text in texts {
+        path = beneath(alloc, &path, *text)?;
+    }
+    Ok(path)
+}
+
+/// The path of so many indexes.
+pub fn indexes(alloc: Global, count: usize) -> Result<Path, AllocError> {
+    let mut path = Path::empty();
+    for index in 0..count {
+        path = beneath(alloc, &path, index)?;
     }
     Ok(path)
 }
@@ -46,9 +72,9 @@ fn are_equal(path: &Path, other: &Path) -> bool {
 }
 
 pub fn join(alloc: Global, memory: &mut Scarce) -> Result<Met, AllocError> {
-    let path = path_of(alloc, 2)?;
-    let like = path_of(alloc, 2)?;
-    let longer_like = path_of(alloc, 3)?;
+    let path = indexes(alloc, 2)?;
+    let like = indexes(alloc, 2)?;
+    let longer_like = indexes(alloc, 3)?;
     memory.begin();
     let answer = path.join(alloc, 2usize);
     memory.end();
@@ -61,8 +87,8 @@ pub fn join(alloc: Global, memory: &mut Scarce) -> Result<Met, AllocError> {
 }
 
 pub fn iter(alloc: Global, memory: &mut Scarce) -> Result<Met, AllocError> {
-    let path = path_of(alloc, 9)?;
-    let like = path_of(alloc, 9)?;
+    let path = indexes(alloc, 9)?;
+    let like = indexes(alloc, 9)?;
     memory.begin();
     let answer = match path.iter(alloc) {
         Ok(items) if items.len() == 9 => Met::Ample,

@@ -7,7 +7,7 @@ use std::alloc::{AllocError, Global};
 use std::test::Fail;
 
 /// Calls with the objects that they are made on.
-#[derive(Clone, Copy, Debug)]
+#[derive(Clone, Copy)]
 enum Scenario {
     Append,
     Join,
@@ -45,20 +45,20 @@ impl Calls for Scenario {
 }
 
 /// All scenarios.
-const ALL: &[Scenario] = &[
-    Scenario::Append,
-    Scenario::Join,
-    Scenario::Iter,
-    Scenario::ReportAppend,
-    Scenario::ReportClone,
-    Scenario::ToJson,
-    Scenario::FromJson,
-    Scenario::Texts,
-    Scenario::Rules,
-    Scenario::Compile,
-    Scenario::OnUsers,
-    Scenario::Nest,
-    Scenario::Typed,
+static ALL: [(&str, Scenario); 13] = [
+    ("append", Scenario::Append),
+    ("join", Scenario::Join),
+    ("iter", Scenario::Iter),
+    ("report append", Scenario::ReportAppend),
+    ("report clone", Scenario::ReportClone),
+    ("to json", Scenario::ToJson),
+    ("from json", Scenario::FromJson),
+    ("texts", Scenario::Texts),
+    ("rules", Scenario::Rules),
+    ("compile", Scenario::Compile),
+    ("on users", Scenario::OnUsers),
+    ("nest", Scenario::Nest),
+    ("typed", Scenario::Typed),
 ];
 
 // Whether a scenario ends well under budgets of memory that grow from nothing.
@@ -69,8 +69,8 @@ fn is_ample_in_turn(alloc: Global, calls: Scenario) -> Result<bool, AllocError> 
 
 #[test]
 fn each_budget_of_memory(rt: HostRuntime) -> Result<(), Fail> {
-    for calls in ALL {
-        assert!(rt; is_ample_in_turn(rt.alloc(), *calls)?, "at {calls:?}");
+    for (name, calls) in &ALL {
+        assert!(rt; is_ample_in_turn(rt.alloc(), *calls)?, "at {name}");
     }
     Ok(())
 }

@@ -1,7 +1,5 @@
-//! Rules that do not hold, where memory runs out.
-ghost use Rattle.std.specs.Prelude.{Err};
-ghost use Rattle.garde_i18n.specs.declared.reasons.InvalidCreditCard.TheVariants as card;
-ghost use Rattle.garde_i18n.specs.declared.reasons.InvalidPhoneNumber.TheVariants as phone;
+//! Compiled patterns, and rules that do not hold, where memory runs out.
+ghost use Rattle.garde.specs.Fields.{Result};
 
 use garde::i18n::{InvalidCreditCard, InvalidPhoneNumber, IpKind};
 use garde::rules::credit_card::CreditCard;
@@ -15,22 +13,27 @@ use garde::{DefaultI18n, RuleError};
 use garde_hog::{Met, Scarce};
 use std::alloc::{AllocError, Global};
 
-/// A number that is neither a card's nor a phone's.
-struct NoNumber;
+/// A value that gives this answer when it is asked for a credit card number.
+#[derive(Clone, Copy)]
+pub struct Card(pub Result<(), InvalidCreditCard>);
 
-impl CreditCard for NoNumber {
-    ghost answer = { λ _. Err card.InvalidLength };
+impl CreditCard for Card {
+    ghost answer = { λ card. card.0 };
 
     fn validate_credit_card(&self) -> Result<(), InvalidCreditCard> {
-        Err(InvalidCreditCard::InvalidLength)
+        self.0
     }
 }
 
-impl PhoneNumber for NoNumber {
-    ghost answer = { λ _. Err phone.TooLong };
+/// A value that gives this answer when it is asked for a phone number.
+#[derive(Clone, Copy)]
+pub struct Phone(pub Result<(), InvalidPhoneNumber>);
+
+impl PhoneNumber for Phone {
+    ghost answer = { λ phone. phone.0 };
 
     fn validate_phone_number(&self) -> Result<(), InvalidPhoneNumber> {
-        Err(InvalidPhoneNumber::TooLong)
+        self.0
     }
 }
 
@@ -70,8 +73,8 @@ fn find(alloc: Global, index: usize, code: &Regex) -> Result<(), RuleError> {
         5 => pattern::apply(alloc, &text, (code,), h),
         6 => url::apply(alloc, &text, (), h),
         7 => ip::apply(alloc, &text, (IpKind::Any,), h),
-        8 => credit_card::apply(alloc, &NoNumber, (), h),
-        9 => phone_number::apply(alloc, &NoNumber, (), h),
+        8 => credit_card::apply(alloc, &Card(Err(InvalidCreditCard::InvalidLength)), (), h),
+        9 => phone_number::apply(alloc, &Phone(Err(InvalidPhoneNumber::TooLong)), (), h),
         10 => matches::apply(alloc, &1u8, ("other", &2u8), h),
         11 => range::apply(alloc, &4u8, (None, Some(3)), h),
         12 => required::apply(alloc, &none, (), h),
@@ -83,10 +86,16 @@ fn find(alloc: Global, index: usize, code: &Regex) -> Result<(), RuleError> {
     }
 }
 
+/// The compiled pattern of this text.
+pub fn regex(alloc: Global, text: &str) -> Result<Regex, AllocError> {
+    match Regex::new(alloc, text) {
+        Ok(regex) => Ok(regex),
+        Err(_) => Err(AllocError),
+    }
+}
+
 pub fn rules(alloc: Global, memory: &mut Scarce) -> Result<Met, AllocError> {
-    let Ok(code) = Regex::new(alloc, "^[0-9]{5}$") else {
-        return Err(AllocError);
-    };
+    let code = regex(alloc, "^[0-9]{5}$")?;
     let mut met = Met::Ample;
     for (index, wanted) in FAULTS.iter().enumerate() {
         memory.begin();

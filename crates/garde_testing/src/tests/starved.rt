@@ -4,7 +4,7 @@ use super::user::User;
 use super::walks::{four, one, two, user};
 use garde::samples::{Document, Tag};
 use garde::{DefaultI18n, Trail, Unvalidated, Validate, ValidateError};
-use garde_hog::Scarce;
+use garde_hog::{Met, Scarce};
 use std::alloc::{AllocError, Global};
 use std::test::Fail;
 
@@ -16,13 +16,22 @@ fn seven(alloc: Global) -> Result<Seven, AllocError> {
     four(alloc, three)
 }
 
-// A document of which nothing is asked but that it has a content.
-fn document(alloc: Global) -> Result<Document, AllocError> {
+// The text, where there is one.
+fn text(alloc: Global, text: Option<&str>) -> Result<Option<String>, AllocError> {
+    match text {
+        Some(text) => Ok(Some(String::from_str(alloc, text)?)),
+        None => Ok(None),
+    }
+}
+
+/// A document with this content and this tag, of whose content no format and no length is asked.
+pub fn document(alloc: Global, content: Option<&str>, tag: &str) -> Result<Document, AllocError> {
+    let tag = Tag(String::from_str(alloc, tag)?);
     Ok(Document {
         check_format: false,
         check_length: false,
-        content: Some(String::from_str(alloc, "é")?),
-        tag: Tag(String::from_str(alloc, "t-1")?),
+        content: text(alloc, content)?,
+        tag,
     })
 }
 
@@ -35,29 +44,30 @@ fn users(alloc: Global) -> Result<Vec<Option<User>>, AllocError> {
     }
 }
 
-// What is answered on a new trail, while each request for memory is refused.
-fn starved<V: Validate<Context = ()>>(
-    alloc: Global,
-    value: &V,
-) -> Result<Result<(), ValidateError>, AllocError> {
+// What a walk on a new trail comes to, while each request for memory is refused.
+fn starved<V: Validate<Context = ()>>(alloc: Global, value: &V) -> Result<Met, AllocError> {
     let mut memory = Scarce::taken(alloc)?;
     let mut trail = Trail::new(alloc);
     memory.begin();
     let answer = value.validate_on(alloc, &(), &mut trail, &DefaultI18n);
     memory.end();
-    Ok(answer)
+    Ok(match answer {
+        Ok(()) => Met::Ample,
+        Err(ValidateError::Memory) => Met::Want,
+        Err(ValidateError::Report(_)) => Met::Wrong,
+    })
 }
 
 fn users_pass(alloc: Global) -> Result<bool, AllocError> {
-    Ok(starved(alloc, &users(alloc)?)?.is_ok())
+    Ok(starved(alloc, &users(alloc)?)? == Met::Ample)
 }
 
 fn a_document_passes(alloc: Global) -> Result<bool, AllocError> {
-    Ok(starved(alloc, &document(alloc)?)?.is_ok())
+    Ok(starved(alloc, &document(alloc, Some("é"), "t-1")?)? == Met::Ample)
 }
 
 fn eight_components_pass(alloc: Global) -> Result<bool, AllocError> {
-    Ok(starved(alloc, &seven(alloc)?)?.is_ok())
+    Ok(starved(alloc, &seven(alloc)?)? == Met::Ample)
 }
 
 #[test]
@@ -87,11 +97,8 @@ fn a_valid_state_takes_no_memory(rt: HostRuntime) -> Result<(), Fail> {
 // Whether nine components pass or tell want of memory, and pass with ample memory.
 fn nine_components_pass_in_ample_memory(alloc: Global) -> Result<bool, AllocError> {
     let deeper = one(alloc, seven(alloc)?)?;
-    let is_lawful = matches!(
-        &starved(alloc, &deeper)?,
-        Ok(()) | Err(ValidateError::Memory)
-    );
-    Ok(is_lawful && deeper.validate(alloc).is_ok())
+    let met = starved(alloc, &deeper)?;
+    Ok(met != Met::Wrong && deeper.validate(alloc).is_ok())
 }
 
 #[test]
@@ -103,7 +110,7 @@ fn the_ninth_component_may_need_memory(rt: HostRuntime) -> Result<(), Fail> {
 // Whether a user with faults tells want of memory.
 fn a_fault_is_starved(alloc: Global) -> Result<bool, AllocError> {
     let users = one(alloc, Some(user(alloc, "é")?))?;
-    Ok(matches!(&starved(alloc, &users)?, Err(ValidateError::Memory)))
+    Ok(starved(alloc, &users)? == Met::Want)
 }
 
 #[test]

@@ -1,6 +1,7 @@
 //! Walks of users, also of nests of lists, where memory runs out.
 
-use super::reports::{report_of, tells};
+use super::reports::{has, report_of};
+use super::told::{reads, shows, told};
 use super::user::User;
 use garde::{
     Component, DefaultI18n, I18n, IntoValidError, Report, Trail, Unvalidated, Validate,
@@ -14,14 +15,6 @@ pub fn user(alloc: Global, name: &str) -> Result<User, AllocError> {
     Ok(User {
         username: String::from_str(alloc, name)?,
     })
-}
-
-/// What an answer tells. That of a valid value tells nothing.
-pub fn told(alloc: Global, answer: Result<(), ValidateError>) -> Result<String, AllocError> {
-    match answer {
-        Ok(()) => Ok(String::new(alloc)),
-        Err(refusal) => refusal.to_string(alloc),
-    }
 }
 
 /// What a walk on a new trail tells, and the nodes that it made.
@@ -49,16 +42,20 @@ pub fn is_told<T: Validate, H: I18n>(
     Ok(told.as_str() == text && made == nodes)
 }
 
+const OLD: &[&str] = &["old"];
+
+const FOUND: &[&str] = &["not ascii", "length is lower than 3"];
+
 const FAULTS: &[&str] = &["old", "not ascii", "length is lower than 3"];
 
 // Whether a report has the first of the faults, and after it none or some of the others in turn.
 fn begins(report: &Report) -> bool {
-    (1..4usize).any(|count| tells(report, &FAULTS[..count]))
+    has(report, OLD) || has(report, &["old", "not ascii"]) || has(report, FAULTS)
 }
 
 pub fn on_users(alloc: Global, memory: &mut Scarce) -> Result<Met, AllocError> {
     let users = one(alloc, Some(user(alloc, "é")?))?;
-    let mut report = report_of(alloc, &FAULTS[..1])?;
+    let mut report = report_of(alloc, OLD)?;
     let mut trail = Trail::new(alloc);
     trail.push(Component::key("users"))?;
     memory.begin();
@@ -66,12 +63,11 @@ pub fn on_users(alloc: Global, memory: &mut Scarce) -> Result<Met, AllocError> {
     memory.end();
     let mut again = Report::new(alloc);
     users.validate_into(alloc, &(), &mut trail, &mut again, &DefaultI18n)?;
-    let stands = trail.depth() == 1 && tells(&again, &FAULTS[1..]);
-    let text = again.to_string(alloc)?;
-    let same_place = text.as_str()
-        == "users[0].username: not ascii\nusers[0].username: length is lower than 3\n";
+    let stands = trail.depth() == 1 && has(&again, FOUND);
+    let text = "users[0].username: not ascii\nusers[0].username: length is lower than 3\n";
+    let same_place = reads(alloc, &again, text)?;
     Ok(match answer {
-        Ok(()) if stands && same_place && tells(&report, FAULTS) => Met::Ample,
+        Ok(()) if stands && same_place && has(&report, FAULTS) => Met::Ample,
         Err(AllocError) if stands && same_place && begins(&report) => Met::Want,
         _ => Met::Wrong,
     })
@@ -121,8 +117,7 @@ pub fn nest(alloc: Global, memory: &mut Scarce) -> Result<Met, AllocError> {
     let stands = trail.depth() == 0;
     match answer {
         Err(ValidateError::Report(report)) => {
-            let text = report.to_string(alloc)?;
-            let told = text.as_str() == NESTED && trail.nodes() == 13;
+            let told = reads(alloc, &report, NESTED)? && trail.nodes() == 13;
             Ok(Met::Ample.when(stands && told))
         }
         Err(ValidateError::Memory) => Ok(Met::Want.when(stands)),
@@ -136,10 +131,9 @@ pub fn typed(alloc: Global, memory: &mut Scarce) -> Result<Met, AllocError> {
     let answer = users.validate(alloc);
     memory.end();
     match answer {
-        Err(IntoValidError::Report(report)) => Ok(Met::Ample.when(tells(&report, &FAULTS[1..]))),
+        Err(IntoValidError::Report(report)) => Ok(Met::Ample.when(has(&report, FOUND))),
         Err(IntoValidError::Memory(back)) => {
-            let shown = format!(in alloc; "{back:?}")?;
-            let same = shown.as_str() == "[Some(User { username: \"é\" })]";
+            let same = shows(alloc, &back, "[Some(User { username: \"é\" })]")?;
             Ok(Met::Want.when(same))
         }
         Ok(_) => Ok(Met::Wrong),

@@ -1,50 +1,32 @@
 //! Exact answers of paths, lists and reports.
-use garde::error::{NoKey, PathComponentKind, PathIter};
-use garde::rc_list::{JoinError, List};
-use garde::{Error, Path, Report};
+use crate::tests::paths::{beneath, indexes, keys, longer};
+use crate::tests::reports::add;
+use crate::tests::told::{prints, shows};
+use garde::error::{NoKey, PathIter};
+use garde::rc_list::List;
+use garde::{Path, Report};
 use std::alloc::{AllocError, Global};
-use std::fmt::{Debug, Display};
 use std::test::Fail;
 
-// The path with one component more.
-fn beneath<K: PathComponentKind + Drop>(
-    alloc: Global,
-    path: &Path,
-    component: K,
-) -> Result<Path, JoinError> {
-    path.join(alloc, component)
-}
-
-// The path of these keys.
-fn keys(alloc: Global, texts: &[&str]) -> Result<Path, JoinError> {
-    let mut path = Path::empty();
-    for text in texts {
-        path = beneath(alloc, &path, *text)?;
-    }
-    Ok(path)
-}
-
 // The path of a key, a component without a name, and a key.
-fn unnamed_between(alloc: Global) -> Result<Path, JoinError> {
+fn unnamed_between(alloc: Global) -> Result<Path, AllocError> {
     let above = keys(alloc, &["a"])?;
     let unnamed = beneath(alloc, &above, NoKey::default())?;
     beneath(alloc, &unnamed, "b")
 }
 
-// Whether a value prints this text.
-fn prints<T: Display>(alloc: Global, value: &T, text: &str) -> Result<bool, AllocError> {
-    Ok(format!(in alloc; "{value}")?.as_str() == text)
-}
-
-// Whether a value prints this text for a programmer.
-fn shows<T: Debug>(alloc: Global, value: &T, text: &str) -> Result<bool, AllocError> {
-    Ok(format!(in alloc; "{value:?}")?.as_str() == text)
+// Whether a path has so many components, and prints these texts.
+fn is_printed(
+    alloc: Global,
+    path: &Path,
+    (count, text, shown): (usize, &str, &str),
+) -> Result<bool, AllocError> {
+    Ok(path.len() == count && prints(alloc, path, text)? && shows(alloc, path, shown)?)
 }
 
 // Whether the path with a component without a name has three, and prints these texts.
-fn unnamed_prints(alloc: Global, text: &str, shown: &str) -> Result<bool, JoinError> {
-    let path = unnamed_between(alloc)?;
-    Ok(path.len() == 3 && prints(alloc, &path, text)? && shows(alloc, &path, shown)?)
+fn unnamed_prints(alloc: Global, text: &str, shown: &str) -> Result<bool, AllocError> {
+    is_printed(alloc, &unnamed_between(alloc)?, (3, text, shown))
 }
 
 #[test]
@@ -55,9 +37,8 @@ fn a_component_without_a_name_prints_nothing(rt: HostRuntime) -> Result<(), Fail
 }
 
 // Whether the path of these keys has as many components, and prints these texts.
-fn keys_print(alloc: Global, texts: &[&str], text: &str, shown: &str) -> Result<bool, JoinError> {
-    let path = keys(alloc, texts)?;
-    Ok(path.len() == texts.len() && prints(alloc, &path, text)? && shows(alloc, &path, shown)?)
+fn keys_print(alloc: Global, texts: &[&str], text: &str, shown: &str) -> Result<bool, AllocError> {
+    is_printed(alloc, &keys(alloc, texts)?, (texts.len(), text, shown))
 }
 
 /// Keys, what their path prints, and what it prints for a programmer.
@@ -81,15 +62,6 @@ fn a_key_that_is_a_number_is_a_key(rt: HostRuntime) -> Result<(), Fail> {
         assert!(rt; keys_print(rt.alloc(), texts, text, shown)?, "{text}");
     }
     Ok(())
-}
-
-// The path of so many indexes.
-fn indexes(alloc: Global, count: usize) -> Result<Path, JoinError> {
-    let mut path = Path::empty();
-    for index in 0..count {
-        path = beneath(alloc, &path, index)?;
-    }
-    Ok(path)
 }
 
 // What a walk gives at a turn, from the front or from the back; a hyphen where it gives nothing.
@@ -122,9 +94,8 @@ fn path_gives(alloc: Global, path: &Path, texts: &[&str]) -> Result<bool, AllocE
 }
 
 // Whether a path of so many indexes gives these texts by turns.
-fn gives(alloc: Global, count: usize, texts: &[&str]) -> Result<bool, JoinError> {
-    let path = indexes(alloc, count)?;
-    Ok(path_gives(alloc, &path, texts)?)
+fn gives(alloc: Global, count: usize, texts: &[&str]) -> Result<bool, AllocError> {
+    path_gives(alloc, &indexes(alloc, count)?, texts)
 }
 
 /// How many indexes a path has, and what twelve turns of its walk give.
@@ -160,16 +131,16 @@ fn a_walk_gives_both_ends_by_turns(rt: HostRuntime) -> Result<(), Fail> {
 }
 
 // The list of so many numbers.
-fn numbers(alloc: Global, count: usize) -> Result<List<usize>, JoinError> {
+fn numbers(alloc: Global, count: usize) -> Result<List<usize>, AllocError> {
     let mut list = List::new();
     for number in 0..count {
-        list = list.append(alloc, number)?;
+        list = longer(alloc, &list, number)?;
     }
     Ok(list)
 }
 
 // Whether a list of so many numbers, and its clone, are equal.
-fn list_is_its_clone(alloc: Global, count: usize) -> Result<bool, JoinError> {
+fn list_is_its_clone(alloc: Global, count: usize) -> Result<bool, AllocError> {
     let list = numbers(alloc, count)?;
     let copy = list.clone()?;
     Ok(copy == list && copy.len() == count)
@@ -182,7 +153,7 @@ fn is_its_clone(path: &Path) -> Result<bool, AllocError> {
 }
 
 // Whether a path of so many indexes, and its clone, are equal.
-fn path_is_its_clone(alloc: Global, count: usize) -> Result<bool, JoinError> {
+fn path_is_its_clone(alloc: Global, count: usize) -> Result<bool, AllocError> {
     let path = indexes(alloc, count)?;
     Ok(is_its_clone(&path)? && path.len() == count)
 }
@@ -191,7 +162,7 @@ fn path_is_its_clone(alloc: Global, count: usize) -> Result<bool, JoinError> {
 fn faults(alloc: Global, count: usize) -> Result<Report, AllocError> {
     let mut report = Report::new(alloc);
     for number in 0..count {
-        report.append(Path::new(alloc, number)?, Error::new(alloc, "x")?)?;
+        add(alloc, &mut report, number, "x")?;
     }
     Ok(report)
 }
@@ -204,10 +175,8 @@ fn report_is_its_clone(alloc: Global, count: usize) -> Result<bool, AllocError> 
 }
 
 // Whether a path that has a component without a name, and one of keys, are equal to their clones.
-fn named_are_their_clones(alloc: Global) -> Result<bool, JoinError> {
-    let unnamed = unnamed_between(alloc)?;
-    let keyed = keys(alloc, &["a", "0"])?;
-    Ok(is_its_clone(&unnamed)? && is_its_clone(&keyed)?)
+fn named_are_their_clones(alloc: Global) -> Result<bool, AllocError> {
+    Ok(is_its_clone(&unnamed_between(alloc)?)? && is_its_clone(&keys(alloc, &["a", "0"])?)?)
 }
 
 #[test]

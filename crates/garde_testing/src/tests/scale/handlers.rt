@@ -1,31 +1,21 @@
 //! Each text of the default handler, of the least and the greatest data.
+use crate::tests::asked::{Asked, Row, assert_says, says};
 use garde::i18n::IpKind;
 use garde::{DefaultI18n, I18n};
 use std::alloc::{AllocError, Global};
-use std::borrow::CowStr;
+use std::process::Abort;
 use std::test::Fail;
 
-/// What a method answers.
-type Said = Result<CowStr<'static>, AllocError>;
-
-// Whether this is what was said.
-fn is_said(said: &Said, text: &str) -> bool {
-    match said {
-        Ok(said) => said.as_str() == text,
-        Err(AllocError) => false,
-    }
-}
-
-// What the method of this index says of a text.
-fn of_text<H: I18n>(alloc: Global, h: &H, index: usize, text: &str) -> Said {
+// What a handler is asked for of a text, by the index of its method.
+fn of_text(index: usize, text: &str) -> Asked<'_> {
     match index {
-        0 => h.range_lower_than(alloc, text),
-        1 => h.range_greater_than(alloc, text),
-        2 => h.pattern_no_match(alloc, text),
-        3 => h.contains_missing(alloc, text),
-        4 => h.prefix_missing(alloc, text),
-        5 => h.suffix_missing(alloc, text),
-        _ => h.matches_field_mismatch(alloc, text),
+        0 => Asked::RangeLower(text),
+        1 => Asked::RangeGreater(text),
+        2 => Asked::Pattern(text),
+        3 => Asked::Contains(text),
+        4 => Asked::Prefix(text),
+        5 => Asked::Suffix(text),
+        _ => Asked::Matches(text),
     }
 }
 
@@ -49,67 +39,55 @@ fn says_around<H: I18n>(
 ) -> Result<bool, AllocError> {
     let text = "0123456789abcdeé".repeat(alloc, times)?;
     let wanted = format!(in alloc; "{front}{text}{end}")?;
-    let said = of_text(alloc, h, index, text.as_str());
-    Ok(is_said(&said, wanted.as_str()))
+    says(alloc, h, of_text(index, text.as_str()), wanted.as_str())
 }
 
-#[test]
-fn texts_of_nothing_and_of_a_kilobyte(rt: HostRuntime) -> Result<(), Fail> {
-    let alloc = rt.alloc();
-    for times in [0usize, 1, 64] {
-        for (index, around) in AROUND.iter().enumerate() {
-            let row = (index, times);
-            assert!(rt;
-                says_around(alloc, &DefaultI18n, row, *around)?,
-                "{times} of {index}"
-            );
-            assert!(rt;
-                says_around(alloc, &&DefaultI18n, row, *around)?,
-                "{times} of {index}"
-            );
-        }
+// Asserts what each method says of a text, so many times repeated.
+fn assert_says_around<H: I18n>(
+    rt: &impl Abort,
+    alloc: Global,
+    h: &H,
+    times: usize,
+) -> Result<(), AllocError> {
+    for (index, around) in AROUND.iter().enumerate() {
+        let row = (index, times);
+        assert!(rt; says_around(alloc, h, row, *around)?, "{times} of {index}");
     }
     Ok(())
 }
 
-// What the method of this index says, of a number, of a reason or of nothing.
-fn of_datum<H: I18n>(alloc: Global, h: &H, index: usize) -> Said {
-    match index {
-        0 => h.length_lower_than(alloc, 0),
-        1 => h.length_lower_than(alloc, usize::MAX),
-        2 => h.length_greater_than(alloc, 0),
-        3 => h.length_greater_than(alloc, usize::MAX),
-        4 => h.ip_invalid(alloc, IpKind::Any),
-        5 => h.ip_invalid(alloc, IpKind::V4),
-        6 => h.ip_invalid(alloc, IpKind::V6),
-        7 => h.ascii_invalid(alloc),
-        8 => h.alphanumeric_invalid(alloc),
-        _ => h.required_not_set(alloc),
+#[test]
+fn texts_of_nothing_and_of_a_kilobyte(rt: HostRuntime) -> Result<(), Fail> {
+    for times in [0usize, 1, 64] {
+        assert_says_around(&rt, rt.alloc(), &DefaultI18n, times)?;
+        assert_says_around(&rt, rt.alloc(), &&DefaultI18n, times)?;
     }
+    Ok(())
 }
 
-static DATA: [&str; 10] = [
-    "length is lower than 0",
-    "length is lower than 18446744073709551615",
-    "length is greater than 0",
-    "length is greater than 18446744073709551615",
-    "not a valid IP address",
-    "not a valid IPv4 address",
-    "not a valid IPv6 address",
-    "not ascii",
-    "not alphanumeric",
-    "not set",
+/// What is said of a number, of a kind or of nothing.
+static DATA: [Row; 10] = [
+    (Asked::LengthLower(0), "length is lower than 0"),
+    (
+        Asked::LengthLower(usize::MAX),
+        "length is lower than 18446744073709551615",
+    ),
+    (Asked::LengthGreater(0), "length is greater than 0"),
+    (
+        Asked::LengthGreater(usize::MAX),
+        "length is greater than 18446744073709551615",
+    ),
+    (Asked::Ip(IpKind::Any), "not a valid IP address"),
+    (Asked::Ip(IpKind::V4), "not a valid IPv4 address"),
+    (Asked::Ip(IpKind::V6), "not a valid IPv6 address"),
+    (Asked::Ascii, "not ascii"),
+    (Asked::Alphanumeric, "not alphanumeric"),
+    (Asked::Required, "not set"),
 ];
 
-// Whether the method of this index says this text.
-fn says<H: I18n>(alloc: Global, h: &H, index: usize, text: &str) -> bool {
-    is_said(&of_datum(alloc, h, index), text)
-}
-
 #[test]
-fn texts_of_numbers_and_of_nothing(rt: HostRuntime) {
-    for (index, text) in DATA.iter().enumerate() {
-        assert!(rt; says(rt.alloc(), &DefaultI18n, index, text), "{text}");
-        assert!(rt; says(rt.alloc(), &&DefaultI18n, index, text), "{text}");
-    }
+fn texts_of_numbers_and_of_nothing(rt: HostRuntime) -> Result<(), Fail> {
+    assert_says(&rt, rt.alloc(), &DefaultI18n, &DATA)?;
+    assert_says(&rt, rt.alloc(), &&DefaultI18n, &DATA)?;
+    Ok(())
 }

@@ -1,11 +1,15 @@
 //! What is made is given back: each kind of object is made and dropped many times, while no more
 //! than 32 KiB are left. What keeps a byte of each object comes to want of memory.
-use super::heavy::Heavy;
+use crate::tests::custom::Custom;
+use crate::tests::paths::{keys, longer};
+use crate::tests::reports::add;
+use crate::tests::rules::regex;
+use crate::tests::starved::document;
 use garde::json::{report_from_json, report_to_json};
 use garde::rc_list::List;
 use garde::rules::ascii;
 use garde::rules::pattern::regex::Regex;
-use garde::samples::{Document, Tag};
+use garde::samples::Document;
 use garde::{
     Component, Error, IntoValidError, Path, Report, RuleError, Trail, Unvalidated, Validate,
     ValidateError, select, with_i18n,
@@ -14,6 +18,7 @@ use garde_hog::Hog;
 use garde_json::report_to_json_text;
 use std::alloc::{AllocError, Global};
 use std::borrow::CowStr;
+use std::fmt::Display;
 use std::test::Fail;
 
 /// The bytes that are left while objects are made and dropped.
@@ -60,10 +65,7 @@ static KINDS: [(&str, Made); 11] = [
 fn list(alloc: Global) -> Result<List<String>, AllocError> {
     let mut list = List::new();
     for _ in 0..9usize {
-        let Ok(longer) = list.append(alloc, String::from_str(alloc, LONG)?) else {
-            return Err(AllocError);
-        };
-        list = longer;
+        list = longer(alloc, &list, String::from_str(alloc, LONG)?)?;
     }
     Ok(list)
 }
@@ -81,18 +83,6 @@ fn lists(alloc: Global) -> Result<(), AllocError> {
     before(&copy)
 }
 
-// The path of so many keys.
-fn path_of(alloc: Global, count: usize) -> Result<Path, AllocError> {
-    let mut path = Path::empty();
-    for _ in 0..count {
-        let Ok(longer) = path.join(alloc, LONG) else {
-            return Err(AllocError);
-        };
-        path = longer;
-    }
-    Ok(path)
-}
-
 // The parent of a path.
 fn parent(path: &Path) -> Result<(), AllocError> {
     let _parent = path.parent()?;
@@ -106,15 +96,15 @@ fn walk(alloc: Global, path: &Path) -> Result<(), AllocError> {
     Ok(())
 }
 
-// The text of a path.
-fn text(alloc: Global, path: &Path) -> Result<(), AllocError> {
-    let _text = path.to_string(alloc)?;
+// The text of a value.
+fn text<T: Display>(alloc: Global, value: &T) -> Result<(), AllocError> {
+    let _text = value.to_string(alloc)?;
     Ok(())
 }
 
 // A path, its parent, a walk of it, and its text.
 fn paths(alloc: Global) -> Result<(), AllocError> {
-    let path = path_of(alloc, 9)?;
+    let path = keys(alloc, &[LONG; 9])?;
     parent(&path)?;
     walk(alloc, &path)?;
     text(alloc, &path)
@@ -175,21 +165,15 @@ fn ways(alloc: Global) -> Result<(), AllocError> {
 fn report_of(alloc: Global, count: usize) -> Result<Report, AllocError> {
     let mut report = Report::new(alloc);
     for _ in 0..count {
-        report.append(path_of(alloc, 1)?, Error::new(alloc, LONG)?)?;
+        add(alloc, &mut report, LONG, LONG)?;
     }
     Ok(report)
-}
-
-// The text of a report.
-fn lines(alloc: Global, report: &Report) -> Result<(), AllocError> {
-    let _text = report.to_string(alloc)?;
-    Ok(())
 }
 
 // A report, its text, its clone, and its faults.
 fn reports(alloc: Global) -> Result<(), AllocError> {
     let report = report_of(alloc, 9)?;
-    lines(alloc, &report)?;
+    text(alloc, &report)?;
     let copy = report.clone()?;
     let _found = select(&copy, &[LONG]).count();
     let _faults = report.into_inner();
@@ -212,17 +196,11 @@ fn found(alloc: Global) -> Result<(), AllocError> {
     Ok(())
 }
 
-// The text of want of memory.
-fn want(alloc: Global) -> Result<(), AllocError> {
-    let _line = ValidateError::Memory.to_string(alloc)?;
-    Ok(())
-}
-
 // Errors, what rules find, and want of memory.
 fn errors(alloc: Global) -> Result<(), AllocError> {
     error(alloc)?;
     found(alloc)?;
-    want(alloc)
+    text(alloc, &ValidateError::Memory)
 }
 
 // The tree of a report, and the report of the tree.
@@ -249,10 +227,10 @@ fn trees(alloc: Global) -> Result<(), AllocError> {
 
 // Work under a handler that holds memory.
 fn handlers(alloc: Global) -> Result<(), AllocError> {
-    let heavy = Heavy {
+    let custom = Custom {
         weight: Vec::with_capacity(alloc, 100)?,
     };
-    match with_i18n(heavy, |h| ascii::apply(alloc, &"é", (), h)) {
+    match with_i18n(custom, |h| ascii::apply(alloc, &"é", (), h)) {
         Err(RuleError::Fault(_)) => Ok(()),
         _ => Err(AllocError),
     }
@@ -267,31 +245,14 @@ fn search(alloc: Global, pattern: &Regex) -> Result<(), AllocError> {
 
 // A pattern, and two searches.
 fn patterns(alloc: Global) -> Result<(), AllocError> {
-    let Ok(pattern) = Regex::new(alloc, "^[0-9]+$") else {
-        return Err(AllocError);
-    };
+    let pattern = regex(alloc, "^[0-9]+$")?;
     let _found = pattern.is_match(alloc, "12345")?;
     search(alloc, &pattern)
 }
 
-// A document with this tag, and with or without a content.
-fn document(alloc: Global, tag: &str, filled: bool) -> Result<Document, AllocError> {
-    let content = if filled {
-        Some(String::from_str(alloc, LONG)?)
-    } else {
-        None
-    };
-    Ok(Document {
-        check_format: false,
-        check_length: false,
-        content,
-        tag: Tag(String::from_str(alloc, tag)?),
-    })
-}
-
 // A value that becomes a valid one, and is taken out of it.
 fn valid(alloc: Global) -> Result<(), AllocError> {
-    match Unvalidated::new(document(alloc, "t-1", true)?).validate(alloc) {
+    match Unvalidated::new(document(alloc, Some(LONG), "t-1")?).validate(alloc) {
         Ok(valid) => {
             let _document = valid.into_inner();
             Ok(())
@@ -302,8 +263,8 @@ fn valid(alloc: Global) -> Result<(), AllocError> {
 
 // A value that is none, and its report.
 fn invalid(alloc: Global) -> Result<(), AllocError> {
-    match Unvalidated::new(document(alloc, LONG, false)?).validate(alloc) {
-        Err(IntoValidError::Report(report)) => lines(alloc, &report),
+    match Unvalidated::new(document(alloc, None, LONG)?).validate(alloc) {
+        Err(IntoValidError::Report(report)) => text(alloc, &report),
         _ => Err(AllocError),
     }
 }
@@ -312,7 +273,7 @@ fn invalid(alloc: Global) -> Result<(), AllocError> {
 fn crowd(alloc: Global, count: usize) -> Result<Vec<Document>, AllocError> {
     let mut crowd = Vec::new(alloc);
     for _ in 0..count {
-        crowd.push(document(alloc, LONG, false)?)?;
+        crowd.push(document(alloc, None, LONG)?)?;
     }
     Ok(crowd)
 }
@@ -364,8 +325,8 @@ fn times_given_back(alloc: Global, kind: Made) -> Result<usize, AllocError> {
 
 #[test]
 fn what_is_made_is_given_back(rt: HostRuntime) -> Result<(), Fail> {
-    for (name, kind) in KINDS {
-        assert_eq!(rt; times_given_back(rt.alloc(), kind)?, TIMES, "{name}");
+    for (name, kind) in &KINDS {
+        assert_eq!(rt; times_given_back(rt.alloc(), *kind)?, TIMES, "{name}");
     }
     Ok(())
 }

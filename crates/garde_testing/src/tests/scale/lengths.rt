@@ -1,5 +1,5 @@
 //! Each length of a long text, as a value, with a fault below its bound and one above.
-use super::tells;
+use crate::tests::told::tells;
 use garde::fields::{ByteLength, CharLength, GraphemeLength, Length, Utf16Length};
 use garde::rules::Rule;
 use garde::{DefaultI18n, RuleError};

@@ -1,12 +1,14 @@
 //! Rules of long texts, by their functions and as values.
 use super::parcel::{Label, LabelText, Parcel};
-use super::tells;
+use crate::tests::rules::regex;
+use crate::tests::told::{tells, tells_all};
 use garde::fields::{Adapt, Contains, Pattern, Prefix, Suffix, Url};
 use garde::rules::pattern::regex::Regex;
 use garde::rules::values::MemoryRule;
 use garde::rules::{Rule, contains, pattern, prefix, suffix, url};
 use garde::{DefaultI18n, RuleError, Validate};
 use std::alloc::{AllocError, Global};
+use std::process::Abort;
 use std::test::Fail;
 
 // What the rule of this index finds in a text.
@@ -74,50 +76,65 @@ const NO_URL: Option<&str> = Some("not a valid url: relative URL without a base"
 
 const NO_CODE: Option<&str> = Some("does not match pattern /^[0-9]+$/");
 
-// A label of a text and of another one, so many times repeated.
-fn label(alloc: Global, front: &str, again: &str, times: usize) -> Result<Label, AllocError> {
+/// A beginning, what comes again after it, and how often.
+type Parts<'t> = (&'t str, &'t str, usize);
+
+// A text of these parts.
+fn text(alloc: Global, (front, again, times): Parts<'_>) -> Result<String, AllocError> {
     let rest = again.repeat(alloc, times)?;
-    Ok(Label {
-        text: format!(in alloc; "{front}{rest}")?,
-    })
+    format!(in alloc; "{front}{rest}")
 }
 
-/// A beginning, what comes again after it, and how often.
-type Parts = (&'static str, &'static str, usize);
+// A label of a text of these parts.
+fn label(alloc: Global, parts: Parts<'_>) -> Result<Label, AllocError> {
+    Ok(Label {
+        text: text(alloc, parts)?,
+    })
+}
 
 // Whether this is answered of a label of these parts, by a function or a value.
 fn is_answered(
     alloc: Global,
     way: usize,
-    (front, again, times): Parts,
+    parts: Parts<'_>,
     wanted: Option<&str>,
-) -> Result<bool, Fail> {
-    let code = Regex::new(alloc, "^[0-9]+$")?;
-    let label = label(alloc, front, again, times)?;
-    Ok(tells(answer(alloc, way, &label, &code), wanted))
+) -> Result<bool, AllocError> {
+    let code = regex(alloc, "^[0-9]+$")?;
+    let answer = answer(alloc, way, &label(alloc, parts)?, &code);
+    Ok(tells(answer, wanted))
+}
+
+/// The parts of a label, and what is found where it has to be a URL, and where it has to have a code.
+static ROWS: [(Parts<'static>, Option<&str>, Option<&str>); 4] = [
+    (("https://example.com/", "path/", 819), None, NO_CODE),
+    (("", "path/", 819), NO_URL, NO_CODE),
+    (("", "01234567", 1024), NO_URL, None),
+    (("x", "01234567", 1024), NO_URL, NO_CODE),
+];
+
+// Asserts what is answered of a label of these parts in each of these ways.
+fn assert_answered(
+    rt: &impl Abort,
+    alloc: Global,
+    ways: [usize; 3],
+    parts: Parts<'_>,
+    wanted: Option<&str>,
+) -> Result<(), AllocError> {
+    let (front, again, _) = parts;
+    for way in ways {
+        assert!(rt;
+            is_answered(alloc, way, parts, wanted)?,
+            "{front}{again} by {way}"
+        );
+    }
+    Ok(())
 }
 
 #[test]
 fn links_of_four_and_codes_of_eight_kilobytes(rt: HostRuntime) -> Result<(), Fail> {
-    let rows: [(Parts, Option<&str>, Option<&str>); 4] = [
-        (("https://example.com/", "path/", 819), None, NO_CODE),
-        (("", "path/", 819), NO_URL, NO_CODE),
-        (("", "01234567", 1024), NO_URL, None),
-        (("x", "01234567", 1024), NO_URL, NO_CODE),
-    ];
-    for (row, (parts, link, number)) in rows.iter().enumerate() {
-        for way in 0..3 {
-            assert!(rt;
-                is_answered(rt.alloc(), way, *parts, *link)?,
-                "link {row} by {way}"
-            );
-        }
-        for way in 3..6 {
-            assert!(rt;
-                is_answered(rt.alloc(), way, *parts, *number)?,
-                "code {row} by {way}"
-            );
-        }
+    for (parts, link, number) in &ROWS {
+        assert_answered(&rt, rt.alloc(), [0, 1, 2], *parts, *link)?;
+        assert_answered(&rt, rt.alloc(), [3, 4, 5], *parts, *number)?;
     }
     Ok(())
 }
@@ -125,27 +142,17 @@ fn links_of_four_and_codes_of_eight_kilobytes(rt: HostRuntime) -> Result<(), Fai
 // A parcel of these texts, each so many times.
 fn parcel(alloc: Global, link: &str, code: &str) -> Result<Parcel, AllocError> {
     Ok(Parcel {
-        link: format!(in alloc; "{link}{}", "path/".repeat(alloc, 819)?)?,
+        link: text(alloc, (link, "path/", 819))?,
         code: code.repeat(alloc, 1024)?,
-        label: Label {
-            text: code.repeat(alloc, 1024)?,
-        },
+        label: label(alloc, ("", code, 1024))?,
     })
 }
 
-// What is told of a parcel under a pattern.
-fn told(alloc: Global, parcel: &Parcel, code: &Regex) -> Result<String, AllocError> {
-    match parcel.validate_with(alloc, code) {
-        Ok(()) => Ok(String::new(alloc)),
-        Err(refusal) => refusal.to_string(alloc),
-    }
-}
-
 // Whether this is told of a parcel of these texts.
-fn is_told(alloc: Global, link: &str, digits: &str, wanted: &str) -> Result<bool, Fail> {
-    let code = Regex::new(alloc, "^[0-9]+$")?;
-    let parcel = parcel(alloc, link, digits)?;
-    Ok(told(alloc, &parcel, &code)?.as_str() == wanted)
+fn is_told(alloc: Global, link: &str, digits: &str, wanted: &str) -> Result<bool, AllocError> {
+    let code = regex(alloc, "^[0-9]+$")?;
+    let answer = parcel(alloc, link, digits)?.validate_with(alloc, &code);
+    tells_all(alloc, answer, wanted)
 }
 
 #[test]

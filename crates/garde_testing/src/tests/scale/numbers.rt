@@ -1,5 +1,5 @@
 //! The greatest and least numbers, as values and as bounds, in the texts of faults.
-use super::tells;
+use crate::tests::told::tells;
 use garde::DefaultI18n;
 use garde::fields::Range;
 use garde::rules::Rule;

@@ -1,11 +1,12 @@
 //! What `{}` gives of a value of each public type that prints, and of a report to a writer that takes
 //! a byte a call.
+use crate::tests::reports::add;
+use crate::tests::told::prints;
 use garde::error::{Component, NoKey};
 use garde::i18n::{InvalidCreditCard, InvalidPhoneNumber, InvalidUrl, IpKind};
 use garde::rules::ip::Ip;
 use garde::{Error, IntoValidError, Path, Report, Unvalidated, ValidateError};
 use std::alloc::{AllocError, Global};
-use std::fmt::Display;
 use std::io::{self, Write};
 use std::test::Fail;
 
@@ -29,11 +30,6 @@ impl Write for Narrow {
     fn flush(&mut self) -> io::Result<()> {
         Ok(())
     }
-}
-
-// Whether a value prints this text.
-fn prints<T: Display>(alloc: Global, value: &T, text: &str) -> Result<bool, AllocError> {
-    Ok(format!(in alloc; "{value}")?.as_str() == text)
 }
 
 // What a report gives to a writer that takes one byte a call.
@@ -72,9 +68,8 @@ fn reasons_and_kinds(rt: HostRuntime) -> Result<(), Fail> {
 
 // A report of one fault at an index.
 fn report(alloc: Global) -> Result<Report, AllocError> {
-    let path = Path::new(alloc, 7usize)?;
     let mut report = Report::new(alloc);
-    report.append(path, Error::new(alloc, "not ascii: \u{e9}")?)?;
+    add(alloc, &mut report, 7usize, "not ascii: \u{e9}")?;
     Ok(report)
 }
 

@@ -1,36 +1,13 @@
 //! Each reason why a value is no card number, no phone number or no URL, in the text of the fault.
 ghost use Rattle.garde.specs.Fields.{Result, Some};
 
-use super::tells;
+use crate::tests::rules::{Card, Phone};
+use crate::tests::told::tells;
 use garde::i18n::{InvalidCreditCard, InvalidPhoneNumber, InvalidUrl};
 use garde::rules::values::MemoryRule;
 use garde::rules::{Rule, credit_card, phone_number, url};
 use garde::{DefaultI18n, fields};
 use std::alloc::{AllocError, Global};
-
-/// A value that gives this answer when it is asked for a credit card number.
-#[derive(Clone, Copy)]
-struct Card(Result<(), InvalidCreditCard>);
-
-impl credit_card::CreditCard for Card {
-    ghost answer = { λ card. card.0 };
-
-    fn validate_credit_card(&self) -> Result<(), InvalidCreditCard> {
-        self.0
-    }
-}
-
-/// A value that gives this answer when it is asked for a phone number.
-#[derive(Clone, Copy)]
-struct Phone(Result<(), InvalidPhoneNumber>);
-
-impl phone_number::PhoneNumber for Phone {
-    ghost answer = { λ phone. phone.0 };
-
-    fn validate_phone_number(&self) -> Result<(), InvalidPhoneNumber> {
-        self.0
-    }
-}
 
 /// A value that gives this answer when it is asked for a URL.
 #[derive(Clone, Copy)]

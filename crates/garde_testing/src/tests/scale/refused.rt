@@ -1,13 +1,16 @@
 //! Calls whose requests for memory are refused: a join, and the written form of a report of four
 //! faults.
+use crate::tests::paths::{beneath, indexes};
+use crate::tests::reports::tree;
+use crate::tests::told::reads;
 use garde::json::{JsonRefused, report_from_json, report_to_json};
 use garde::rc_list::JoinError;
 use garde::{Error, Path, Report, RuleError};
 use garde_hog::{Calls, Met, Scarce};
 use garde_json::report_to_json_text;
-use serde_json::Value;
 use std::alloc::{AllocError, Global};
 use std::borrow::CowStr;
+use std::fmt::Display;
 use std::test::Fail;
 
 const FORM: &str =
@@ -35,38 +38,37 @@ impl Calls for Call {
     }
 }
 
+// Whether a value that was made without a refusal reads this text, beside objects that stand.
+fn is_ample<T: Display>(
+    alloc: Global,
+    made: &T,
+    text: &str,
+    stands: bool,
+) -> Result<Met, AllocError> {
+    Ok(Met::Ample.when(stands && reads(alloc, made, text)?))
+}
+
 // The path `[0].a`.
-fn path(alloc: Global) -> Result<Path, JoinError> {
-    Path::empty().join(alloc, 0usize)?.join(alloc, "a")
+fn path(alloc: Global) -> Result<Path, AllocError> {
+    beneath(alloc, &indexes(alloc, 1)?, "a")
 }
 
 fn join(alloc: Global, memory: &mut Scarce) -> Result<Met, AllocError> {
-    let Ok(path) = path(alloc) else {
-        return Err(AllocError);
-    };
+    let path = path(alloc)?;
     memory.begin();
     let answer = path.join(alloc, 1usize);
     memory.end();
-    let stands = path.to_string(alloc)?.as_str() == "[0].a" && path.len() == 2;
-    Ok(match answer {
-        Ok(longer) => Met::Ample.when(stands && longer.to_string(alloc)?.as_str() == "[0].a[1]"),
-        Err(JoinError::Memory) => Met::Want.when(stands),
-        Err(JoinError::TooLong) => Met::Wrong,
-    })
-}
-
-// The tree of the form.
-fn tree(alloc: Global) -> Result<Value, AllocError> {
-    match Value::from_str(alloc, FORM) {
-        Ok(tree) => Ok(tree),
-        Err(_) => Err(AllocError),
+    let stands = reads(alloc, &path, "[0].a")? && path.len() == 2;
+    match &answer {
+        Ok(longer) => is_ample(alloc, longer, "[0].a[1]", stands),
+        Err(JoinError::Memory) => Ok(Met::Want.when(stands)),
+        Err(JoinError::TooLong) => Ok(Met::Wrong),
     }
 }
 
 // The report of the form.
 fn report(alloc: Global) -> Result<Report, AllocError> {
-    let tree = tree(alloc)?;
-    match report_from_json(alloc, &tree) {
+    match report_from_json(alloc, &tree(alloc, FORM)?) {
         Ok(report) => Ok(report),
         Err(_) => Err(AllocError),
     }
@@ -77,11 +79,11 @@ fn write(alloc: Global, memory: &mut Scarce) -> Result<Met, AllocError> {
     memory.begin();
     let answer = report_to_json(alloc, &report);
     memory.end();
-    let stands = report.to_string(alloc)?.as_str() == TEXT;
-    Ok(match answer {
-        Ok(tree) => Met::Ample.when(stands && tree.to_string(alloc)?.as_str() == FORM),
-        Err(AllocError) => Met::Want.when(stands),
-    })
+    let stands = reads(alloc, &report, TEXT)?;
+    match &answer {
+        Ok(tree) => is_ample(alloc, tree, FORM, stands),
+        Err(AllocError) => Ok(Met::Want.when(stands)),
+    }
 }
 
 fn write_text(alloc: Global, memory: &mut Scarce) -> Result<Met, AllocError> {
@@ -89,24 +91,24 @@ fn write_text(alloc: Global, memory: &mut Scarce) -> Result<Met, AllocError> {
     memory.begin();
     let answer = report_to_json_text(alloc, &report);
     memory.end();
-    let stands = report.to_string(alloc)?.as_str() == TEXT;
-    Ok(match answer {
-        Ok(text) => Met::Ample.when(stands && text.as_str() == FORM),
-        Err(AllocError) => Met::Want.when(stands),
-    })
+    let stands = reads(alloc, &report, TEXT)?;
+    match &answer {
+        Ok(text) => is_ample(alloc, text, FORM, stands),
+        Err(AllocError) => Ok(Met::Want.when(stands)),
+    }
 }
 
 fn read(alloc: Global, memory: &mut Scarce) -> Result<Met, AllocError> {
-    let tree = tree(alloc)?;
+    let tree = tree(alloc, FORM)?;
     memory.begin();
     let answer = report_from_json(alloc, &tree);
     memory.end();
-    let stands = tree.to_string(alloc)?.as_str() == FORM;
-    Ok(match answer {
-        Ok(report) => Met::Ample.when(stands && report.to_string(alloc)?.as_str() == TEXT),
-        Err(JsonRefused::Memory) => Met::Want.when(stands),
-        Err(JsonRefused::Form) => Met::Wrong,
-    })
+    let stands = reads(alloc, &tree, FORM)?;
+    match &answer {
+        Ok(report) => is_ample(alloc, report, TEXT, stands),
+        Err(JsonRefused::Memory) => Ok(Met::Want.when(stands)),
+        Err(JsonRefused::Form) => Ok(Met::Wrong),
+    }
 }
 
 // Whether a call comes to want of memory while there is little, and to its answer in the end.

@@ -5,6 +5,7 @@ ghost use Rattle.garde.specs.Author.{length_in};
 ghost use Rattle.garde.specs.Fields.{◌and◌, Some, None, nat_lt, byte_count, string_bytes, codes, own, found, field, matches_text};
 
 use super::parcel::Label;
+use crate::tests::told::{prints, tells_all};
 use garde::fields::{Field, Fields, Is, Length, Matches, Rule};
 use garde::rules::length::HasSimpleLength;
 use garde::rules::{adapt, inner, prefix};
@@ -93,47 +94,48 @@ impl Validate for Account {
     }
 }
 
-// What is told of an account under a bank that asks for so many bytes.
-fn told(alloc: Global, coins: usize, again: &str, least: usize) -> Result<String, AllocError> {
-    let account = Account {
+// An account of so many coins.
+fn account_of(alloc: Global, coins: usize, again: &str) -> Result<Account, AllocError> {
+    let password = String::from_str(alloc, "secret")?;
+    Ok(Account {
         purse: Purse { coins },
-        password: String::from_str(alloc, "secret")?,
+        password,
         again: String::from_str(alloc, again)?,
-    };
-    match account.validate_with(alloc, &Bank { least }) {
-        Ok(()) => Ok(String::new(alloc)),
-        Err(refusal) => refusal.to_string(alloc),
-    }
+    })
 }
 
-// Whether this is told of an account.
+// Whether this is told of an account under a bank that asks for so many bytes.
 fn is_told(
     alloc: Global,
     coins: usize,
     (again, least): (&str, usize),
     text: &str,
 ) -> Result<bool, AllocError> {
-    Ok(told(alloc, coins, again, least)?.as_str() == text)
+    let answer = account_of(alloc, coins, again)?.validate_with(alloc, &Bank { least });
+    tells_all(alloc, answer, text)
 }
+
+/// Coins, a second password, what a bank asks for, and what is told.
+static ACCOUNTS: [(usize, &str, usize, &str); 7] = [
+    (1, "secret", 6, ""),
+    (9, "secret", 0, ""),
+    (0, "secret", 6, "purse: length is lower than 1\n"),
+    (10, "secret", 6, "purse: length is greater than 9\n"),
+    (1, "secret", 7, "password: weak\n"),
+    (1, "Secret", 6, "again: does not match password field\n"),
+    (
+        0,
+        "",
+        7,
+        "purse: length is lower than 1\npassword: weak\nagain: does not match password field\n",
+    ),
+];
 
 #[test]
 fn a_length_a_context_and_a_match(rt: HostRuntime) -> Result<(), Fail> {
-    let rows = [
-        (1, "secret", 6, ""),
-        (9, "secret", 0, ""),
-        (0, "secret", 6, "purse: length is lower than 1\n"),
-        (10, "secret", 6, "purse: length is greater than 9\n"),
-        (1, "secret", 7, "password: weak\n"),
-        (1, "Secret", 6, "again: does not match password field\n"),
-        (
-            0,
-            "",
-            7,
-            "purse: length is lower than 1\npassword: weak\nagain: does not match password field\n",
-        ),
-    ];
-    for (coins, again, least, text) in rows {
-        assert!(rt; is_told(rt.alloc(), coins, (again, least), text)?, "{text}");
+    for (coins, again, least, text) in &ACCOUNTS {
+        let asked = (*again, *least);
+        assert!(rt; is_told(rt.alloc(), *coins, asked, text)?, "{text}");
     }
     Ok(())
 }
@@ -157,29 +159,34 @@ fn check_label<'a>(
     put
 }
 
-// What is told of labels of these texts.
-fn of_labels(alloc: Global, texts: &[&str]) -> Result<String, Fail> {
+// The labels of these texts.
+fn labels(alloc: Global, texts: &[&str]) -> Result<Vec<Label>, AllocError> {
     let mut labels = Vec::new(alloc);
     for text in texts {
         let text = String::from_str(alloc, text)?;
         labels.push(Label { text })?;
     }
+    Ok(labels)
+}
+
+// Asks the text of each label for its beginning.
+fn check_labels(alloc: Global, labels: &Vec<Label>, report: &mut Report) -> Result<(), AllocError> {
     let mut trail = Trail::new(alloc);
-    let mut report = Report::new(alloc);
     inner::apply(
-        &labels,
+        labels,
         &mut trail,
-        &mut report,
+        report,
         |label: &Label, component, trail, report| {
             check_label(alloc, label, component, trail, report)
         },
-    )?;
-    Ok(report.to_string(alloc)?)
+    )
 }
 
 // Whether this is told of labels of these texts.
-fn is_told_of_labels(alloc: Global, texts: &[&str], text: &str) -> Result<bool, Fail> {
-    Ok(of_labels(alloc, texts)?.as_str() == text)
+fn is_told_of_labels(alloc: Global, texts: &[&str], text: &str) -> Result<bool, AllocError> {
+    let mut report = Report::new(alloc);
+    check_labels(alloc, &labels(alloc, texts)?, &mut report)?;
+    prints(alloc, &report, text)
 }
 
 #[test]

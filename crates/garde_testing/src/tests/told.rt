@@ -1,0 +1,45 @@
+//! What answers tell, and what values print.
+use garde::{RuleError, ValidateError};
+use std::alloc::{AllocError, Global};
+use std::fmt::{Debug, Display};
+
+/// What an answer tells. That of a valid value tells nothing.
+pub fn told(alloc: Global, answer: Result<(), ValidateError>) -> Result<String, AllocError> {
+    match answer {
+        Ok(()) => Ok(String::new(alloc)),
+        Err(refusal) => refusal.to_string(alloc),
+    }
+}
+
+/// Whether an answer tells just this.
+pub fn tells_all(
+    alloc: Global,
+    answer: Result<(), ValidateError>,
+    text: &str,
+) -> Result<bool, AllocError> {
+    Ok(told(alloc, answer)?.as_str() == text)
+}
+
+/// Whether the answer of a rule tells this: nothing where it is Ok, and else the text of its fault.
+pub fn tells(answer: Result<(), RuleError>, wanted: Option<&str>) -> bool {
+    match answer {
+        Ok(()) => wanted.is_none(),
+        Err(RuleError::Fault(error)) => wanted == Some(error.message()),
+        Err(RuleError::Memory) => wanted == Some("out of memory"),
+    }
+}
+
+/// Whether a value prints this text.
+pub fn prints<T: Display>(alloc: Global, value: &T, text: &str) -> Result<bool, AllocError> {
+    Ok(format!(in alloc; "{value}")?.as_str() == text)
+}
+
+/// Whether the text of a value is this.
+pub fn reads<T: Display>(alloc: Global, value: &T, text: &str) -> Result<bool, AllocError> {
+    Ok(value.to_string(alloc)?.as_str() == text)
+}
+
+/// Whether a value prints this text for a programmer.
+pub fn shows<T: Debug>(alloc: Global, value: &T, text: &str) -> Result<bool, AllocError> {
+    Ok(format!(in alloc; "{value:?}")?.as_str() == text)
+}
