@@ -15,7 +15,7 @@ use Rattle.garde_report.specs.Part.{key_part}
 use Rattle.garde_rules.specs.{bounds_answer, length_fault}
 use Rattle.garde_rules.specs.Holds.{unless}
 use Rattle.garde_rules.specs.Range.{range_fault, int_bounds_answer}
-use Rattle.garde_rules.specs.IpText.{is_ip_text}
+use Rattle.garde_rules.specs.{is_ip_text}
 use Rattle.garde_rules.specs.Reasons.{url_fault, read_answer}
 use Rattle.garde_rules.specs.{matches_source, url_answer}
 use Rattle.garde_i18n.specs.declared.reasons.IpKind.{IpKind}

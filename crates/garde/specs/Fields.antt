@@ -7,7 +7,7 @@ pub use Rattle.garde.specs.Finds.{with_message, told_unless, own_unless}
 pub use Rattle.garde.specs.Author.{Visits, item, inside, none, found, taking, ◌and◌, below, items, entries, items_in_any_order, entries_in_any_order, optional, when, own, Any, V4, V6, in_map, in_vec, nest_visits}
 unfoldable pub use Rattle.garde.specs.Visits.{Known}
 pub use Rattle.garde_rules.specs.{byte_count, char_count}
-pub use Rattle.garde_rules.specs.IpText.{is_ipv4_text, is_ipv6_text}
+pub use Rattle.garde_rules.specs.{is_ipv4_text, is_ipv6_text}
 use Rattle.std.specs.Prelude.{ℕ, ℤ, neg_ℤ, List, String, Vec}
 use Rattle.std.specs.Borrow.{Bor}
 use Rattle.std.specs.BTreeMap.{BTreeMap}

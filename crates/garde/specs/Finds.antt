@@ -10,7 +10,7 @@ use Rattle.garde_i18n.specs.Datum as datum
 use Rattle.garde_i18n.specs.declared.reasons.IpKind.{IpKind}
 use Rattle.garde_rules.specs.{Fault, own, bounds_answer, length_fault, byte_count, char_count, unit_count, grapheme_count, matches_source, url_answer}
 use Rattle.garde_rules.specs.Holds.{unless}
-use Rattle.garde_rules.specs.IpText.{is_ip_text}
+use Rattle.garde_rules.specs.{is_ip_text}
 use Rattle.garde_rules.specs.Range.{range_fault, int_bounds_answer}
 use Rattle.garde_rules.specs.Reasons.{url_fault, read_answer}
 use Rattle.garde_rules.specs.Text.{is_ascii_text, is_alphanumeric_text, has_part, has_prefix, has_suffix}

@@ -1,4 +1,8 @@
 pub mod Compiled
+pub mod Ip
+pub mod IpText
+pub mod Ipv4Reader
+pub mod Ipv6Reader
 pub mod Patterns
-pub mod Urls
 pub mod Refusals
+pub mod Urls

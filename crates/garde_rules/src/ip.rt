@@ -4,22 +4,19 @@ ghost use Rattle.garde_i18n.specs.Datum as datum;
 ghost use Rattle.garde_i18n.specs.Reasons.{ip_kind_text};
 ghost use Rattle.garde_i18n.specs.declared.reasons.IpKind.{IpKind};
 ghost use Rattle.garde_lengths.specs.Applies.{Applies};
+ghost use Rattle.garde_engines.specs.Ip.{IsIp};
+ghost use Rattle.garde_engines.specs.IpText.{is_ip_text};
 ghost use Rattle.garde_rules.specs.Holds.{unless, passes_option, refused_option};
-ghost use Rattle.garde_rules.specs.Ip.{IsIp};
-ghost use Rattle.garde_rules.specs.IpText.{is_ip_text};
-
-mod v4;
-mod v6;
 
 use crate::as_str::AsStr;
+use garde_engines::addresses::is_ip;
+pub use garde_engines::addresses::{is_ipv4, is_ipv6};
 use garde_i18n::I18n;
 pub use garde_i18n::IpKind;
 use garde_report::RuleError;
 use std::alloc::Global;
 use std::fmt;
 use std::marker::Model;
-pub use v4::is_ipv4;
-pub use v6::is_ipv6;
 
 /// Why a text is refused: it is no address of the kind that was asked for.
 #[derive(Drop)]
@@ -54,18 +51,6 @@ impl fmt::Debug for AddrParseError {
 }
 
 impl std::error::Error for AddrParseError {}
-
-// Whether the text is an address of the kind.
-fn is_ip(text: &str, kind: IpKind) -> bool
-    ensures grammar { IsTrue result ↔ IsIp kind text.now }
-    ensures value { result ≡ is_ip_text kind text.now }
-{
-    match kind {
-        IpKind::Any => is_ipv4(text) || is_ipv6(text),
-        IpKind::V4 => is_ipv4(text),
-        IpKind::V6 => is_ipv6(text),
-    }
-}
 
 /// A value that may be an IP address. Every text may, and an option of one.
 pub trait Ip {
