@@ -1,13 +1,13 @@
 //! Written forms, and trees that are none.
 
-use crate::samples::{path_of, printed, report_of};
+use crate::samples::{OrEnd, path_of, printed, report_of};
 use garde_report::json::{
     JsonRefused, path_from_json, path_to_json, report_from_json, report_to_json,
 };
 use garde_report::{Kind, Path, Report};
 use serde_json::Value;
 use std::alloc::Global;
-use std::test::Fail;
+use std::process::Abort;
 
 const A: (Kind, &str) = (Kind::Key, "a");
 
@@ -22,48 +22,48 @@ const ONE: (Kind, &str) = (Kind::Index, "1");
 const TWO: (Kind, &str) = (Kind::Index, "2");
 
 // Whether a report is written as this text, and is read back from its tree.
-fn is_there_and_back(alloc: Global, report: &Report, text: &str) -> Result<bool, Fail> {
-    let tree = report_to_json(alloc, report)?;
+fn is_there_and_back(rt: &impl Abort, alloc: Global, report: &Report, text: &str) -> bool {
+    let tree = report_to_json(alloc, report).or_end(rt);
     let Ok(back) = report_from_json(alloc, &tree) else {
-        return Ok(false);
+        return false;
     };
     let is_same = back.iter().eq(report.iter());
-    Ok(is_same && tree.to_string(alloc)?.as_str() == text)
+    is_same && tree.to_string(alloc).or_end(rt).as_str() == text
 }
 
 // The same of a path.
-fn is_path_there_and_back(alloc: Global, path: &Path, text: &str) -> Result<bool, Fail> {
-    let tree = path_to_json(alloc, path)?;
+fn is_path_there_and_back(rt: &impl Abort, alloc: Global, path: &Path, text: &str) -> bool {
+    let tree = path_to_json(alloc, path).or_end(rt);
     let Ok(back) = path_from_json(alloc, &tree) else {
-        return Ok(false);
+        return false;
     };
     let is_same = back == *path;
-    Ok(is_same && tree.to_string(alloc)?.as_str() == text)
+    is_same && tree.to_string(alloc).or_end(rt).as_str() == text
 }
 
 // Whether the report that is read from the tree of a text prints these lines.
-fn is_read(alloc: Global, text: &str, lines: &str) -> Result<bool, Fail> {
-    let tree = Value::from_str(alloc, text)?;
+fn is_read(rt: &impl Abort, alloc: Global, text: &str, lines: &str) -> bool {
+    let tree = Value::from_str(alloc, text).or_end(rt);
     let Ok(report) = report_from_json(alloc, &tree) else {
-        return Ok(false);
+        return false;
     };
-    Ok(printed(alloc, &report)?.as_str() == lines)
+    printed(rt, alloc, &report).as_str() == lines
 }
 
 // Whether the tree of a text is refused as a report for its form.
-fn is_refused(alloc: Global, text: &str) -> Result<bool, Fail> {
-    let tree = Value::from_str(alloc, text)?;
-    Ok(matches!(&report_from_json(alloc, &tree), Err(JsonRefused::Form)))
+fn is_refused(rt: &impl Abort, alloc: Global, text: &str) -> bool {
+    let tree = Value::from_str(alloc, text).or_end(rt);
+    matches!(&report_from_json(alloc, &tree), Err(JsonRefused::Form))
 }
 
 // Whether the tree of a text is refused as a path for its form.
-fn is_refused_as_a_path(alloc: Global, text: &str) -> Result<bool, Fail> {
-    let tree = Value::from_str(alloc, text)?;
-    Ok(matches!(&path_from_json(alloc, &tree), Err(JsonRefused::Form)))
+fn is_refused_as_a_path(rt: &impl Abort, alloc: Global, text: &str) -> bool {
+    let tree = Value::from_str(alloc, text).or_end(rt);
+    matches!(&path_from_json(alloc, &tree), Err(JsonRefused::Form))
 }
 
 #[test]
-fn a_report_is_written_and_read_back(rt: HostRuntime) -> Result<(), Fail> {
+fn a_report_is_written_and_read_back(rt: HostRuntime) {
     let rows: [(&[(&[(Kind, &str)], &str)], &str); 3] = [
         (&[], r#"{"errors":[]}"#),
         (
@@ -81,21 +81,21 @@ fn a_report_is_written_and_read_back(rt: HostRuntime) -> Result<(), Fail> {
         ),
     ];
     for (faults, text) in rows {
-        assert!(rt; is_there_and_back(rt.alloc(), &report_of(rt.alloc(), faults)?, text)?);
+        assert!(rt; is_there_and_back(&rt, rt.alloc(), &report_of(&rt, rt.alloc(), faults), text));
     }
-    Ok(())
 }
 
 #[test]
-fn a_path_is_written_and_read_back(rt: HostRuntime) -> Result<(), Fail> {
+fn a_path_is_written_and_read_back(rt: HostRuntime) {
     let text = r#"[["key","a"],["index","0"]]"#;
-    assert!(rt; is_path_there_and_back(rt.alloc(), &path_of(rt.alloc(), &[A, ZERO])?, text)?);
-    assert!(rt; is_refused_as_a_path(rt.alloc(), r#"{"key":"a"}"#)?);
-    Ok(())
+    assert!(rt;
+        is_path_there_and_back(&rt, rt.alloc(), &path_of(&rt, rt.alloc(), &[A, ZERO]), text)
+    );
+    assert!(rt; is_refused_as_a_path(&rt, rt.alloc(), r#"{"key":"a"}"#));
 }
 
 #[test]
-fn every_other_tree_is_refused(rt: HostRuntime) -> Result<(), Fail> {
+fn every_other_tree_is_refused(rt: HostRuntime) {
     let rows = [
         "null",
         "{}",
@@ -115,13 +115,12 @@ fn every_other_tree_is_refused(rt: HostRuntime) -> Result<(), Fail> {
         r#"{"errors":[[[],{"message":"x","code":"y"}]]}"#,
     ];
     for text in rows {
-        assert!(rt; is_refused(rt.alloc(), text)?, "at {text}");
+        assert!(rt; is_refused(&rt, rt.alloc(), text), "at {text}");
     }
-    Ok(())
 }
 
 #[test]
-fn any_text_stands_with_any_kind(rt: HostRuntime) -> Result<(), Fail> {
+fn any_text_stands_with_any_kind(rt: HostRuntime) {
     let rows = [
         (r#"{"errors":[[[],{"message":""}]]}"#, "\n"),
         (
@@ -134,7 +133,6 @@ fn any_text_stands_with_any_kind(rt: HostRuntime) -> Result<(), Fail> {
         ),
     ];
     for (text, lines) in rows {
-        assert!(rt; is_read(rt.alloc(), text, lines)?, "at {text}");
+        assert!(rt; is_read(&rt, rt.alloc(), text, lines), "at {text}");
     }
-    Ok(())
 }

@@ -1,21 +1,24 @@
 //! Reports as text, beside the text of their trees.
 
-use crate::samples::report_of;
+use crate::samples::{OrEnd, report_of};
 use garde_json::report_to_json_text;
 use garde_report::json::report_to_json;
 use garde_report::{Kind, Report};
 use std::alloc::Global;
-use std::test::Fail;
+use std::process::Abort;
 
 // Whether this is the text of a report, and that of its tree.
-fn is_text_of(alloc: Global, report: &Report, text: &str) -> Result<bool, Fail> {
-    let tree = report_to_json(alloc, report)?.to_string(alloc)?;
-    let written = report_to_json_text(alloc, report)?;
-    Ok(written.as_str() == text && tree.as_str() == text)
+fn is_text_of(rt: &impl Abort, alloc: Global, report: &Report, text: &str) -> bool {
+    let tree = report_to_json(alloc, report)
+        .or_end(rt)
+        .to_string(alloc)
+        .or_end(rt);
+    let written = report_to_json_text(alloc, report).or_end(rt);
+    written.as_str() == text && tree.as_str() == text
 }
 
 #[test]
-fn the_text_is_that_of_the_tree(rt: HostRuntime) -> Result<(), Fail> {
+fn the_text_is_that_of_the_tree(rt: HostRuntime) {
     let faults: [(&[(Kind, &str)], &str); 3] = [
         (
             &[(Kind::Index, "7"), (Kind::Key, "a\"b")],
@@ -27,7 +30,6 @@ fn the_text_is_that_of_the_tree(rt: HostRuntime) -> Result<(), Fail> {
     let text =
         "{\"errors\":[[[[\"index\",\"7\"],[\"key\",\"a\\\"b\"]],{\"message\":\"not ASCII: \u{e9}\\n\"}],[[[\"none\",\"\"]],{\"message\":\"x\"}],[[],{\"message\":\"\"}]]}";
     for (faults, text) in [(&[] as &[_], r#"{"errors":[]}"#), (&faults, text)] {
-        assert!(rt; is_text_of(rt.alloc(), &report_of(rt.alloc(), faults)?, text)?);
+        assert!(rt; is_text_of(&rt, rt.alloc(), &report_of(&rt, rt.alloc(), faults), text));
     }
-    Ok(())
 }
