@@ -15,8 +15,23 @@ use crate::user::User;
 use crate::words::{command, fault_line, status};
 use garde::{Component, DefaultI18n, Trail, Validate, ValidateError};
 use runs::{Row, given, gives, is_ran, ran_by_bytes, reads_failed, refuses, rooms_filled};
-use std::alloc::{AllocError, Global};
-use std::test::Fail;
+use std::alloc::Global;
+use std::process::Abort;
+
+/// What an answer holds, where a test asks nothing of its refusal.
+trait OrEnd<T> {
+    /// The value, or the end of the test.
+    fn or_end(self, rt: &impl Abort) -> T;
+}
+
+impl<T: Drop, E: Drop> OrEnd<T> for Result<T, E> {
+    fn or_end(self, rt: &impl Abort) -> T {
+        match self {
+            Ok(value) => value,
+            Err(_) => rt.abort(),
+        }
+    }
+}
 
 const LINES: &[u8] = b"test\n\xf0\x9f\x98\x82\n\nab\n";
 
@@ -111,36 +126,35 @@ static LONG: [(&str, usize, &[u8]); 3] = [
 ];
 
 // A text so many times, and then `ab`.
-fn long_text(alloc: Global, line: &str, times: usize) -> Result<String, AllocError> {
+fn long_text(rt: &impl Abort, alloc: Global, line: &str, times: usize) -> String {
     let mut text = String::new(alloc);
     for _ in 0..times {
-        text.push_str(line)?;
+        text.push_str(line).or_end(rt);
     }
-    text.push_str("ab")?;
-    Ok(text)
+    text.push_str("ab").or_end(rt);
+    text
 }
 
 // Whether a run on a long text finds a fault, and writes this.
-fn cuts(alloc: Global, line: &str, times: usize, want: &[u8]) -> Result<bool, AllocError> {
-    let text = long_text(alloc, line, times)?;
-    Ok(gives(alloc, Command::Text, text.as_bytes(), 1, want))
+fn cuts(rt: &impl Abort, alloc: Global, line: &str, times: usize, want: &[u8]) -> bool {
+    let text = long_text(rt, alloc, line, times);
+    gives(alloc, Command::Text, text.as_bytes(), 1, want)
 }
 
 // How many of the rows hold before the first that does not.
-fn long_texts_cut(alloc: Global) -> Result<usize, AllocError> {
+fn long_texts_cut(rt: &impl Abort, alloc: Global) -> usize {
     for (place, (line, times, want)) in LONG.iter().enumerate() {
-        if !cuts(alloc, line, *times, want)? {
-            return Ok(place);
+        if !cuts(rt, alloc, line, *times, want) {
+            return place;
         }
     }
-    Ok(LONG.len())
+    LONG.len()
 }
 
 // Lines are cut while a text is read, and a line that is longer than a part is not.
 #[test]
-fn cuts_a_long_text_as_a_short_one(rt: HostRuntime) -> Result<(), Fail> {
-    assert_eq!(rt; long_texts_cut(rt.alloc())?, LONG.len());
-    Ok(())
+fn cuts_a_long_text_as_a_short_one(rt: HostRuntime) {
+    assert_eq!(rt; long_texts_cut(&rt, rt.alloc()), LONG.len());
 }
 
 static ERRORS: [(RunError, &str); 5] = [
@@ -155,28 +169,28 @@ static ERRORS: [(RunError, &str); 5] = [
 ];
 
 // Whether an error has the exit status 2, and is told so by its line and by its text.
-fn is_told(alloc: Global, error: RunError, line: &str) -> Result<bool, AllocError> {
-    let told = format!(in alloc; "garde_check: {error}")?;
-    Ok(status(&Err(error)) == 2 && fault_line(&error) == line && told.as_str() == line)
+fn is_told(rt: &impl Abort, alloc: Global, error: RunError, line: &str) -> bool {
+    let told = format!(in alloc; "garde_check: {error}").or_end(rt);
+    status(&Err(error)) == 2 && fault_line(&error) == line && told.as_str() == line
 }
 
 // How many of the rows hold before the first that does not.
-fn errors_told(alloc: Global) -> Result<usize, AllocError> {
+fn errors_told(rt: &impl Abort, alloc: Global) -> usize {
     for (place, (error, line)) in ERRORS.iter().enumerate() {
-        if !is_told(alloc, *error, line)? {
-            return Ok(place);
+        if !is_told(rt, alloc, *error, line) {
+            return place;
         }
     }
-    Ok(ERRORS.len())
+    ERRORS.len()
 }
 
 // Whether a failed call is told so.
-fn failure_is_told(alloc: Global, text: &str) -> Result<bool, AllocError> {
-    Ok(Failed.to_string(alloc)?.as_str() == text)
+fn failure_is_told(rt: &impl Abort, alloc: Global, text: &str) -> bool {
+    Failed.to_string(alloc).or_end(rt).as_str() == text
 }
 
 #[test]
-fn tells_how_a_run_ended(rt: HostRuntime) -> Result<(), Fail> {
+fn tells_how_a_run_ended(rt: HostRuntime) {
     assert_eq!(rt; status(&Ok(Outcome::Valid)), 0);
     assert_eq!(rt; status(&Ok(Outcome::Faults)), 1);
     assert!(rt;
@@ -187,17 +201,17 @@ fn tells_how_a_run_ended(rt: HostRuntime) -> Result<(), Fail> {
             RunError::NotUtf8
         )
     );
-    assert_eq!(rt; errors_told(rt.alloc())?, ERRORS.len());
-    assert!(rt; failure_is_told(rt.alloc(), "the device failed")?);
-    Ok(())
+    assert_eq!(rt; errors_told(&rt, rt.alloc()), ERRORS.len());
+    assert!(rt; failure_is_told(&rt, rt.alloc(), "the device failed"));
 }
 
-fn words_of(alloc: Global, words: &[&str]) -> Result<Vec<String>, AllocError> {
+fn words_of(rt: &impl Abort, alloc: Global, words: &[&str]) -> Vec<String> {
     let mut list = Vec::new(alloc);
     for word in words {
-        list.push(String::from_str(alloc, word)?)?;
+        list.push(String::from_str(alloc, word).or_end(rt))
+            .or_end(rt);
     }
-    Ok(list)
+    list
 }
 
 static WORDS: [(&[&str], Option<Command>); 10] = [
@@ -214,25 +228,24 @@ static WORDS: [(&[&str], Option<Command>); 10] = [
 ];
 
 // Whether the words ask for this.
-fn asks(alloc: Global, words: &[&str], want: Option<Command>) -> Result<bool, AllocError> {
-    let list = words_of(alloc, words)?;
-    Ok(command(&list) == want)
+fn asks(rt: &impl Abort, alloc: Global, words: &[&str], want: Option<Command>) -> bool {
+    let list = words_of(rt, alloc, words);
+    command(&list) == want
 }
 
 // How many of the rows hold before the first that does not.
-fn words_asked(alloc: Global) -> Result<usize, AllocError> {
+fn words_asked(rt: &impl Abort, alloc: Global) -> usize {
     for (place, (words, want)) in WORDS.iter().enumerate() {
-        if !asks(alloc, words, *want)? {
-            return Ok(place);
+        if !asks(rt, alloc, words, *want) {
+            return place;
         }
     }
-    Ok(WORDS.len())
+    WORDS.len()
 }
 
 #[test]
-fn refuses_words_that_ask_for_nothing(rt: HostRuntime) -> Result<(), Fail> {
-    assert_eq!(rt; words_asked(rt.alloc())?, WORDS.len());
-    Ok(())
+fn refuses_words_that_ask_for_nothing(rt: HostRuntime) {
+    assert_eq!(rt; words_asked(&rt, rt.alloc()), WORDS.len());
 }
 
 // Whether a run whose reader gives all lines a byte at a time writes the report.
@@ -259,41 +272,47 @@ fn a_writer_that_fails_holds_a_beginning(rt: HostRuntime) {
 }
 
 // A user of a name that is not ASCII, and too short.
-fn users(alloc: Global) -> Result<Vec<Option<User>>, AllocError> {
-    let username = String::from_str(alloc, "é")?;
-    Ok(vec![in alloc; Some(User { username })]?)
+fn users(rt: &impl Abort, alloc: Global) -> Vec<Option<User>> {
+    let username = String::from_str(alloc, "é").or_end(rt);
+    vec![in alloc; Some(User { username })].or_end(rt)
 }
 
 // Whether this is reported of users on a trail.
 fn reports<'a>(
+    rt: &impl Abort,
     alloc: Global,
     users: &'a Vec<Option<User>>,
     trail: &mut Trail<'a>,
     want: &str,
-) -> Result<bool, AllocError> {
+) -> bool {
     match users.validate_on(alloc, &(), trail, &DefaultI18n) {
-        Err(ValidateError::Report(report)) => Ok(report.to_string(alloc)?.as_str() == want),
-        _ => Ok(false),
+        Err(ValidateError::Report(report)) => report.to_string(alloc).or_end(rt).as_str() == want,
+        _ => false,
     }
 }
 
 // Whether a trail stands at this path, and made so many nodes.
-fn stands_at(alloc: Global, trail: &mut Trail<'_>, path: &str, nodes: usize) -> Result<bool, Fail> {
-    let told = trail.path()?.to_string(alloc)?;
-    Ok(told.as_str() == path && trail.nodes() == nodes)
+fn stands_at(
+    rt: &impl Abort,
+    alloc: Global,
+    trail: &mut Trail<'_>,
+    path: &str,
+    nodes: usize,
+) -> bool {
+    let told = trail.path().or_end(rt).to_string(alloc).or_end(rt);
+    told.as_str() == path && trail.nodes() == nodes
 }
 
 // Whether the faults of users stand beneath the trail's component, and the trail is left as it was.
-fn are_told_beneath(alloc: Global, want: &str) -> Result<bool, Fail> {
-    let users = users(alloc)?;
+fn are_told_beneath(rt: &impl Abort, alloc: Global, want: &str) -> bool {
+    let users = users(rt, alloc);
     let mut trail = Trail::new(alloc);
-    trail.push(Component::key("users"))?;
-    Ok(reports(alloc, &users, &mut trail, want)? && stands_at(alloc, &mut trail, "users", 3)?)
+    trail.push(Component::key("users")).or_end(rt);
+    reports(rt, alloc, &users, &mut trail, want) && stands_at(rt, alloc, &mut trail, "users", 3)
 }
 
 #[test]
-fn paths_begin_with_the_components_of_the_trail(rt: HostRuntime) -> Result<(), Fail> {
+fn paths_begin_with_the_components_of_the_trail(rt: HostRuntime) {
     let want = "users[0].username: not ascii\nusers[0].username: length is lower than 3\n";
-    assert!(rt; are_told_beneath(rt.alloc(), want)?);
-    Ok(())
+    assert!(rt; are_told_beneath(&rt, rt.alloc(), want));
 }

@@ -15,6 +15,22 @@ mod urls;
 mod values;
 
 use garde_report::RuleError;
+use std::process::Abort;
+
+/// What an answer holds, where a test asks nothing of its refusal.
+trait OrEnd<T> {
+    /// The value, or the end of the test.
+    fn or_end(self, rt: &impl Abort) -> T;
+}
+
+impl<T: Drop, E: Drop> OrEnd<T> for Result<T, E> {
+    fn or_end(self, rt: &impl Abort) -> T {
+        match self {
+            Ok(value) => value,
+            Err(_) => rt.abort(),
+        }
+    }
+}
 
 /// Whether an answer tells this: nothing where it is Ok, and else the text of its fault.
 fn tells(answer: Result<(), RuleError>, wanted: Option<&str>) -> bool {

@@ -14,3 +14,20 @@ mod texts;
 mod told;
 mod user;
 mod walks;
+
+use std::process::Abort;
+
+/// What an answer holds, where a test asks nothing of its refusal.
+trait OrEnd<T> {
+    /// The value, or the end of the test.
+    fn or_end(self, rt: &impl Abort) -> T;
+}
+
+impl<T: Drop, E: Drop> OrEnd<T> for Result<T, E> {
+    fn or_end(self, rt: &impl Abort) -> T {
+        match self {
+            Ok(value) => value,
+            Err(_) => rt.abort(),
+        }
+    }
+}

@@ -4,11 +4,12 @@ use super::runs::{Row, given, reads_failed, refuses, rooms_filled};
 use crate::body::{Address, Body};
 use crate::mode::Command;
 use crate::outcome::RunError;
+use crate::tests::OrEnd;
 use garde::json::JsonRefused;
 use serde_json::Value;
 use std::alloc::Global;
 use std::collections::BTreeMap;
-use std::test::Fail;
+use std::process::Abort;
 
 /// The body of a request with four faults.
 pub const BODY: &[u8] =
@@ -107,9 +108,9 @@ fn is_read(alloc: Global, tree: &Value) -> bool {
 }
 
 // Whether the tree of a text is read as that body.
-fn is_read_from(alloc: Global, text: &str) -> Result<bool, Fail> {
-    let tree = Value::from_str(alloc, text)?;
-    Ok(is_read(alloc, &tree))
+fn is_read_from(rt: &impl Abort, alloc: Global, text: &str) -> bool {
+    let tree = Value::from_str(alloc, text).or_end(rt);
+    is_read(alloc, &tree)
 }
 
 fn null_is_refused(alloc: Global) -> bool {
@@ -117,11 +118,10 @@ fn null_is_refused(alloc: Global) -> bool {
 }
 
 #[test]
-fn reads_a_body_from_a_tree(rt: HostRuntime) -> Result<(), Fail> {
+fn reads_a_body_from_a_tree(rt: HostRuntime) {
     let text = r#"{"username":"x","age":7,"tags":["t"],"addresses":{"b":"2","a":"1"}}"#;
-    assert!(rt; is_read_from(rt.alloc(), text)?);
+    assert!(rt; is_read_from(&rt, rt.alloc(), text));
     assert!(rt; null_is_refused(rt.alloc()));
-    Ok(())
 }
 
 #[test]

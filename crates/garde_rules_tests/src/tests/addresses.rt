@@ -1,10 +1,11 @@
 //! Tests of IP addresses, on a table of texts.
 use super::tells;
+use crate::tests::OrEnd;
 use garde_i18n::DefaultI18n;
 use garde_rules::ip::{self, Ip, IpKind, is_ipv4, is_ipv6};
-use std::alloc::{AllocError, Global};
+use std::alloc::Global;
 use std::fmt::Display;
-use std::test::Fail;
+use std::process::Abort;
 
 // The texts of the tables below are made from the text forms and the examples of RFC 4291, sections
 // 2.2 and 2.3: every place of `::`, with an IPv4 address at the end and without, groups of 1 to 5
@@ -328,25 +329,26 @@ fn asks_for_an_address_of_a_kind(rt: HostRuntime) {
 }
 
 /// Whether a refusal prints this.
-fn prints<E: Display>(alloc: Global, refusal: &E, printed: &str) -> Result<bool, AllocError> {
-    Ok(refusal.to_string(alloc)?.as_str() == printed)
+fn prints<E: Display>(rt: &impl Abort, alloc: Global, refusal: &E, printed: &str) -> bool {
+    refusal.to_string(alloc).or_end(rt).as_str() == printed
 }
 
 /// Whether a value is refused that is asked for an address of a kind, and the refusal prints this.
 fn refusal_prints<T: Ip>(
+    rt: &impl Abort,
     alloc: Global,
     value: &T,
     kind: IpKind,
     printed: &str,
-) -> Result<bool, AllocError> {
+) -> bool {
     match value.validate_ip(kind) {
-        Ok(()) => Ok(false),
-        Err(refusal) => prints(alloc, &refusal, printed),
+        Ok(()) => false,
+        Err(refusal) => prints(rt, alloc, &refusal, printed),
     }
 }
 
 #[test]
-fn prints_the_kind_that_was_asked_for(rt: HostRuntime) -> Result<(), Fail> {
+fn prints_the_kind_that_was_asked_for(rt: HostRuntime) {
     let rows = [
         (IpKind::Any, "invalid IP address syntax"),
         (IpKind::V4, "invalid IPv4 address syntax"),
@@ -354,11 +356,10 @@ fn prints_the_kind_that_was_asked_for(rt: HostRuntime) -> Result<(), Fail> {
     ];
     for (kind, printed) in rows {
         assert!(rt;
-            refusal_prints(rt.alloc(), &"1.2.3", kind, printed)?,
+            refusal_prints(&rt, rt.alloc(), &"1.2.3", kind, printed),
             "{printed}"
         );
     }
-    Ok(())
 }
 
 /// The kind that is asked for, the text of an option, and what its refusal prints.
@@ -371,14 +372,13 @@ static REFUSED: [(IpKind, &str, &str); 5] = [
 ];
 
 #[test]
-fn prints_the_kind_through_an_option(rt: HostRuntime) -> Result<(), Fail> {
+fn prints_the_kind_through_an_option(rt: HostRuntime) {
     for (kind, text, printed) in &REFUSED {
         assert!(rt;
-            refusal_prints(rt.alloc(), &Some(Some(*text)), *kind, printed)?,
+            refusal_prints(&rt, rt.alloc(), &Some(Some(*text)), *kind, printed),
             "{text}: {printed}"
         );
     }
-    Ok(())
 }
 
 /// Whether an option passes that is asked for an address of version 4.

@@ -6,11 +6,12 @@ ghost use Rattle.garde_rules.specs.Holds.{provided, unless};
 ghost use Rattle.garde_rules.specs.Text.{has_prefix, is_ascii_text};
 
 use super::tells;
+use crate::tests::OrEnd;
 use garde_i18n::{DefaultI18n, I18n};
 use garde_report::{Component, Report, RuleError, Trail};
 use garde_rules::{adapt, ascii, inner, prefix, when};
 use std::alloc::{AllocError, Global};
-use std::test::Fail;
+use std::process::Abort;
 
 /// The rule of ASCII, where it is asked for: the contract of `when` alone gives its datum.
 fn ascii_when<H: I18n>(alloc: Global, cond: bool, text: &str, h: &H) -> Result<(), RuleError>
@@ -71,18 +72,17 @@ fn calls_the_rule_once_or_never(rt: HostRuntime) {
 }
 
 /// Whether this is found in the label `t-1` that is asked for its beginning.
-fn finds_in_label(alloc: Global, pattern: &str, fault: Option<&str>) -> Result<bool, AllocError> {
-    let text = String::from_str(alloc, "t-1")?;
+fn finds_in_label(rt: &impl Abort, alloc: Global, pattern: &str, fault: Option<&str>) -> bool {
+    let text = String::from_str(alloc, "t-1").or_end(rt);
     let answer = label_prefix(alloc, &Label { text }, pattern, &DefaultI18n);
-    Ok(tells(answer, fault))
+    tells(answer, fault)
 }
 
 #[test]
-fn asks_of_the_view(rt: HostRuntime) -> Result<(), Fail> {
+fn asks_of_the_view(rt: HostRuntime) {
     let fault = Some("value does not begin with \"x\"");
-    assert!(rt; finds_in_label(rt.alloc(), "t-", None)?);
-    assert!(rt; finds_in_label(rt.alloc(), "x", fault)?);
-    Ok(())
+    assert!(rt; finds_in_label(&rt, rt.alloc(), "t-", None));
+    assert!(rt; finds_in_label(&rt, rt.alloc(), "x", fault));
 }
 
 /// What is found in a word of less than three bytes that is asked for ASCII.
@@ -105,7 +105,7 @@ fn check_word<'a>(
 }
 
 /// Whether a walk of three words finds faults that print this.
-fn walk_prints(alloc: Global, words: &[&str; 3], text: &str) -> Result<bool, AllocError> {
+fn walk_prints(rt: &impl Abort, alloc: Global, words: &[&str; 3], text: &str) -> bool {
     let mut trail = Trail::new(alloc);
     let mut report = Report::new(alloc);
     inner::apply(
@@ -113,13 +113,13 @@ fn walk_prints(alloc: Global, words: &[&str; 3], text: &str) -> Result<bool, All
         &mut trail,
         &mut report,
         |word: &&str, component, trail, report| check_word(alloc, word, component, trail, report),
-    )?;
-    Ok(report.to_string(alloc)?.as_str() == text)
+    )
+    .or_end(rt);
+    report.to_string(alloc).or_end(rt).as_str() == text
 }
 
 #[test]
-fn asks_in_a_walk(rt: HostRuntime) -> Result<(), Fail> {
+fn asks_in_a_walk(rt: HostRuntime) {
     let text = "[0]: not ascii\n[2]: not ascii\n";
-    assert!(rt; walk_prints(rt.alloc(), &["é", "ué", "ü"], text)?);
-    Ok(())
+    assert!(rt; walk_prints(&rt, rt.alloc(), &["é", "ué", "ü"], text));
 }

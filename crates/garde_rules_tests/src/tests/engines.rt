@@ -1,14 +1,16 @@
 //! Tests of the engines, on tables of patterns and of texts.
+use crate::tests::OrEnd;
 use garde_engines::patterns::{PatternRefused, Regex, Searcher};
 use garde_engines::urls::{ParseError, check_url, reason};
 use garde_i18n::InvalidUrl;
-use std::alloc::{AllocError, Global};
+use std::alloc::Global;
+use std::process::Abort;
 use std::test::Fail;
 
 /// Whether the pattern of this source matches in the text.
-fn is_found(alloc: Global, source: &str, text: &str) -> Result<bool, Fail> {
-    let pattern = Regex::new(alloc, source)?;
-    Ok(pattern.is_match(alloc, text)?)
+fn is_found(rt: &impl Abort, alloc: Global, source: &str, text: &str) -> bool {
+    let pattern = Regex::new(alloc, source).or_end(rt);
+    pattern.is_match(alloc, text).or_end(rt)
 }
 
 /// A pattern, a text, and whether it is found there.
@@ -23,26 +25,24 @@ static FOUND: [(&str, &str, bool); 7] = [
 ];
 
 #[test]
-fn matches_anywhere_in_a_text(rt: HostRuntime) -> Result<(), Fail> {
+fn matches_anywhere_in_a_text(rt: HostRuntime) {
     for (source, text, found) in &FOUND {
         assert!(rt;
-            is_found(rt.alloc(), source, text)? == *found,
+            is_found(&rt, rt.alloc(), source, text) == *found,
             "{source}: {text}"
         );
     }
-    Ok(())
 }
 
 /// Whether the pattern of this source keeps it.
-fn keeps(alloc: Global, source: &str) -> Result<bool, Fail> {
-    let pattern = Regex::new(alloc, source)?;
-    Ok(pattern.as_str() == source)
+fn keeps(rt: &impl Abort, alloc: Global, source: &str) -> bool {
+    let pattern = Regex::new(alloc, source).or_end(rt);
+    pattern.as_str() == source
 }
 
 #[test]
-fn keeps_the_source_of_a_pattern(rt: HostRuntime) -> Result<(), Fail> {
-    assert!(rt; keeps(rt.alloc(), "^[0-9]{5}$")?);
-    Ok(())
+fn keeps_the_source_of_a_pattern(rt: HostRuntime) {
+    assert!(rt; keeps(&rt, rt.alloc(), "^[0-9]{5}$"));
 }
 
 /// A text of a hundred bytes and more, with the match of `b+c$` at its end.
@@ -50,31 +50,33 @@ const LONG: &str =
     "abbc abbc abbc abbc abbc abbc abbc abbc abbc abbc abbc abbc abbc abbc abbc abbc abbc abbc abbc abbc abbbbc";
 
 /// Whether a searcher of a pattern keeps this source.
-fn searcher_keeps(alloc: Global, pattern: &Regex, source: &str) -> Result<bool, AllocError> {
-    Ok(pattern.searcher(alloc)?.as_str() == source)
+fn searcher_keeps(rt: &impl Abort, alloc: Global, pattern: &Regex, source: &str) -> bool {
+    pattern.searcher(alloc).or_end(rt).as_str() == source
 }
 
 /// How many of these texts, from the first on, a searcher answers as it is said beside them.
 fn answered(
+    rt: &impl Abort,
     alloc: Global,
     searcher: &Searcher<'_>,
     rows: &[(&str, bool)],
-) -> Result<usize, AllocError> {
+) -> usize {
     for (row, (text, found)) in rows.iter().enumerate() {
-        if searcher.is_match(alloc, text)? != *found {
-            return Ok(row);
+        if searcher.is_match(alloc, text).or_end(rt) != *found {
+            return row;
         }
     }
-    Ok(rows.len())
+    rows.len()
 }
 
 /// How many of these texts one searcher of a pattern answers so.
 fn answered_in_turn(
+    rt: &impl Abort,
     alloc: Global,
     pattern: &Regex,
     rows: &[(&str, bool)],
-) -> Result<usize, AllocError> {
-    answered(alloc, &pattern.searcher(alloc)?, rows)
+) -> usize {
+    answered(rt, alloc, &pattern.searcher(alloc).or_end(rt), rows)
 }
 
 /// Texts, and whether the pattern `b+c$` is found there.
@@ -89,8 +91,8 @@ static IN_TURN: [(&str, bool); 5] = [
 #[test]
 fn searches_again_by_one_searcher(rt: HostRuntime) -> Result<(), Fail> {
     let pattern = Regex::new(rt.alloc(), "b+c$")?;
-    assert!(rt; searcher_keeps(rt.alloc(), &pattern, "b+c$")?);
-    assert_eq!(rt; answered_in_turn(rt.alloc(), &pattern, &IN_TURN)?, 5);
+    assert!(rt; searcher_keeps(&rt, rt.alloc(), &pattern, "b+c$"));
+    assert_eq!(rt; answered_in_turn(&rt, rt.alloc(), &pattern, &IN_TURN), 5);
     Ok(())
 }
 
@@ -116,12 +118,8 @@ fn says_why_a_pattern_is_refused(rt: HostRuntime) {
 }
 
 /// Whether a text is a URL, or refused for this reason, as it is said.
-fn is_checked(
-    alloc: Global,
-    text: &str,
-    wanted: Result<(), InvalidUrl>,
-) -> Result<bool, AllocError> {
-    Ok(check_url(alloc, text)? == wanted)
+fn is_checked(rt: &impl Abort, alloc: Global, text: &str, wanted: Result<(), InvalidUrl>) -> bool {
+    check_url(alloc, text).or_end(rt) == wanted
 }
 
 /// A text, and what is said of it as a URL.
@@ -142,11 +140,10 @@ static LINKS: [(&str, Result<(), InvalidUrl>); 13] = [
 ];
 
 #[test]
-fn says_why_a_text_is_no_url(rt: HostRuntime) -> Result<(), Fail> {
+fn says_why_a_text_is_no_url(rt: HostRuntime) {
     for (text, answer) in &LINKS {
-        assert!(rt; is_checked(rt.alloc(), text, *answer)?, "{text}");
+        assert!(rt; is_checked(&rt, rt.alloc(), text, *answer), "{text}");
     }
-    Ok(())
 }
 
 /// Whether an error has this reason.

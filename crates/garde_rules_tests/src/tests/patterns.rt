@@ -1,11 +1,12 @@
 //! Tests of patterns.
 use super::tells;
+use crate::tests::OrEnd;
 use garde_i18n::DefaultI18n;
 use garde_rules::AsStr;
 use garde_rules::pattern::regex::{PatternRefused, Regex};
 use garde_rules::pattern::{self, Matcher, Pattern};
 use std::alloc::{AllocError, Global};
-use std::test::Fail;
+use std::process::Abort;
 
 /// Whether this is found in a value that has to match a pattern.
 fn pattern_tells<T: Pattern>(
@@ -52,22 +53,22 @@ fn refuses_an_open_group(rt: HostRuntime) {
 }
 
 /// Whether a reason prints this text.
-fn prints(alloc: Global, refused: PatternRefused, text: &str) -> Result<bool, AllocError> {
-    Ok(refused.to_string(alloc)?.as_str() == text)
+fn prints(rt: &impl Abort, alloc: Global, refused: PatternRefused, text: &str) -> bool {
+    refused.to_string(alloc).or_end(rt).as_str() == text
 }
 
 #[test]
-fn tells_why_a_pattern_was_refused(rt: HostRuntime) -> Result<(), Fail> {
+fn tells_why_a_pattern_was_refused(rt: HostRuntime) {
     let other = "the pattern is too big, or out of memory";
     assert!(rt;
         prints(
+            &rt,
             rt.alloc(),
             PatternRefused::Syntax,
             "the text is not a pattern"
-        )?
+        )
     );
-    assert!(rt; prints(rt.alloc(), PatternRefused::Other, other)?);
-    Ok(())
+    assert!(rt; prints(&rt, rt.alloc(), PatternRefused::Other, other));
 }
 
 /// The text that a value lends, by its trait alone.

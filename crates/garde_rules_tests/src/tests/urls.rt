@@ -1,8 +1,10 @@
 //! Tests of URLs.
 use super::tells;
+use crate::tests::OrEnd;
 use garde_i18n::DefaultI18n;
 use garde_rules::url::{self, InvalidUrl, ParseError, Url, reason};
-use std::alloc::{AllocError, Global};
+use std::alloc::Global;
+use std::process::Abort;
 use std::test::Fail;
 
 /// Whether this is found in a value that is asked for a URL.
@@ -29,12 +31,8 @@ fn asks_for_a_url(rt: HostRuntime) {
 }
 
 /// Whether a text is a URL, or refused for this reason, as it is said.
-fn is_checked(
-    alloc: Global,
-    text: &str,
-    wanted: Result<(), InvalidUrl>,
-) -> Result<bool, AllocError> {
-    Ok(text.validate_url(alloc)? == wanted)
+fn is_checked(rt: &impl Abort, alloc: Global, text: &str, wanted: Result<(), InvalidUrl>) -> bool {
+    text.validate_url(alloc).or_end(rt) == wanted
 }
 
 /// Whether an error has this reason.
@@ -45,8 +43,8 @@ fn has_reason(error: &ParseError, wanted: Option<InvalidUrl>) -> bool {
 #[test]
 fn says_why_a_text_is_no_url(rt: HostRuntime) -> Result<(), Fail> {
     let relative = Err(InvalidUrl::RelativeUrlWithoutBase);
-    assert!(rt; is_checked(rt.alloc(), "https://example.com/", Ok(()))?);
-    assert!(rt; is_checked(rt.alloc(), "abc", relative)?);
+    assert!(rt; is_checked(&rt, rt.alloc(), "https://example.com/", Ok(())));
+    assert!(rt; is_checked(&rt, rt.alloc(), "abc", relative));
     assert!(rt; has_reason(&ParseError::InvalidPort, Some(InvalidUrl::InvalidPort)));
     assert!(rt; has_reason(&ParseError::OutOfMemory, None));
     Ok(())

@@ -1,12 +1,13 @@
 //! Tests of the rules as values.
 use super::tells;
+use crate::tests::OrEnd;
 use garde_i18n::DefaultI18n;
 use garde_rules::Rule;
 use garde_rules::values::{
     Alphanumeric, Ascii, Contains, Matches, Prefix, Range, Required, Suffix,
 };
-use std::alloc::{AllocError, Global};
-use std::test::Fail;
+use std::alloc::Global;
+use std::process::Abort;
 
 /// Whether a rule as a value finds this.
 fn finds<T, R: Rule<T>>(alloc: Global, rule: &R, value: &T, fault: Option<&str>) -> bool {
@@ -36,8 +37,8 @@ fn matches_itself(alloc: Global, owned: &String) -> bool {
 }
 
 /// Whether a text matches itself where it is owned.
-fn owned_matches(alloc: Global, text: &str) -> Result<bool, AllocError> {
-    Ok(matches_itself(alloc, &String::from_str(alloc, text)?))
+fn owned_matches(rt: &impl Abort, alloc: Global, text: &str) -> bool {
+    matches_itself(alloc, &String::from_str(alloc, text).or_end(rt))
 }
 
 /// Whether this is found in a text that has to match another one.
@@ -50,7 +51,7 @@ fn matching_tells(alloc: Global, text: &str, other: &str, fault: Option<&str>) -
 }
 
 #[test]
-fn finds_the_same_in_other_values(rt: HostRuntime) -> Result<(), Fail> {
+fn finds_the_same_in_other_values(rt: HostRuntime) {
     let alloc = rt.alloc();
     let different = Some("does not match password field");
     let adult = Range {
@@ -61,10 +62,9 @@ fn finds_the_same_in_other_values(rt: HostRuntime) -> Result<(), Fail> {
         min: None,
         max: Some(10),
     };
-    assert!(rt; owned_matches(alloc, "b")?);
+    assert!(rt; owned_matches(&rt, alloc, "b"));
     assert!(rt; matching_tells(alloc, "b", "a", different));
     assert!(rt; finds(alloc, &adult, &17u8, Some("lower than 18")));
     assert!(rt; finds(alloc, &few, &100i32, Some("greater than 10")));
     assert!(rt; finds(alloc, &Required, &Some(1u8), None));
-    Ok(())
 }

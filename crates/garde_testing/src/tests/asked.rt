@@ -1,4 +1,5 @@
 //! What a handler is asked for, and what it answers.
+use crate::tests::OrEnd;
 use garde::I18n;
 use garde::i18n::{InvalidCreditCard, InvalidPhoneNumber, InvalidUrl, IpKind};
 use std::alloc::{AllocError, Global};
@@ -56,24 +57,13 @@ pub fn said<H: I18n>(
 }
 
 /// Whether a handler answers this text.
-pub fn says<H: I18n>(
-    alloc: Global,
-    h: &H,
-    asked: Asked<'_>,
-    text: &str,
-) -> Result<bool, AllocError> {
-    Ok(said(alloc, h, asked)?.as_str() == text)
+pub fn says<H: I18n>(rt: &impl Abort, alloc: Global, h: &H, asked: Asked<'_>, text: &str) -> bool {
+    said(alloc, h, asked).or_end(rt).as_str() == text
 }
 
 /// Asserts each text of a handler.
-pub fn assert_says<H: I18n>(
-    rt: &impl Abort,
-    alloc: Global,
-    h: &H,
-    rows: &[Row],
-) -> Result<(), AllocError> {
+pub fn assert_says<H: I18n>(rt: &impl Abort, alloc: Global, h: &H, rows: &[Row]) {
     for (asked, text) in rows {
-        assert!(rt; says(alloc, h, *asked, text)?, "at {text}");
+        assert!(rt; says(rt, alloc, h, *asked, text), "at {text}");
     }
-    Ok(())
 }

@@ -1,23 +1,26 @@
 //! What answers tell, and what values print.
+use crate::tests::OrEnd;
 use garde::{RuleError, ValidateError};
 use std::alloc::{AllocError, Global};
 use std::fmt::{Debug, Display};
+use std::process::Abort;
 
 /// What an answer tells. That of a valid value tells nothing.
-pub fn told(alloc: Global, answer: Result<(), ValidateError>) -> Result<String, AllocError> {
+pub fn told(rt: &impl Abort, alloc: Global, answer: Result<(), ValidateError>) -> String {
     match answer {
-        Ok(()) => Ok(String::new(alloc)),
-        Err(refusal) => refusal.to_string(alloc),
+        Ok(()) => String::new(alloc),
+        Err(refusal) => refusal.to_string(alloc).or_end(rt),
     }
 }
 
 /// Whether an answer tells just this.
 pub fn tells_all(
+    rt: &impl Abort,
     alloc: Global,
     answer: Result<(), ValidateError>,
     text: &str,
-) -> Result<bool, AllocError> {
-    Ok(told(alloc, answer)?.as_str() == text)
+) -> bool {
+    told(rt, alloc, answer).as_str() == text
 }
 
 /// Whether the answer of a rule tells this: nothing where it is Ok, and else the text of its fault.
@@ -30,8 +33,8 @@ pub fn tells(answer: Result<(), RuleError>, wanted: Option<&str>) -> bool {
 }
 
 /// Whether a value prints this text.
-pub fn prints<T: Display>(alloc: Global, value: &T, text: &str) -> Result<bool, AllocError> {
-    Ok(format!(in alloc; "{value}")?.as_str() == text)
+pub fn prints<T: Display>(rt: &impl Abort, alloc: Global, value: &T, text: &str) -> bool {
+    format!(in alloc; "{value}").or_end(rt).as_str() == text
 }
 
 /// Whether the text of a value is this.

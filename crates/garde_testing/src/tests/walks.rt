@@ -9,6 +9,7 @@ use garde::{
 };
 use garde_hog::{Met, Scarce};
 use std::alloc::{AllocError, Global};
+use std::process::Abort;
 
 /// One user of this name.
 pub fn user(alloc: Global, name: &str) -> Result<User, AllocError> {
@@ -19,27 +20,29 @@ pub fn user(alloc: Global, name: &str) -> Result<User, AllocError> {
 
 /// What a walk on a new trail tells, and the nodes that it made.
 pub fn walked<T: Validate, H: I18n>(
+    rt: &impl Abort,
     alloc: Global,
     value: &T,
     ctx: &T::Context,
     h: &H,
-) -> Result<(String, usize), AllocError> {
+) -> (String, usize) {
     let mut trail = Trail::new(alloc);
     let answer = value.validate_on(alloc, ctx, &mut trail, h);
     let nodes = trail.nodes();
-    Ok((told(alloc, answer)?, nodes))
+    (told(rt, alloc, answer), nodes)
 }
 
 /// Whether a walk on a new trail tells just this, and makes so many nodes.
 pub fn is_told<T: Validate, H: I18n>(
+    rt: &impl Abort,
     alloc: Global,
     value: &T,
     ctx: &T::Context,
     h: &H,
     (text, nodes): (&str, usize),
-) -> Result<bool, AllocError> {
-    let (told, made) = walked(alloc, value, ctx, h)?;
-    Ok(told.as_str() == text && made == nodes)
+) -> bool {
+    let (told, made) = walked(rt, alloc, value, ctx, h);
+    told.as_str() == text && made == nodes
 }
 
 const OLD: &[&str] = &["old"];

@@ -1,26 +1,28 @@
 //! A document, of which it depends on its switches what is asked.
+use crate::tests::OrEnd;
 use crate::tests::containers::is_told;
 use garde::samples::{Document, Tag};
-use std::alloc::{AllocError, Global};
-use std::test::Fail;
+use std::alloc::Global;
+use std::process::Abort;
 
 /// A document with both switches on or off, a content and a tag.
 pub fn document(
+    rt: &impl Abort,
     alloc: Global,
     (check_format, check_length): (bool, bool),
     content: Option<&str>,
     tag: &str,
-) -> Result<Document, AllocError> {
+) -> Document {
     let content = match content {
-        Some(text) => Some(String::from_str(alloc, text)?),
+        Some(text) => Some(String::from_str(alloc, text).or_end(rt)),
         None => None,
     };
-    Ok(Document {
+    Document {
         check_format,
         check_length,
         content,
-        tag: Tag(String::from_str(alloc, tag)?),
-    })
+        tag: Tag(String::from_str(alloc, tag).or_end(rt)),
+    }
 }
 
 /// A document's switches, content and tag, and what is told of it.
@@ -44,14 +46,18 @@ const ROWS: &[Row<'static>] = &[
 ];
 
 /// Whether just that is told of a row's document.
-fn is_row(alloc: Global, &(switches, content, tag, text): &Row<'_>) -> Result<bool, AllocError> {
-    is_told(alloc, &document(alloc, switches, content, tag)?, text)
+fn is_row(rt: &impl Abort, alloc: Global, &(switches, content, tag, text): &Row<'_>) -> bool {
+    is_told(
+        rt,
+        alloc,
+        &document(rt, alloc, switches, content, tag),
+        text,
+    )
 }
 
 #[test]
-fn each_rule_under_its_condition(rt: HostRuntime) -> Result<(), Fail> {
+fn each_rule_under_its_condition(rt: HostRuntime) {
     for row in ROWS {
-        assert!(rt; is_row(rt.alloc(), row)?, "at {}", row.3);
+        assert!(rt; is_row(&rt, rt.alloc(), row), "at {}", row.3);
     }
-    Ok(())
 }

@@ -1,10 +1,11 @@
 //! Errors that `?` hands on to `anyhow`.
 
+use crate::tests::OrEnd;
 use crate::tests::user::User;
 use garde::rules::pattern::regex::Regex;
 use garde::{Path, Unvalidated, Valid, Validate};
-use std::alloc::{AllocError, Global};
-use std::test::Fail;
+use std::alloc::Global;
+use std::process::Abort;
 
 /// The user of this name, where it is a valid one.
 fn valid_user(alloc: Global, name: &str) -> anyhow::Result<Valid<User>> {
@@ -29,47 +30,47 @@ fn is_match(alloc: Global, source: &str, text: &str) -> anyhow::Result<bool> {
 }
 
 /// What an error prints. An answer prints nothing.
-fn printed<T: Drop>(alloc: Global, answer: anyhow::Result<T>) -> Result<String, AllocError> {
+fn printed<T: Drop>(rt: &impl Abort, alloc: Global, answer: anyhow::Result<T>) -> String {
     match answer {
-        Ok(_) => Ok(String::new(alloc)),
-        Err(error) => error.to_string(alloc),
+        Ok(_) => String::new(alloc),
+        Err(error) => error.to_string(alloc).or_end(rt),
     }
 }
 
 /// Whether an error prints this text. An answer prints nothing.
 fn prints_as<T: Drop>(
+    rt: &impl Abort,
     alloc: Global,
     answer: anyhow::Result<T>,
     text: &str,
-) -> Result<bool, AllocError> {
-    Ok(printed(alloc, answer)?.as_str() == text)
+) -> bool {
+    printed(rt, alloc, answer).as_str() == text
 }
 
 /// Whether the way to a valid user of this name prints this text.
-fn user_prints_as(alloc: Global, name: &str, text: &str) -> Result<bool, AllocError> {
-    prints_as(alloc, valid_user(alloc, name), text)
+fn user_prints_as(rt: &impl Abort, alloc: Global, name: &str, text: &str) -> bool {
+    prints_as(rt, alloc, valid_user(alloc, name), text)
 }
 
 /// Whether the way to the depth of a user of too short a name prints this text.
-fn depth_prints_as(alloc: Global, text: &str) -> Result<bool, AllocError> {
+fn depth_prints_as(rt: &impl Abort, alloc: Global, text: &str) -> bool {
     let user = User {
-        username: String::from_str(alloc, "ab")?,
+        username: String::from_str(alloc, "ab").or_end(rt),
     };
-    prints_as(alloc, depth_of_user(alloc, &user), text)
+    prints_as(rt, alloc, depth_of_user(alloc, &user), text)
 }
 
 /// Whether the way to the answer of a pattern for `a` prints this text.
-fn match_prints_as(alloc: Global, source: &str, text: &str) -> Result<bool, AllocError> {
-    prints_as(alloc, is_match(alloc, source, "a"), text)
+fn match_prints_as(rt: &impl Abort, alloc: Global, source: &str, text: &str) -> bool {
+    prints_as(rt, alloc, is_match(alloc, source, "a"), text)
 }
 
 #[test]
-fn errors_lead_into_anyhow(rt: HostRuntime) -> Result<(), Fail> {
+fn errors_lead_into_anyhow(rt: HostRuntime) {
     let short = "username: length is lower than 3\n";
-    assert!(rt; user_prints_as(rt.alloc(), "ab", short)?);
-    assert!(rt; user_prints_as(rt.alloc(), "test", "")?);
-    assert!(rt; depth_prints_as(rt.alloc(), short)?);
-    assert!(rt; match_prints_as(rt.alloc(), "(", "the text is not a pattern")?);
-    assert!(rt; match_prints_as(rt.alloc(), "^a$", "")?);
-    Ok(())
+    assert!(rt; user_prints_as(&rt, rt.alloc(), "ab", short));
+    assert!(rt; user_prints_as(&rt, rt.alloc(), "test", ""));
+    assert!(rt; depth_prints_as(&rt, rt.alloc(), short));
+    assert!(rt; match_prints_as(&rt, rt.alloc(), "(", "the text is not a pattern"));
+    assert!(rt; match_prints_as(&rt, rt.alloc(), "^a$", ""));
 }

@@ -1,94 +1,95 @@
 //! Values before and after they are validated.
 
+use crate::tests::OrEnd;
 use crate::tests::span::Span;
 use crate::tests::user::User;
 use garde::Report;
 use garde::validate::{IntoValidError, Unvalidated, Valid};
-use std::alloc::{AllocError, Global};
+use std::alloc::Global;
 use std::fmt::Debug;
-use std::test::Fail;
+use std::process::Abort;
 
 // One user of this name, and no second one.
-fn users(alloc: Global, name: &str) -> Result<Vec<Option<User>>, AllocError> {
-    let username = String::from_str(alloc, name)?;
-    Ok(vec![in alloc; Some(User { username }), None]?)
+fn users(rt: &impl Abort, alloc: Global, name: &str) -> Vec<Option<User>> {
+    let username = String::from_str(alloc, name).or_end(rt);
+    vec![in alloc; Some(User { username }), None].or_end(rt)
 }
 
 // Whether a value is shown to a programmer as this text.
-fn is_shown_as<T: Debug>(alloc: Global, value: &T, text: &str) -> Result<bool, AllocError> {
-    Ok(format!(in alloc; "{value:?}")?.as_str() == text)
+fn is_shown_as<T: Debug>(rt: &impl Abort, alloc: Global, value: &T, text: &str) -> bool {
+    format!(in alloc; "{value:?}").or_end(rt).as_str() == text
 }
 
 const FAULTS: &str = "[0].username: not ascii\n[0].username: length is lower than 3\n";
 
 // The list of a valid user and of none, validated.
-fn valid_users(alloc: Global) -> Result<Valid<Vec<Option<User>>>, Fail> {
-    Ok(Unvalidated::new(users(alloc, "test")?).validate(alloc)?)
+fn valid_users(rt: &impl Abort, alloc: Global) -> Valid<Vec<Option<User>>> {
+    Unvalidated::new(users(rt, alloc, "test"))
+        .validate(alloc)
+        .or_end(rt)
 }
 
 // How many items the validated list has.
-fn count_of_valid_users(alloc: Global) -> Result<usize, Fail> {
-    Ok(valid_users(alloc)?.len())
+fn count_of_valid_users(rt: &impl Abort, alloc: Global) -> usize {
+    valid_users(rt, alloc).len()
 }
 
 // Whether the list that is taken out again is shown as this text.
-fn is_handed_on_as(alloc: Global, text: &str) -> Result<bool, Fail> {
-    Ok(is_shown_as(alloc, &valid_users(alloc)?.into_inner(), text)?)
+fn is_handed_on_as(rt: &impl Abort, alloc: Global, text: &str) -> bool {
+    is_shown_as(rt, alloc, &valid_users(rt, alloc).into_inner(), text)
 }
 
 #[test]
-fn a_valid_value_is_handed_on(rt: HostRuntime) -> Result<(), Fail> {
-    assert_eq!(rt; count_of_valid_users(rt.alloc())?, 2);
+fn a_valid_value_is_handed_on(rt: HostRuntime) {
+    assert_eq!(rt; count_of_valid_users(&rt, rt.alloc()), 2);
     let shown = "[Some(User { username: \"test\" }), None]";
-    assert!(rt; is_handed_on_as(rt.alloc(), shown)?);
-    Ok(())
+    assert!(rt; is_handed_on_as(&rt, rt.alloc(), shown));
 }
 
 // The report of users of this name.
-fn report_of(alloc: Global, name: &str) -> Result<Report, Fail> {
-    match Unvalidated::new(users(alloc, name)?).validate_with(alloc, &()) {
-        Err(IntoValidError::Report(report)) => Ok(report),
-        _ => Err("it has faults".into()),
+fn report_of(rt: &impl Abort, alloc: Global, name: &str) -> Report {
+    match Unvalidated::new(users(rt, alloc, name)).validate_with(alloc, &()) {
+        Err(IntoValidError::Report(report)) => report,
+        _ => rt.abort(),
     }
 }
 
 // What the report of users of this name prints.
-fn reported(alloc: Global, name: &str) -> Result<String, Fail> {
-    Ok(report_of(alloc, name)?.to_string(alloc)?)
+fn reported(rt: &impl Abort, alloc: Global, name: &str) -> String {
+    report_of(rt, alloc, name).to_string(alloc).or_end(rt)
 }
 
 // Whether the report of users of this name prints this text.
-fn is_reported_as(alloc: Global, name: &str, text: &str) -> Result<bool, Fail> {
-    Ok(reported(alloc, name)?.as_str() == text)
+fn is_reported_as(rt: &impl Abort, alloc: Global, name: &str, text: &str) -> bool {
+    reported(rt, alloc, name).as_str() == text
 }
 
 #[test]
-fn a_value_with_faults_leaves_its_report(rt: HostRuntime) -> Result<(), Fail> {
-    assert!(rt; is_reported_as(rt.alloc(), "é", FAULTS)?);
-    Ok(())
+fn a_value_with_faults_leaves_its_report(rt: HostRuntime) {
+    assert!(rt; is_reported_as(&rt, rt.alloc(), "é", FAULTS));
 }
 
 // A copy of a valid span.
-fn valid_again(alloc: Global, span: Unvalidated<Span>) -> Result<Valid<Span>, Fail> {
-    let valid = span.validate(alloc)?;
-    Ok(Valid::clone(&valid)?)
+fn valid_again(rt: &impl Abort, alloc: Global, span: Unvalidated<Span>) -> Valid<Span> {
+    let valid = span.validate(alloc).or_end(rt);
+    Valid::clone(&valid).or_end(rt)
 }
 
 // Whether a span from 2 to 5 is shown before it is validated as this text.
-fn is_shown_before_as(alloc: Global, text: &str) -> Result<bool, AllocError> {
-    is_shown_as(alloc, &Unvalidated::from(Span { from: 2, to: 5 }), text)
+fn is_shown_before_as(rt: &impl Abort, alloc: Global, text: &str) -> bool {
+    is_shown_as(rt, alloc, &Unvalidated::from(Span { from: 2, to: 5 }), text)
 }
 
 // Whether its copy is shown afterwards as this text.
-fn is_shown_after_as(alloc: Global, text: &str) -> Result<bool, Fail> {
-    let again = valid_again(alloc, Unvalidated::from(Span { from: 2, to: 5 }))?;
-    Ok(is_shown_as(alloc, &again, text)?)
+fn is_shown_after_as(rt: &impl Abort, alloc: Global, text: &str) -> bool {
+    let again = valid_again(rt, alloc, Unvalidated::from(Span { from: 2, to: 5 }));
+    is_shown_as(rt, alloc, &again, text)
 }
 
 // Where the empty span ends, after copies of it are validated.
-fn end_of_the_empty_span(alloc: Global) -> Result<u8, Fail> {
+fn end_of_the_empty_span(rt: &impl Abort, alloc: Global) -> u8 {
     let empty: Unvalidated<Span> = Unvalidated::default();
-    Ok(valid_again(alloc, empty.clone()?)?.to)
+    valid_again(rt, alloc, empty.clone().or_end(rt)).to
 }
 
 // A span that ends before it begins.
@@ -97,8 +98,8 @@ fn backwards() -> Unvalidated<Span> {
 }
 
 // Whether the refusal for want of memory is shown as this text.
-fn want_is_shown_as(alloc: Global, text: &str) -> Result<bool, AllocError> {
-    is_shown_as(alloc, &IntoValidError::Memory(backwards()), text)
+fn want_is_shown_as(rt: &impl Abort, alloc: Global, text: &str) -> bool {
+    is_shown_as(rt, alloc, &IntoValidError::Memory(backwards()), text)
 }
 
 // Whether a span is refused by a report.
@@ -110,25 +111,23 @@ fn is_reported(alloc: Global, span: Unvalidated<Span>) -> bool {
 }
 
 #[test]
-fn states_are_copied_and_shown(rt: HostRuntime) -> Result<(), Fail> {
-    assert!(rt; is_shown_before_as(rt.alloc(), "Span { from: 2, to: 5 }")?);
-    assert!(rt; is_shown_after_as(rt.alloc(), "Valid(Span { from: 2, to: 5 })")?);
-    assert_eq!(rt; end_of_the_empty_span(rt.alloc())?, 0);
-    assert!(rt; want_is_shown_as(rt.alloc(), "Memory(Span { from: 5, to: 2 })")?);
+fn states_are_copied_and_shown(rt: HostRuntime) {
+    assert!(rt; is_shown_before_as(&rt, rt.alloc(), "Span { from: 2, to: 5 }"));
+    assert!(rt; is_shown_after_as(&rt, rt.alloc(), "Valid(Span { from: 2, to: 5 })"));
+    assert_eq!(rt; end_of_the_empty_span(&rt, rt.alloc()), 0);
+    assert!(rt; want_is_shown_as(&rt, rt.alloc(), "Memory(Span { from: 5, to: 2 })"));
     assert!(rt; is_reported(rt.alloc(), backwards()));
-    Ok(())
 }
 
 // Whether the unit is valid, and its copy is made.
-fn unit_is_copied(alloc: Global) -> Result<bool, Fail> {
+fn unit_is_copied(rt: &impl Abort, alloc: Global) -> bool {
     let Ok(valid) = Unvalidated::new(()).validate_with(alloc, &()) else {
-        return Err("the unit is refused".into());
+        return false;
     };
-    Ok(valid.clone().is_ok())
+    valid.clone().is_ok()
 }
 
 #[test]
-fn the_unit_is_valid(rt: HostRuntime) -> Result<(), Fail> {
-    assert!(rt; unit_is_copied(rt.alloc())?);
-    Ok(())
+fn the_unit_is_valid(rt: HostRuntime) {
+    assert!(rt; unit_is_copied(&rt, rt.alloc()));
 }

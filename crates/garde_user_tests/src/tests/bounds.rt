@@ -1,13 +1,14 @@
 //! Rules by their bounds, and what a value that is not valid prints.
+use crate::tests::OrEnd;
 use garde::fields::{ByteLength, CharLength, GraphemeLength, Length, Range, Utf16Length};
 use garde::{IntoValidError, Unvalidated};
 use garde_user::login::Login;
-use std::alloc::{AllocError, Global};
-use std::test::Fail;
+use std::alloc::Global;
+use std::process::Abort;
 
 /// What an error prints.
-fn printed<E: std::error::Error>(alloc: Global, error: &E) -> Result<String, AllocError> {
-    format!(in alloc; "{error}")
+fn printed<E: std::error::Error>(rt: &impl Abort, alloc: Global, error: &E) -> String {
+    format!(in alloc; "{error}").or_end(rt)
 }
 
 /// Whether each range has the bounds of its name.
@@ -120,34 +121,32 @@ fn are_utf16_lengths_right(least: usize, most: usize) -> bool {
 }
 
 #[test]
-fn bounds_by_their_names(rt: HostRuntime) -> Result<(), Fail> {
+fn bounds_by_their_names(rt: HostRuntime) {
     assert!(rt; are_ranges_right());
     assert!(rt; are_lengths_right(3, 300));
     assert!(rt; are_byte_lengths_right(3, 300));
     assert!(rt; are_char_lengths_right(3, 300));
     assert!(rt; are_grapheme_lengths_right(3, 300));
     assert!(rt; are_utf16_lengths_right(3, 300));
-    Ok(())
 }
 
 /// Whether a login that is not valid is refused with this text.
-fn is_refused(alloc: Global, username: &str, password: &str, text: &str) -> Result<bool, Fail> {
+fn is_refused(rt: &impl Abort, alloc: Global, username: &str, password: &str, text: &str) -> bool {
     let weak = Login {
-        username: String::from_str(alloc, username)?,
-        password: String::from_str(alloc, password)?,
+        username: String::from_str(alloc, username).or_end(rt),
+        password: String::from_str(alloc, password).or_end(rt),
         remember: true,
     };
     let Err(error) = Unvalidated::new(weak).validate(alloc) else {
-        return Ok(false);
+        return false;
     };
     let is_report = matches!(error, IntoValidError::Report(_));
-    Ok(is_report && printed(alloc, &error)?.as_str() == text)
+    is_report && printed(rt, alloc, &error).as_str() == text
 }
 
 #[test]
-fn a_value_that_is_not_valid_prints_its_report(rt: HostRuntime) -> Result<(), Fail> {
+fn a_value_that_is_not_valid_prints_its_report(rt: HostRuntime) {
     let text =
         "username: not ascii\nusername: length is lower than 3\npassword: length is lower than 15\n";
-    assert!(rt; is_refused(rt.alloc(), "é", "weak", text)?);
-    Ok(())
+    assert!(rt; is_refused(&rt, rt.alloc(), "é", "weak", text));
 }

@@ -6,41 +6,45 @@ mod parts;
 mod rules;
 mod strings;
 
+use crate::tests::OrEnd;
 use garde::{Report, Validate, ValidateError};
-use std::alloc::{AllocError, Global};
+use std::alloc::Global;
+use std::process::Abort;
 
 /// Whether a report prints this text.
-fn prints(alloc: Global, report: &Report, text: &str) -> Result<bool, AllocError> {
-    Ok(report.to_string(alloc)?.as_str() == text)
+fn prints(rt: &impl Abort, alloc: Global, report: &Report, text: &str) -> bool {
+    report.to_string(alloc).or_end(rt).as_str() == text
 }
 
 /// Whether the report's text is this one. That of a valid value is empty.
 fn tells<V: Validate>(
+    rt: &impl Abort,
     alloc: Global,
     value: &V,
     ctx: &V::Context,
     text: &str,
-) -> Result<bool, AllocError> {
+) -> bool {
     match value.validate_with(alloc, ctx) {
-        Ok(()) => Ok(text.is_empty()),
-        Err(ValidateError::Report(report)) => prints(alloc, &report, text),
-        Err(ValidateError::Memory) => Err(AllocError),
+        Ok(()) => text.is_empty(),
+        Err(ValidateError::Report(report)) => prints(rt, alloc, &report, text),
+        Err(ValidateError::Memory) => rt.abort(),
     }
 }
 
 /// Puts a text at the end of a list.
-fn put(alloc: Global, texts: &mut Vec<String>, text: &str) -> Result<(), AllocError> {
-    texts.push(String::from_str(alloc, text)?)?;
-    Ok(())
+fn put(rt: &impl Abort, alloc: Global, texts: &mut Vec<String>, text: &str) {
+    texts
+        .push(String::from_str(alloc, text).or_end(rt))
+        .or_end(rt);
 }
 
 /// Texts, the first of which is the last one of the list.
-fn texts(alloc: Global, from: &[&str]) -> Result<Vec<String>, AllocError> {
+fn texts(rt: &impl Abort, alloc: Global, from: &[&str]) -> Vec<String> {
     let mut found = Vec::new(alloc);
     for text in from.iter().rev() {
-        put(alloc, &mut found, text)?;
+        put(rt, alloc, &mut found, text);
     }
-    Ok(found)
+    found
 }
 
 /// The next of some texts, or the empty one.

@@ -1,7 +1,6 @@
 //! Rules whose bounds are written as the derive of the Rust crate reads them.
 use garde::fields::{ByteLength, CharLength, GraphemeLength, Length, Range, Utf16Length};
 use garde::{length, range};
-use std::test::Fail;
 
 /// A bound that is computed where the rule is made.
 fn most() -> usize {
@@ -9,7 +8,7 @@ fn most() -> usize {
 }
 
 #[test]
-fn lengths_by_their_bounds(rt: HostRuntime) -> Result<(), Fail> {
+fn lengths_by_their_bounds(rt: HostRuntime) {
     let rows = [
         (length!(min = 3), Length::min(3)),
         (length!(max = most()), Length::max(300)),
@@ -20,11 +19,10 @@ fn lengths_by_their_bounds(rt: HostRuntime) -> Result<(), Fail> {
     for (written, made) in rows {
         assert_eq!(rt; written, made);
     }
-    Ok(())
 }
 
 #[test]
-fn lengths_in_their_units(rt: HostRuntime) -> Result<(), Fail> {
+fn lengths_in_their_units(rt: HostRuntime) {
     assert_eq!(rt; length!(bytes, min = 3), ByteLength::min(3));
     assert_eq!(rt; length!(chars, max = 25), CharLength::max(25));
     assert_eq!(rt; length!(graphemes, equal = 5), GraphemeLength::equal(5));
@@ -32,11 +30,10 @@ fn lengths_in_their_units(rt: HostRuntime) -> Result<(), Fail> {
         length!(utf16, min = 3, max = 25),
         Utf16Length::between(3, 25)
     );
-    Ok(())
 }
 
 #[test]
-fn ranges_by_their_bounds(rt: HostRuntime) -> Result<(), Fail> {
+fn ranges_by_their_bounds(rt: HostRuntime) {
     const TOP: i32 = 120;
     let rows = [
         (range!(min = -18), Range::min(-18)),
@@ -47,5 +44,4 @@ fn ranges_by_their_bounds(rt: HostRuntime) -> Result<(), Fail> {
     for (written, made) in rows {
         assert_eq!(rt; written, made);
     }
-    Ok(())
 }

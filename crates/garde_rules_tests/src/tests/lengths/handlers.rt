@@ -4,11 +4,11 @@ mod czech;
 mod reasons;
 mod scope;
 
+use crate::tests::OrEnd;
 use garde_i18n::{DefaultI18n, I18n, InvalidCreditCard, InvalidPhoneNumber, InvalidUrl, IpKind};
 use std::alloc::{AllocError, Global};
 use std::borrow::CowStr;
 use std::process::Abort;
-use std::test::Fail;
 
 /// What a handler is asked: one variant for each of its methods.
 #[derive(Clone, Copy)]
@@ -64,12 +64,13 @@ fn is_text(given: &CowStr<'static>, text: &str) -> bool {
 
 /// Whether the handler answers this text.
 fn says<H: I18n>(
+    rt: &impl Abort,
     alloc: Global,
     handler: &H,
     asked: Asked<'_>,
     text: &str,
-) -> Result<bool, AllocError> {
-    Ok(is_text(&answer(alloc, handler, asked)?, text))
+) -> bool {
+    is_text(&answer(alloc, handler, asked).or_end(rt), text)
 }
 
 /// Asserts that the handler, and a reference to it, answer each row's text.
@@ -78,16 +79,15 @@ fn assert_answers<H: I18n>(
     alloc: Global,
     handler: &H,
     rows: &[(Asked<'_>, &str)],
-) -> Result<(), AllocError> {
+) {
     for (asked, text) in rows {
-        assert!(rt; says(alloc, handler, *asked, text)?, "{text}");
-        assert!(rt; says(alloc, &handler, *asked, text)?, "{text}");
+        assert!(rt; says(rt, alloc, handler, *asked, text), "{text}");
+        assert!(rt; says(rt, alloc, &handler, *asked, text), "{text}");
     }
-    Ok(())
 }
 
 #[test]
-fn answers_the_default_texts(rt: HostRuntime) -> Result<(), Fail> {
+fn answers_the_default_texts(rt: HostRuntime) {
     let rows = [
         (Asked::LengthLower(5), "length is lower than 5"),
         (Asked::LengthGreater(10), "length is greater than 10"),
@@ -122,6 +122,5 @@ fn answers_the_default_texts(rt: HostRuntime) -> Result<(), Fail> {
         (Asked::NotAlphanumeric, "not alphanumeric"),
         (Asked::NotSet, "not set"),
     ];
-    assert_answers(&rt, rt.alloc(), &DefaultI18n, &rows)?;
-    Ok(())
+    assert_answers(&rt, rt.alloc(), &DefaultI18n, &rows);
 }

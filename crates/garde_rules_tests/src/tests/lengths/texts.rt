@@ -1,5 +1,6 @@
 //! Tests of the counts of texts.
 use super::assert_answer;
+use crate::tests::OrEnd;
 use garde_i18n::DefaultI18n;
 use garde_lengths::laws::units;
 use garde_lengths::length::bytes::{self, ByteLength};
@@ -9,7 +10,7 @@ use garde_lengths::length::simple::Length;
 use garde_lengths::length::utf16::{self, Utf16Length};
 use garde_lengths::length::{HasBytes, HasChars, HasGraphemes, HasSimpleLength, HasUtf16CodeUnits};
 use garde_lengths::{OutOfBounds, Rule};
-use std::alloc::{AllocError, Global};
+use std::alloc::Global;
 use std::borrow::CowStr;
 use std::boxed::BoxedStr;
 use std::process::Abort;
@@ -67,17 +68,17 @@ fn counts_every_type_of_text_alike(rt: HostRuntime) -> Result<(), Fail> {
 }
 
 /// A text of so many blocks, each of characters of one, two, three and four bytes.
-fn blocks(alloc: Global, count: usize) -> Result<String, AllocError> {
+fn blocks(rt: &impl Abort, alloc: Global, count: usize) -> String {
     let mut text = String::new(alloc);
     for _ in 0..count {
-        text.push_str("aé日😂")?;
+        text.push_str("aé日😂").or_end(rt);
     }
-    Ok(text)
+    text
 }
 
 #[test]
 fn counts_a_text_of_many_blocks(rt: HostRuntime) -> Result<(), Fail> {
-    let text = blocks(rt.alloc(), 100)?;
+    let text = blocks(&rt, rt.alloc(), 100);
     assert_eq!(rt; counts(&text), [1000, 400, 400, 1000, 500]);
     for (min, max, chars, units) in [
         (0, 1000, Ok(()), Ok(())),

@@ -1,4 +1,5 @@
 //! Exact answers of paths, lists and reports.
+use crate::tests::OrEnd;
 use crate::tests::paths::{beneath, indexes, keys, longer};
 use crate::tests::reports::add;
 use crate::tests::told::{prints, shows};
@@ -6,39 +7,44 @@ use garde::error::{NoKey, PathIter};
 use garde::rc_list::List;
 use garde::{Path, Report};
 use std::alloc::{AllocError, Global};
-use std::test::Fail;
+use std::process::Abort;
 
 // The path of a key, a component without a name, and a key.
-fn unnamed_between(alloc: Global) -> Result<Path, AllocError> {
-    let above = keys(alloc, &["a"])?;
-    let unnamed = beneath(alloc, &above, NoKey::default())?;
-    beneath(alloc, &unnamed, "b")
+fn unnamed_between(rt: &impl Abort, alloc: Global) -> Path {
+    let above = keys(alloc, &["a"]).or_end(rt);
+    let unnamed = beneath(alloc, &above, NoKey::default()).or_end(rt);
+    beneath(alloc, &unnamed, "b").or_end(rt)
 }
 
 // Whether a path has so many components, and prints these texts.
 fn is_printed(
+    rt: &impl Abort,
     alloc: Global,
     path: &Path,
     (count, text, shown): (usize, &str, &str),
-) -> Result<bool, AllocError> {
-    Ok(path.len() == count && prints(alloc, path, text)? && shows(alloc, path, shown)?)
+) -> bool {
+    path.len() == count && prints(rt, alloc, path, text) && shows(alloc, path, shown).or_end(rt)
 }
 
 // Whether the path with a component without a name has three, and prints these texts.
-fn unnamed_prints(alloc: Global, text: &str, shown: &str) -> Result<bool, AllocError> {
-    is_printed(alloc, &unnamed_between(alloc)?, (3, text, shown))
+fn unnamed_prints(rt: &impl Abort, alloc: Global, text: &str, shown: &str) -> bool {
+    is_printed(rt, alloc, &unnamed_between(rt, alloc), (3, text, shown))
 }
 
 #[test]
-fn a_component_without_a_name_prints_nothing(rt: HostRuntime) -> Result<(), Fail> {
+fn a_component_without_a_name_prints_nothing(rt: HostRuntime) {
     let shown = "Path { components: [(Key, \"a\"), (None, \"\"), (Key, \"b\")] }";
-    assert!(rt; unnamed_prints(rt.alloc(), "a.b", shown)?);
-    Ok(())
+    assert!(rt; unnamed_prints(&rt, rt.alloc(), "a.b", shown));
 }
 
 // Whether the path of these keys has as many components, and prints these texts.
-fn keys_print(alloc: Global, texts: &[&str], text: &str, shown: &str) -> Result<bool, AllocError> {
-    is_printed(alloc, &keys(alloc, texts)?, (texts.len(), text, shown))
+fn keys_print(rt: &impl Abort, alloc: Global, texts: &[&str], text: &str, shown: &str) -> bool {
+    is_printed(
+        rt,
+        alloc,
+        &keys(alloc, texts).or_end(rt),
+        (texts.len(), text, shown),
+    )
 }
 
 /// Keys, what their path prints, and what it prints for a programmer.
@@ -57,11 +63,10 @@ static KEYED: [(&[&str], &str, &str); 3] = [
 ];
 
 #[test]
-fn a_key_that_is_a_number_is_a_key(rt: HostRuntime) -> Result<(), Fail> {
+fn a_key_that_is_a_number_is_a_key(rt: HostRuntime) {
     for (texts, text, shown) in &KEYED {
-        assert!(rt; keys_print(rt.alloc(), texts, text, shown)?, "{text}");
+        assert!(rt; keys_print(&rt, rt.alloc(), texts, text, shown), "{text}");
     }
-    Ok(())
 }
 
 // What a walk gives at a turn, from the front or from the back; a hyphen where it gives nothing.
@@ -88,14 +93,14 @@ fn walk_gives(walk: &mut PathIter<'_>, texts: &[&str]) -> bool {
 }
 
 // Whether a walk of a path gives these texts from the front and from the back by turns.
-fn path_gives(alloc: Global, path: &Path, texts: &[&str]) -> Result<bool, AllocError> {
-    let mut walk = path.iter(alloc)?;
-    Ok(walk_gives(&mut walk, texts))
+fn path_gives(rt: &impl Abort, alloc: Global, path: &Path, texts: &[&str]) -> bool {
+    let mut walk = path.iter(alloc).or_end(rt);
+    walk_gives(&mut walk, texts)
 }
 
 // Whether a path of so many indexes gives these texts by turns.
-fn gives(alloc: Global, count: usize, texts: &[&str]) -> Result<bool, AllocError> {
-    path_gives(alloc, &indexes(alloc, count)?, texts)
+fn gives(rt: &impl Abort, alloc: Global, count: usize, texts: &[&str]) -> bool {
+    path_gives(rt, alloc, &indexes(alloc, count).or_end(rt), texts)
 }
 
 /// How many indexes a path has, and what twelve turns of its walk give.
@@ -123,27 +128,26 @@ static TURNS: [(usize, &[&str]); 5] = [
 ];
 
 #[test]
-fn a_walk_gives_both_ends_by_turns(rt: HostRuntime) -> Result<(), Fail> {
+fn a_walk_gives_both_ends_by_turns(rt: HostRuntime) {
     for (count, texts) in &TURNS {
-        assert!(rt; gives(rt.alloc(), *count, texts)?, "{count}");
+        assert!(rt; gives(&rt, rt.alloc(), *count, texts), "{count}");
     }
-    Ok(())
 }
 
 // The list of so many numbers.
-fn numbers(alloc: Global, count: usize) -> Result<List<usize>, AllocError> {
+fn numbers(rt: &impl Abort, alloc: Global, count: usize) -> List<usize> {
     let mut list = List::new();
     for number in 0..count {
-        list = longer(alloc, &list, number)?;
+        list = longer(alloc, &list, number).or_end(rt);
     }
-    Ok(list)
+    list
 }
 
 // Whether a list of so many numbers, and its clone, are equal.
-fn list_is_its_clone(alloc: Global, count: usize) -> Result<bool, AllocError> {
-    let list = numbers(alloc, count)?;
-    let copy = list.clone()?;
-    Ok(copy == list && copy.len() == count)
+fn list_is_its_clone(rt: &impl Abort, alloc: Global, count: usize) -> bool {
+    let list = numbers(rt, alloc, count);
+    let copy = list.clone().or_end(rt);
+    copy == list && copy.len() == count
 }
 
 // Whether a path and its clone are equal and of the same length.
@@ -153,39 +157,39 @@ fn is_its_clone(path: &Path) -> Result<bool, AllocError> {
 }
 
 // Whether a path of so many indexes, and its clone, are equal.
-fn path_is_its_clone(alloc: Global, count: usize) -> Result<bool, AllocError> {
-    let path = indexes(alloc, count)?;
-    Ok(is_its_clone(&path)? && path.len() == count)
+fn path_is_its_clone(rt: &impl Abort, alloc: Global, count: usize) -> bool {
+    let path = indexes(alloc, count).or_end(rt);
+    is_its_clone(&path).or_end(rt) && path.len() == count
 }
 
 // The report of so many faults.
-fn faults(alloc: Global, count: usize) -> Result<Report, AllocError> {
+fn faults(rt: &impl Abort, alloc: Global, count: usize) -> Report {
     let mut report = Report::new(alloc);
     for number in 0..count {
-        add(alloc, &mut report, number, "x")?;
+        add(alloc, &mut report, number, "x").or_end(rt);
     }
-    Ok(report)
+    report
 }
 
 // Whether a report of so many faults, and its clone, are equal.
-fn report_is_its_clone(alloc: Global, count: usize) -> Result<bool, AllocError> {
-    let report = faults(alloc, count)?;
-    let copy = report.clone()?.into_inner();
-    Ok(copy.len() == count && copy == report.into_inner())
+fn report_is_its_clone(rt: &impl Abort, alloc: Global, count: usize) -> bool {
+    let report = faults(rt, alloc, count);
+    let copy = report.clone().or_end(rt).into_inner();
+    copy.len() == count && copy == report.into_inner()
 }
 
 // Whether a path that has a component without a name, and one of keys, are equal to their clones.
-fn named_are_their_clones(alloc: Global) -> Result<bool, AllocError> {
-    Ok(is_its_clone(&unnamed_between(alloc)?)? && is_its_clone(&keys(alloc, &["a", "0"])?)?)
+fn named_are_their_clones(rt: &impl Abort, alloc: Global) -> bool {
+    is_its_clone(&unnamed_between(rt, alloc)).or_end(rt)
+        && is_its_clone(&keys(alloc, &["a", "0"]).or_end(rt)).or_end(rt)
 }
 
 #[test]
-fn each_clone_is_equal(rt: HostRuntime) -> Result<(), Fail> {
+fn each_clone_is_equal(rt: HostRuntime) {
     for count in [0usize, 1, 2, 3, 8, 9, 1000] {
-        assert!(rt; list_is_its_clone(rt.alloc(), count)?, "{count}");
-        assert!(rt; path_is_its_clone(rt.alloc(), count)?, "{count}");
-        assert!(rt; report_is_its_clone(rt.alloc(), count)?, "{count}");
+        assert!(rt; list_is_its_clone(&rt, rt.alloc(), count), "{count}");
+        assert!(rt; path_is_its_clone(&rt, rt.alloc(), count), "{count}");
+        assert!(rt; report_is_its_clone(&rt, rt.alloc(), count), "{count}");
     }
-    assert!(rt; named_are_their_clones(rt.alloc())?);
-    Ok(())
+    assert!(rt; named_are_their_clones(&rt, rt.alloc()));
 }

@@ -1,10 +1,10 @@
 //! Each text of the default handler, of the least and the greatest data.
+use crate::tests::OrEnd;
 use crate::tests::asked::{Asked, Row, assert_says, says};
 use garde::i18n::IpKind;
 use garde::{DefaultI18n, I18n};
-use std::alloc::{AllocError, Global};
+use std::alloc::Global;
 use std::process::Abort;
-use std::test::Fail;
 
 // What a handler is asked for of a text, by the index of its method.
 fn of_text(index: usize, text: &str) -> Asked<'_> {
@@ -32,37 +32,34 @@ static AROUND: [(&str, &str); 7] = [
 
 // Whether the method of this index says of a text, so many times repeated, what stands around it.
 fn says_around<H: I18n>(
+    rt: &impl Abort,
     alloc: Global,
     h: &H,
     (index, times): (usize, usize),
     (front, end): (&str, &str),
-) -> Result<bool, AllocError> {
-    let text = "0123456789abcdeé".repeat(alloc, times)?;
-    let wanted = format!(in alloc; "{front}{text}{end}")?;
-    says(alloc, h, of_text(index, text.as_str()), wanted.as_str())
+) -> bool {
+    let text = "0123456789abcdeé".repeat(alloc, times).or_end(rt);
+    let wanted = format!(in alloc; "{front}{text}{end}").or_end(rt);
+    says(rt, alloc, h, of_text(index, text.as_str()), wanted.as_str())
 }
 
 // Asserts what each method says of a text, so many times repeated.
-fn assert_says_around<H: I18n>(
-    rt: &impl Abort,
-    alloc: Global,
-    h: &H,
-    times: usize,
-) -> Result<(), AllocError> {
+fn assert_says_around<H: I18n>(rt: &impl Abort, alloc: Global, h: &H, times: usize) {
     for (index, around) in AROUND.iter().enumerate() {
         let row = (index, times);
-        assert!(rt; says_around(alloc, h, row, *around)?, "{times} of {index}");
+        assert!(rt;
+            says_around(rt, alloc, h, row, *around),
+            "{times} of {index}"
+        );
     }
-    Ok(())
 }
 
 #[test]
-fn texts_of_nothing_and_of_a_kilobyte(rt: HostRuntime) -> Result<(), Fail> {
+fn texts_of_nothing_and_of_a_kilobyte(rt: HostRuntime) {
     for times in [0usize, 1, 64] {
-        assert_says_around(&rt, rt.alloc(), &DefaultI18n, times)?;
-        assert_says_around(&rt, rt.alloc(), &&DefaultI18n, times)?;
+        assert_says_around(&rt, rt.alloc(), &DefaultI18n, times);
+        assert_says_around(&rt, rt.alloc(), &&DefaultI18n, times);
     }
-    Ok(())
 }
 
 /// What is said of a number, of a kind or of nothing.
@@ -86,8 +83,7 @@ static DATA: [Row; 10] = [
 ];
 
 #[test]
-fn texts_of_numbers_and_of_nothing(rt: HostRuntime) -> Result<(), Fail> {
-    assert_says(&rt, rt.alloc(), &DefaultI18n, &DATA)?;
-    assert_says(&rt, rt.alloc(), &&DefaultI18n, &DATA)?;
-    Ok(())
+fn texts_of_numbers_and_of_nothing(rt: HostRuntime) {
+    assert_says(&rt, rt.alloc(), &DefaultI18n, &DATA);
+    assert_says(&rt, rt.alloc(), &&DefaultI18n, &DATA);
 }

@@ -1,10 +1,11 @@
 //! Each length of a long text, as a value, with a fault below its bound and one above.
+use crate::tests::OrEnd;
 use crate::tests::told::tells;
 use garde::fields::{ByteLength, CharLength, GraphemeLength, Length, Utf16Length};
 use garde::rules::Rule;
 use garde::{DefaultI18n, RuleError};
-use std::alloc::{AllocError, Global};
-use std::test::Fail;
+use std::alloc::Global;
+use std::process::Abort;
 
 /// A unit in which a length is counted.
 #[derive(Clone, Copy)]
@@ -77,24 +78,24 @@ static ROWS: [(Unit, (usize, usize), Option<&str>); 20] = [
 
 // Whether the rule of a length finds this fault in a thousand faces.
 fn finds_in_faces(
+    rt: &impl Abort,
     alloc: Global,
     unit: Unit,
     bounds: (usize, usize),
     fault: Option<&str>,
-) -> Result<bool, AllocError> {
-    let text = "😂".repeat(alloc, 1000)?;
-    Ok(tells(find(alloc, unit, bounds, text.as_str()), fault))
+) -> bool {
+    let text = "😂".repeat(alloc, 1000).or_end(rt);
+    tells(find(alloc, unit, bounds, text.as_str()), fault)
 }
 
 #[test]
-fn each_length_of_a_thousand_faces(rt: HostRuntime) -> Result<(), Fail> {
+fn each_length_of_a_thousand_faces(rt: HostRuntime) {
     for (row, (unit, bounds, fault)) in ROWS.iter().enumerate() {
         assert!(rt;
-            finds_in_faces(rt.alloc(), *unit, *bounds, *fault)?,
+            finds_in_faces(&rt, rt.alloc(), *unit, *bounds, *fault),
             "row {row}"
         );
     }
-    Ok(())
 }
 
 // Whether the rule of a length that has to be 0 finds this fault in a text.

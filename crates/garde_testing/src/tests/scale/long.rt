@@ -1,5 +1,6 @@
 //! Rules of long texts, by their functions and as values.
 use super::parcel::{Label, LabelText, Parcel};
+use crate::tests::OrEnd;
 use crate::tests::rules::regex;
 use crate::tests::told::{tells, tells_all};
 use garde::fields::{Adapt, Contains, Pattern, Prefix, Suffix, Url};
@@ -9,7 +10,6 @@ use garde::rules::{Rule, contains, pattern, prefix, suffix, url};
 use garde::{DefaultI18n, RuleError, Validate};
 use std::alloc::{AllocError, Global};
 use std::process::Abort;
-use std::test::Fail;
 
 // What the rule of this index finds in a text.
 fn find(alloc: Global, index: usize, part: &str, text: &str) -> Result<(), RuleError> {
@@ -35,27 +35,29 @@ static FRONTS: [&str; 6] = [
 ];
 
 // Whether the rule of this index passes a text of a kilobyte that is the part itself.
-fn passes_itself(alloc: Global, index: usize) -> Result<bool, AllocError> {
-    let part = "0123456789abcdef".repeat(alloc, 64)?;
-    Ok(tells(find(alloc, index, part.as_str(), part.as_str()), None))
+fn passes_itself(rt: &impl Abort, alloc: Global, index: usize) -> bool {
+    let part = "0123456789abcdef".repeat(alloc, 64).or_end(rt);
+    tells(find(alloc, index, part.as_str(), part.as_str()), None)
 }
 
 // Whether the rule of this index finds a fault that begins so in a text of other characters.
-fn refuses_another(alloc: Global, index: usize, front: &str) -> Result<bool, AllocError> {
-    let part = "0123456789abcdef".repeat(alloc, 64)?;
-    let text = "fedcba9876543210".repeat(alloc, 64)?;
-    let fault = format!(in alloc; "{front} \"{part}\"")?;
+fn refuses_another(rt: &impl Abort, alloc: Global, index: usize, front: &str) -> bool {
+    let part = "0123456789abcdef".repeat(alloc, 64).or_end(rt);
+    let text = "fedcba9876543210".repeat(alloc, 64).or_end(rt);
+    let fault = format!(in alloc; "{front} \"{part}\"").or_end(rt);
     let answer = find(alloc, index, part.as_str(), text.as_str());
-    Ok(tells(answer, Some(fault.as_str())))
+    tells(answer, Some(fault.as_str()))
 }
 
 #[test]
-fn parts_of_a_kilobyte(rt: HostRuntime) -> Result<(), Fail> {
+fn parts_of_a_kilobyte(rt: HostRuntime) {
     for (index, front) in FRONTS.iter().enumerate() {
-        assert!(rt; passes_itself(rt.alloc(), index)?, "at {index}");
-        assert!(rt; refuses_another(rt.alloc(), index, front)?, "at {index}");
+        assert!(rt; passes_itself(&rt, rt.alloc(), index), "at {index}");
+        assert!(rt;
+            refuses_another(&rt, rt.alloc(), index, front),
+            "at {index}"
+        );
     }
-    Ok(())
 }
 
 // What is answered of a label that may be a URL, or have a code, by a function or a value.
@@ -86,22 +88,23 @@ fn text(alloc: Global, (front, again, times): Parts<'_>) -> Result<String, Alloc
 }
 
 // A label of a text of these parts.
-fn label(alloc: Global, parts: Parts<'_>) -> Result<Label, AllocError> {
-    Ok(Label {
-        text: text(alloc, parts)?,
-    })
+fn label(rt: &impl Abort, alloc: Global, parts: Parts<'_>) -> Label {
+    Label {
+        text: text(alloc, parts).or_end(rt),
+    }
 }
 
 // Whether this is answered of a label of these parts, by a function or a value.
 fn is_answered(
+    rt: &impl Abort,
     alloc: Global,
     way: usize,
     parts: Parts<'_>,
     wanted: Option<&str>,
-) -> Result<bool, AllocError> {
-    let code = regex(alloc, "^[0-9]+$")?;
-    let answer = answer(alloc, way, &label(alloc, parts)?, &code);
-    Ok(tells(answer, wanted))
+) -> bool {
+    let code = regex(alloc, "^[0-9]+$").or_end(rt);
+    let answer = answer(alloc, way, &label(rt, alloc, parts), &code);
+    tells(answer, wanted)
 }
 
 /// The parts of a label, and what is found where it has to be a URL, and where it has to have a code.
@@ -119,47 +122,44 @@ fn assert_answered(
     ways: [usize; 3],
     parts: Parts<'_>,
     wanted: Option<&str>,
-) -> Result<(), AllocError> {
+) {
     let (front, again, _) = parts;
     for way in ways {
         assert!(rt;
-            is_answered(alloc, way, parts, wanted)?,
+            is_answered(rt, alloc, way, parts, wanted),
             "{front}{again} by {way}"
         );
     }
-    Ok(())
 }
 
 #[test]
-fn links_of_four_and_codes_of_eight_kilobytes(rt: HostRuntime) -> Result<(), Fail> {
+fn links_of_four_and_codes_of_eight_kilobytes(rt: HostRuntime) {
     for (parts, link, number) in &ROWS {
-        assert_answered(&rt, rt.alloc(), [0, 1, 2], *parts, *link)?;
-        assert_answered(&rt, rt.alloc(), [3, 4, 5], *parts, *number)?;
+        assert_answered(&rt, rt.alloc(), [0, 1, 2], *parts, *link);
+        assert_answered(&rt, rt.alloc(), [3, 4, 5], *parts, *number);
     }
-    Ok(())
 }
 
 // A parcel of these texts, each so many times.
-fn parcel(alloc: Global, link: &str, code: &str) -> Result<Parcel, AllocError> {
-    Ok(Parcel {
-        link: text(alloc, (link, "path/", 819))?,
-        code: code.repeat(alloc, 1024)?,
-        label: label(alloc, ("", code, 1024))?,
-    })
+fn parcel(rt: &impl Abort, alloc: Global, link: &str, code: &str) -> Parcel {
+    Parcel {
+        link: text(alloc, (link, "path/", 819)).or_end(rt),
+        code: code.repeat(alloc, 1024).or_end(rt),
+        label: label(rt, alloc, ("", code, 1024)),
+    }
 }
 
 // Whether this is told of a parcel of these texts.
-fn is_told(alloc: Global, link: &str, digits: &str, wanted: &str) -> Result<bool, AllocError> {
-    let code = regex(alloc, "^[0-9]+$")?;
-    let answer = parcel(alloc, link, digits)?.validate_with(alloc, &code);
-    tells_all(alloc, answer, wanted)
+fn is_told(rt: &impl Abort, alloc: Global, link: &str, digits: &str, wanted: &str) -> bool {
+    let code = regex(alloc, "^[0-9]+$").or_end(rt);
+    let answer = parcel(rt, alloc, link, digits).validate_with(alloc, &code);
+    tells_all(rt, alloc, answer, wanted)
 }
 
 #[test]
-fn a_walk_of_long_links_and_codes(rt: HostRuntime) -> Result<(), Fail> {
+fn a_walk_of_long_links_and_codes(rt: HostRuntime) {
     let wanted =
         "link: not a valid url: relative URL without a base\ncode: does not match pattern /^[0-9]+$/\nlabel: does not match pattern /^[0-9]+$/\n";
-    assert!(rt; is_told(rt.alloc(), "https://example.com/", "01234567", "")?);
-    assert!(rt; is_told(rt.alloc(), "", "0123456x", wanted)?);
-    Ok(())
+    assert!(rt; is_told(&rt, rt.alloc(), "https://example.com/", "01234567", ""));
+    assert!(rt; is_told(&rt, rt.alloc(), "", "0123456x", wanted));
 }

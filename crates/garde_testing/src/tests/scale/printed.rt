@@ -1,5 +1,6 @@
 //! What `{}` gives of a value of each public type that prints, and of a report to a writer that takes
 //! a byte a call.
+use crate::tests::OrEnd;
 use crate::tests::reports::add;
 use crate::tests::told::prints;
 use garde::error::{Component, NoKey};
@@ -8,7 +9,7 @@ use garde::rules::ip::Ip;
 use garde::{Error, IntoValidError, Path, Report, Unvalidated, ValidateError};
 use std::alloc::{AllocError, Global};
 use std::io::{self, Write};
-use std::test::Fail;
+use std::process::Abort;
 
 /// A writer that takes one byte a call.
 #[derive(Drop)]
@@ -42,28 +43,34 @@ fn written(alloc: Global, report: &Report) -> Vec<u8> {
 }
 
 // Whether what refuses a text that is no address of this kind prints this text.
-fn refusal_prints(alloc: Global, kind: IpKind, text: &str) -> Result<bool, AllocError> {
+fn refusal_prints(rt: &impl Abort, alloc: Global, kind: IpKind, text: &str) -> bool {
     match "x".validate_ip(kind) {
-        Ok(()) => Ok(false),
-        Err(refused) => prints(alloc, &refused, text),
+        Ok(()) => false,
+        Err(refused) => prints(rt, alloc, &refused, text),
     }
 }
 
 #[test]
-fn reasons_and_kinds(rt: HostRuntime) -> Result<(), Fail> {
+fn reasons_and_kinds(rt: HostRuntime) {
     let alloc = rt.alloc();
-    assert!(rt; prints(alloc, &InvalidUrl::EmptyHost, "empty host")?);
-    assert!(rt; prints(alloc, &InvalidCreditCard::Other, "invalid credit card")?);
-    assert!(rt; prints(alloc, &InvalidPhoneNumber::Other, "invalid phone number")?);
+    assert!(rt; prints(&rt, alloc, &InvalidUrl::EmptyHost, "empty host"));
+    assert!(rt; prints(&rt, alloc, &InvalidCreditCard::Other, "invalid credit card"));
+    assert!(rt;
+        prints(
+            &rt,
+            alloc,
+            &InvalidPhoneNumber::Other,
+            "invalid phone number"
+        )
+    );
     for (kind, text, error) in [
         (IpKind::Any, "IP", "invalid IP address syntax"),
         (IpKind::V4, "IPv4", "invalid IPv4 address syntax"),
         (IpKind::V6, "IPv6", "invalid IPv6 address syntax"),
     ] {
-        assert!(rt; prints(alloc, &kind, text)?, "{text}");
-        assert!(rt; refusal_prints(alloc, kind, error)?, "{error}");
+        assert!(rt; prints(&rt, alloc, &kind, text), "{text}");
+        assert!(rt; refusal_prints(&rt, alloc, kind, error), "{error}");
     }
-    Ok(())
 }
 
 // A report of one fault at an index.
@@ -74,64 +81,60 @@ fn report(alloc: Global) -> Result<Report, AllocError> {
 }
 
 // Whether components without a name, with an index and with a key print what they hold.
-fn components_print(alloc: Global) -> Result<bool, AllocError> {
-    Ok(
-        prints(alloc, &NoKey::default(), "")?
-            && prints(alloc, &Component::index(7), "7")?
-            && prints(alloc, &Component::key("a.b"), "a.b")?,
-    )
+fn components_print(rt: &impl Abort, alloc: Global) -> bool {
+    prints(rt, alloc, &NoKey::default(), "")
+        && prints(rt, alloc, &Component::index(7), "7")
+        && prints(rt, alloc, &Component::key("a.b"), "a.b")
 }
 
 // Whether the path of an index prints this text.
-fn path_prints(alloc: Global, text: &str) -> Result<bool, AllocError> {
-    let path = Path::new(alloc, 7usize)?;
-    prints(alloc, &path, text)
+fn path_prints(rt: &impl Abort, alloc: Global, text: &str) -> bool {
+    let path = Path::new(alloc, 7usize).or_end(rt);
+    prints(rt, alloc, &path, text)
 }
 
 // Whether an error prints its message.
-fn error_prints(alloc: Global, message: &str) -> Result<bool, AllocError> {
-    let error = Error::new(alloc, message)?;
-    prints(alloc, &error, message)
+fn error_prints(rt: &impl Abort, alloc: Global, message: &str) -> bool {
+    let error = Error::new(alloc, message).or_end(rt);
+    prints(rt, alloc, &error, message)
 }
 
 #[test]
-fn parts_of_reports(rt: HostRuntime) -> Result<(), Fail> {
-    assert!(rt; components_print(rt.alloc())?);
-    assert!(rt; path_prints(rt.alloc(), "[7]")?);
-    assert!(rt; error_prints(rt.alloc(), "weak")?);
-    Ok(())
+fn parts_of_reports(rt: HostRuntime) {
+    assert!(rt; components_print(&rt, rt.alloc()));
+    assert!(rt; path_prints(&rt, rt.alloc(), "[7]"));
+    assert!(rt; error_prints(&rt, rt.alloc(), "weak"));
 }
 
 // Whether a report prints this line, also to a writer that takes one byte a call.
-fn report_prints(alloc: Global, line: &str) -> Result<bool, AllocError> {
-    let told = report(alloc)?;
-    Ok(prints(alloc, &told, line)? && written(alloc, &told).as_slice() == line.as_bytes())
+fn report_prints(rt: &impl Abort, alloc: Global, line: &str) -> bool {
+    let told = report(alloc).or_end(rt);
+    prints(rt, alloc, &told, line) && written(alloc, &told).as_slice() == line.as_bytes()
 }
 
 // Whether the refusal of a value prints this line.
-fn refusal_of_a_value_prints(alloc: Global, line: &str) -> Result<bool, AllocError> {
-    let told = ValidateError::Report(report(alloc)?);
-    prints(alloc, &told, line)
+fn refusal_of_a_value_prints(rt: &impl Abort, alloc: Global, line: &str) -> bool {
+    let told = ValidateError::Report(report(alloc).or_end(rt));
+    prints(rt, alloc, &told, line)
 }
 
 // Whether the refusal to make a value a valid one prints this line.
-fn refusal_of_a_valid_prints(alloc: Global, line: &str) -> Result<bool, AllocError> {
-    let told: IntoValidError<()> = IntoValidError::Report(report(alloc)?);
-    prints(alloc, &told, line)
+fn refusal_of_a_valid_prints(rt: &impl Abort, alloc: Global, line: &str) -> bool {
+    let told: IntoValidError<()> = IntoValidError::Report(report(alloc).or_end(rt));
+    prints(rt, alloc, &told, line)
 }
 
 // Whether want of memory prints this text, by either refusal.
-fn want_prints(alloc: Global, text: &str) -> Result<bool, AllocError> {
+fn want_prints(rt: &impl Abort, alloc: Global, text: &str) -> bool {
     let none = IntoValidError::Memory(Unvalidated::new(()));
-    Ok(prints(alloc, &ValidateError::Memory, text)? && prints(alloc, &none, text)?)
+    prints(rt, alloc, &ValidateError::Memory, text) && prints(rt, alloc, &none, text)
 }
 
 #[test]
-fn reports_and_refusals(rt: HostRuntime) -> Result<(), Fail> {
+fn reports_and_refusals(rt: HostRuntime) {
     let line = "[7]: not ascii: \u{e9}\n";
-    assert!(rt; report_prints(rt.alloc(), line)?);
-    assert!(rt; refusal_of_a_value_prints(rt.alloc(), line)?);
-    assert!(rt; refusal_of_a_valid_prints(rt.alloc(), line)?);
-    assert!(rt; want_prints(rt.alloc(), "out of memory")?);
-    Ok(())
+    assert!(rt; report_prints(&rt, rt.alloc(), line));
+    assert!(rt; refusal_of_a_value_prints(&rt, rt.alloc(), line));
+    assert!(rt; refusal_of_a_valid_prints(&rt, rt.alloc(), line));
+    assert!(rt; want_prints(&rt, rt.alloc(), "out of memory"));
 }

@@ -5,6 +5,7 @@ ghost use Rattle.garde.specs.Author.{length_in};
 ghost use Rattle.garde.specs.Fields.{◌and◌, Some, None, nat_lt, byte_count, string_bytes, codes, own, found, field, matches_text};
 
 use super::parcel::Label;
+use crate::tests::OrEnd;
 use crate::tests::told::{prints, tells_all};
 use garde::fields::{Field, Fields, Is, Length, Matches, Rule};
 use garde::rules::length::HasSimpleLength;
@@ -12,7 +13,7 @@ use garde::rules::{adapt, inner, prefix};
 use garde::{Component, DefaultI18n, I18n, Report, RuleError, Trail, Validate};
 use std::alloc::{AllocError, Global};
 use std::borrow::CowStr;
-use std::test::Fail;
+use std::process::Abort;
 
 /// A purse, whose length is the number of its coins.
 #[derive(Clone, Copy)]
@@ -95,24 +96,25 @@ impl Validate for Account {
 }
 
 // An account of so many coins.
-fn account_of(alloc: Global, coins: usize, again: &str) -> Result<Account, AllocError> {
-    let password = String::from_str(alloc, "secret")?;
-    Ok(Account {
+fn account_of(rt: &impl Abort, alloc: Global, coins: usize, again: &str) -> Account {
+    let password = String::from_str(alloc, "secret").or_end(rt);
+    Account {
         purse: Purse { coins },
         password,
-        again: String::from_str(alloc, again)?,
-    })
+        again: String::from_str(alloc, again).or_end(rt),
+    }
 }
 
 // Whether this is told of an account under a bank that asks for so many bytes.
 fn is_told(
+    rt: &impl Abort,
     alloc: Global,
     coins: usize,
     (again, least): (&str, usize),
     text: &str,
-) -> Result<bool, AllocError> {
-    let answer = account_of(alloc, coins, again)?.validate_with(alloc, &Bank { least });
-    tells_all(alloc, answer, text)
+) -> bool {
+    let answer = account_of(rt, alloc, coins, again).validate_with(alloc, &Bank { least });
+    tells_all(rt, alloc, answer, text)
 }
 
 /// Coins, a second password, what a bank asks for, and what is told.
@@ -132,12 +134,11 @@ static ACCOUNTS: [(usize, &str, usize, &str); 7] = [
 ];
 
 #[test]
-fn a_length_a_context_and_a_match(rt: HostRuntime) -> Result<(), Fail> {
+fn a_length_a_context_and_a_match(rt: HostRuntime) {
     for (coins, again, least, text) in &ACCOUNTS {
         let asked = (*again, *least);
-        assert!(rt; is_told(rt.alloc(), *coins, asked, text)?, "{text}");
+        assert!(rt; is_told(&rt, rt.alloc(), *coins, asked, text), "{text}");
     }
-    Ok(())
 }
 
 // Asks the text of a label for its beginning, beneath its component.
@@ -160,17 +161,17 @@ fn check_label<'a>(
 }
 
 // The labels of these texts.
-fn labels(alloc: Global, texts: &[&str]) -> Result<Vec<Label>, AllocError> {
+fn labels(rt: &impl Abort, alloc: Global, texts: &[&str]) -> Vec<Label> {
     let mut labels = Vec::new(alloc);
     for text in texts {
-        let text = String::from_str(alloc, text)?;
-        labels.push(Label { text })?;
+        let text = String::from_str(alloc, text).or_end(rt);
+        labels.push(Label { text }).or_end(rt);
     }
-    Ok(labels)
+    labels
 }
 
 // Asks the text of each label for its beginning.
-fn check_labels(alloc: Global, labels: &Vec<Label>, report: &mut Report) -> Result<(), AllocError> {
+fn check_labels(rt: &impl Abort, alloc: Global, labels: &Vec<Label>, report: &mut Report) {
     let mut trail = Trail::new(alloc);
     inner::apply(
         labels,
@@ -180,18 +181,18 @@ fn check_labels(alloc: Global, labels: &Vec<Label>, report: &mut Report) -> Resu
             check_label(alloc, label, component, trail, report)
         },
     )
+    .or_end(rt)
 }
 
 // Whether this is told of labels of these texts.
-fn is_told_of_labels(alloc: Global, texts: &[&str], text: &str) -> Result<bool, AllocError> {
+fn is_told_of_labels(rt: &impl Abort, alloc: Global, texts: &[&str], text: &str) -> bool {
     let mut report = Report::new(alloc);
-    check_labels(alloc, &labels(alloc, texts)?, &mut report)?;
-    prints(alloc, &report, text)
+    check_labels(rt, alloc, &labels(rt, alloc, texts), &mut report);
+    prints(rt, alloc, &report, text)
 }
 
 #[test]
-fn a_view_of_each_item(rt: HostRuntime) -> Result<(), Fail> {
+fn a_view_of_each_item(rt: HostRuntime) {
     let text = "[1]: value does not begin with \"t-\"\n[3]: value does not begin with \"t-\"\n";
-    assert!(rt; is_told_of_labels(rt.alloc(), &["t-1", "1", "t-", ""], text)?);
-    Ok(())
+    assert!(rt; is_told_of_labels(&rt, rt.alloc(), &["t-1", "1", "t-", ""], text));
 }

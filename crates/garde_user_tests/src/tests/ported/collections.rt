@@ -1,110 +1,118 @@
 //! Types of collections and of options.
 use super::{next, tells, texts};
+use crate::tests::OrEnd;
 use garde_ported::depot::{Depot, Door};
 use garde_ported::guest::Guest;
 use garde_ported::shop::Shop;
-use std::alloc::{AllocError, Global};
+use std::alloc::Global;
 use std::collections::{BTreeMap, BTreeSet, HashMap, HashSet, LinkedList, VecDeque};
+use std::process::Abort;
 use std::rc::Rc;
-use std::test::Fail;
 
 /// A map from texts to numbers.
-fn pieces(alloc: Global, rows: &[(&str, u32)]) -> Result<BTreeMap<String, u32>, AllocError> {
+fn pieces(rt: &impl Abort, alloc: Global, rows: &[(&str, u32)]) -> BTreeMap<String, u32> {
     let mut pieces = BTreeMap::new(alloc);
     for (name, count) in rows {
-        pieces.insert(String::from_str(alloc, *name)?, *count)?;
+        pieces
+            .insert(String::from_str(alloc, *name).or_end(rt), *count)
+            .or_end(rt);
     }
-    Ok(pieces)
+    pieces
 }
 
 /// A shelf with the number 7, and a mark.
-fn shelf(alloc: Global, text: &str) -> Result<BTreeMap<usize, String>, AllocError> {
+fn shelf(rt: &impl Abort, alloc: Global, text: &str) -> BTreeMap<usize, String> {
     let mut shelves = BTreeMap::new(alloc);
-    shelves.insert(7, String::from_str(alloc, text)?)?;
-    Ok(shelves)
+    shelves
+        .insert(7, String::from_str(alloc, text).or_end(rt))
+        .or_end(rt);
+    shelves
 }
 
-fn mark(alloc: Global, text: &str) -> Result<BTreeSet<String>, AllocError> {
+fn mark(rt: &impl Abort, alloc: Global, text: &str) -> BTreeSet<String> {
     let mut marks = BTreeSet::new(alloc);
-    marks.insert(String::from_str(alloc, text)?)?;
-    Ok(marks)
+    marks
+        .insert(String::from_str(alloc, text).or_end(rt))
+        .or_end(rt);
+    marks
 }
 
 /// A row of texts, and an empty one where that is wanted.
-fn rows(alloc: Global, row: &[&str], empty: bool) -> Result<Vec<Vec<String>>, AllocError> {
+fn rows(rt: &impl Abort, alloc: Global, row: &[&str], empty: bool) -> Vec<Vec<String>> {
     let mut rows = Vec::new(alloc);
     if empty {
-        rows.push(Vec::new(alloc))?;
+        rows.push(Vec::new(alloc)).or_end(rt);
     }
-    rows.push(texts(alloc, row)?)?;
-    Ok(rows)
+    rows.push(texts(rt, alloc, row)).or_end(rt);
+    rows
 }
 
-fn good_shop(alloc: Global) -> Result<Shop, AllocError> {
-    Ok(Shop {
-        names: texts(alloc, &["ab", "abc", "abcd"])?,
-        pieces: pieces(alloc, &[("a", 1), ("b", 999)])?,
-        shelves: shelf(alloc, "éa1")?,
-        marks: mark(alloc, "12345678")?,
-        rows: rows(alloc, &["a", "b"], false)?,
-    })
+fn good_shop(rt: &impl Abort, alloc: Global) -> Shop {
+    Shop {
+        names: texts(rt, alloc, &["ab", "abc", "abcd"]),
+        pieces: pieces(rt, alloc, &[("a", 1), ("b", 999)]),
+        shelves: shelf(rt, alloc, "éa1"),
+        marks: mark(rt, alloc, "12345678"),
+        rows: rows(rt, alloc, &["a", "b"], false),
+    }
 }
 
-fn bad_shop(alloc: Global) -> Result<Shop, AllocError> {
-    Ok(Shop {
-        names: texts(alloc, &["abcd", "abc", "b", "é"])?,
-        pieces: pieces(alloc, &[("a", 1), ("b", 0), ("c", 1000)])?,
-        shelves: shelf(alloc, "_")?,
-        marks: mark(alloc, "123456789")?,
-        rows: rows(alloc, &["ab", "é"], true)?,
-    })
+fn bad_shop(rt: &impl Abort, alloc: Global) -> Shop {
+    Shop {
+        names: texts(rt, alloc, &["abcd", "abc", "b", "é"]),
+        pieces: pieces(rt, alloc, &[("a", 1), ("b", 0), ("c", 1000)]),
+        shelves: shelf(rt, alloc, "_"),
+        marks: mark(rt, alloc, "123456789"),
+        rows: rows(rt, alloc, &["ab", "é"], true),
+    }
 }
 
-fn good_shop_tells(alloc: Global, text: &str) -> Result<bool, AllocError> {
-    tells(alloc, &good_shop(alloc)?, &(), text)
+fn good_shop_tells(rt: &impl Abort, alloc: Global, text: &str) -> bool {
+    tells(rt, alloc, &good_shop(rt, alloc), &(), text)
 }
 
-fn bad_shop_tells(alloc: Global, text: &str) -> Result<bool, AllocError> {
-    tells(alloc, &bad_shop(alloc)?, &(), text)
+fn bad_shop_tells(rt: &impl Abort, alloc: Global, text: &str) -> bool {
+    tells(rt, alloc, &bad_shop(rt, alloc), &(), text)
 }
 
 const BAD_SHOP: &str =
     "names: length is greater than 3\nnames[0]: not ascii\nnames[1]: length is lower than 2\npieces: length is greater than 2\npieces.b: lower than 1\npieces.c: greater than 999\nshelves[7]: not alphanumeric\nmarks[0]: length is greater than 8\nrows[0]: length is lower than 1\nrows[1][0]: not ascii\nrows[1][0]: length is greater than 1\nrows[1][1]: length is greater than 1\n";
 
 #[test]
-fn each_collection_of_a_shop(rt: HostRuntime) -> Result<(), Fail> {
-    assert!(rt; good_shop_tells(rt.alloc(), "")?);
-    assert!(rt; bad_shop_tells(rt.alloc(), BAD_SHOP)?);
-    Ok(())
+fn each_collection_of_a_shop(rt: HostRuntime) {
+    assert!(rt; good_shop_tells(&rt, rt.alloc(), ""));
+    assert!(rt; bad_shop_tells(&rt, rt.alloc(), BAD_SHOP));
 }
 
 /// A guest of an age with three texts, or with none.
 fn guest(
+    rt: &impl Abort,
     alloc: Global,
     age: Option<u8>,
     from: &[&str],
     seats: &[Option<u8>],
-) -> Result<Guest, AllocError> {
-    let seats = seats.to_vec(alloc)?;
-    let mut all = texts(alloc, from)?;
+) -> Guest {
+    let seats = seats.to_vec(alloc).or_end(rt);
+    let mut all = texts(rt, alloc, from);
     let there = !from.is_empty();
-    Ok(Guest {
+    Guest {
         age,
         nickname: there.then_some(next(alloc, &mut all)),
         site: there.then_some(next(alloc, &mut all)),
         motto: there.then_some(next(alloc, &mut all)),
         seats: Some(seats),
-    })
+    }
 }
 
 fn guest_tells(
+    rt: &impl Abort,
     alloc: Global,
     age: Option<u8>,
     from: &[&str],
     seats: &[Option<u8>],
     text: &str,
-) -> Result<bool, AllocError> {
-    tells(alloc, &guest(alloc, age, from, seats)?, &(), text)
+) -> bool {
+    tells(rt, alloc, &guest(rt, alloc, age, from, seats), &(), text)
 }
 
 const GUESTS: &[(Option<u8>, &[&str], &[Option<u8>], &str)] = &[
@@ -124,90 +132,96 @@ const GUESTS: &[(Option<u8>, &[&str], &[Option<u8>], &str)] = &[
 ];
 
 #[test]
-fn options_with_and_without_a_value(rt: HostRuntime) -> Result<(), Fail> {
+fn options_with_and_without_a_value(rt: HostRuntime) {
     for (place, (age, from, seats, text)) in GUESTS.iter().enumerate() {
         assert!(rt;
-            guest_tells(rt.alloc(), *age, from, seats, text)?,
+            guest_tells(&rt, rt.alloc(), *age, from, seats, text),
             "row {place}"
         );
     }
-    Ok(())
 }
 
-fn counts(alloc: Global, count: u32) -> Result<HashMap<String, u32>, AllocError> {
+fn counts(rt: &impl Abort, alloc: Global, count: u32) -> HashMap<String, u32> {
     let mut counts = HashMap::new(alloc);
-    counts.insert(String::from_str(alloc, "a")?, count)?;
-    Ok(counts)
+    counts
+        .insert(String::from_str(alloc, "a").or_end(rt), count)
+        .or_end(rt);
+    counts
 }
 
-fn names(alloc: Global, name: &str) -> Result<HashMap<usize, String>, AllocError> {
+fn names(rt: &impl Abort, alloc: Global, name: &str) -> HashMap<usize, String> {
     let mut names = HashMap::new(alloc);
-    names.insert(7, String::from_str(alloc, name)?)?;
-    Ok(names)
+    names
+        .insert(7, String::from_str(alloc, name).or_end(rt))
+        .or_end(rt);
+    names
 }
 
-fn keys(alloc: Global, key: &str) -> Result<HashSet<String>, AllocError> {
+fn keys(rt: &impl Abort, alloc: Global, key: &str) -> HashSet<String> {
     let mut keys = HashSet::new(alloc);
-    keys.insert(String::from_str(alloc, key)?)?;
-    Ok(keys)
+    keys.insert(String::from_str(alloc, key).or_end(rt))
+        .or_end(rt);
+    keys
 }
 
-fn queue(alloc: Global, digits: &[u8]) -> Result<VecDeque<u8>, AllocError> {
+fn queue(rt: &impl Abort, alloc: Global, digits: &[u8]) -> VecDeque<u8> {
     let mut queue = VecDeque::new(alloc);
     for digit in digits {
-        queue.push_back(*digit)?;
+        queue.push_back(*digit).or_end(rt);
     }
-    Ok(queue)
+    queue
 }
 
-fn chain(alloc: Global, digits: &[u8]) -> Result<LinkedList<u8>, AllocError> {
+fn chain(rt: &impl Abort, alloc: Global, digits: &[u8]) -> LinkedList<u8> {
     let mut chain = LinkedList::new(alloc);
     for digit in digits {
-        chain.push_back(*digit)?;
+        chain.push_back(*digit).or_end(rt);
     }
-    Ok(chain)
+    chain
 }
 
-fn doors(alloc: Global, width: u8) -> Result<BTreeMap<String, Door>, AllocError> {
+fn doors(rt: &impl Abort, alloc: Global, width: u8) -> BTreeMap<String, Door> {
     let mut doors = BTreeMap::new(alloc);
-    doors.insert(String::from_str(alloc, "a")?, Door { width })?;
-    Ok(doors)
+    doors
+        .insert(String::from_str(alloc, "a").or_end(rt), Door { width })
+        .or_end(rt);
+    doors
 }
 
 /// A depot of numbers up to the first one, texts and doors.
-fn depot(alloc: Global, digits: &[u8], text: &str, width: u8) -> Result<Depot, AllocError> {
+fn depot(rt: &impl Abort, alloc: Global, digits: &[u8], text: &str, width: u8) -> Depot {
     let digit = match digits {
         [digit, ..] => *digit,
         [] => 0,
     };
-    Ok(Depot {
-        counts: counts(alloc, digit as u32)?,
-        names: names(alloc, text)?,
-        keys: keys(alloc, text)?,
-        queue: queue(alloc, digits)?,
-        chain: chain(alloc, digits)?,
+    Depot {
+        counts: counts(rt, alloc, digit as u32),
+        names: names(rt, alloc, text),
+        keys: keys(rt, alloc, text),
+        queue: queue(rt, alloc, digits),
+        chain: chain(rt, alloc, digits),
         digits: [0, 9, digit],
-        gate: Rc::new(alloc, Door { width })?,
-        doors: doors(alloc, width)?,
-    })
+        gate: Rc::new(alloc, Door { width }).or_end(rt),
+        doors: doors(rt, alloc, width),
+    }
 }
 
 fn depot_tells(
+    rt: &impl Abort,
     alloc: Global,
     digits: &[u8],
     name: &str,
     width: u8,
     text: &str,
-) -> Result<bool, AllocError> {
-    tells(alloc, &depot(alloc, digits, name, width)?, &(), text)
+) -> bool {
+    tells(rt, alloc, &depot(rt, alloc, digits, name, width), &(), text)
 }
 
 const BAD_DEPOT: &str =
     "counts.a: greater than 9\nnames[7]: not ascii\nkeys[0]: length is greater than 4\nqueue: length is greater than 1\nqueue[0]: greater than 9\nqueue[1]: greater than 9\nchain: length is greater than 1\nchain[0]: greater than 9\nchain[1]: greater than 9\ndigits[2]: greater than 9\ngate.width: greater than 15\ndoors.a.width: greater than 15\n";
 
 #[test]
-fn each_collection_of_a_depot(rt: HostRuntime) -> Result<(), Fail> {
-    assert!(rt; depot_tells(rt.alloc(), &[9], "abcd", 15, "")?);
-    assert!(rt; depot_tells(rt.alloc(), &[10, 11], "é123", 16, BAD_DEPOT)?);
-    Ok(())
+fn each_collection_of_a_depot(rt: HostRuntime) {
+    assert!(rt; depot_tells(&rt, rt.alloc(), &[9], "abcd", 15, ""));
+    assert!(rt; depot_tells(&rt, rt.alloc(), &[10, 11], "é123", 16, BAD_DEPOT));
 }

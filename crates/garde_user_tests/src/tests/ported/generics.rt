@@ -1,9 +1,10 @@
 //! Types with parameters.
 use super::{next, tells, texts};
+use crate::tests::OrEnd;
 use garde_ported::generic::{Choice, Couple, Grid, Labelled, Plain};
 use garde_ported::wrapped::Nickname;
-use std::alloc::{AllocError, Global};
-use std::test::Fail;
+use std::alloc::Global;
+use std::process::Abort;
 
 /// A type with a parameter.
 #[derive(Clone, Copy)]
@@ -37,11 +38,11 @@ const ROWS: &[(Of, &str, &str)] = &[
     (Of::Plain, "ab", "part: length is lower than 3\n"),
 ];
 
-fn couple(alloc: Global, text: &str) -> Result<Couple<Nickname, Nickname>, AllocError> {
-    let mut all = texts(alloc, &[text, text])?;
+fn couple(rt: &impl Abort, alloc: Global, text: &str) -> Couple<Nickname, Nickname> {
+    let mut all = texts(rt, alloc, &[text, text]);
     let left = Nickname(next(alloc, &mut all));
-    let right = vec![in alloc; Nickname(next(alloc, &mut all))]?;
-    Ok(Couple { left, right })
+    let right = vec![in alloc; Nickname(next(alloc, &mut all))].or_end(rt);
+    Couple { left, right }
 }
 
 /// The length of a text, up to 255.
@@ -49,52 +50,47 @@ fn count(text: &str) -> u8 {
     u8::try_from(text.len()).unwrap_or(255)
 }
 
-fn labelled(alloc: Global, text: &str) -> Result<Labelled<u8>, AllocError> {
-    let label = String::from_str(alloc, text)?;
-    Ok(Labelled { value: 7, label })
+fn labelled(rt: &impl Abort, alloc: Global, text: &str) -> Labelled<u8> {
+    let label = String::from_str(alloc, text).or_end(rt);
+    Labelled { value: 7, label }
 }
 
-fn nickname(alloc: Global, text: &str) -> Result<Nickname, AllocError> {
-    Ok(Nickname(String::from_str(alloc, text)?))
+fn nickname(rt: &impl Abort, alloc: Global, text: &str) -> Nickname {
+    Nickname(String::from_str(alloc, text).or_end(rt))
 }
 
-fn choice_tells(
-    alloc: Global,
-    choice: Choice<'_, Nickname>,
-    text: &str,
-) -> Result<bool, AllocError> {
-    tells(alloc, &choice, &(), text)
+fn choice_tells(rt: &impl Abort, alloc: Global, choice: Choice<'_, Nickname>, text: &str) -> bool {
+    tells(rt, alloc, &choice, &(), text)
 }
 
-fn part_tells(alloc: Global, part: &str, text: &str) -> Result<bool, AllocError> {
-    choice_tells(alloc, Choice::Part(nickname(alloc, part)?), text)
+fn part_tells(rt: &impl Abort, alloc: Global, part: &str, text: &str) -> bool {
+    choice_tells(rt, alloc, Choice::Part(nickname(rt, alloc, part)), text)
 }
 
-fn plain_tells(alloc: Global, part: &str, text: &str) -> Result<bool, AllocError> {
-    let part = Some(nickname(alloc, part)?);
-    tells(alloc, &Plain { part }, &(), text)
+fn plain_tells(rt: &impl Abort, alloc: Global, part: &str, text: &str) -> bool {
+    let part = Some(nickname(rt, alloc, part));
+    tells(rt, alloc, &Plain { part }, &(), text)
 }
 
 /// Whether this is told of a value of a type that is made of a text.
-fn is_told(alloc: Global, of: Of, from: &str, text: &str) -> Result<bool, AllocError> {
+fn is_told(rt: &impl Abort, alloc: Global, of: Of, from: &str, text: &str) -> bool {
     match of {
-        Of::Couple => tells(alloc, &couple(alloc, from)?, &(), text),
+        Of::Couple => tells(rt, alloc, &couple(rt, alloc, from), &(), text),
         Of::Grid => {
             let cells = [9, count(from)];
-            tells(alloc, &Grid { cells }, &(), text)
+            tells(rt, alloc, &Grid { cells }, &(), text)
         }
-        Of::Labelled => tells(alloc, &labelled(alloc, from)?, &(), text),
-        Of::Name => choice_tells(alloc, Choice::Name { name: from }, text),
-        Of::Neither => choice_tells(alloc, Choice::Neither, text),
-        Of::Part => part_tells(alloc, from, text),
-        Of::Plain => plain_tells(alloc, from, text),
+        Of::Labelled => tells(rt, alloc, &labelled(rt, alloc, from), &(), text),
+        Of::Name => choice_tells(rt, alloc, Choice::Name { name: from }, text),
+        Of::Neither => choice_tells(rt, alloc, Choice::Neither, text),
+        Of::Part => part_tells(rt, alloc, from, text),
+        Of::Plain => plain_tells(rt, alloc, from, text),
     }
 }
 
 #[test]
-fn types_with_parameters(rt: HostRuntime) -> Result<(), Fail> {
+fn types_with_parameters(rt: HostRuntime) {
     for (place, (of, from, text)) in ROWS.iter().enumerate() {
-        assert!(rt; is_told(rt.alloc(), *of, from, text)?, "row {place}");
+        assert!(rt; is_told(&rt, rt.alloc(), *of, from, text), "row {place}");
     }
-    Ok(())
 }

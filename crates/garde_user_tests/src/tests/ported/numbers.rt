@@ -2,8 +2,8 @@
 use super::{next, tells, texts};
 use garde_ported::event::Event;
 use garde_ported::reading::Reading;
-use std::alloc::{AllocError, Global};
-use std::test::Fail;
+use std::alloc::Global;
+use std::process::Abort;
 
 const READINGS: &[(Reading, &str)] = &[
     (
@@ -35,11 +35,10 @@ const READINGS: &[(Reading, &str)] = &[
 ];
 
 #[test]
-fn each_number_within_its_bounds(rt: HostRuntime) -> Result<(), Fail> {
+fn each_number_within_its_bounds(rt: HostRuntime) {
     for (place, (reading, text)) in READINGS.iter().enumerate() {
-        assert!(rt; tells(rt.alloc(), reading, &(), text)?, "row {place}");
+        assert!(rt; tells(&rt, rt.alloc(), reading, &(), text), "row {place}");
     }
-    Ok(())
 }
 
 /// A variant of an event.
@@ -71,11 +70,11 @@ const EVENTS: &[(Of, u8, &str, &str)] = &[
     (Of::Mark, 255, "", ""),
 ];
 
-fn event(alloc: Global, of: Of, number: u8, text: &str) -> Result<Event, AllocError> {
-    let mut all = texts(alloc, &[text, text])?;
+fn event(rt: &impl Abort, alloc: Global, of: Of, number: u8, text: &str) -> Event {
+    let mut all = texts(rt, alloc, &[text, text]);
     let first = next(alloc, &mut all);
     let second = next(alloc, &mut all);
-    Ok(match of {
+    match of {
         Of::Move => Event::Move {
             steps: number as i32,
         },
@@ -88,26 +87,19 @@ fn event(alloc: Global, of: Of, number: u8, text: &str) -> Result<Event, AllocEr
         Of::Pair => Event::Pair(first, second),
         Of::Stop => Event::Stop,
         Of::Mark => Event::Mark(number),
-    })
+    }
 }
 
-fn event_tells(
-    alloc: Global,
-    of: Of,
-    number: u8,
-    from: &str,
-    text: &str,
-) -> Result<bool, AllocError> {
-    tells(alloc, &event(alloc, of, number, from)?, &(), text)
+fn event_tells(rt: &impl Abort, alloc: Global, of: Of, number: u8, from: &str, text: &str) -> bool {
+    tells(rt, alloc, &event(rt, alloc, of, number, from), &(), text)
 }
 
 #[test]
-fn each_variant_in_its_way(rt: HostRuntime) -> Result<(), Fail> {
+fn each_variant_in_its_way(rt: HostRuntime) {
     for (place, (of, number, from, text)) in EVENTS.iter().enumerate() {
         assert!(rt;
-            event_tells(rt.alloc(), *of, *number, from, text)?,
+            event_tells(&rt, rt.alloc(), *of, *number, from, text),
             "row {place}"
         );
     }
-    Ok(())
 }

@@ -1,63 +1,71 @@
 //! Types with parts that validate themselves, and types of one field.
 use super::tells;
+use crate::tests::OrEnd;
 use garde_ported::team::{Cup, Ground, League, Member, Team, Terms};
 use garde_ported::wrapped::{Boxes, Code, Holder, Nickname, Nothing, Numbered, Triple};
-use std::alloc::{AllocError, Global};
-use std::test::Fail;
+use std::alloc::Global;
+use std::process::Abort;
 
 const LEAGUE: League = League {
     members: Terms { age: 18, title: 3 },
     most: 1,
 };
 
-fn member(alloc: Global, age: u8, title: &str) -> Result<Member, AllocError> {
-    let title = String::from_str(alloc, title)?;
-    Ok(Member { age, title })
+fn member(rt: &impl Abort, alloc: Global, age: u8, title: &str) -> Member {
+    let title = String::from_str(alloc, title).or_end(rt);
+    Member { age, title }
 }
 
 /// So many members of an age and with a title.
-fn members(alloc: Global, count: usize, age: u8, title: &str) -> Result<Vec<Member>, AllocError> {
+fn members(rt: &impl Abort, alloc: Global, count: usize, age: u8, title: &str) -> Vec<Member> {
     let mut found = Vec::new(alloc);
     for _ in 0..count {
-        found.push(member(alloc, age, title)?)?;
+        found.push(member(rt, alloc, age, title)).or_end(rt);
     }
-    Ok(found)
+    found
 }
 
-fn ground(alloc: Global, town: &str) -> Result<Ground, AllocError> {
-    let town = String::from_str(alloc, town)?;
-    Ok(Ground { town })
+fn ground(rt: &impl Abort, alloc: Global, town: &str) -> Ground {
+    let town = String::from_str(alloc, town).or_end(rt);
+    Ground { town }
 }
 
-fn team(alloc: Global, count: usize, age: u8, title: &str) -> Result<Team, AllocError> {
-    Ok(Team {
-        members: members(alloc, count, age, title)?,
-        captain: Box::new(alloc, member(alloc, age, title)?)?,
-        coach: Some(member(alloc, age, title)?),
-        ground: ground(alloc, title)?,
-        reserve: Some(member(alloc, age, title)?),
-    })
+fn team(rt: &impl Abort, alloc: Global, count: usize, age: u8, title: &str) -> Team {
+    Team {
+        members: members(rt, alloc, count, age, title),
+        captain: Box::new(alloc, member(rt, alloc, age, title)).or_end(rt),
+        coach: Some(member(rt, alloc, age, title)),
+        ground: ground(rt, alloc, title),
+        reserve: Some(member(rt, alloc, age, title)),
+    }
 }
 
-fn cup(alloc: Global, count: usize, age: u8, title: &str) -> Result<Cup, AllocError> {
-    Ok(Cup {
-        teams: vec![in alloc; team(alloc, count, age, title)?]?,
-        winner: Some(team(alloc, 1, 18, title)?),
-    })
+fn cup(rt: &impl Abort, alloc: Global, count: usize, age: u8, title: &str) -> Cup {
+    Cup {
+        teams: vec![in alloc; team(rt, alloc, count, age, title)].or_end(rt),
+        winner: Some(team(rt, alloc, 1, 18, title)),
+    }
 }
 
 fn cup_tells(
+    rt: &impl Abort,
     alloc: Global,
     count: usize,
     age: u8,
     title: &str,
     text: &str,
-) -> Result<bool, AllocError> {
-    tells(alloc, &cup(alloc, count, age, title)?, &LEAGUE, text)
+) -> bool {
+    tells(rt, alloc, &cup(rt, alloc, count, age, title), &LEAGUE, text)
 }
 
-fn member_tells(alloc: Global, age: u8, title: &str, text: &str) -> Result<bool, AllocError> {
-    tells(alloc, &member(alloc, age, title)?, &LEAGUE.members, text)
+fn member_tells(rt: &impl Abort, alloc: Global, age: u8, title: &str, text: &str) -> bool {
+    tells(
+        rt,
+        alloc,
+        &member(rt, alloc, age, title),
+        &LEAGUE.members,
+        text,
+    )
 }
 
 const BAD_CUP: &str =
@@ -66,11 +74,10 @@ const BAD_CUP: &str =
 const BAD_MEMBER: &str = "years: lower than 18\ntitle: length is greater than 3\n";
 
 #[test]
-fn each_part_of_a_cup(rt: HostRuntime) -> Result<(), Fail> {
-    assert!(rt; cup_tells(rt.alloc(), 1, 18, "abc", "")?);
-    assert!(rt; cup_tells(rt.alloc(), 2, 17, "é", BAD_CUP)?);
-    assert!(rt; member_tells(rt.alloc(), 17, "abcd", BAD_MEMBER)?);
-    Ok(())
+fn each_part_of_a_cup(rt: HostRuntime) {
+    assert!(rt; cup_tells(&rt, rt.alloc(), 1, 18, "abc", ""));
+    assert!(rt; cup_tells(&rt, rt.alloc(), 2, 17, "é", BAD_CUP));
+    assert!(rt; member_tells(&rt, rt.alloc(), 17, "abcd", BAD_MEMBER));
 }
 
 /// A type round one text, or two.
@@ -105,42 +112,41 @@ const ROWS: &[(Of, &str, &str)] = &[
     (Of::Triple, "é", "[0]: not ascii\n[2]: greater than 9\n"),
 ];
 
-fn boxes(alloc: Global, text: String) -> Result<Boxes<Numbered>, AllocError> {
-    let first = Box::new(alloc, Numbered(text))?;
-    Ok(Boxes(vec![in alloc; first]?))
+fn boxes(rt: &impl Abort, alloc: Global, text: String) -> Boxes<Numbered> {
+    let first = Box::new(alloc, Numbered(text)).or_end(rt);
+    Boxes(vec![in alloc; first].or_end(rt))
 }
 
-fn boxes_tell(alloc: Global, from: String, text: &str) -> Result<bool, AllocError> {
-    tells(alloc, &boxes(alloc, from)?, &(), text)
+fn boxes_tell(rt: &impl Abort, alloc: Global, from: String, text: &str) -> bool {
+    tells(rt, alloc, &boxes(rt, alloc, from), &(), text)
 }
 
-fn holder_tells(alloc: Global, value: String, from: &str, text: &str) -> Result<bool, AllocError> {
-    let label = String::from_str(alloc, from)?;
+fn holder_tells(rt: &impl Abort, alloc: Global, value: String, from: &str, text: &str) -> bool {
+    let label = String::from_str(alloc, from).or_end(rt);
     let value = Nickname(value);
-    tells(alloc, &Holder { value, label }, &(), text)
+    tells(rt, alloc, &Holder { value, label }, &(), text)
 }
 
 /// Whether this is told of a value of a type that is made of a text.
-fn is_told(alloc: Global, of: Of, from: &str, text: &str) -> Result<bool, AllocError> {
-    let first = String::from_str(alloc, from)?;
+fn is_told(rt: &impl Abort, alloc: Global, of: Of, from: &str, text: &str) -> bool {
+    let first = String::from_str(alloc, from).or_end(rt);
     match of {
-        Of::Boxes => boxes_tell(alloc, first, text),
-        Of::Code => tells(alloc, &Code { text: first }, &(), text),
-        Of::Holder => holder_tells(alloc, first, from, text),
-        Of::Nickname => tells(alloc, &Nickname(first), &(), text),
-        Of::Nothing => tells(alloc, &Nothing, &(), text),
-        Of::Numbered => tells(alloc, &Numbered(first), &(), text),
+        Of::Boxes => boxes_tell(rt, alloc, first, text),
+        Of::Code => tells(rt, alloc, &Code { text: first }, &(), text),
+        Of::Holder => holder_tells(rt, alloc, first, from, text),
+        Of::Nickname => tells(rt, alloc, &Nickname(first), &(), text),
+        Of::Nothing => tells(rt, alloc, &Nothing, &(), text),
+        Of::Numbered => tells(rt, alloc, &Numbered(first), &(), text),
         Of::Triple => {
             let last = if from.len() == 1 { 9 } else { 10 };
-            tells(alloc, &Triple(first, 255, last), &(), text)
+            tells(rt, alloc, &Triple(first, 255, last), &(), text)
         }
     }
 }
 
 #[test]
-fn types_of_one_field_or_of_numbered_ones(rt: HostRuntime) -> Result<(), Fail> {
+fn types_of_one_field_or_of_numbered_ones(rt: HostRuntime) {
     for (place, (of, from, text)) in ROWS.iter().enumerate() {
-        assert!(rt; is_told(rt.alloc(), *of, from, text)?, "row {place}");
+        assert!(rt; is_told(&rt, rt.alloc(), *of, from, text), "row {place}");
     }
-    Ok(())
 }

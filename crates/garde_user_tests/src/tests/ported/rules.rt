@@ -1,12 +1,12 @@
 //! Types with conditions, patterns and rules of their own.
 use super::{next, tells, texts};
-use crate::tests::owned;
+use crate::tests::{OrEnd, owned};
 use garde::rules::pattern::regex::Regex;
 use garde_ported::coupon::{Coupon, Discount, Season, Tag};
 use garde_ported::page::{Page, Press};
 use garde_ported::visitor::{Badge, BadgePatterns, Desk, Patterns, Visitor};
-use std::alloc::{AllocError, Global};
-use std::test::Fail;
+use std::alloc::Global;
+use std::process::Abort;
 
 /// A page and what it is asked: whether it is plain, short and strictly read, and its number.
 struct Row {
@@ -63,11 +63,11 @@ const PAGES: &[Row] = &[
     },
 ];
 
-fn page(alloc: Global, row: &Row) -> Result<Page, AllocError> {
-    let mut all = texts(alloc, &row.texts)?;
-    let notes = texts(alloc, row.notes)?;
-    let content = owned(alloc, row.content)?;
-    Ok(Page {
+fn page(rt: &impl Abort, alloc: Global, row: &Row) -> Page {
+    let mut all = texts(rt, alloc, &row.texts);
+    let notes = texts(rt, alloc, row.notes);
+    let content = owned(rt, alloc, row.content);
+    Page {
         plain: row.plain,
         short: row.short,
         content,
@@ -77,68 +77,64 @@ fn page(alloc: Global, row: &Row) -> Result<Page, AllocError> {
         source: next(alloc, &mut all),
         volume: next(alloc, &mut all),
         number: row.number,
-    })
+    }
 }
 
-fn page_tells(alloc: Global, row: &Row) -> Result<bool, AllocError> {
+fn page_tells(rt: &impl Abort, alloc: Global, row: &Row) -> bool {
     let press = Press { strict: row.strict };
-    tells(alloc, &page(alloc, row)?, &press, row.told)
+    tells(rt, alloc, &page(rt, alloc, row), &press, row.told)
 }
 
 #[test]
-fn rules_under_conditions(rt: HostRuntime) -> Result<(), Fail> {
+fn rules_under_conditions(rt: HostRuntime) {
     for (place, row) in PAGES.iter().enumerate() {
-        assert!(rt; page_tells(rt.alloc(), row)?, "row {place}");
+        assert!(rt; page_tells(&rt, rt.alloc(), row), "row {place}");
     }
-    Ok(())
 }
 
 /// A compiled pattern.
-fn pattern(alloc: Global, source: &str) -> Result<Regex, AllocError> {
-    match Regex::new(alloc, source) {
-        Ok(regex) => Ok(regex),
-        Err(_) => Err(AllocError),
-    }
+fn pattern(rt: &impl Abort, alloc: Global, source: &str) -> Regex {
+    Regex::new(alloc, source).or_end(rt)
 }
 
-fn patterns(alloc: Global) -> Result<Patterns, AllocError> {
-    let mail = pattern(alloc, "^[^@]+@[^@]+$")?;
-    let phone = pattern(alloc, "^[0-9]+$")?;
-    Ok(Patterns { mail, phone })
+fn patterns(rt: &impl Abort, alloc: Global) -> Patterns {
+    let mail = pattern(rt, alloc, "^[^@]+@[^@]+$");
+    let phone = pattern(rt, alloc, "^[0-9]+$");
+    Patterns { mail, phone }
 }
 
-fn badge_patterns(alloc: Global) -> Result<BadgePatterns, AllocError> {
-    let number = pattern(alloc, "^[A-Z]{2}[0-9]+$")?;
-    let colors = pattern(alloc, "^[a-z]+$")?;
-    Ok(BadgePatterns { number, colors })
+fn badge_patterns(rt: &impl Abort, alloc: Global) -> BadgePatterns {
+    let number = pattern(rt, alloc, "^[A-Z]{2}[0-9]+$");
+    let colors = pattern(rt, alloc, "^[a-z]+$");
+    BadgePatterns { number, colors }
 }
 
-fn visitor(alloc: Global, from: &[&str]) -> Result<Visitor, AllocError> {
-    let mut all = texts(alloc, from)?;
+fn visitor(rt: &impl Abort, alloc: Global, from: &[&str]) -> Visitor {
+    let mut all = texts(rt, alloc, from);
     let mail = next(alloc, &mut all);
     let phone = Some(next(alloc, &mut all));
-    Ok(Visitor { mail, phone })
+    Visitor { mail, phone }
 }
 
-fn visitor_tells(alloc: Global, from: &[&str], text: &str) -> Result<bool, AllocError> {
-    let visitor = visitor(alloc, from)?;
-    tells(alloc, &visitor, &patterns(alloc)?, text)
+fn visitor_tells(rt: &impl Abort, alloc: Global, from: &[&str], text: &str) -> bool {
+    let visitor = visitor(rt, alloc, from);
+    tells(rt, alloc, &visitor, &patterns(rt, alloc), text)
 }
 
-fn badge(alloc: Global, from: &[&str]) -> Result<Badge, AllocError> {
-    let mut all = texts(alloc, from)?;
+fn badge(rt: &impl Abort, alloc: Global, from: &[&str]) -> Badge {
+    let mut all = texts(rt, alloc, from);
     let number = next(alloc, &mut all);
     let floor = if number.len() == 3 { 9 } else { 10 };
-    Ok(Badge {
+    Badge {
         number,
         colors: all,
         desk: Desk { floor },
-    })
+    }
 }
 
-fn badge_tells(alloc: Global, from: &[&str], text: &str) -> Result<bool, AllocError> {
-    let badge = badge(alloc, from)?;
-    tells(alloc, &badge, &badge_patterns(alloc)?, text)
+fn badge_tells(rt: &impl Abort, alloc: Global, from: &[&str], text: &str) -> bool {
+    let badge = badge(rt, alloc, from);
+    tells(rt, alloc, &badge, &badge_patterns(rt, alloc), text)
 }
 
 /// A type with patterns.
@@ -164,45 +160,45 @@ const MATCHED: &[(Of, [&str; 2], &str)] = &[
 ];
 
 /// Whether this is told of a value of a type that is made of two texts.
-fn is_told(alloc: Global, of: Of, from: &[&str], text: &str) -> Result<bool, AllocError> {
+fn is_told(rt: &impl Abort, alloc: Global, of: Of, from: &[&str], text: &str) -> bool {
     match of {
-        Of::Badge => badge_tells(alloc, from, text),
-        Of::Visitor => visitor_tells(alloc, from, text),
+        Of::Badge => badge_tells(rt, alloc, from, text),
+        Of::Visitor => visitor_tells(rt, alloc, from, text),
     }
 }
 
 #[test]
-fn compiled_patterns(rt: HostRuntime) -> Result<(), Fail> {
+fn compiled_patterns(rt: HostRuntime) {
     for (place, (of, from, text)) in MATCHED.iter().enumerate() {
-        assert!(rt; is_told(rt.alloc(), *of, from, text)?, "row {place}");
+        assert!(rt; is_told(&rt, rt.alloc(), *of, from, text), "row {place}");
     }
-    Ok(())
 }
 
-fn coupon(alloc: Global, number: u32, tag: &str, terms: bool) -> Result<Coupon, AllocError> {
-    let tag = Tag(String::from_str(alloc, tag)?);
-    Ok(Coupon { number, tag, terms })
+fn coupon(rt: &impl Abort, alloc: Global, number: u32, tag: &str, terms: bool) -> Coupon {
+    let tag = Tag(String::from_str(alloc, tag).or_end(rt));
+    Coupon { number, tag, terms }
 }
 
-fn discount(alloc: Global, percent: u8) -> Result<Discount, AllocError> {
-    let further = [percent].to_vec(alloc)?;
-    Ok(Discount { percent, further })
+fn discount(rt: &impl Abort, alloc: Global, percent: u8) -> Discount {
+    let further = [percent].to_vec(alloc).or_end(rt);
+    Discount { percent, further }
 }
 
 fn coupon_tells(
+    rt: &impl Abort,
     alloc: Global,
     number: u32,
     tag: &str,
     terms: bool,
     text: &str,
-) -> Result<bool, AllocError> {
-    tells(alloc, &coupon(alloc, number, tag, terms)?, &(), text)
+) -> bool {
+    tells(rt, alloc, &coupon(rt, alloc, number, tag, terms), &(), text)
 }
 
 /// Whether this is told of a discount in a season of at most 20 percent.
-fn discount_tells(alloc: Global, percent: u8, text: &str) -> Result<bool, AllocError> {
+fn discount_tells(rt: &impl Abort, alloc: Global, percent: u8, text: &str) -> bool {
     let season = Season { most: 20 };
-    tells(alloc, &discount(alloc, percent)?, &season, text)
+    tells(rt, alloc, &discount(rt, alloc, percent), &season, text)
 }
 
 const BAD_COUPON: &str =
@@ -211,10 +207,9 @@ const BAD_COUPON: &str =
 const BAD_DISCOUNT: &str = "percent: not in season\nfurther[0]: not in season\n";
 
 #[test]
-fn rules_of_ones_own(rt: HostRuntime) -> Result<(), Fail> {
-    assert!(rt; coupon_tells(rt.alloc(), 2, "t-1234", true, "")?);
-    assert!(rt; coupon_tells(rt.alloc(), 3, "1234567", false, BAD_COUPON)?);
-    assert!(rt; discount_tells(rt.alloc(), 20, "")?);
-    assert!(rt; discount_tells(rt.alloc(), 21, BAD_DISCOUNT)?);
-    Ok(())
+fn rules_of_ones_own(rt: HostRuntime) {
+    assert!(rt; coupon_tells(&rt, rt.alloc(), 2, "t-1234", true, ""));
+    assert!(rt; coupon_tells(&rt, rt.alloc(), 3, "1234567", false, BAD_COUPON));
+    assert!(rt; discount_tells(&rt, rt.alloc(), 20, ""));
+    assert!(rt; discount_tells(&rt, rt.alloc(), 21, BAD_DISCOUNT));
 }

@@ -4,9 +4,9 @@ use garde_ported::account::Account;
 use garde_ported::draft::Draft;
 use garde_ported::label::Label;
 use garde_ported::place::Place;
-use std::alloc::{AllocError, Global};
+use std::alloc::Global;
 use std::borrow::CowStr;
-use std::test::Fail;
+use std::process::Abort;
 
 /// A type of texts.
 #[derive(Clone, Copy)]
@@ -69,30 +69,30 @@ const ROWS: &[(Of, &[&str], &str)] = &[
     ),
 ];
 
-fn account(alloc: Global, from: &[&str]) -> Result<Account, AllocError> {
-    let mut all = texts(alloc, from)?;
-    Ok(Account {
+fn account(rt: &impl Abort, alloc: Global, from: &[&str]) -> Account {
+    let mut all = texts(rt, alloc, from);
+    Account {
         username: next(alloc, &mut all),
         password: next(alloc, &mut all),
         again: next(alloc, &mut all),
         code: next(alloc, &mut all),
         remember: false,
-    })
+    }
 }
 
 /// A draft, whose height is too great where it has no report.
-fn draft(alloc: Global, from: &[&str]) -> Result<Draft, AllocError> {
-    let mut all = texts(alloc, from)?;
-    Ok(Draft {
+fn draft(rt: &impl Abort, alloc: Global, from: &[&str]) -> Draft {
+    let mut all = texts(rt, alloc, from);
+    Draft {
         report: next(alloc, &mut all),
         trail: 200,
         h: if from.is_empty() { 10 } else { 9 },
-    })
+    }
 }
 
-fn place(alloc: Global, from: &[&str]) -> Result<Place, AllocError> {
-    let mut all = texts(alloc, from)?;
-    Ok(Place {
+fn place(rt: &impl Abort, alloc: Global, from: &[&str]) -> Place {
+    let mut all = texts(rt, alloc, from);
+    Place {
         mail: next(alloc, &mut all),
         tag: next(alloc, &mut all),
         host: next(alloc, &mut all),
@@ -102,13 +102,13 @@ fn place(alloc: Global, from: &[&str]) -> Result<Place, AllocError> {
         sign: next(alloc, &mut all),
         short: next(alloc, &mut all),
         title: next(alloc, &mut all),
-    })
+    }
 }
 
 /// Whether this is told of a label of five texts.
-fn label_tells(alloc: Global, from: &[&str], text: &str) -> Result<bool, AllocError> {
+fn label_tells(rt: &impl Abort, alloc: Global, from: &[&str], text: &str) -> bool {
     let [name, second, code, all, mark] = from else {
-        return Ok(false);
+        return false;
     };
     let also = ["b", *second];
     let label = Label {
@@ -118,23 +118,22 @@ fn label_tells(alloc: Global, from: &[&str], text: &str) -> Result<bool, AllocEr
         text: CowStr::Borrowed(*all),
         mark: *mark,
     };
-    tells(alloc, &label, &(), text)
+    tells(rt, alloc, &label, &(), text)
 }
 
 /// Whether this is told of a value of a type that is made of texts.
-fn is_told(alloc: Global, of: Of, from: &[&str], text: &str) -> Result<bool, AllocError> {
+fn is_told(rt: &impl Abort, alloc: Global, of: Of, from: &[&str], text: &str) -> bool {
     match of {
-        Of::Account => tells(alloc, &account(alloc, from)?, &(), text),
-        Of::Draft => tells(alloc, &draft(alloc, from)?, &(), text),
-        Of::Label => label_tells(alloc, from, text),
-        Of::Place => tells(alloc, &place(alloc, from)?, &(), text),
+        Of::Account => tells(rt, alloc, &account(rt, alloc, from), &(), text),
+        Of::Draft => tells(rt, alloc, &draft(rt, alloc, from), &(), text),
+        Of::Label => label_tells(rt, alloc, from, text),
+        Of::Place => tells(rt, alloc, &place(rt, alloc, from), &(), text),
     }
 }
 
 #[test]
-fn types_of_texts(rt: HostRuntime) -> Result<(), Fail> {
+fn types_of_texts(rt: HostRuntime) {
     for (place, (of, from, text)) in ROWS.iter().enumerate() {
-        assert!(rt; is_told(rt.alloc(), *of, from, text)?, "row {place}");
+        assert!(rt; is_told(&rt, rt.alloc(), *of, from, text), "row {place}");
     }
-    Ok(())
 }

@@ -9,7 +9,6 @@ use super::{Asked, assert_answers};
 use garde_i18n::{I18n, InvalidCreditCard, InvalidPhoneNumber, InvalidUrl, IpKind};
 use std::alloc::{AllocError, Global};
 use std::borrow::CowStr;
-use std::test::Fail;
 
 const SHORTER: &str = "délka je menší než";
 
@@ -192,7 +191,7 @@ impl I18n for Czech {
 }
 
 #[test]
-fn answers_czech_texts(rt: HostRuntime) -> Result<(), Fail> {
+fn answers_czech_texts(rt: HostRuntime) {
     let rows = [
         (Asked::LengthLower(0), "délka je menší než 0 znaků"),
         (Asked::LengthLower(1), "délka je menší než 1 znak"),
@@ -223,6 +222,5 @@ fn answers_czech_texts(rt: HostRuntime) -> Result<(), Fail> {
         ),
         (Asked::NotSet, "hodnota chybí"),
     ];
-    assert_answers(&rt, rt.alloc(), &Czech, &rows)?;
-    Ok(())
+    assert_answers(&rt, rt.alloc(), &Czech, &rows);
 }

@@ -1,31 +1,26 @@
 //! What the reasons and the IP kinds print.
+use crate::tests::OrEnd;
 use garde_i18n::{InvalidCreditCard, InvalidPhoneNumber, InvalidUrl, IpKind};
-use std::alloc::{AllocError, Global};
+use std::alloc::Global;
 use std::fmt::{Debug, Display};
 use std::process::Abort;
-use std::test::Fail;
 
 /// Whether a value prints this text by `{}`.
-fn is_printed<T: Display>(alloc: Global, value: &T, text: &str) -> Result<bool, AllocError> {
-    Ok(format!(in alloc; "{value}")?.as_str() == text)
+fn is_printed<T: Display>(rt: &impl Abort, alloc: Global, value: &T, text: &str) -> bool {
+    format!(in alloc; "{value}").or_end(rt).as_str() == text
 }
 
 /// Whether a value prints this text by `{:?}`.
-fn is_shown<T: Debug>(alloc: Global, value: &T, text: &str) -> Result<bool, AllocError> {
-    Ok(format!(in alloc; "{value:?}")?.as_str() == text)
+fn is_shown<T: Debug>(rt: &impl Abort, alloc: Global, value: &T, text: &str) -> bool {
+    format!(in alloc; "{value:?}").or_end(rt).as_str() == text
 }
 
 /// Asserts that each row's reason prints that text by `{}` and that name by `{:?}`.
-fn assert_prints<T: Display + Debug>(
-    rt: &impl Abort,
-    alloc: Global,
-    rows: &[(T, &str, &str)],
-) -> Result<(), AllocError> {
+fn assert_prints<T: Display + Debug>(rt: &impl Abort, alloc: Global, rows: &[(T, &str, &str)]) {
     for (reason, text, name) in rows {
-        assert!(rt; is_printed(alloc, reason, text)?, "{text}");
-        assert!(rt; is_shown(alloc, reason, name)?, "{name}");
+        assert!(rt; is_printed(rt, alloc, reason, text), "{text}");
+        assert!(rt; is_shown(rt, alloc, reason, name), "{name}");
     }
-    Ok(())
 }
 
 /// The reasons of URLs, with their texts and their names.
@@ -80,10 +75,9 @@ static URLS: [(InvalidUrl, &str, &str); 11] = [
 ];
 
 #[test]
-fn prints_the_reasons_of_urls(rt: HostRuntime) -> Result<(), Fail> {
-    assert_prints(&rt, rt.alloc(), &URLS)?;
+fn prints_the_reasons_of_urls(rt: HostRuntime) {
+    assert_prints(&rt, rt.alloc(), &URLS);
     assert_ne!(rt; InvalidUrl::EmptyHost, InvalidUrl::IdnaError);
-    Ok(())
 }
 
 /// The reasons of credit cards, with their texts and their names.
@@ -112,13 +106,12 @@ static CARDS: [(InvalidCreditCard, &str, &str); 5] = [
 ];
 
 #[test]
-fn prints_the_reasons_of_credit_cards(rt: HostRuntime) -> Result<(), Fail> {
-    assert_prints(&rt, rt.alloc(), &CARDS)?;
+fn prints_the_reasons_of_credit_cards(rt: HostRuntime) {
+    assert_prints(&rt, rt.alloc(), &CARDS);
     assert_ne!(rt;
         InvalidCreditCard::InvalidFormat,
         InvalidCreditCard::InvalidLength
     );
-    Ok(())
 }
 
 /// The reasons of phone numbers, with their texts and their names.
@@ -158,20 +151,18 @@ static PHONES: [(InvalidPhoneNumber, &str, &str); 8] = [
 ];
 
 #[test]
-fn prints_the_reasons_of_phone_numbers(rt: HostRuntime) -> Result<(), Fail> {
-    assert_prints(&rt, rt.alloc(), &PHONES)?;
+fn prints_the_reasons_of_phone_numbers(rt: HostRuntime) {
+    assert_prints(&rt, rt.alloc(), &PHONES);
     assert_ne!(rt; InvalidPhoneNumber::Invalid, InvalidPhoneNumber::NotANumber);
-    Ok(())
 }
 
 #[test]
-fn prints_the_ip_kinds(rt: HostRuntime) -> Result<(), Fail> {
+fn prints_the_ip_kinds(rt: HostRuntime) {
     for (kind, text) in [
         (IpKind::Any, "IP"),
         (IpKind::V4, "IPv4"),
         (IpKind::V6, "IPv6"),
     ] {
-        assert!(rt; is_printed(rt.alloc(), &kind, text)?, "{text}");
+        assert!(rt; is_printed(&rt, rt.alloc(), &kind, text), "{text}");
     }
-    Ok(())
 }
