@@ -10,8 +10,8 @@ LETTERS = "abcdefgijklmnopqrst"
 # Names of the method's own, and words of the statements and of their language, which no binding may hide.
 OWN = ("alloc", "trail", "report", "h", "self")
 STATED = (
-    "field item none found when optional inside each each_of_set each_value each_numbered items ascii alphanumeric "
-    "contains prefix suffix pattern url ip required codes not lent length bytes minus pos yes no tt v x y z w u data "
+    "field item none found when optional each_of_option each each_of_set each_value each_numbered items ascii alphanumeric "
+    "contains prefix suffix pattern url ip required codes not reference_to length bytes minus pos yes no tt v x y z w u data "
     "record deriving module where use mod pub package open as unfoldable abbrev axiom unfold unfolding ruleset mutual "
     "infix infixl infixr elim let in do coe fcoe tcoe hcom com"
 ).split()
@@ -43,7 +43,7 @@ class Implementation:
             dived = [it.name for it in self.item.params if self.is_dived(it)]
             return (f"{dived[0]}::Context", "ctx", True) if dived else ("()", "ctx", True)
         line, tokens = self.item.attributes.context
-        tokens = Tokens(tokens.tokens, tokens.text)
+        tokens = Tokens(tokens.tokens, tokens.text, tokens.notes)
         if tokens.opens("("):
             raise Refusal(line, "a context that is a tuple")
         kind = read_type(tokens)
@@ -65,7 +65,7 @@ class Implementation:
         """The whole implementation."""
         item, writer = self.item, self.writer
         if item.attributes.skip or item.attributes.rules or item.attributes.adapter or item.attributes.rename:
-            raise Refusal(item.line, f"`{item.name}` has an attribute that stands at fields alone")
+            writer.notes.refuse(item.line, f"`{item.name}` has an attribute that stands at fields alone")
         body, stated = self.of_struct() if item.kind == "struct" else self.of_enum()
         context, name, _ = self.context
         if item.name in writer.patterns:
@@ -109,9 +109,9 @@ class Implementation:
     def of_enum(self):
         """The body and the statements of an enum: an arm and a case for each variant."""
         if self.item.attributes.transparent:
-            raise Refusal(self.item.line, "`transparent` of an enum")
+            self.writer.notes.refuse(self.item.line, "`transparent` of an enum")
         if self.writer.module is None:
-            raise Refusal(self.item.line, "an enum, whose statement names its module: say it by `--module CRATE::MODULE`")
+            self.writer.notes.refuse(self.item.line, "an enum, whose statement names its module: say it by `--module CRATE::MODULE`")
         self.writer.uses.words.add("Visits")
         arms, cases = [], []
         for variant in self.item.variants:
@@ -144,24 +144,24 @@ class Implementation:
         return list(ORDINALS if len(variant.fields) <= len(ORDINALS) else LETTERS)[: len(variant.fields)]
 
     def is_bound(self, it, scope):
-        return self.has_rules(it) or it.name in scope.bound
+        return bool(it.attributes.rules) or it.name in scope.bound
 
     def has_rules(self, it):
         """Whether something is asked of a field; each field is asked something or skipped."""
-        asked = it.attributes
+        asked, notes = it.attributes, self.writer.notes
         if asked.skip and asked.rules:
-            raise Refusal(it.line, "a field with rules that is skipped")
+            notes.refuse(it.line, "a field with rules that is skipped")
         if asked.allow_unvalidated or asked.transparent or asked.context:
-            raise Refusal(it.line, "an attribute of types at a field")
-        if not asked.rules and not asked.skip and not self.item.attributes.allow_unvalidated:
+            notes.refuse(it.line, "an attribute of types at a field")
+        elif not (asked.rules or asked.skip or asked.faulty or self.item.attributes.allow_unvalidated):
             name = f" `{it.name}`" if it.name else ""
-            raise Refusal(it.line, f"the field{name} has no rule: write `#[garde(skip)]`")
+            notes.refuse(it.line, f"the field{name} has no rule: write `#[garde(skip)]`")
         return bool(asked.rules)
 
     def fields(self, variant, names, stated_names, scope):
         """The checks of the fields, as code and as they are stated."""
         if self.item.attributes.transparent and len(variant.fields) != 1:
-            raise Refusal(self.item.line, "`transparent` of a type that has not just one field")
+            self.writer.notes.refuse(self.item.line, "`transparent` of a type that has not just one field")
         code, stated = [], []
         for at, it in enumerate(variant.fields):
             if self.has_rules(it):
@@ -181,8 +181,8 @@ class Implementation:
         if self.item.attributes.transparent:
             uses.fields.add("Transparent")
             return call("Transparent", name, check), said
-        key = it.attributes.rename if it.attributes.rename is not None else it.name
-        if key:
+        key = it.attributes.rename if it.attributes.rename is not None else it.name or None
+        if key is not None:
             uses.fields.add("Field")
             uses.words.add("field")
             return call("Field", f'"{key}"', name, check), f'field "{key}" ({said})'

@@ -52,6 +52,7 @@ class Attributes:
     context: tuple = ()
     allow_unvalidated: bool = False
     transparent: bool = False
+    faulty: bool = False
 
 
 def no_attributes():
@@ -59,13 +60,12 @@ def no_attributes():
 
 
 def read_attributes(groups):
-    """Reads the attributes of a type or of a field, each with its line."""
+    """Reads the attributes of a type or of a field. What cannot be read is noted, and the others are read."""
     found, rules = {"asked": True}, []
-    for _, tokens in groups:
-        while not tokens.ended():
-            read_attribute(tokens, found, rules)
-            if not tokens.ended():
-                tokens.expect(",")
+    for tokens in groups:
+        before = len(tokens.notes.faults)
+        tokens.items(lambda it: read_attribute(it, found, rules))
+        found["faulty"] = found.get("faulty", False) or len(tokens.notes.faults) > before
     return Attributes(rules=tuple(rules), **found)
 
 
@@ -165,7 +165,12 @@ def read_matches(tokens, word, line):
 
 
 def read_inner(tokens, word, line):
-    return Rule(word, line, rules=tuple(tokens.items(read_rule)))
+    return Rule(word, line, rules=present(tokens.items(read_rule)))
+
+
+def present(found):
+    """What was read of a list."""
+    return tuple(it for it in found if it is not None)
 
 
 def read_if(tokens, word, line):
@@ -175,13 +180,13 @@ def read_if(tokens, word, line):
     tokens.expect("=")
     condition = read_expression(tokens)
     tokens.takes(",")
-    return Rule(word, line, place=condition, rules=tuple(tokens.items(read_rule)))
+    return Rule(word, line, place=condition, rules=present(tokens.items(read_rule)))
 
 
 def read_pattern(tokens, word, line):
     """Reads a text in quotes, or for a pattern the place of a compiled one."""
     if tokens.first.kind in ("text", "raw"):
-        return Rule(word, line, text=read_text(tokens, line, plain=word != "pattern"))
+        return Rule(word, line, text=read_text(tokens, line) if word != "pattern" else read_source(tokens))
     place = read_expression(tokens)
     if word != "pattern" or place.kind != "place":
         raise Refusal(line, f"`{word}` wants a text in quotes")
@@ -206,14 +211,32 @@ def read_names(tokens, word):
     return tuple(names)
 
 
-def read_text(tokens, line, plain=True):
-    """Reads a text in quotes. A plain one has no quote and no backslash, so that every language here writes it alike."""
+def read_text(tokens, line):
+    """Reads a text in quotes. It has no quote, no backslash and no control character, so that every language here writes it alike."""
     token = tokens.take()
-    if token.kind not in ("text", "raw"):
+    if token.kind not in ("text", "raw") or token.text.startswith("b"):
         raise Refusal(line, f"a text in quotes is expected in place of `{token.text}`")
-    text = re.sub(r'^r?#*"|"#*$', "", token.text)
-    if plain and re.search(r'["\\\n]', text):
+    text = inside_of(token)
+    if re.search(r'["\\]', text):
         raise Refusal(line, "a text with a quote or a backslash in it")
+    if not text.isprintable():
+        raise Refusal(line, "a text with a character in it that does not show")
+    return text
+
+
+def inside_of(token):
+    """What stands between the quotes of a token."""
+    return re.sub(r'^r?#*"|"#*$', "", token.text)
+
+
+def read_source(tokens):
+    """Reads the source of a pattern, as the pattern has it: its escapes are those of patterns."""
+    token = tokens.take()
+    text = inside_of(token)
+    if token.kind == "text":
+        text = re.sub(r"\\([\\\"'0])", lambda it: "\\x00" if it[1] == "0" else it[1], text)
+    if token.text.startswith("b") or not text.isprintable():
+        raise Refusal(token.line, "a pattern with a character in it that does not show, or of bytes")
     return text
 
 
@@ -280,7 +303,10 @@ def read_number(tokens):
 def number_of(token):
     """The number that a token says, which may have its type behind it."""
     digits = re.sub(r"[iu](8|16|32|64|128|size)$", "", token.text).replace("_", "")
-    return int(digits, 0 if re.match(r"0[xob]", digits) else 10)
+    try:
+        return int(digits, 0 if re.match(r"0[xob]", digits) else 10)
+    except ValueError:
+        raise Refusal(token.line, f"the number `{token.text}`, which cannot be read") from None
 
 
 def read_place(tokens):

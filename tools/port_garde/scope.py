@@ -49,7 +49,7 @@ class Place:
 
 
 def is_path(kind, *names):
-    return kind.kind == "path" and kind.name in names
+    return isinstance(kind, Type) and kind.kind == "path" and kind.name in names
 
 
 def is_option(kind):
@@ -59,7 +59,7 @@ def is_option(kind):
 def is_text(kind):
     """Whether a type is a text: `String`, `&str` or `Cow<str>`."""
     borrowed = kind.kind == "ref" and is_path(kind.args[0], "str")
-    return is_path(kind, "String") or borrowed or (is_path(kind, "Cow") and is_path(kind.args[-1], "str"))
+    return is_path(kind, "String") or borrowed or (is_path(kind, "Cow") and any(is_path(it, "str") for it in kind.args[1:]))
 
 
 class Scope:
@@ -80,7 +80,7 @@ class Scope:
         if names[0] == "self" and len(names) == 2 and names[1] in self.places:
             found = self.places[names[1]]
             self.bound.add(names[1])
-            return f"*{found.binding}", found.name, found.type
+            return f"*{found.binding}", found.name, found.type if found.type.kind != "unread" else None
         raise Refusal(line, f"the port cannot read `{'.'.join(names)}`: it reads fields of `self` and of the context")
 
 

@@ -1,13 +1,14 @@
 """The items of a Rust source file: structs, enums, constants, functions and imports."""
 from dataclasses import dataclass, field
 
-from .rules import Attributes, no_attributes, number_of, read_attributes
-from .tokens import Refusal, Tokens, tokens_of
+from .rules import Attributes, no_attributes, number_of, present, read_attributes
+from .tokens import Notes, Refusal, Tokens, tokens_of
 
 
 @dataclass(frozen=True)
 class Type:
-    """A type: its kind is `path`, `ref`, `slice`, `array` or `tuple`, and its name is the last one of its path."""
+    """A type: its kind is `path`, `ref`, `slice`, `array`, `tuple`, or `unread` where the port cannot read it, and its name is
+    the last one of its path."""
 
     kind: str
     name: str
@@ -52,7 +53,7 @@ class Param:
 
 @dataclass(frozen=True)
 class Item:
-    """A struct, which has one variant, or an enum."""
+    """A struct, which has one variant, or an enum. It stands in the text from `start` to `end`."""
 
     kind: str
     name: str
@@ -63,18 +64,23 @@ class Item:
     derives: tuple = ()
     docs: tuple = ()
     vis: str = ""
+    start: int = 0
+    end: int = 0
 
 
 @dataclass
 class Outer:
     """What stands before an item, a variant or a field. `tests` says that it is for tests alone; `condition` is the line of
-    another condition of the build."""
+    another condition of the build, and `conditions` are the stretches of the text of these; `read` are the places of its
+    derives and its `garde` attributes."""
 
     docs: tuple = ()
     attributes: Attributes = None
     derives: tuple = ()
     tests: bool = False
     condition: int = 0
+    conditions: list = field(default_factory=list)
+    read: set = field(default_factory=set)
 
 
 @dataclass
@@ -86,84 +92,176 @@ class Source:
     imports: list = field(default_factory=list)
     functions: dict = field(default_factory=dict)
     numbers: dict = field(default_factory=dict)
+    notes: Notes = field(default_factory=Notes)
 
 
 def read_source(text):
-    """Reads a file."""
-    tokens, source = Tokens(tokens_of(text), text), Source()
-    while tokens.first.kind == "head":
-        source.head.append(tokens.take().text)
+    """Reads a file. What cannot be read is noted."""
+    if text.startswith("#!") and not text[2:].lstrip().startswith("["):
+        text = " " * len(text.partition("\n")[0]) + text[len(text.partition("\n")[0]) :]
+    source = Source()
+    try:
+        tokens = Tokens(tokens_of(text), text, source.notes)
+    except Refusal as refusal:
+        source.notes.faults.append(refusal)
+        source.notes.told.append((0, len(text)))
+        return source
     while not tokens.ended():
-        read_item(tokens, source, text)
+        if tokens.first.kind == "head":
+            source.head.append(tokens.take().text)
+        elif tokens.sees("#", "!", "["):
+            read_of_the_file(tokens)
+        else:
+            read_item(tokens, source, text)
     return source
+
+
+def read_of_the_file(tokens):
+    """Passes over an attribute of the whole file."""
+    mark, _, inside = tokens.take(), tokens.take(), tokens.group()
+    if inside.sees("cfg") or inside.sees("cfg_attr"):
+        tokens.notes.refuse(mark.line, "an attribute `cfg` or `cfg_attr`, which the port cannot judge")
 
 
 def read_item(tokens, source, text):
     """Reads an item; those that are neither ported nor asked for are passed over."""
-    outer = read_outer(tokens)
+    begin, outer, at = tokens.first.at, Outer(), tokens.at
+    try:
+        outer = read_outer(tokens)
+        at = tokens.at
+        if outer.tests:
+            pass_over(tokens)
+            source.notes.told.append((begin, tokens.first.at))
+        else:
+            read_known_item(tokens, source, text, outer, begin)
+    except Refusal as refusal:
+        source.notes.faults.append(refusal)
+        tokens.at = max(at, 1)
+        pass_over(tokens)
+        source.notes.told.append((begin, tokens.first.at))
+
+
+def read_known_item(tokens, source, text, outer, begin):
+    """Reads an item behind its attributes."""
     start, line = tokens.first.at, tokens.line
     vis = read_vis(tokens)
-    while tokens.sees("unsafe") or tokens.sees("async") or tokens.sees("const", "fn"):
+    before = tokens.at
+    while any(map(tokens.sees, ("unsafe", "async"))) or any(tokens.sees("const", it) for it in ("fn", "unsafe", "async", "extern")):
         tokens.take()
+    if tokens.sees("extern") and tokens.tokens[tokens.at + 1].kind in ("text", "name") and not tokens.sees("extern", "crate"):
+        tokens.take()
+        if tokens.first.kind == "text":
+            tokens.take()
     word = tokens.take().text
-    if outer.tests:
-        pass_over(tokens)
-    elif word in ("struct", "enum"):
-        unconditional(outer)
-        name, params, variants = (read_struct if word == "struct" else read_enum)(tokens)
-        source.items.append(Item(word, name, params, variants, line, outer.attributes, outer.derives, outer.docs, vis))
+    if word in ("struct", "enum"):
+        read_type_item(tokens, source, outer, (word, vis, line, begin))
     elif word == "use":
-        source.imports += read_imports(tokens, ())
-        tokens.expect(";")
+        read_use(tokens, source)
     elif word == "fn":
         name = tokens.name("the name of a function")
         pass_over(tokens)
         source.functions[name] = text[start : tokens.tokens[tokens.at - 1].at + 1]
     elif word == "const":
-        read_constant(tokens, source)
-    else:
+        read_constant(tokens, source, bool(outer.condition))
+    elif word != ";":
+        tokens.at = before
         pass_over(tokens)
 
 
-def read_constant(tokens, source):
-    """Reads a constant, which is kept where it is a number."""
+def read_type_item(tokens, source, outer, head):
+    """Reads a struct or an enum behind its keyword."""
+    word, vis, line, begin = head
+    unconditional(tokens, outer)
+    name, params, variants = (read_struct if word == "struct" else read_enum)(tokens)
+    item = Item(word, name, params, variants, line, outer.attributes, outer.derives, outer.docs, vis, begin, tokens.first.at)
+    source.notes.told += outer.conditions
+    if None in variants or any(None in it.fields for it in variants):
+        source.notes.told.append((begin, item.end))
+        return
+    asked = [outer.attributes.asked, *(it.attributes.asked for variant in variants for it in variant.fields)]
+    if not is_ported(item) and any(asked):
+        source.notes.told.append((begin, item.end))
+        raise Refusal(line, f"`garde` attributes at `{name}`, which has no `Validate` among its derives")
+    source.notes.read |= outer.read
+    source.items.append(item)
+
+
+def read_use(tokens, source):
+    """Reads imports. A derive under another name is refused."""
+    line, found = tokens.line, read_imports(tokens, ())
+    tokens.expect(";")
+    for path, name in found:
+        if path[0] == "garde" and path[-1] == "Validate" and name not in ("Validate", "_"):
+            source.notes.refuse(line, f"the derive `Validate` under the name `{name}`: import it under its own")
+    source.imports += found
+
+
+def read_constant(tokens, source, conditional):
+    """Reads a constant, which is kept where it is a number, and is not one of several under conditions of the build."""
     name = tokens.take().text
     while not tokens.ended() and not tokens.sees("="):
-        tokens.take()
+        tokens.group() if any(map(tokens.opens, "([{")) else tokens.take()
     tokens.takes("=")
     minus, value = tokens.takes("-"), tokens.first
-    if value.kind == "number":
+    whole = value.kind == "number" and tokens.tokens[tokens.at + 1].text == ";"
+    if whole and not conditional and name not in source.numbers:
         source.numbers[name] = -number_of(value) if minus else number_of(value)
-    pass_over(tokens)
+    else:
+        source.numbers[name] = None
+    pass_to_end(tokens)
 
 
 def read_outer(tokens):
     """Reads docs and attributes."""
     docs, asked, outer = [], [], Outer()
-    while tokens.first.kind == "doc" or tokens.opens("#"):
-        if tokens.first.kind == "doc":
-            docs.append(tokens.take().text)
+    while tokens.first.kind in ("doc", "head") or tokens.opens("#"):
+        mark = tokens.take()
+        if mark.kind != "mark":
+            docs += [mark.text] if mark.kind == "doc" else []
             continue
-        tokens.take()
-        tokens.takes("!")
+        of_the_file = tokens.takes("!")
+        if not tokens.opens("["):
+            raise Refusal(mark.line, "`#` with no attribute behind it")
         inside = tokens.group()
-        line, word = inside.line, inside.take().text
-        if word == "derive":
-            outer.derives += tuple(inside.group().items(lambda it: read_path(it)[-1]))
-        elif word == "garde":
-            asked.append((line, inside.group()))
-        elif word == "cfg" and inside.group().sees("test"):
-            outer.tests = True
-        elif word in ("cfg", "cfg_attr"):
-            outer.condition = line
+        read_attribute_of(inside, outer, asked, mark, of_the_file)
+        if outer.conditions and outer.conditions[-1][1] is None:
+            outer.conditions[-1] = (mark.at, tokens.first.at)
     outer.docs, outer.attributes = tuple(docs), read_attributes(asked) if asked else no_attributes()
     return outer
 
 
-def unconditional(outer):
+def read_attribute_of(inside, outer, asked, mark, of_the_file):
+    """Reads what stands within an attribute."""
+    at, path = inside.first.at, read_path(inside)
+    word = path[-1] if path[:-1] in ([], ["core"], ["std"], ["core", "prelude", "v1"], ["std", "prelude", "v1"]) else ""
+    if path[-1] == "garde" and (len(path) > 1 or of_the_file or not inside.opens("(")):
+        raise Refusal(mark.line, f"the attribute `{'::'.join(path)}`: at a type or a field write `#[garde(..)]`")
+    if word == "derive" and not inside.opens("("):
+        raise Refusal(mark.line, "`derive` with no list behind it")
+    if word == "derive":
+        outer.derives += present(inside.group().items(lambda it: read_path(it)[-1]))
+        outer.read.add(at)
+    elif word == "garde":
+        asked.append(inside.group())
+        outer.read.add(mark.at)
+        inside.notes.read.add(mark.at)
+    elif word == "cfg" and inside.opens("(") and is_test(inside.group()) and not of_the_file:
+        outer.tests = True
+    elif word in ("cfg", "cfg_attr"):
+        outer.condition = mark.line
+        outer.conditions.append((mark.at, None))
+
+
+def is_test(tokens):
+    """Whether a condition of the build is `test` and no more."""
+    return tokens.takes("test") and tokens.ended()
+
+
+def unconditional(tokens, outer):
     """Refuses what stands under a condition of the build."""
     if outer.condition:
-        raise Refusal(outer.condition, "an attribute `cfg` or `cfg_attr`, which the port cannot judge")
+        tokens.notes.refuse(outer.condition, "an attribute `cfg` or `cfg_attr`, which the port cannot judge")
+        tokens.notes.told += outer.conditions
     return outer
 
 
@@ -184,8 +282,20 @@ def read_vis(tokens):
     return f"pub({' '.join(it.text for it in tokens.group().tokens[:-1])}) "
 
 
+def pass_to_end(tokens):
+    """Passes over the rest of an item that ends with `;`."""
+    while not tokens.ended():
+        if any(map(tokens.opens, "([{")):
+            tokens.group()
+        elif tokens.take().text == ";":
+            return
+
+
 def pass_over(tokens):
-    """Passes over the rest of an item: up to its body, or to `;`."""
+    """Passes over an item: up to its body or, of one that has none, to `;`."""
+    read_vis(tokens)
+    if any(map(tokens.sees, ("static", "type", "use"))) or (tokens.sees("const") and not is_function(tokens)):
+        return pass_to_end(tokens)
     while not tokens.ended():
         if tokens.opens("{"):
             tokens.group()
@@ -196,12 +306,17 @@ def pass_over(tokens):
             return
 
 
+def is_function(tokens):
+    """Whether a function comes next, behind `const`."""
+    return any(tokens.sees("const", it) for it in ("fn", "unsafe", "async", "extern"))
+
+
 def read_imports(tokens, before):
     """The imports of a `use` tree: each is a path with the name that it gets."""
     path = before
     while True:
         if tokens.opens("{"):
-            trees = tokens.group().items(lambda it: read_imports(it, path))
+            trees = present(tokens.group().items(lambda it: read_imports(it, path)))
             return [found for tree in trees for found in tree]
         if tokens.takes("*"):
             return [((*path, "*"), "*")]
@@ -235,12 +350,12 @@ def read_enum(tokens):
 
 def read_variant(tokens):
     """Reads a variant of an enum."""
-    outer = unconditional(read_outer(tokens))
+    outer = unconditional(tokens, read_outer(tokens))
     line, name = tokens.line, tokens.name("a variant")
     if outer.attributes.asked:
-        raise Refusal(line, f"an attribute at the variant `{name}`: attributes stand at types and at fields")
+        tokens.notes.refuse(line, f"an attribute at the variant `{name}`: attributes stand at types and at fields")
     variant = read_variant_body(tokens, name, line, outer.docs)
-    if tokens.takes("="):
+    if tokens.sees("="):
         raise Refusal(line, f"the variant `{name}` has a number")
     return variant
 
@@ -263,16 +378,33 @@ def no_where(tokens):
 
 
 def read_named_field(tokens):
-    outer = unconditional(read_outer(tokens))
+    outer = unconditional(tokens, read_outer(tokens))
     vis, line, name = read_vis(tokens), tokens.line, tokens.name("the name of a field")
     tokens.expect(":")
-    return Field(name, read_type(tokens), line, outer.attributes, outer.docs, vis)
+    return Field(name, read_field_type(tokens), line, outer.attributes, outer.docs, vis)
 
 
 def read_tuple_field(tokens):
-    outer = unconditional(read_outer(tokens))
+    outer = unconditional(tokens, read_outer(tokens))
     vis, line = read_vis(tokens), tokens.line
-    return Field("", read_type(tokens), line, outer.attributes, outer.docs, vis)
+    return Field("", read_field_type(tokens), line, outer.attributes, outer.docs, vis)
+
+
+def read_field_type(tokens):
+    """Reads the type of a field; one that the port cannot read is noted, and the field's attributes are still looked at."""
+    line, start = tokens.line, tokens.at
+    try:
+        kind = read_type(tokens)
+        if not tokens.ended() and not tokens.sees(","):
+            tokens.expect(",")
+        return kind
+    except Refusal as refusal:
+        tokens.notes.faults.append(refusal)
+        tokens.at = start
+        tokens.skip_item()
+        if not tokens.ended():
+            tokens.at -= 1
+        return Type("unread", "", line)
 
 
 def read_params(tokens):
@@ -325,12 +457,19 @@ def read_type(tokens):
             raise Refusal(line, "a type with `&mut`")
         return Type("ref", "&", line, args=(read_type(tokens),), lifetime=lifetime)
     if tokens.opens("("):
-        return Type("tuple", "()", line, args=tuple(tokens.group().items(read_type)))
+        return Type("tuple", "()", line, args=all_of(tokens.group().items(read_type), line))
     if tokens.opens("["):
         return read_slice(tokens.group(), line)
     if tokens.first.kind != "name" or tokens.first.text in ("dyn", "impl", "fn", "for"):
         raise Refusal(line, f"a type that begins with `{tokens.first.text}`")
     return read_path_type(tokens, line)
+
+
+def all_of(types, line):
+    """Types that were all read."""
+    if None in types:
+        raise Refusal(line, "a tuple with a type that the port cannot read")
+    return tuple(types)
 
 
 def read_slice(tokens, line):

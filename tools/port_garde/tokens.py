@@ -1,7 +1,7 @@
 """The tokens of a Rust source file."""
 import re
 import textwrap
-from dataclasses import dataclass
+from dataclasses import dataclass, field
 
 
 class Refusal(Exception):
@@ -10,6 +10,33 @@ class Refusal(Exception):
     def __init__(self, line, reason):
         super().__init__(reason)
         self.line, self.reason = line, reason
+
+
+class Refusals(Exception):
+    """All that cannot be ported of a source, in the order of its lines, each once."""
+
+    def __init__(self, faults):
+        super().__init__()
+        told = dict.fromkeys((it.line, "".join(map(shown, it.reason))) for it in faults)
+        self.lines = sorted(told, key=lambda it: it[0])
+
+
+def shown(character):
+    """A character as a line of a terminal may hold it."""
+    return character if character.isprintable() else repr(character)[1:-1]
+
+
+@dataclass
+class Notes:
+    """What the reading of a source found out: its faults; where it read a `derive` and a `garde` attribute, by their places in
+    the text; and the stretches of the text of which it told a fault, or which are for tests alone."""
+
+    faults: list = field(default_factory=list)
+    read: set = field(default_factory=set)
+    told: list = field(default_factory=list)
+
+    def refuse(self, line, reason):
+        self.faults.append(Refusal(line, reason))
 
 
 @dataclass(frozen=True)
@@ -39,6 +66,7 @@ PATTERNS = {
 }
 PATTERN = re.compile("|".join(f"(?P<{kind}>{pattern})" for kind, pattern in PATTERNS.items()), re.S)
 OPEN = {"(": ")", "[": "]", "{": "}"}
+DEEPEST = 100
 
 
 def end_of_block_comment(source, at, line):
@@ -66,7 +94,23 @@ def tokens_of(source):
                 found.append(Token(kind_of(match), match.group(), line, at))
         line += source.count("\n", at, end)
         at = end
+    refuse_brackets(found)
     return [*found, Token("end", "the end of the file", line, at)]
+
+
+def refuse_brackets(tokens):
+    """Refuses brackets that are not closed, that close nothing, or that nest too deep."""
+    ends = []
+    for token in tokens:
+        if token.kind == "mark" and token.text in OPEN:
+            ends.append((OPEN[token.text], token))
+            if len(ends) > DEEPEST:
+                raise Refusal(token.line, f"brackets nested deeper than {DEEPEST}")
+        elif token.kind == "mark" and token.text in OPEN.values():
+            if not ends or ends.pop()[0] != token.text:
+                raise Refusal(token.line, f"`{token.text}` closes no bracket")
+    if ends:
+        raise Refusal(ends[-1][1].line, f"`{ends[-1][1].text}` is not closed")
 
 
 def kind_of(match):
@@ -77,8 +121,8 @@ def kind_of(match):
 class Tokens:
     """Tokens of a text that are taken from the front."""
 
-    def __init__(self, tokens, text):
-        self.tokens, self.text, self.at = tokens, text, 0
+    def __init__(self, tokens, text, notes):
+        self.tokens, self.text, self.notes, self.at = tokens, text, notes, 0
 
     @property
     def first(self):
@@ -126,18 +170,16 @@ class Tokens:
     def group(self):
         """Takes a group of brackets, and answers the tokens within."""
         opening = self.take()
-        ends, start = [OPEN[opening.text]], self.at
-        while ends:
+        if opening.kind != "mark" or opening.text not in OPEN:
+            raise Refusal(opening.line, f"a bracket is expected in place of `{opening.text}`")
+        depth, start = 1, self.at
+        while depth:
             token = self.take()
-            if token.kind == "end":
-                raise Refusal(opening.line, f"`{opening.text}` is not closed")
-            if token.kind == "mark" and token.text in OPEN:
-                ends.append(OPEN[token.text])
-            elif token.kind == "mark" and token.text in OPEN.values() and ends.pop() != token.text:
-                raise Refusal(token.line, f"`{token.text}` closes no bracket")
+            if token.kind == "mark":
+                depth += (token.text in OPEN) - (token.text in OPEN.values())
         closing = self.tokens[self.at - 1]
         inside = [*self.tokens[start : self.at - 1], Token("end", closing.text, closing.line, closing.at)]
-        return Tokens(inside, self.text)
+        return Tokens(inside, self.text, self.notes)
 
     def source(self):
         """The text of all tokens, its lines without what stands before each of them but the first."""
@@ -149,10 +191,30 @@ class Tokens:
         return self.first.kind == "mark" and self.first.text == text
 
     def items(self, read):
-        """What `read` reads of each item of a list with commas."""
+        """What `read` reads of each item of a list with commas: None where it refuses one, which is noted."""
         found = []
         while not self.ended():
-            found.append(read(self))
-            if not self.ended():
-                self.expect(",")
+            start = self.at
+            try:
+                item = read(self)
+                if not self.ended():
+                    self.expect(",")
+            except Refusal as refusal:
+                self.notes.faults.append(refusal)
+                item = None
+                self.at = start
+                self.skip_item()
+            found.append(item)
         return found
+
+    def skip_item(self):
+        """Passes over the rest of an item of a list, with its comma."""
+        angles = 0
+        while not self.ended():
+            if any(map(self.opens, OPEN)):
+                self.group()
+                continue
+            text = self.take().text
+            angles = max(0, angles + (text == "<") - (text == ">"))
+            if text == "," and not angles:
+                return

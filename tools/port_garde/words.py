@@ -14,7 +14,7 @@ COUNTED = {"Vec": "items", "BTreeMap": "map", "BTreeSet": "set", "HashMap": "has
 # Each collection with the word for its items and what of it that word is given; of maps, which item is meant.
 HELD = {
     "Vec": ("each", ""), "BTreeSet": ("each_of_set", ""), "HashSet": ("items_in_any_order", ".keys"),
-    "VecDeque": ("items", ".items"), "LinkedList": ("items", ""), "[;]": ("items", ""), "Option": ("inside", ""),
+    "VecDeque": ("items", ".items"), "LinkedList": ("items", ""), "[;]": ("items", ""), "Option": ("each_of_option", ""),
 }
 MAPS = {("BTreeMap", "String"): "each_value", ("BTreeMap", "usize"): "each_numbered"}
 HASH_KEYS = {"String": "λ key. bytes.key_part (string_bytes key)", "usize": "λ key. bytes.index_part key"}
@@ -38,9 +38,17 @@ class Checks:
 
     def of(self, rules, seen, adapter=()):
         """The check that these rules hold of a value, in turn."""
-        found = [self.part(group, seen, adapter) for group in grouped(rules, seen.type, adapter)]
+        found = [self.tried(group, seen, adapter) for group in grouped(rules, seen.type, adapter)]
         self.uses.words |= {"◌and◌"} if len(found) > 1 else set()
-        return together([code for code, _ in found]), " and ".join(spec for _, spec in found)
+        return together([code for code, _ in found]) if found else Word("()"), " and ".join(spec for _, spec in found)
+
+    def tried(self, group, seen, adapter):
+        """The check of a group of rules. A refusal is noted, and the next group follows."""
+        try:
+            return self.part(group, seen, adapter) if seen.type.kind != "unread" else (Word("()"), "none")
+        except Refusal as refusal:
+            self.writer.notes.faults.append(refusal)
+            return Word("()"), "none"
 
     def part(self, group, seen, adapter):
         """The check of one rule, or of some that are asked of what an option holds."""
@@ -105,7 +113,7 @@ class Checks:
             return call(self.field("Each"), code), f"{word} (λ {held.name}. {spec}) {name}"
         lent, context = self.context_of(rule)
         name = seen.name
-        while is_path(kind, "Box", "Rc") or kind.kind == "ref":
+        while (is_path(kind, "Box", "Rc") and len(kind.args) == 1) or kind.kind == "ref":
             name, kind = name + (".now" if kind.kind == "ref" else ".value"), kind.args[0]
         if kind.kind != "path" or kind.name in (*SIMPLE, *HELD, "BTreeMap", "HashMap"):
             raise Refusal(rule.line, f"`dive` into the type `{self.writer.type_text(kind)}`")
@@ -135,7 +143,7 @@ class Checks:
         rule_value, life, record = Word(name), "", "{}"
         if not self.scope.unit:
             rule_value, life = call(name, self.scope.the_context()), "<'static>"
-            record = f"{{ 0 = {self.word('lent')} {self.scope.context} }}"
+            record = f"{{ 0 = {self.word('reference_to')} {self.scope.context} }}"
         spec = f"found (⟦<{name}{life} as garde::fields::Rule<{kind}>>⟧.finds (record {record}) {seen.name})"
         return call(self.field("Is"), rule_value), spec
 
@@ -194,7 +202,7 @@ class Checks:
         other = self.scope.places.get(rule.text)
         if other is None:
             raise Refusal(rule.line, f"`matches` of the field `{rule.text}`, which is not there")
-        if not (is_path(seen.type, "String") and is_path(other.type, "String")):
+        if not (is_path(seen.type, "String") and (is_path(other.type, "String") or other.type.kind == "unread")):
             raise Refusal(rule.line, "`matches` of values that are not both of type `String`")
         self.scope.bound.add(rule.text)
         fields = (("field", Word(f'"{rule.text}"')), ("other", Word(other.binding)))

@@ -5,8 +5,9 @@ from .implementation import Implementation
 from .layout import CALL, VARIANT, WIDTH, use_line
 from .rules import Expression
 from .scope import Uses
+from .second import faults_of_values, passed_by
 from .source import all_rules, is_ported, type_names
-from .tokens import Refusal
+from .tokens import Refusal, Refusals
 from .words import camel
 
 DERIVES = ("Clone", "Copy", "Debug", "Default", "Eq", "Hash", "Ord", "PartialEq", "PartialOrd")
@@ -49,13 +50,32 @@ class Writer:
         self.patterns, self.skeletons, self.closures = {}, {}, {}
         self.item = self.context = self.spot = None
         self.renamed = {}
+        self.notes = source.notes
 
-    def text(self):
-        """The whole file."""
-        items = [text for item in self.source.items for text in self.item_texts(item)]
+    def text(self, rust):
+        """The whole file for a Rust source, or all that cannot be ported of it."""
+        items = [text for item in self.source.items for text in self.tried(item, rust)]
         self.refuse_names()
+        for line, reason in passed_by(rust, self.notes):
+            self.notes.refuse(line, reason)
+        if self.notes.faults:
+            raise Refusals(self.notes.faults)
         parts = [self.ghost_uses(), self.use_lines(), *items, *self.skeleton_texts()]
         return "\n\n".join(part for part in parts if part) + "\n"
+
+    def tried(self, item, rust):
+        """The texts of an item. A refusal is noted, and the next item follows."""
+        try:
+            texts = self.item_texts(item)
+            if is_ported(item) and not self.notes.faults:
+                for line, reason in faults_of_values(rust, item, texts):
+                    self.notes.refuse(line, reason)
+            return texts
+        except Refusal as refusal:
+            self.notes.faults.append(refusal)
+        except RecursionError:
+            self.notes.refuse(item.line, f"`{item.name}` nests too deep")
+        return []
 
     def item_texts(self, item):
         """The type, the patterns that it asks for, and its implementation."""
@@ -73,11 +93,11 @@ class Writer:
         taken = self.uses.words | {"Some", "None", "Ok", "Err"}
         for item in self.source.items:
             if item.name in imported:
-                raise Refusal(item.line, f"the name `{item.name}` is one that the port imports")
+                self.notes.refuse(item.line, f"the name `{item.name}` is one that the port imports")
             for variant in self.stated_variants(item):
                 if variant.name in taken:
                     told = f"the name `{variant.name}` stands for something else in this file"
-                    raise Refusal(variant.line, f"{told}: give the enum a file of its own, or the variant another name")
+                    self.notes.refuse(variant.line, f"{told}: give the enum a file of its own, or the variant another name")
                 taken.add(variant.name)
 
     def stated_variants(self, item):
@@ -134,6 +154,8 @@ class Writer:
         if isinstance(kind, str):
             return kind if declared else self.renamed.get(kind, kind)
         inside = [self.type_text(it, declared) for it in kind.args]
+        if kind.kind == "unread":
+            return "_"
         if kind.kind == "ref":
             life = self.type_text(kind.lifetime, declared) + " " if kind.lifetime else ""
             return f"&{life}{inside[0]}"
@@ -148,8 +170,8 @@ class Writer:
     def path_text(self, kind, inside):
         """A type by its path: those of std by their last name, which is imported."""
         if kind.name == "Arc":
-            raise Refusal(kind.line, "the type `Arc`, which is not there: write `Rc`")
-        if kind.name == "Cow" and inside[-1] == "str":
+            self.notes.refuse(kind.line, "the type `Arc`, which is not there: write `Rc`")
+        if kind.name == "Cow" and inside[1:] == ["str"]:
             self.uses.others.add("std::borrow::CowStr")
             return f"CowStr<{inside[0]}>"
         name = kind.name if kind.path[0] in ("std", "regex", "garde") else "::".join(kind.path)
@@ -171,7 +193,7 @@ class Writer:
 
     def resolved(self, it):
         """An expression, and of a constant its number."""
-        known = it.kind == "place" and len(it.value) == 1 and it.value[0] in self.source.numbers
+        known = it.kind == "place" and len(it.value) == 1 and self.source.numbers.get(it.value[0]) is not None
         return Expression("number", it.line, self.source.numbers[it.value[0]]) if known else it
 
     def new_pattern(self, rule):
@@ -281,8 +303,8 @@ class Writer:
         named = {name for item in self.source.items for name in names_of(item)}
         kept = set()
         for path, name in self.source.imports:
-            if path[0] in ("crate", "self", "super") and name in named and name == path[-1]:
-                kept.add("::".join(path))
+            if path[0] in ("crate", "self", "super") and name in named:
+                kept.add("::".join(path) + (f" as {name}" if name != path[-1] else ""))
         return kept
 
 

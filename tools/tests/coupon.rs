@@ -1,4 +1,4 @@
-//! Rules of one's own, and rules of a view.
+//! User-defined rules, and rules of a view.
 use garde::Validate;
 
 /// What is asked of coupons.

@@ -3,7 +3,7 @@ use Rattle.std.proofs.Common.{◌≡◌, ℕ, suc, ◌+◌, ◌-◌, ◌≤◌, 
 use Rattle.std.proofs.lemmas.Bool.{true≢false}
 use Rattle.garde_report.specs.Part.{Part}
 use Rattle.garde.specs.Tree.{Tree, nothing, fault, under, ◌then◌, bears, nodes}
-use Rattle.garde_report.specs.Trace.{Trace, IsTrace, capped_sum, pushed, popped}
+use Rattle.garde_report.specs.Trace.{Trace, IsTrace, capped_sum, with_component, without_last}
 use Rattle.garde.specs.Walk.{trace_after}
 use Rattle.garde.specs.Laws.{bears-then}
 use Rattle.garde.proofs.Flat.{or_false}
@@ -20,7 +20,7 @@ nodes_of_no_fault (under k s t) e =
     let parts = or_false (bears s) (bears t) e in
     rw parts.0 (omega (arith, nodes_of_no_fault t parts.1))
 
--- the walk of a tree that bears or doesn't, with so many nodes
+-- the walk of a tree with a fault or without, with so many nodes
 abbrev pub trace_by : Trace → Bool → ℕ → Trace
 trace_by w b n = cond b (record { components = w.components; front = length w.components; nodes = capped_sum w.nodes (length w.components - w.front + n) }) w
 
@@ -46,7 +46,7 @@ front_of_push (p ∷ ps) k =
     let e : length (p ∷ ps ++ k ∷ []) - 1 ≡ suc (length (ps ++ k ∷ []) - 1) = omega (arith, length-append ps (k ∷ [])) in
     rw e (ap (λ qs. p ∷ qs) (front_of_push ps k))
 
-trace_under : (w : Trace) (k : Part) (b : Bool) (n : ℕ) → IsTrace w → popped (trace_by (pushed w k) b n) ≡ trace_by w (b || false) (cond b (n + 1) 0 + 0)
+trace_under : (w : Trace) (k : Part) (b : Bool) (n : ℕ) → IsTrace w → without_last (trace_by (with_component w k) b n) ≡ trace_by w (b || false) (cond b (n + 1) 0 + 0)
 trace_under w k true n is =
     let e = front_of_push w.components k in
     same_trace e (omega (arith, ap length e, length-append w.components (k ∷ []))) (omega (arith, length-append w.components (k ∷ [])))
@@ -54,9 +54,9 @@ trace_under w k false n is =
     let e = front_of_push w.components k in
     same_trace e (omega (arith, ap length e, length-append w.components (k ∷ []))) refl
 
--- walking beneath a component and coming back
-pub popped-trace_after : (w : Trace) (k : Part) (s : Tree) → IsTrace w → popped (trace_after (pushed w k) s) ≡ trace_after w (under k s nothing)
-popped-trace_after w k s is = trace_under w k (bears s) (nodes s) is
+-- walking under a component and coming back
+pub without_last-trace_after : (w : Trace) (k : Part) (s : Tree) → IsTrace w → without_last (trace_after (with_component w k) s) ≡ trace_after w (under k s nothing)
+without_last-trace_after w k s is = trace_under w k (bears s) (nodes s) is
 
 by_parts : (w : Trace) (b : Bool) (n : ℕ) → (trace_by w b n).components ≡ w.components
 by_parts w true n = refl
@@ -83,5 +83,5 @@ pub trace_after-front : (w : Trace) (t : Tree) → IsTrace w → w.front ≤ (tr
 trace_after-front w t is = by_front w (bears t) (nodes t) is.within
 
 -- what a pop leaves of what was pushed
-pub popped-components : (w : Trace) (ps : List Part) (k : Part) → w.components ≡ ps ++ k ∷ [] → (popped w).components ≡ ps
-popped-components w ps k e = ap (λ qs. take (length qs - 1) qs) e ∙ front_of_push ps k
+pub without_last-components : (w : Trace) (ps : List Part) (k : Part) → w.components ≡ ps ++ k ∷ [] → (without_last w).components ≡ ps
+without_last-components w ps k e = ap (λ qs. take (length qs - 1) qs) e ∙ front_of_push ps k

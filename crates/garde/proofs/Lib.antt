@@ -2,7 +2,7 @@ mod Flat
 mod Counts
 mod Walks
 mod Refusals
-mod Selected
+mod SelectLemmas
 mod Read
 pub mod Visiting
 pub mod Calls

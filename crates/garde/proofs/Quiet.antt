@@ -11,12 +11,12 @@ use Rattle.garde_rules.specs.{Fault}
 use Rattle.garde.specs.Tree.{Tree, bears, height}
 use Rattle.garde.specs.Trees.{TreesNothing, TreesUnder, TreesBoth, TreesEach}
 use Rattle.garde.specs.Laws.{bears-then}
-use Rattle.garde.specs.Visits.{Visits, Visited, none, found, below, ◌and◌, items, optional}
+use Rattle.garde.specs.Visits.{Visits, Visited, none, found, under, ◌and◌, items, optional}
 use Rattle.garde.specs.Answers.{NeedsNoMemory}
 use Rattle.garde.proofs.Answering.{never_refused}
 use Rattle.garde.proofs.Refusals.{height-then}
 
--- each tree is without a fault, and does not go below the eighth component
+-- each tree is without a fault, and is not deeper than eight components
 record Quiet (trees : Tree → Type 0) (depth : ℕ) : Type 0 where
   silent : (t : Tree) → trees t → bears t ≡ false
   shallow : (t : Tree) → trees t → depth + height t ≤ 8
@@ -49,18 +49,18 @@ pub surely_visited : {E : Type 0} {a : Visits} {text : Datum → List ℕ} {befo
 surely_visited {result = Ok x} told needs = refl
 surely_visited {a = a} {before = before} {result = Err e} told needs = absurd (never_refused a (length before.components) needs told.why)
 
-takes_of : {A : Type 0} (P Q : A → Type 0) (xs : List A) → All P xs → ((x : A) → P x → Q x → ⊥) → Any Q xs → ⊥
-takes_of P Q xs all never (k, x, within, is, takes) = never x (subst P is (all k x within)) takes
+allocates_of : {A : Type 0} (P Q : A → Type 0) (xs : List A) → All P xs → ((x : A) → P x → Q x → ⊥) → Any Q xs → ⊥
+allocates_of P Q xs all never (k, x, within, is, allocates) = never x (subst P is (all k x within)) allocates
 
 pub no_memory_found : (fault : Option Fault) {depth : ℕ} → fault ≡ None → depth ≤ 8 → NeedsNoMemory (found fault) depth
 unfolding found
-no_memory_found None is most = record { takes_none = λ h. h; none_bears = λ t v. ap bears v; none_deeper = λ t v. omega (arith, ap height v) }
+no_memory_found None is most = record { allocates_nothing = λ h. h; none_bears = λ t v. ap bears v; none_deeper = λ t v. omega (arith, ap height v) }
 no_memory_found (Some fault) is most = cc
 
-pub no_memory_below : (k : Part) (a : Visits) {depth : ℕ} → NeedsNoMemory a (depth + 1) → NeedsNoMemory (below k a) depth
-unfolding below
-no_memory_below k a needs = let each = quiet_under k (quiet needs) in record {
-  takes_none = needs.takes_none;
+pub no_memory_under : (k : Part) (a : Visits) {depth : ℕ} → NeedsNoMemory a (depth + 1) → NeedsNoMemory (under k a) depth
+unfolding under
+no_memory_under k a needs = let each = quiet_under k (quiet needs) in record {
+  allocates_nothing = needs.allocates_nothing;
   none_bears = λ t v. each.silent t v;
   none_deeper = λ t v. each.shallow t v;
 }
@@ -68,21 +68,21 @@ no_memory_below k a needs = let each = quiet_under k (quiet needs) in record {
 pub no_memory_and : (a b : Visits) {depth : ℕ} → NeedsNoMemory a depth → NeedsNoMemory b depth → NeedsNoMemory (a and b) depth
 unfolding ◌and◌
 no_memory_and a b first second = let each = quiet_both (quiet first) (quiet second) in record {
-  takes_none = λ h. elim h as (λ _. ⊥) [ inl t ↦ first.takes_none t | inr t ↦ second.takes_none t ];
+  allocates_nothing = λ h. elim h as (λ _. ⊥) [ inl t ↦ first.allocates_nothing t | inr t ↦ second.allocates_nothing t ];
   none_bears = λ t v. each.silent t v;
   none_deeper = λ t v. each.shallow t v;
 }
 
 pub no_memory_optional : {A : Type 0} (each : A → Visits) (v : Option A) {depth : ℕ} → depth ≤ 8 → IfSome v (λ x. NeedsNoMemory (each x) depth) → NeedsNoMemory (optional each v) depth
 unfolding optional
-no_memory_optional each None most needs = record { takes_none = λ h. h; none_bears = λ t v. ap bears v; none_deeper = λ t v. omega (arith, ap height v) }
-no_memory_optional each (Some x) most needs = record { takes_none = needs.takes_none; none_bears = needs.none_bears; none_deeper = needs.none_deeper }
+no_memory_optional each None most needs = record { allocates_nothing = λ h. h; none_bears = λ t v. ap bears v; none_deeper = λ t v. omega (arith, ap height v) }
+no_memory_optional each (Some x) most needs = record { allocates_nothing = needs.allocates_nothing; none_bears = needs.none_bears; none_deeper = needs.none_deeper }
 
 pub no_memory_items : {A : Type 0} (each : A → Visits) (xs : List A) {depth : ℕ} → depth ≤ 8 → All (λ x. NeedsNoMemory (each x) (depth + 1)) xs → NeedsNoMemory (items each xs) depth
 unfolding items
 no_memory_items each xs {depth} most needs =
     let all = quiet_items (λ x. (each x).trees) 0 xs most (λ k d within. quiet (needs k d within)) in record {
-      takes_none = takes_of (λ x. NeedsNoMemory (each x) (depth + 1)) (λ x. (each x).takes) xs needs (λ x needs takes. needs.takes_none takes);
+      allocates_nothing = allocates_of (λ x. NeedsNoMemory (each x) (depth + 1)) (λ x. (each x).allocates) xs needs (λ x needs allocates. needs.allocates_nothing allocates);
       none_bears = λ t v. all.silent t v;
       none_deeper = λ t v. all.shallow t v;
     }

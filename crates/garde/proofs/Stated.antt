@@ -1,4 +1,4 @@
--- What the code does, told to be what is stated, part by part: a difference is refused at the line of its part.
+-- The code does what is stated, shown part by part: the prover rejects a difference at the line of its part.
 use Rattle.std.proofs.Common.{◌≡◌, ℕ, List, Result, subst}
 use Rattle.garde_i18n.specs.Datum.{Datum}
 use Rattle.garde_report.specs.Report.{Entry}

@@ -1,4 +1,4 @@
--- Lemmas on what a visit leaves and answers.
+-- Lemmas on what a visit leaves and returns.
 use Rattle.std.proofs.Common.{◌≡◌, Bool, true, false, sym, ℕ, ◌≤◌, List, [], ◌∷◌, length, Option, Result, Ok, Err, OnOk, OnErr, refl, ap, ◌∙◌, inl, inr, length-append}
 use Rattle.std.specs.List.{enumerate_from}
 use Rattle.std.proofs.lemmas.List.Sorted.{IsPermutation-refl}
@@ -7,15 +7,15 @@ use Rattle.std.proofs.lemmas.Bool.{false≢true, true≢false}
 use Rattle.garde_i18n.specs.Datum.{Datum}
 use Rattle.garde_report.specs.Part.{Part, index_part}
 use Rattle.garde_report.specs.Report.{Entry}
-use Rattle.garde_report.specs.Trace.{Trace, IsTrace, pushed, popped, IsPut, IsNotPut}
-use Rattle.garde_report.specs.declared.error.fault.RuleError.{RuleError}
-use Rattle.garde_report.specs.declared.error.fault.RuleError.TheVariants as errors
+use Rattle.garde_report.specs.Trace.{Trace, IsTrace, with_component, without_last, IsPut, IsNotPut}
+use Rattle.garde_report.specs.declared.error.rule_error.RuleError.{RuleError}
+use Rattle.garde_report.specs.declared.error.rule_error.RuleError.TheVariants as errors
 use Rattle.garde_rules.specs.{Fault, Applies}
 use Rattle.garde_rules.specs.Memory.{AppliesInMemory}
 use Rattle.garde.specs.Laws.{Any-numbered, under_has_tree}
 use Rattle.garde.specs.Tree.{Tree, found_tree}
 use Rattle.garde.specs.Walk.{Walked}
-use Rattle.garde.specs.Visits.{Visits, Visited, taking, when, ◌and◌, below, found, only, none, items, entries, items_in_any_order, entries_in_any_order}
+use Rattle.garde.specs.Visits.{Visits, Visited, may_allocate, when, ◌and◌, under, found, only, none, items, entries, items_in_any_order, entries_in_any_order}
 use Rattle.garde.proofs.Walks.{silent_partly, nothing_walked, under_walked, under_partly, rule_walked, rule_partly, rule_bears, both_walked, first_partly, second_partly, walked_as, partly_as, WalkedUpTo, up_to_partly, up_to_all}
 use Rattle.garde.proofs.Refusals.{refuses_under, refuses_under_full, refuses_first, refuses_second, refuses_as, depth_kept, refuses_next}
 
@@ -31,35 +31,35 @@ module _ {text : Datum → List ℕ} {E : Type 0} where
     why = refuses_second (length before.components) a.has_tree (rw (depth_kept one.ok) at two.why);
   }
 
-  -- the first is refused
+  -- the first failed
   pub visited_stop : (a b : Visits) {before after : Trace} {old new : List Entry} {first result : Result Unit E} → Visited a text before after old new first → IsErr first → IsErr result → Visited (a and b) text before after old new result
   unfolding ◌and◌
   visited_stop a b {first = Ok x} one was is = absurd (false≢true was)
   visited_stop a b {first = Err e} {result = Ok x} one was is = absurd (false≢true is)
   visited_stop a b {before = before} {first = Err e} {result = Err f} one was is = record { ok = tt; err = first_partly one.err b.has_tree; why = refuses_first (length before.components) one.why b.has_tree }
 
-  pub visited_below : (k : Part) (a : Visits) {before inner mid after : Trace} {old new : List Entry} {result : Result Unit E} → IsTrace before → inner ≡ pushed before k → Visited a text inner mid old new result → after ≡ popped mid → Visited (below k a) text before after old new result
-  unfolding below
-  visited_below k a {result = Ok x} sound push told pop = record { ok = under_walked k sound push told.ok pop; err = tt; why = tt }
-  visited_below k a {before = before} {result = Err e} sound push told pop = record {
+  pub visited_under : (k : Part) (a : Visits) {before inner mid after : Trace} {old new : List Entry} {result : Result Unit E} → IsTrace before → inner ≡ with_component before k → Visited a text inner mid old new result → after ≡ without_last mid → Visited (under k a) text before after old new result
+  unfolding under
+  visited_under k a {result = Ok x} sound push told pop = record { ok = under_walked k sound push told.ok pop; err = tt; why = tt }
+  visited_under k a {before = before} {result = Err e} sound push told pop = record {
     ok = tt;
     err = under_partly k sound push told.err pop;
     why = refuses_under k _ _ (ap (λ w. length w.components) push ∙ length-append before.components (k ∷ [])) told.why;
   }
 
   -- no component more goes onto the trail
-  pub visited_full : (k : Part) (a : Visits) {before after : Trace} {old new : List Entry} {result : Result Unit E} → new ≡ old → after ≡ before → 8 ≤ length before.components → IsErr result → Visited (below k a) text before after old new result
-  unfolding below
+  pub visited_full : (k : Part) (a : Visits) {before after : Trace} {old new : List Entry} {result : Result Unit E} → new ≡ old → after ≡ before → 8 ≤ length before.components → IsErr result → Visited (under k a) text before after old new result
+  unfolding under
   visited_full k a {result = Ok x} same still full is = absurd (false≢true is)
   visited_full k a {before = before} {result = Err f} same still full is = record { ok = tt; err = silent_partly (under_has_tree k a.has_tree) same still; why = refuses_under_full k (length before.components) a.has_tree full }
 
-  -- what is taken besides is a reason of its own
-  taking_more : {a : Visits} {before after : Trace} {old new : List Entry} {result : Result Unit E} → Visited a text before after old new result → Visited (taking a) text before after old new result
-  unfolding taking
-  taking_more {result = Ok x} told = record { ok = told.ok; err = tt; why = tt }
-  taking_more {result = Err e} told = record { ok = tt; err = told.err; why = inl tt }
+  -- that a value allocates is a reason of its own
+  may_allocate_more : {a : Visits} {before after : Trace} {old new : List Entry} {result : Result Unit E} → Visited a text before after old new result → Visited (may_allocate a) text before after old new result
+  unfolding may_allocate
+  may_allocate_more {result = Ok x} told = record { ok = told.ok; err = tt; why = tt }
+  may_allocate_more {result = Err e} told = record { ok = tt; err = told.err; why = inl tt }
 
-  -- a rule's answer was put
+  -- a rule's result was put
   pub visited_found : (fault : Option Fault) {before after : Trace} {old new : List Entry} (outcome : Result Unit RuleError) {result : Result Unit E} → IsTrace before → Applies fault text outcome → OnOk result (IsPut outcome before after old new) → OnErr result (IsNotPut outcome before after) → OnErr result (new ≡ old) → Visited (found fault) text before after old new result
   unfolding found
   visited_found fault outcome {result = Ok x} sound applies put refused same = record { ok = rule_walked fault outcome sound applies put; err = tt; why = tt }
@@ -69,13 +69,13 @@ module _ {text : Datum → List ℕ} {E : Type 0} where
     why = inr (found_tree fault, refl, inl (rule_bears text before after fault outcome applies refused));
   }
 
-  -- a rule's answer was put that may want memory though it finds nothing
-  pub visited_taking : (fault : Option Fault) {before after : Trace} {old new : List Entry} (outcome : Result Unit RuleError) {result : Result Unit E} → IsTrace before → AppliesInMemory fault text outcome → OnOk result (IsPut outcome before after old new) → OnErr result (IsNotPut outcome before after) → OnErr result (new ≡ old) → Visited (taking (found fault)) text before after old new result
-  unfolding found taking
-  visited_taking fault (Ok x) sound applies put refused same = taking_more (visited_found fault (Ok x) sound applies put refused same)
-  visited_taking fault (Err (errors.Fault m)) sound applies put refused same = taking_more (visited_found fault (Err (errors.Fault m)) sound applies put refused same)
-  visited_taking fault (Err errors.Memory) {result = Ok x} sound applies put refused same = absurd put
-  visited_taking fault (Err errors.Memory) {result = Err e} sound applies put refused same = record { ok = tt; err = silent_partly (found_tree fault, refl) same refused; why = inl tt }
+  -- a rule's result was put that may run out of memory though it finds nothing
+  pub visited_may_allocate : (fault : Option Fault) {before after : Trace} {old new : List Entry} (outcome : Result Unit RuleError) {result : Result Unit E} → IsTrace before → AppliesInMemory fault text outcome → OnOk result (IsPut outcome before after old new) → OnErr result (IsNotPut outcome before after) → OnErr result (new ≡ old) → Visited (may_allocate (found fault)) text before after old new result
+  unfolding found may_allocate
+  visited_may_allocate fault (Ok x) sound applies put refused same = may_allocate_more (visited_found fault (Ok x) sound applies put refused same)
+  visited_may_allocate fault (Err (errors.Fault m)) sound applies put refused same = may_allocate_more (visited_found fault (Err (errors.Fault m)) sound applies put refused same)
+  visited_may_allocate fault (Err errors.Memory) {result = Ok x} sound applies put refused same = absurd put
+  visited_may_allocate fault (Err errors.Memory) {result = Err e} sound applies put refused same = record { ok = tt; err = silent_partly (found_tree fault, refl) same refused; why = inl tt }
 
   -- ---- items
 
@@ -83,20 +83,20 @@ module _ {text : Datum → List ℕ} {E : Type 0} where
   is_walked {result = Ok x} told is = told.ok
   is_walked {result = Err e} told is = absurd (false≢true is)
 
-  -- what a visit comes by may be said in another way
-  pub visited_as : {a b : Visits} {before after : Trace} {old new : List Entry} {result : Result Unit E} → ((t : Tree) → a.trees t → b.trees t) → (a.takes → b.takes) → Visited a text before after old new result → Visited b text before after old new result
+  -- the visits may be stated in another way
+  pub visited_as : {a b : Visits} {before after : Trace} {old new : List Entry} {result : Result Unit E} → ((t : Tree) → a.trees t → b.trees t) → (a.allocates → b.allocates) → Visited a text before after old new result → Visited b text before after old new result
   visited_as {result = Ok x} same more told = record { ok = walked_as same told.ok; err = tt; why = tt }
   visited_as {before = before} {result = Err e} same more told = record { ok = tt; err = partly_as same told.err; why = refuses_as (length before.components) same more told.why }
 
-  -- the next of the entries is refused
-  pub visited_entry : {K A : Type 0} (part : K → Part) (each : A → Visits) {all rest left : List (K × A)} {e : K × A} {before mid after : Trace} {old between new : List Entry} {first result : Result Unit E} → WalkedUpTo part (λ x. (each x).trees) text all rest before mid old between → rest ≡ e ∷ left → Visited (below (part e.0) (each e.1)) text mid after between new first → IsErr first → IsErr result → Visited (entries part each all) text before after old new result
-  unfolding entries below
+  -- the next of the entries failed
+  pub visited_entry : {K A : Type 0} (part : K → Part) (each : A → Visits) {all rest left : List (K × A)} {e : K × A} {before mid after : Trace} {old between new : List Entry} {first result : Result Unit E} → WalkedUpTo part (λ x. (each x).trees) text all rest before mid old between → rest ≡ e ∷ left → Visited (under (part e.0) (each e.1)) text mid after between new first → IsErr first → IsErr result → Visited (entries part each all) text before after old new result
+  unfolding entries under
   visited_entry part each {first = Ok x} so_far step one was is = absurd (false≢true was)
   visited_entry part each {first = Err e} {result = Ok x} so_far step one was is = absurd (false≢true is)
   visited_entry part each {before = before} {first = Err e} {result = Err f} so_far step one was is = record {
     ok = tt;
     err = up_to_partly (λ x. (each x).has_tree) so_far step one.err;
-    why = refuses_next (λ x. (each x).takes) (length before.components) (λ x. (each x).has_tree) so_far step (rw (depth_kept so_far.told) at one.why);
+    why = refuses_next (λ x. (each x).allocates) (length before.components) (λ x. (each x).has_tree) so_far step (rw (depth_kept so_far.told) at one.why);
   }
 
   -- all of the entries are done
@@ -107,7 +107,7 @@ module _ {text : Datum → List ℕ} {E : Type 0} where
   -- items are entries under their numbers
   pub visited_numbered : {A : Type 0} (each : A → Visits) (xs : List A) {before after : Trace} {old new : List Entry} {result : Result Unit E} → Visited (entries index_part each (enumerate_from 0 xs)) text before after old new result → Visited (items each xs) text before after old new result
   unfolding entries items
-  visited_numbered each xs told = visited_as (λ t v. v) (Any-numbered (λ x. (each x).takes) 0 xs).0 told
+  visited_numbered each xs told = visited_as (λ t v. v) (Any-numbered (λ x. (each x).allocates) 0 xs).0 told
 
   -- the order in which they come is some order
   pub visited_some_items : {A : Type 0} (each : A → Visits) (xs : List A) {before after : Trace} {old new : List Entry} {result : Result Unit E} → Visited (items each xs) text before after old new result → Visited (items_in_any_order each xs) text before after old new result

@@ -5,16 +5,16 @@ use Rattle.std.specs.Prelude.{IsSomeAnd}
 use Rattle.garde_i18n.specs.Datum.{Datum}
 use Rattle.garde_report.specs.Part.{Part}
 use Rattle.garde_report.specs.Report.{Entry}
-use Rattle.garde_report.specs.Trace.{Trace, IsTrace, pushed, popped, IsPut, IsNotPut}
-use Rattle.garde_report.specs.declared.error.fault.RuleError.{RuleError}
-use Rattle.garde_report.specs.declared.error.fault.RuleError.TheVariants as errors
+use Rattle.garde_report.specs.Trace.{Trace, IsTrace, with_component, without_last, IsPut, IsNotPut}
+use Rattle.garde_report.specs.declared.error.rule_error.RuleError.{RuleError}
+use Rattle.garde_report.specs.declared.error.rule_error.RuleError.TheVariants as errors
 use Rattle.garde_rules.specs.{Fault, Applies}
 use Rattle.garde.specs.Tree.{Tree, nothing, under, ◌then◌, bears, flat, found_tree}
 use Rattle.garde.specs.Trees.{HasTree, TreesNothing, TreesUnder, TreesBoth, TreesEach}
 use Rattle.garde.specs.Laws.{each_has_tree}
 use Rattle.garde.specs.Walk.{trace_after, Walked, WalkedPartly}
 use Rattle.garde.proofs.Flat.{then-nothing, then_assoc, flat-then}
-use Rattle.garde.proofs.Counts.{trace_after-then, popped-trace_after, trace_after-components, trace_after-nodes, trace_after-front, popped-components, same_trace}
+use Rattle.garde.proofs.Counts.{trace_after-then, without_last-trace_after, trace_after-components, trace_after-nodes, trace_after-front, without_last-components, same_trace}
 
 module _ {text : Datum → List ℕ} where
   -- nothing is said yet, and nothing made
@@ -37,10 +37,10 @@ module _ {text : Datum → List ℕ} where
 
   -- ---- a component
 
-  pub under_walked : {trees : Tree → Type 0} {before inner mid after : Trace} {old new : List Entry} (k : Part) → IsTrace before → inner ≡ pushed before k → Walked trees text inner mid old new → after ≡ popped mid → Walked (TreesUnder k trees) text before after old new
+  pub under_walked : {trees : Tree → Type 0} {before inner mid after : Trace} {old new : List Entry} (k : Part) → IsTrace before → inner ≡ with_component before k → Walked trees text inner mid old new → after ≡ without_last mid → Walked (TreesUnder k trees) text before after old new
   under_walked {before = before} {inner} {mid} {after} {old} k sound push told pop =
       let back : after ≡ trace_after before (under k told.tree nothing) =
-      pop ∙ ap popped told.trail ∙ ap (λ w. popped (trace_after w told.tree)) push ∙ popped-trace_after before k told.tree sound in
+      pop ∙ ap without_last told.trail ∙ ap (λ w. without_last (trace_after w told.tree)) push ∙ without_last-trace_after before k told.tree sound in
       record {
         tree = under k told.tree nothing;
         visited = (told.tree, told.visited, refl);
@@ -49,12 +49,12 @@ module _ {text : Datum → List ℕ} where
         front = omega (arith, trace_after-front before (under k told.tree nothing) sound, ap (λ w. w.front) back);
       }
 
-  pub under_partly : {trees : Tree → Type 0} {before inner mid after : Trace} {old new : List Entry} (k : Part) → IsTrace before → inner ≡ pushed before k → WalkedPartly trees text inner mid old new → after ≡ popped mid → WalkedPartly (TreesUnder k trees) text before after old new
+  pub under_partly : {trees : Tree → Type 0} {before inner mid after : Trace} {old new : List Entry} (k : Part) → IsTrace before → inner ≡ with_component before k → WalkedPartly trees text inner mid old new → after ≡ without_last mid → WalkedPartly (TreesUnder k trees) text before after old new
   under_partly {before = before} {inner} {mid} {after} k sound push told pop =
-      let parts = popped-components mid before.components k (told.components ∙ ap (λ w. w.components) push) in
+      let parts = without_last-components mid before.components k (told.components ∙ ap (λ w. w.components) push) in
       let count : after.nodes ≡ mid.nodes = ap (λ w. w.nodes) pop in
-      let whole : popped (trace_after inner told.tree) ≡ trace_after before (under k told.tree nothing) =
-      ap (λ w. popped (trace_after w told.tree)) push ∙ popped-trace_after before k told.tree sound in
+      let whole : without_last (trace_after inner told.tree) ≡ trace_after before (under k told.tree nothing) =
+      ap (λ w. without_last (trace_after w told.tree)) push ∙ without_last-trace_after before k told.tree sound in
       record {
         tree = under k told.tree nothing;
         visited = (told.tree, told.visited, refl);
@@ -145,7 +145,7 @@ found_some : (found : Option Fault) → IsSome found → (f : Fault) × (found �
 found_some None h = absurd (true≢false (sym h))
 found_some (Some f) h = (f, refl)
 
--- what a rule answered was put
+-- what a rule returned was put
 pub rule_walked : {text : Datum → List ℕ} {before after : Trace} {old new : List Entry} (found : Option Fault) (outcome : Result Unit RuleError) → IsTrace before → Applies found text outcome → IsPut outcome before after old new → Walked (λ t. t ≡ found_tree found) text before after old new
 rule_walked {before = before} {old = old} found (Ok _) sound applies (put, same) = record {
   tree = nothing;
@@ -177,7 +177,7 @@ refused_grows before after (Ok _) refused = absurd refused
 refused_grows before after (Err (errors.Fault message)) refused = (ap (λ w. w.components) refused.made, refused.grows, omega (arith, ap (λ w. w.nodes) refused.made))
 refused_grows before after (Err errors.Memory) refused = (ap (λ w. w.components) refused, omega (arith, ap (λ w. w.front) refused), omega (arith, ap (λ w. w.nodes) refused))
 
--- what a rule answered was refused
+-- what a rule returned could not be put
 pub rule_partly : {text : Datum → List ℕ} {before after : Trace} {old new : List Entry} (found : Option Fault) (outcome : Result Unit RuleError) → Applies found text outcome → IsNotPut outcome before after → new ≡ old → WalkedPartly (λ t. t ≡ found_tree found) text before after old new
 rule_partly {text} {before} {after} {old} found outcome applies refused same =
     let grows = refused_grows before after outcome refused in
@@ -194,7 +194,7 @@ rule_partly {text} {before} {after} {old} found outcome applies refused same =
       most = refused_most text before after found outcome applies refused;
     }
 
--- only a rule that found something is refused
+-- only the fault of a rule that found something cannot be put
 pub rule_bears : (text : Datum → List ℕ) (before after : Trace) (found : Option Fault) (outcome : Result Unit RuleError) → Applies found text outcome → IsNotPut outcome before after → IsTrue (bears (found_tree found))
 rule_bears text before after found (Ok _) applies refused = absurd refused
 rule_bears text before after found (Err (errors.Fault message)) applies refused = let (f, is, says) = some_fault found applies in ap (λ o. bears (found_tree o)) is
@@ -202,7 +202,7 @@ rule_bears text before after found (Err errors.Memory) applies refused = let (f,
 
 -- ---- item by item
 
--- of all items, those before rest are told
+-- of all items, those before rest are walked
 pub record WalkedUpTo {K A : Type 0} (part : K → Part) (trees : A → Tree → Type 0) (text : Datum → List ℕ) (all rest : List (K × A)) (before after : Trace) (old new : List Entry) : Type 0 where
   pub done : List (K × A)
   pub split : all ≡ done ++ rest

@@ -1,12 +1,12 @@
--- The words in which the author of a type says what a visit of it comes by.
+-- The words by which the author of a type states its visits.
 pub use Rattle.std.specs.Prelude.{codes, length, string_bytes}
-pub use Rattle.garde.specs.Visits.{Visits, Visited, item, inside}
-unfoldable pub use Rattle.garde.specs.Visits.{Known, none, only, found, taking, ◌and◌, below, items, entries, items_in_any_order, entries_in_any_order, optional, when}
-unfoldable pub use Rattle.garde.specs.Nested.{nested, within}
-pub use Rattle.garde.specs.Nested.{in_map, in_vec, nest_visits}
+pub use Rattle.garde.specs.Visits.{Visits, Visited, item, each_of_option}
+unfoldable pub use Rattle.garde.specs.Visits.{Known, none, only, found, may_allocate, ◌and◌, under, items, entries, items_in_any_order, entries_in_any_order, optional, when}
+unfoldable pub use Rattle.garde.specs.Nest.{recursive_visits, child_visits}
+pub use Rattle.garde.specs.Nest.{in_map, in_vec, nest_visits}
 pub use Rattle.garde_report.specs.Part.{key_part, index_part, signed_index_part, part_of}
 pub use Rattle.garde_rules.specs.{Fault, rule, own, byte_count, char_count, unit_count, grapheme_count}
-pub use Rattle.garde_rules.specs.Inner.{placed}
+pub use Rattle.garde_rules.specs.Inner.{component_items}
 pub use Rattle.garde_i18n.specs.declared.reasons.IpKind.TheVariants.{Any, V4, V6}
 use Rattle.std.specs.Prelude.{ℕ, ℤ, List, Bool, Option, is_some, string_bytes}
 use Rattle.std.specs.Fmt.{decimal, signed_decimal}
@@ -20,7 +20,7 @@ use Rattle.garde_rules.specs.Reasons.{url_fault, read_answer}
 use Rattle.garde_rules.specs.{matches_source, url_answer}
 use Rattle.garde_i18n.specs.declared.reasons.IpKind.{IpKind}
 use Rattle.garde_rules.specs.Text.{is_ascii_text, is_alphanumeric_text, has_part, has_prefix, has_suffix}
-use Rattle.garde.specs.Visits.{Visits, below, found, taking}
+use Rattle.garde.specs.Visits.{Visits, under, found, may_allocate}
 use Rattle.std.specs.declared.alloc.Global.{Global}
 use Rattle.std.specs.declared.string.String.{String}
 use Rattle.garde_report.specs.Part.{Part}
@@ -29,7 +29,7 @@ use Rattle.garde_rules.specs.Inner as inner
 
 -- a field, by its name
 abbrev pub field : List ℕ → Visits → Visits
-field name visits = below (key_part name) visits
+field name visits = under (key_part name) visits
 
 -- the rule that every byte of a text is below 128
 abbrev pub ascii : List ℕ → Visits
@@ -73,13 +73,13 @@ abbrev pub ip : IpKind → List ℕ → Visits
 ip kind text = found (unless (is_ip_text kind text) (datum.ip kind))
 
 -- The rules that the pattern of the first text matches anywhere in the second, and that a text is an absolute URL. Each may
--- take memory for its answer.
+-- allocate.
 abbrev pub pattern : List ℕ → List ℕ → Visits
-pattern source text = taking (found (unless (matches_source source text) (datum.pattern source)))
+pattern source text = may_allocate (found (unless (matches_source source text) (datum.pattern source)))
 
 abbrev pub url : List ℕ → Visits
-url text = taking (found (url_fault (read_answer (url_answer text))))
+url text = may_allocate (found (url_fault (read_answer (url_answer text))))
 
--- the component of the key of the entry with this number, in a collection of one's own that is walked by `inner`
+-- the component of the key of the entry with this number, in a user-defined collection that is walked by `inner`
 abbrev pub key_place : {A : Type 0} → List (String Global × A) → ℕ → Part
 key_place es index = inner.key_place kinds.Key string_bytes es index

@@ -1,10 +1,10 @@
--- The words in which the author of a type says what a visit of its fields comes by, each field handed to its rule as it is. A name, a
+-- The words by which the author of a type states the visits of its fields, each field handed to its rule as it is. A name, a
 -- pattern or a message is written as "text". The words of `Author` say the same of bytes and of lists.
 use Prim.Native.String.{String as Literal}
 pub use Rattle.std.specs.Prelude.{codes, string_bytes, vec_len, ◌≡◌, ◌==◌, Result, Ok, Err, nat_eq, nat_lt, nat_le, ◌||◌, ◌&&◌, not, true, false, Bool, pos, Some, None, Option, if◌then◌else◌}
 pub use Rattle.garde.specs.Operators.{both, either, choose, product, quotient, remainder, Equals, IsAtMost}
-pub use Rattle.garde.specs.Finds.{with_message, told_unless, own_unless}
-pub use Rattle.garde.specs.Author.{Visits, item, inside, none, found, taking, ◌and◌, below, items, entries, items_in_any_order, entries_in_any_order, optional, when, own, Any, V4, V6, in_map, in_vec, nest_visits}
+pub use Rattle.garde.specs.Finds.{message_unless, own_unless}
+pub use Rattle.garde.specs.Author.{Visits, item, each_of_option, none, found, may_allocate, ◌and◌, under, items, entries, items_in_any_order, entries_in_any_order, optional, when, own, Any, V4, V6, in_map, in_vec, nest_visits}
 unfoldable pub use Rattle.garde.specs.Visits.{Known}
 pub use Rattle.garde_rules.specs.{byte_count, char_count}
 pub use Rattle.garde_rules.specs.{is_ipv4_text, is_ipv6_text}
@@ -24,34 +24,34 @@ use Rattle.garde.specs.Finds as finds
 
 -- a field, by its name
 abbrev pub field : Literal → Visits → Visits
-field name visits = below (key_part (codes name)) visits
+field name visits = under (key_part (codes name)) visits
 
 -- a number below zero
 abbrev pub minus : ℕ → ℤ
 minus n = neg_ℤ (pos n)
 
--- a rule of one's own, and a rule of the library with a message of one's own
+-- a user-defined rule, and a rule of the library with your own message
 abbrev pub asks : Literal → Bool → Visits
-asks message holds = found (told_unless message holds)
+asks message holds = found (message_unless message holds)
 
-abbrev pub told : Literal → Option Fault → Visits
-told message fault = found (with_message message fault)
+abbrev pub with_message : Literal → Option Fault → Visits
+with_message message fault = found (finds.with_message message fault)
 
 -- a rule of the library that is asked of an option as a whole: an option without a value passes. The walks are those of
--- `optional`, where the rule is asked of what the option holds. A pattern or a URL is asked by `taking (of_option ..)`.
+-- `optional`, where the rule is asked of what the option holds. A pattern or a URL is asked by `may_allocate (of_option ..)`.
 abbrev pub of_option : {A : Type 0} → (A → Option Fault) → Option A → Visits
 of_option rule v = found (finds.of_option rule v)
 
--- a reference to a value, as a rule of one's own holds its context: where it points says nothing
-abbrev pub lent : {A : Type 0} → A → Bor A
-lent v = record { ref_ptr = (0, 0); now = v }
+-- a reference to a value, as a user-defined rule holds its context: where it points does not matter
+abbrev pub reference_to : {A : Type 0} → A → Bor A
+reference_to v = record { ref_ptr = (0, 0); now = v }
 
 -- the pattern of this source matches anywhere in a text; a text is an absolute URL
 abbrev pub pattern : {Z : Type 0} → List ℕ → String Z → Visits
-pattern source s = taking (found (finds.pattern source s))
+pattern source s = may_allocate (found (finds.pattern source s))
 
 abbrev pub url : {Z : Type 0} → String Z → Visits
-url s = taking (found (finds.url s))
+url s = may_allocate (found (finds.url s))
 
 -- a card number, and a phone number, of whose type this is the answer
 abbrev pub credit_card : Result (Unit {0}) InvalidCreditCard → Visits
@@ -60,14 +60,14 @@ credit_card answer = found (card_fault answer)
 abbrev pub phone_number : Result (Unit {0}) InvalidPhoneNumber → Visits
 phone_number answer = found (phone_fault answer)
 
--- each item of a `Vec`, beneath its index; of a set, in its order
+-- each item of a `Vec`, under its index; of a set, in its order
 abbrev pub each : {A Z : Type 0} → (A → Visits) → Vec A Z → Visits
 each check v = items check v.items
 
 abbrev pub each_of_set : {A : Type 0} → (A → Visits) → BTreeSet A → Visits
 each_of_set check v = items check v.keys
 
--- each value of a `BTreeMap`, beneath the key that is a text, or under the index that is a number without a sign, or with one
+-- each value of a `BTreeMap`, under the key that is a text, or under the index that is a number without a sign, or with one
 abbrev pub each_value : {A Z : Type 0} → (A → Visits) → BTreeMap (String Z) A → Visits
 each_value check v = entries (λ key. key_part (string_bytes key)) check v.entries
 

@@ -16,14 +16,14 @@ use Rattle.garde_rules.specs.Reasons.{url_fault, read_answer}
 use Rattle.garde_rules.specs.Text.{is_ascii_text, is_alphanumeric_text, has_part, has_prefix, has_suffix}
 
 -- a length is between two numbers, both allowed; at least so much; at most so much
-abbrev pub within : ℕ → ℕ → ℕ → Option Fault
-within min max n = length_fault min max (bounds_answer min max n)
+abbrev pub between : ℕ → ℕ → ℕ → Option Fault
+between min max n = length_fault min max (bounds_answer min max n)
 
 abbrev pub at_least : ℕ → ℕ → Option Fault
-at_least min n = within min (2 ^ 64 - 1) n
+at_least min n = between min (2 ^ 64 - 1) n
 
 abbrev pub at_most : ℕ → ℕ → Option Fault
-at_most max n = within 0 max n
+at_most max n = between 0 max n
 
 -- a number without a sign, or with one, is between two
 abbrev pub unsigned : ℕ → ℕ → ℕ → Option Fault
@@ -32,14 +32,14 @@ unsigned min max n = range_fault (decimal min) (decimal max) (bounds_answer min 
 abbrev pub signed : ℤ → ℤ → ℤ → Option Fault
 signed min max n = range_fault (signed_decimal min) (signed_decimal max) (int_bounds_answer min max n)
 
--- what a rule of one's own finds where its condition fails: this message, or this text, which the rule holds
-abbrev pub told_unless : Literal → Bool → Option Fault
-told_unless message holds = elim holds as (λ _. Option Fault) [ true ↦ None | false ↦ Some (own (codes message)) ]
+-- what a user-defined rule finds where its condition fails: this message, or this text, which the rule holds
+abbrev pub message_unless : Literal → Bool → Option Fault
+message_unless message holds = elim holds as (λ _. Option Fault) [ true ↦ None | false ↦ Some (own (codes message)) ]
 
 abbrev pub own_unless : List ℕ → Bool → Option Fault
 own_unless text holds = elim holds as (λ _. Option Fault) [ true ↦ None | false ↦ Some (own text) ]
 
--- what a rule finds, told by this message in place of the handler's
+-- what a rule finds, with this message in place of the handler's
 abbrev pub with_message : Literal → Option Fault → Option Fault
 with_message message fault = option_map (λ _. own (codes message)) fault
 
@@ -65,8 +65,8 @@ prefix pattern s = unless (has_prefix (codes pattern) (string_bytes s)) (datum.p
 abbrev pub suffix : {Z : Type 0} → Literal → String Z → Option Fault
 suffix pattern s = unless (has_suffix (codes pattern) (string_bytes s)) (datum.suffix (codes pattern))
 
--- the pattern of this source matches anywhere in a text; a text is an absolute URL. A visit that asks it is `taking`, since
--- memory may be taken for the answer.
+-- the pattern of this source matches anywhere in a text; a text is an absolute URL. A visit that asks it is `may_allocate`, since
+-- the rule may allocate.
 abbrev pub pattern : {Z : Type 0} → List ℕ → String Z → Option Fault
 pattern source s = unless (matches_source source (string_bytes s)) (datum.pattern source)
 
@@ -89,10 +89,10 @@ abbrev pub length_max : {Z : Type 0} → ℕ → String Z → Option Fault
 length_max max v = at_most max (byte_count (string_bytes v))
 
 abbrev pub length_equal : {Z : Type 0} → ℕ → String Z → Option Fault
-length_equal count v = within count count (byte_count (string_bytes v))
+length_equal count v = between count count (byte_count (string_bytes v))
 
 abbrev pub length_between : {Z : Type 0} → ℕ → ℕ → String Z → Option Fault
-length_between min max v = within min max (byte_count (string_bytes v))
+length_between min max v = between min max (byte_count (string_bytes v))
 
 -- the same in characters
 abbrev pub chars_min : {Z : Type 0} → ℕ → String Z → Option Fault
@@ -102,10 +102,10 @@ abbrev pub chars_max : {Z : Type 0} → ℕ → String Z → Option Fault
 chars_max max v = at_most max (char_count (string_bytes v))
 
 abbrev pub chars_equal : {Z : Type 0} → ℕ → String Z → Option Fault
-chars_equal count v = within count count (char_count (string_bytes v))
+chars_equal count v = between count count (char_count (string_bytes v))
 
 abbrev pub chars_between : {Z : Type 0} → ℕ → ℕ → String Z → Option Fault
-chars_between min max v = within min max (char_count (string_bytes v))
+chars_between min max v = between min max (char_count (string_bytes v))
 
 -- in extended grapheme clusters
 abbrev pub graphemes_min : {Z : Type 0} → ℕ → String Z → Option Fault
@@ -115,10 +115,10 @@ abbrev pub graphemes_max : {Z : Type 0} → ℕ → String Z → Option Fault
 graphemes_max max v = at_most max (grapheme_count (string_bytes v))
 
 abbrev pub graphemes_equal : {Z : Type 0} → ℕ → String Z → Option Fault
-graphemes_equal count v = within count count (grapheme_count (string_bytes v))
+graphemes_equal count v = between count count (grapheme_count (string_bytes v))
 
 abbrev pub graphemes_between : {Z : Type 0} → ℕ → ℕ → String Z → Option Fault
-graphemes_between min max v = within min max (grapheme_count (string_bytes v))
+graphemes_between min max v = between min max (grapheme_count (string_bytes v))
 
 -- in code units of UTF-16
 abbrev pub utf16_min : {Z : Type 0} → ℕ → String Z → Option Fault
@@ -128,10 +128,10 @@ abbrev pub utf16_max : {Z : Type 0} → ℕ → String Z → Option Fault
 utf16_max max v = at_most max (unit_count (string_bytes v))
 
 abbrev pub utf16_equal : {Z : Type 0} → ℕ → String Z → Option Fault
-utf16_equal count v = within count count (unit_count (string_bytes v))
+utf16_equal count v = between count count (unit_count (string_bytes v))
 
 abbrev pub utf16_between : {Z : Type 0} → ℕ → ℕ → String Z → Option Fault
-utf16_between min max v = within min max (unit_count (string_bytes v))
+utf16_between min max v = between min max (unit_count (string_bytes v))
 
 -- how many items a `Vec` has
 abbrev pub items_min : {A Z : Type 0} → ℕ → Vec A Z → Option Fault
@@ -141,10 +141,10 @@ abbrev pub items_max : {A Z : Type 0} → ℕ → Vec A Z → Option Fault
 items_max max v = at_most max (vec_len v)
 
 abbrev pub items_equal : {A Z : Type 0} → ℕ → Vec A Z → Option Fault
-items_equal count v = within count count (vec_len v)
+items_equal count v = between count count (vec_len v)
 
 abbrev pub items_between : {A Z : Type 0} → ℕ → ℕ → Vec A Z → Option Fault
-items_between min max v = within min max (vec_len v)
+items_between min max v = between min max (vec_len v)
 
 -- how many pairs a `BTreeMap` has
 abbrev pub map_min : {K A : Type 0} → ℕ → BTreeMap K A → Option Fault
@@ -154,10 +154,10 @@ abbrev pub map_max : {K A : Type 0} → ℕ → BTreeMap K A → Option Fault
 map_max max v = at_most max (btree_map_len v)
 
 abbrev pub map_equal : {K A : Type 0} → ℕ → BTreeMap K A → Option Fault
-map_equal count v = within count count (btree_map_len v)
+map_equal count v = between count count (btree_map_len v)
 
 abbrev pub map_between : {K A : Type 0} → ℕ → ℕ → BTreeMap K A → Option Fault
-map_between min max v = within min max (btree_map_len v)
+map_between min max v = between min max (btree_map_len v)
 
 -- how many items a `BTreeSet` has
 abbrev pub set_min : {A : Type 0} → ℕ → BTreeSet A → Option Fault
@@ -167,10 +167,10 @@ abbrev pub set_max : {A : Type 0} → ℕ → BTreeSet A → Option Fault
 set_max max v = at_most max (btree_set_len v)
 
 abbrev pub set_equal : {A : Type 0} → ℕ → BTreeSet A → Option Fault
-set_equal count v = within count count (btree_set_len v)
+set_equal count v = between count count (btree_set_len v)
 
 abbrev pub set_between : {A : Type 0} → ℕ → ℕ → BTreeSet A → Option Fault
-set_between min max v = within min max (btree_set_len v)
+set_between min max v = between min max (btree_set_len v)
 
 -- how many pairs a `HashMap` has
 abbrev pub hash_map_min : {K A H : Type 0} → ℕ → HashMap K A H → Option Fault
@@ -180,10 +180,10 @@ abbrev pub hash_map_max : {K A H : Type 0} → ℕ → HashMap K A H → Option 
 hash_map_max max v = at_most max (hash_map_len v)
 
 abbrev pub hash_map_equal : {K A H : Type 0} → ℕ → HashMap K A H → Option Fault
-hash_map_equal count v = within count count (hash_map_len v)
+hash_map_equal count v = between count count (hash_map_len v)
 
 abbrev pub hash_map_between : {K A H : Type 0} → ℕ → ℕ → HashMap K A H → Option Fault
-hash_map_between min max v = within min max (hash_map_len v)
+hash_map_between min max v = between min max (hash_map_len v)
 
 -- how many items a `HashSet` has
 abbrev pub hash_set_min : {A H : Type 0} → ℕ → HashSet A H → Option Fault
@@ -193,10 +193,10 @@ abbrev pub hash_set_max : {A H : Type 0} → ℕ → HashSet A H → Option Faul
 hash_set_max max v = at_most max (hash_set_len v)
 
 abbrev pub hash_set_equal : {A H : Type 0} → ℕ → HashSet A H → Option Fault
-hash_set_equal count v = within count count (hash_set_len v)
+hash_set_equal count v = between count count (hash_set_len v)
 
 abbrev pub hash_set_between : {A H : Type 0} → ℕ → ℕ → HashSet A H → Option Fault
-hash_set_between min max v = within min max (hash_set_len v)
+hash_set_between min max v = between min max (hash_set_len v)
 
 -- of any number that is counted
 abbrev pub count_min : ℕ → ℕ → Option Fault
@@ -206,10 +206,10 @@ abbrev pub count_max : ℕ → ℕ → Option Fault
 count_max max v = at_most max (v)
 
 abbrev pub count_equal : ℕ → ℕ → Option Fault
-count_equal count v = within count count (v)
+count_equal count v = between count count (v)
 
 abbrev pub count_between : ℕ → ℕ → ℕ → Option Fault
-count_between min max v = within min max (v)
+count_between min max v = between min max (v)
 
 -- a number without a sign is at most so much, just that, or between two
 abbrev pub range_max : ℕ → ℕ → Option Fault

@@ -8,5 +8,5 @@ pub use Rattle.garde_i18n.specs.CodeText.{code_text}
 use Rattle.std.specs.Prelude.{ℕ, List, ◌++◌, codes}
 
 -- two texts with a space between them
-abbrev pub spaced : List ℕ → List ℕ → List ℕ
-spaced one other = one ++ (codes " " ++ other)
+abbrev pub phrase : List ℕ → List ℕ → List ℕ
+phrase one other = one ++ (codes " " ++ other)

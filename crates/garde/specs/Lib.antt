@@ -3,9 +3,9 @@ pub mod Trees
 pub mod Laws
 pub mod Walk
 pub mod Visits
-pub mod Nested
+pub mod Nest
 pub mod Answers
-pub mod Refusal
+pub mod ValidateError
 pub mod Select
 pub mod Reading
 pub mod Author

@@ -7,13 +7,13 @@ use Rattle.garde_rules.specs.{Fault, fault_text}
 use Rattle.garde.specs.Tree.{Tree, nothing, fault, under, flat}
 
 -- the same entry, with p in front of its path
-abbrev pub beneath : List Part → Entry → Entry
-beneath p e = (p ++ e.0, e.1)
+abbrev pub entry_under : List Part → Entry → Entry
+entry_under p e = (p ++ e.0, e.1)
 
--- read below p, a tree gives the same entries, each with p in front of its path
-abbrev pub ReadsBelow : Type 0
-ReadsBelow = (t : Tree) (p : List Part) (text : Datum → List ℕ) →
-    flat text p t ≡ map (beneath p) (flat text [] t)
+-- read under p, a tree gives the same entries, each with p in front of its path
+abbrev pub ReadsUnder : Type 0
+ReadsUnder = (t : Tree) (p : List Part) (text : Datum → List ℕ) →
+    flat text p t ≡ map (entry_under p) (flat text [] t)
 
 -- the faults of a tree from left to right, each with its path, which begins with p
 abbrev pub faults : List Part → Tree → List (List Part × Fault)
@@ -21,11 +21,11 @@ faults p nothing = []
 faults p (fault f t) = (p, f) ∷ faults p t
 faults p (under k s t) = faults (p ++ k ∷ []) s ++ faults p t
 
--- the entry of a fault: a rule's has the handler's text, and an own message stays as it is
-abbrev pub told : (Datum → List ℕ) → List Part × Fault → Entry
-told text at = (at.0, fault_text text at.1)
+-- the entry of a fault: a rule's has the handler's text, and a user-defined message stays as it is
+abbrev pub entry_of : (Datum → List ℕ) → List Part × Fault → Entry
+entry_of text at = (at.0, fault_text text at.1)
 
--- The report of a tree is the list of its faults, each told by the handler. So another handler changes the texts of rules, and
--- no path, no order and no own message.
+-- The report of a tree is the list of its faults, each with its text. So another handler changes the texts of rules, and no path,
+-- no order and no user-defined message.
 abbrev pub ReadsByHandler : Type 0
-ReadsByHandler = (t : Tree) (text : Datum → List ℕ) → flat text [] t ≡ map (told text) (faults [] t)
+ReadsByHandler = (t : Tree) (text : Datum → List ℕ) → flat text [] t ≡ map (entry_of text) (faults [] t)

@@ -1,10 +1,10 @@
--- The part of a visit tree at and beneath a way, and what `select` keeps of its report.
+-- The part of a visit tree at and under a prefix, and what `select` keeps of its report.
 use Rattle.std.specs.Prelude.{◌≡◌, ℕ, if◌then◌else◌, List, [], ◌∷◌, map, Some}
 use Rattle.garde_i18n.specs.Datum.{Datum}
-use Rattle.garde_report.specs.Report.{Entry, has_text, selected}
+use Rattle.garde_report.specs.Report.{Entry, has_text, messages_under}
 use Rattle.garde.specs.Tree.{Tree, nothing, fault, under, ◌then◌, flat}
 
--- all of the tree where the way is empty, and else, in order, the parts beneath each component with the way's first text
+-- all of the tree where the prefix is empty, and else, in order, the parts under each component with the prefix's first text
 abbrev pub part : List (List ℕ) → Tree → Tree
 part [] t = t
 part (text ∷ way) nothing = nothing
@@ -18,4 +18,4 @@ messages = map (λ (e : Entry). e.1)
 -- what is selected of the faults of a tree are the messages of its part
 abbrev pub SelectGivesPart : Type 0
 SelectGivesPart = (t : Tree) (way : List (List ℕ)) (text : Datum → List ℕ) →
-    selected way (flat text [] t) ≡ messages (flat text [] (part way t))
+    messages_under way (flat text [] t) ≡ messages (flat text [] (part way t))

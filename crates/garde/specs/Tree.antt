@@ -1,11 +1,11 @@
--- Visit trees: what a walk of a value comes by.
+-- Visit trees: the result of walking a value.
 use Rattle.std.specs.Prelude.{ℕ, ◌+◌, Bool, true, false, Option, Some, None, ◌||◌, List, [], ◌∷◌, ◌++◌, max, if◌then◌else◌}
 use Rattle.garde_i18n.specs.Datum.{Datum}
 use Rattle.garde_report.specs.Part.{Part}
 use Rattle.garde_report.specs.Report.{Entry}
 use Rattle.garde_rules.specs.{Fault, fault_text}
 
--- A list of steps, each of them a fault, or a component with the tree beneath it.
+-- A list of steps, each of them a fault, or a component with the tree under it.
 pub data Tree : Type 0 where
   nothing : Tree
   fault : Fault → Tree → Tree
@@ -18,7 +18,7 @@ nothing then u = u
 (fault f t) then u = fault f (t then u)
 (under k s t) then u = under k s (t then u)
 
--- the tree bears a fault: some step is one, or has one beneath it
+-- the tree has a fault: some step is one, or has one under it
 abbrev pub bears : Tree → Bool
 bears nothing = false
 bears (fault f t) = true
@@ -30,7 +30,7 @@ flat text p nothing = []
 flat text p (fault f t) = (p, fault_text text f) ∷ flat text p t
 flat text p (under k s t) = flat text (p ++ k ∷ []) s ++ flat text p t
 
--- how many components have a fault at or beneath them
+-- how many components have a fault at or under them
 abbrev pub nodes : Tree → ℕ
 nodes nothing = 0
 nodes (fault f t) = nodes t

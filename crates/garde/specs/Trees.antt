@@ -13,7 +13,7 @@ HasTree trees = (t : Tree) × trees t
 abbrev pub Alike : (Tree → Type 0) → Type 0 → Type 0
 Alike trees known = (t : Tree) → trees t → (bears t ≡ false) ↔ known
 
--- no tree bears a fault
+-- no tree has a fault
 abbrev pub NoneBears : (Tree → Type 0) → Type 0
 NoneBears trees = (t : Tree) → trees t → bears t ≡ false
 
@@ -21,7 +21,7 @@ NoneBears trees = (t : Tree) → trees t → bears t ≡ false
 abbrev pub TreesNothing : Tree → Type 0
 TreesNothing t = t ≡ nothing
 
--- a component, and beneath it a tree of what stands there
+-- a component, and under it a tree of what stands there
 abbrev pub TreesUnder : Part → (Tree → Type 0) → Tree → Type 0
 TreesUnder k trees t = (s : Tree) × trees s × (t ≡ under k s nothing)
 

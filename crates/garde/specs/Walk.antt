@@ -5,8 +5,8 @@ use Rattle.garde_report.specs.Report.{Entry}
 use Rattle.garde_report.specs.Trace.{Trace, capped_sum}
 use Rattle.garde.specs.Tree.{Tree, bears, flat, nodes, height}
 
--- The trail after a walk of a tree. Where the tree bears a fault, a node was made for each component that had no path yet,
--- and one for each component of the tree with a fault at or beneath it; else nothing was made.
+-- The trail after a walk of a tree. Where the tree has a fault, a node was made for each component that had no path yet, and one
+-- for each component of the tree with a fault at or under it; else nothing was made.
 abbrev pub trace_after : Trace → Tree → Trace
 trace_after before t = if bears t
     then record {
@@ -38,7 +38,7 @@ pub record WalkedPartly (trees : Tree → Type 0) (text : Datum → List ℕ) (b
   pub nodes : before.nodes ≤ after.nodes
   pub most : after.nodes ≤ (trace_after before tree).nodes
 
--- Why a walk below so many components may be refused memory: the value takes some though it has no fault, or one of its
--- trees bears a fault or goes below the eighth component.
+-- When a walk under so many components may run out of memory: the value allocates although it has no fault, or one of its trees has
+-- a fault or is deeper than eight components.
 abbrev pub MayRefuse : (Tree → Type 0) → Type 0 → ℕ → Type 0
-MayRefuse trees takes depth = takes ⊎ ((t : Tree) × trees t × (IsTrue (bears t) ⊎ (8 < depth + height t)))
+MayRefuse trees allocates depth = allocates ⊎ ((t : Tree) × trees t × (IsTrue (bears t) ⊎ (8 < depth + height t)))

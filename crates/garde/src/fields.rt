@@ -1,7 +1,7 @@
-//! What is checked of a value, said as a value.
+//! What is checked of a value, written as a value.
 //!
-//! An author of a type takes the value apart and says what is checked of each field by one
-//! expression, for instance
+//! The author of a type takes the value apart and lists the checks of each field in one expression,
+//! for instance
 //!
 //! ```text
 //! let Self { name, tags, address } = self;
@@ -22,7 +22,6 @@ mod condition;
 mod each;
 mod field;
 mod if_some;
-mod source;
 mod tuples;
 
 pub use check::{Check, Dive, Is, IsInMemory, check_under};

@@ -1,17 +1,17 @@
-//! Values that are walked, and a report of every fault at the path where it stands.
+//! Validates values, and reports every fault at its path.
 #![tactic(auto)]
 
 mod containers;
 pub mod fields;
+mod into_valid_error;
 pub mod laws;
 pub mod recursive;
-mod refusal;
 pub mod samples;
 mod unvalidated;
-mod unvalidated_refusal;
 mod valid;
 mod valid_under;
 pub mod validate;
+mod validate_error;
 
 pub use garde_i18n as i18n;
 pub use garde_i18n::{CodeI18n, DefaultI18n, I18n, with_i18n};
@@ -19,8 +19,8 @@ pub use garde_report::{
     Component, Error, Path, Report, Result, RuleError, Trail, error, json, rc_list, select, trail,
 };
 pub use garde_rules as rules;
-pub use refusal::ValidateError;
 pub use unvalidated::{IntoValidError, Unvalidated};
 pub use valid::Valid;
 pub use valid_under::ValidUnder;
 pub use validate::Validate;
+pub use validate_error::ValidateError;

@@ -1,9 +1,9 @@
 //! Values that were not validated yet.
 ghost use Rattle.std.specs.Prelude.{◌≡◌};
 
-use crate::refusal::ValidateError;
 use crate::valid::Valid;
 use crate::validate::Validate;
+use crate::validate_error::ValidateError;
 use garde_report::Report;
 use std::alloc::{AllocError, Global};
 use std::fmt;
@@ -26,7 +26,7 @@ impl<T> Model for Unvalidated<T> {
 pub enum IntoValidError<T> {
     /// The faults, in the order of the walk. The value was dropped.
     Report(Report),
-    /// There was no memory to go on. The value is handed back.
+    /// Out of memory. The value is handed back.
     Memory(Unvalidated<T>),
 }
 
@@ -50,7 +50,7 @@ impl<T: Validate + Drop> Unvalidated<T> {
     pub fn validate(self, alloc: Global) -> Result<Valid<T>, IntoValidError<T>>
     where
         T::Context: Default + Drop,
-        ensures told { (ctx : T.Context) × T.Context.is_default ctx
+        ensures answer { (ctx : T.Context) × T.Context.is_default ctx
             × AnswersFor (T.visits self ctx) default_text self result }
         ensures sure { ((ctx : T.Context) → T.Context.is_default ctx
             → NeedsNoMemory (T.visits self ctx) 0) → IsOk result }
@@ -63,15 +63,15 @@ impl<T: Validate + Drop> Unvalidated<T> {
 
     /// Validates the value under a context, with the texts of `DefaultI18n`.
     ///
-    /// `Report` is answered exactly of a value with a fault, unless memory runs out. `Memory` is
-    /// answered only of a value with a fault, of one that goes below a depth of 8, or of one whose
-    /// type states that its rules take memory.
+    /// `Report` is returned exactly for a value with a fault, unless memory runs out. `Memory` is
+    /// returned only for a value with a fault, for one nested deeper than 8 components, or for one
+    /// whose type states that its rules may allocate.
     pub fn validate_with(
         self,
         alloc: Global,
         ctx: &T::Context,
     ) -> Result<Valid<T>, IntoValidError<T>>
-        ensures told { AnswersFor (T.visits self ctx.now) default_text self result }
+        ensures answer { AnswersFor (T.visits self ctx.now) default_text self result }
         ensures sure { NeedsNoMemory (T.visits self ctx.now) 0 → IsOk result }
         ensures known { OnOk result (Known (T.visits self ctx.now)) }
     {

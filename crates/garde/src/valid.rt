@@ -28,7 +28,7 @@ impl<T: Validate> Valid<T> {
     ghost use Rattle.garde.specs.Visits.{Known};
 
     /// The value, of which the caller proves that this context finds no fault. Nothing is checked
-    /// at run time, and no memory is taken.
+    /// or allocated at run time.
     pub fn known(value: T, ctx: &T::Context) -> Self
         requires { Known (T.visits value ctx.now) }
         ensures { result ≡ value }

@@ -25,7 +25,7 @@ impl<'c, T: Validate> ValidUnder<'c, T> {
     ghost use Rattle.garde.specs.Visits.{Known};
 
     /// The value and the context, of which the caller proves that this context finds no fault.
-    /// Nothing is checked at run time, and no memory is taken.
+    /// Nothing is checked or allocated at run time.
     pub fn known(value: T, context: &'c T::Context) -> Self
         requires { Known (T.visits value context.now) }
         ensures { result ≡ (value, context.now) }

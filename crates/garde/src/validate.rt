@@ -5,10 +5,10 @@ ghost use Rattle.garde_report.specs.Trace.{new_trace};
 ghost use Rattle.garde.specs.Answers.{Headline, Answers, AnswersOn, NeedsNoMemory};
 ghost use Rattle.garde.specs.Visits.{Visits, Visited, Known};
 
-pub use crate::refusal::ValidateError;
 pub use crate::unvalidated::{IntoValidError, Unvalidated};
 pub use crate::valid::Valid;
 pub use crate::valid_under::ValidUnder;
+pub use crate::validate_error::ValidateError;
 use garde_i18n::{DefaultI18n, I18n};
 use garde_report::{Report, Trail};
 use std::alloc::{AllocError, Global};
@@ -16,20 +16,20 @@ use std::alloc::{AllocError, Global};
 /// A value that can be validated.
 ///
 /// An implementation states by `visits` which faults a value has at which paths, and
-/// `validate_into` is proved to tell just these. The other calls come with it. `garde::fields` lets
-/// an author state and write both as one expression.
+/// `validate_into` is proved to report just these. The other calls come with it. `garde::fields`
+/// lets an author state and write both as one expression.
 pub trait Validate {
     /// What the rules of the type may ask for, as bounds that are known only at run time.
     type Context;
 
-    /// What a visit of a value under a context comes by: its trees of faults.
+    /// The visits of a value under a context: its trees of faults.
     ghost visits: { Self → Self.Context → Visits };
 
     /// Appends the faults of the value to the report, each at a path that begins with the
     /// components of the trail.
     ///
-    /// Ok is answered whether or not there are faults, and the trail keeps its components.
-    /// `AllocError` is answered where memory runs out: the report then holds what it held and a
+    /// Ok is returned whether or not there are faults, and the trail keeps its components.
+    /// `AllocError` is returned where memory runs out: the report then holds what it held and a
     /// beginning of what would have been appended, and the trail has the components that it was
     /// handed.
     fn validate_into<'a, H: I18n>(
@@ -47,7 +47,7 @@ pub trait Validate {
     final fn validate(&self, alloc: Global) -> Result<(), ValidateError>
     where
         Self::Context: Default + Drop,
-        ensures told { (c : Self.Context) × Self.Context.is_default c
+        ensures answer { (c : Self.Context) × Self.Context.is_default c
             × Answers (visits self.now c) default_text result }
         ensures sure { ((c : Self.Context) → Self.Context.is_default c
             → NeedsNoMemory (visits self.now c) 0) → IsOk result }
@@ -60,7 +60,7 @@ pub trait Validate {
 
     /// Validates under a context, with the texts of `DefaultI18n`.
     final fn validate_with(&self, alloc: Global, ctx: &Self::Context) -> Result<(), ValidateError>
-        ensures told { Answers (visits self.now ctx.now) default_text result }
+        ensures answer { Answers (visits self.now ctx.now) default_text result }
         ensures sure { NeedsNoMemory (visits self.now ctx.now) 0 → IsOk result }
         ensures known { OnOk result (Known (visits self.now ctx.now)) }
     {
@@ -74,7 +74,7 @@ pub trait Validate {
         ctx: &Self::Context,
         h: &H,
     ) -> Result<(), ValidateError>
-        ensures told { Answers (visits self.now ctx.now) (H.text h.now) result }
+        ensures answer { Answers (visits self.now ctx.now) (H.text h.now) result }
         ensures sure { NeedsNoMemory (visits self.now ctx.now) 0 → IsOk result }
         ensures known { OnOk result (Known (visits self.now ctx.now)) }
     {
@@ -85,13 +85,13 @@ pub trait Validate {
     /// Validates a value that stands where the trail leads, under a context, with the texts of a
     /// handler.
     ///
-    /// At Ok what the rules of the type ask under the context is known of the value.
+    /// When it returns Ok, what the rules of the type ask under the context is known of the value.
     ///
-    /// On a new trail it answers Ok exactly if the value has no fault, and else a report of every
-    /// fault in the order of the walk; `Trail::nodes` then tells how many path nodes that took: one
-    /// for each component with a fault at or beneath it. `ValidateError::Memory` is answered only
-    /// of a value with a fault, of one that goes below a depth of 8, or of one whose type states
-    /// that its rules take memory.
+    /// On a new trail it returns Ok exactly if the value has no fault, and else a report of every
+    /// fault in the order of the walk; `Trail::nodes` is then how many path nodes that took: one
+    /// for each component with a fault at or under it. `ValidateError::Memory` is returned only for
+    /// a value with a fault, for one nested deeper than 8 components, or for one whose type states
+    /// that its rules may allocate.
     final fn validate_on<'a, H: I18n>(
         &'a self,
         alloc: Global,

@@ -4,7 +4,7 @@ use Rattle.std.specs.declared.alloc.Global.{Global}
 use Rattle.std.specs.Prelude.{String, Option, Some, None, string_bytes}
 use Rattle.std.specs.List.{AllByRecursion, enumerate_from}
 use Rattle.std.proofs.lemmas.List.{length-map}
-use Rattle.garde.specs.Author.{Visits, codes, only, found, ◌and◌, below, items, optional, length_in}
+use Rattle.garde.specs.Author.{Visits, codes, only, found, ◌and◌, under as visits_under, items, optional, length_in}
 use Rattle.garde.specs.Visits.{entries}
 use Rattle.garde.specs.Trees.{TreesEach}
 use Rattle.garde.specs.Tree.{Tree, nothing, under, ◌then◌, found_tree}
@@ -36,9 +36,9 @@ and_one : {a b : Visits} {t u : Tree} → HasOnly a t → HasOnly b u → HasOnl
 unfolding ◌and◌
 and_one first second = record { same = λ s h. h.4 ∙ (λ i. first.same h.0 h.2 i then second.same h.1 h.3 i) }
 
-below_one : (k : _) {a : Visits} {t : Tree} → HasOnly a t → HasOnly (below k a) (under k t nothing)
-unfolding below
-below_one k inside = record { same = λ s h. h.2 ∙ ap (λ x. under k x nothing) (inside.same h.0 h.1) }
+under_one : (k : _) {a : Visits} {t : Tree} → HasOnly a t → HasOnly (visits_under k a) (under k t nothing)
+unfolding visits_under
+under_one k inside = record { same = λ s h. h.2 ∙ ap (λ x. under k x nothing) (inside.same h.0 h.1) }
 
 numbered_one : {A B : Type 0} (each : A → Visits) (to : A → B) (tree : B → Tree) (i : ℕ) (xs : List A) (t : Tree)
     → AllByRecursion (λ x. HasOnly (each x) (tree (to x))) xs → TreesEach index_part (λ x. (each x).trees) (enumerate_from i xs) t → t ≡ items_tree tree i (map to xs)
@@ -58,7 +58,7 @@ named_line [] some = absurd (some refl)
 named_line (b ∷ bs) some = refl
 
 user_one : (user : User) → HasOnly (user_visits user) (named_tree (string_bytes user.username))
-user_one user = below_one (key_part (codes "username")) (and_one (found_one _) (found_one _))
+user_one user = under_one (key_part (codes "username")) (and_one (found_one _) (found_one _))
 
 option_one : (user : Option User) → IsNamed user → HasOnly (optional user_visits user) (line_tree (text_of user))
 unfolding optional
@@ -99,9 +99,9 @@ fewer_one tags = rw (length-map tags string_bytes) (found_one _)
 body_one : (body : Body) → HasOnly (body_visits body) (body_tree (content body))
 body_one body =
     and_one (user_one body.user)
-    (and_one (below_one (key_part (codes "age")) (and_one (found_one _) (found_one _)))
-    (and_one (below_one (key_part (codes "tags")) (and_one (fewer_one body.tags.items) (items_one tag_visits string_bytes tag_tree body.tags.items (tags_one body.tags.items))))
-    (below_one (key_part (codes "addresses")) (addresses_one body.addresses.entries))))
+    (and_one (under_one (key_part (codes "age")) (and_one (found_one _) (found_one _)))
+    (and_one (under_one (key_part (codes "tags")) (and_one (fewer_one body.tags.items) (items_one tag_visits string_bytes tag_tree body.tags.items (tags_one body.tags.items))))
+    (under_one (key_part (codes "addresses")) (addresses_one body.addresses.entries))))
 
 -- what is found of a body is what is reported of the bytes that spell it
 pub body_reported : (body : Body) (bytes output : List ℕ) (outcome : Outcome) → Spells bytes (content body) → Finds (body_visits body) Json outcome output → BodyReports bytes outcome output

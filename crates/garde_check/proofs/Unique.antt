@@ -1,7 +1,7 @@
 -- A text has one list of lines.
 use Rattle.std.proofs.Common.{◌≡◌, ◌≢◌, ℕ, suc, List, [], ◌∷◌, ◌++◌, refl, sym, ap, ◌∙◌, append_assoc, append-nil, arith, inl, inr, subst}
 use Rattle.std.specs.List.{flat_map, AllByRecursion}
-use Rattle.garde_check.specs.Lines.{ended, IsLine, EndsInLineFeed, AreLines, AreTheLines}
+use Rattle.garde_check.specs.Lines.{with_line_feed, IsLine, EndsInLineFeed, AreLines, AreTheLines}
 
 shorter : (a : ℕ) (x : List ℕ) → IsLine (a ∷ x) → IsLine x
 shorter a x own = λ i h. own (suc i) (omega arith)
@@ -24,26 +24,26 @@ not_nil : (x : List ℕ) (s : List ℕ) → x ++ 10 ∷ s ≢ []
 not_nil [] s e = cc
 not_nil (a ∷ x) s e = cc
 
-open_one : (x : List ℕ) (xs : List (List ℕ)) → flat_map ended (x ∷ xs) ≡ x ++ 10 ∷ flat_map ended xs
-open_one x xs = append_assoc x (10 ∷ []) (flat_map ended xs)
+open_one : (x : List ℕ) (xs : List (List ℕ)) → flat_map with_line_feed (x ∷ xs) ≡ x ++ 10 ∷ flat_map with_line_feed xs
+open_one x xs = append_assoc x (10 ∷ []) (flat_map with_line_feed xs)
 
-one_list : (xs ys : List (List ℕ)) → AllByRecursion IsLine xs → AllByRecursion IsLine ys → flat_map ended xs ≡ flat_map ended ys → xs ≡ ys
+one_list : (xs ys : List (List ℕ)) → AllByRecursion IsLine xs → AllByRecursion IsLine ys → flat_map with_line_feed xs ≡ flat_map with_line_feed ys → xs ≡ ys
 one_list [] [] ox oy e = refl
-one_list [] (y ∷ ys) ox oy e = absurd (not_nil y (flat_map ended ys) (sym (e ∙ open_one y ys)))
-one_list (x ∷ xs) [] ox oy e = absurd (not_nil x (flat_map ended xs) (sym (open_one x xs) ∙ e))
+one_list [] (y ∷ ys) ox oy e = absurd (not_nil y (flat_map with_line_feed ys) (sym (e ∙ open_one y ys)))
+one_list (x ∷ xs) [] ox oy e = absurd (not_nil x (flat_map with_line_feed xs) (sym (open_one x xs) ∙ e))
 one_list (x ∷ xs) (y ∷ ys) ox oy e =
-    let parts = one_place x y (flat_map ended xs) (flat_map ended ys) ox.0 oy.0 (sym (open_one x xs) ∙ e ∙ open_one y ys) in
+    let parts = one_place x y (flat_map with_line_feed xs) (flat_map with_line_feed ys) ox.0 oy.0 (sym (open_one x xs) ∙ e ∙ open_one y ys) in
     let rest : xs ≡ ys = one_list xs ys ox.1 oy.1 parts.1 in
     cc (parts.0, rest)
 
-ends : (x : List ℕ) (xs : List (List ℕ)) → EndsInLineFeed (flat_map ended (x ∷ xs))
-ends x [] = (x, append-nil (ended x))
+ends : (x : List ℕ) (xs : List (List ℕ)) → EndsInLineFeed (flat_map with_line_feed (x ∷ xs))
+ends x [] = (x, append-nil (with_line_feed x))
 ends x (y ∷ ys) =
     let more = ends y ys in
-    (ended x ++ more.0, ap (λ l. ended x ++ l) more.1 ∙ sym (append_assoc (ended x) more.0 (10 ∷ [])))
+    (with_line_feed x ++ more.0, ap (λ l. with_line_feed x ++ l) more.1 ∙ sym (append_assoc (with_line_feed x) more.0 (10 ∷ [])))
 
 -- a text that is not empty and does not end in a line feed is no list of ended lines
-not_both : (bytes : List ℕ) (xs : List (List ℕ)) → flat_map ended xs ≡ bytes → bytes ≢ [] → (EndsInLineFeed bytes → ⊥) → ⊥
+not_both : (bytes : List ℕ) (xs : List (List ℕ)) → flat_map with_line_feed xs ≡ bytes → bytes ≢ [] → (EndsInLineFeed bytes → ⊥) → ⊥
 not_both bytes [] e some none = some (sym e)
 not_both bytes (x ∷ xs) e some none = none (subst EndsInLineFeed e (ends x xs))
 

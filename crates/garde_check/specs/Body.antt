@@ -1,4 +1,4 @@
--- What a visit of a request's body comes by, and the one tree that it has.
+-- The visits of a request's body, and the one tree that it has.
 use Rattle.std.specs.Prelude.{ℕ, List, [], ◌∷◌, Option, is_some, map, decimal, String}
 use Rattle.std.specs.declared.alloc.Global.{Global}
 use Rattle.std.specs.BTreeMap.{BTreeMap}

@@ -38,8 +38,8 @@ body_json body =
     members_json
     (entries_json body.addresses) (age_json body.age) (texts_json body.tags) (string body.username)
 
--- Whether a tree is a text, an array of texts, or an object whose values are texts. A body is read only where its members
--- are, so that a tree which spells none is refused before memory is asked for.
+-- Whether a tree is a text, an array of texts, or an object whose values are texts. A body is read only where its members are, so
+-- that a tree which spells none is rejected before anything is allocated.
 abbrev pub is_text : Data → Bool
 is_text tree = is_some (as_str tree)
 

@@ -13,16 +13,16 @@ use Rattle.garde_check.specs.declared.outcome.Outcome.TheVariants.{Valid}
 use Rattle.garde_check.specs.declared.outcome.RunError.{RunError}
 use Rattle.garde_check.specs.declared.outcome.RunError.TheVariants.{NotUtf8, BadBody, Memory}
 use Rattle.garde_check.specs.Body.{Content, body_tree}
-use Rattle.garde_check.specs.Form.{written}
+use Rattle.garde_check.specs.Form.{form_text}
 use Rattle.garde_check.specs.Lines.{AreTheLines}
 use Rattle.garde_check.specs.Request.{SpellsJust, SpellsNothing}
 use Rattle.garde_check.specs.Users.{lines_tree}
 
--- what is written of a tree in a form: the number of its nodes is told as far as a `usize` goes
+-- what is written of a tree in a form: the number of its nodes is written as far as a `usize` goes
 abbrev pub output_of : Form → Tree → List ℕ
-output_of form t = written form (flat default_text [] t) (min (nodes t) (2 ^ 64 - 1))
+output_of form t = form_text form (flat default_text [] t) (min (nodes t) (2 ^ 64 - 1))
 
--- the output in a form of a tree, and its outcome: `Valid` exactly where the tree bears no fault
+-- the output in a form of a tree, and its outcome: `Valid` exactly where the tree has no fault
 abbrev pub IsOutput : Form → Tree → Outcome → List ℕ → Type 0
 IsOutput form t outcome output = (output ≡ output_of form t) × ((outcome ≡ Valid) ↔ (bears t ≡ false))
 
@@ -51,12 +51,12 @@ Gives Body = BodyReports
 abbrev pub Never : List ℕ → Type 0
 Never input = ⊥
 
--- which inputs are refused for their form
+-- which inputs are rejected for their form
 abbrev pub Refuses : Task → List ℕ → Type 0
 Refuses (Lines form) = Never
 Refuses Body = SpellsNothing
 
--- why no output was made for these bytes: they are not UTF-8, or are refused for their form, or
+-- why no output was made for these bytes: they are not UTF-8, or are rejected for their form, or
 -- memory ran out
 abbrev pub OutputFails : (List ℕ → Type 0) → List ℕ → RunError → Type 0
 OutputFails Refused bytes NotUtf8 = IsUtf8 bytes → ⊥

@@ -1,4 +1,4 @@
--- What a visit of a user comes by, and the one tree that it has.
+-- The visits of a user, and the one tree that it has.
 use Rattle.std.specs.Prelude.{ℕ, List}
 use Rattle.garde.specs.Author.{Visits, codes, length, string_bytes, ◌and◌, field, ascii, length_in}
 use Rattle.garde.specs.Words.{not_ascii, bounds_answer, key_part, unless, is_ascii_text, length_fault}

@@ -1,4 +1,4 @@
--- The words of a command, the status of an answer and the line of a refusal.
+-- The words of a command, the status of an answer and the line of an error.
 use Rattle.std.specs.Prelude.{ℕ, List, [], ◌∷◌, ◌++◌, Result, Ok, Err, codes}
 use Rattle.garde_check.specs.declared.mode.Command.{Command}
 use Rattle.garde_check.specs.declared.mode.Command.TheVariants.{Text, Nodes, Json, Body}
@@ -14,13 +14,13 @@ words_of Nodes = codes "--nodes" ∷ []
 words_of Json = codes "--json" ∷ []
 words_of Body = codes "json" ∷ []
 
--- 0 where no fault was found, 1 where one was, 2 for every refusal
+-- 0 where no fault was found, 1 where one was, 2 for every error
 abbrev pub status_of : Result Outcome RunError → ℕ
 status_of (Ok Valid) = 0
 status_of (Ok Faults) = 1
 status_of (Err _) = 2
 
--- why a run was refused
+-- why a run failed
 abbrev pub run_error_text : RunError → List ℕ
 run_error_text NotUtf8 = codes "the input is not UTF-8"
 run_error_text BadBody = codes "the body is not a request"
@@ -28,6 +28,6 @@ run_error_text Read = codes "the input could not be read"
 run_error_text Write = codes "the output could not be written"
 run_error_text Memory = codes "out of memory"
 
--- the line that tells of each refusal
+-- the line that reports each error
 abbrev pub line_of : RunError → List ℕ
 line_of error = codes "garde_check: " ++ run_error_text error

@@ -1,6 +1,6 @@
 //! How a report is written.
 ghost use Rattle.std.specs.Prelude.{◌≡◌, IfOk, string_bytes};
-ghost use Rattle.garde_check.specs.Form.{report_lines, json_line, written};
+ghost use Rattle.garde_check.specs.Form.{report_lines, json_line, form_text};
 
 use garde::Report;
 use garde_json::report_to_json_text;
@@ -48,7 +48,7 @@ pub fn write_report(
     nodes: usize,
     form: Form,
 ) -> Result<String, AllocError>
-    ensures { IfOk result (λ text. string_bytes text ≡ written form report.now nodes) }
+    ensures { IfOk result (λ text. string_bytes text ≡ form_text form report.now nodes) }
 {
     match form {
         Form::Text(show_nodes) => write_text(alloc, report, nodes, show_nodes),

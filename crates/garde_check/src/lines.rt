@@ -126,8 +126,8 @@ impl Lines {
         Ok(())
     }
 
-    /// The users of all lines. Ok is answered only where the text is UTF-8, and `NotUtf8` only where
-    /// it is not.
+    /// The users of all lines. Ok is returned only where the text is UTF-8, and `NotUtf8` only
+    /// where it is not.
     pub fn finish(self, alloc: Global) -> Result<Vec<Option<User>>, RunError>
         ensures lines { IfOk result (λ users. (text : List ℕ)
             → IsCut text [] self.users.items self.rest.items

@@ -38,7 +38,7 @@ fn command_of(rt: &HostRuntime) -> Result<Option<Command>, AllocError> {
     Ok(command(&words))
 }
 
-// Tells in a line why nothing was run, and gives the exit status of that.
+// Says in a line why nothing was run, and gives the exit status of that.
 fn refused(rt: &HostRuntime, line: &str) -> ExitCode {
     let _ = eprintln!(rt; "{line}");
     ExitCode::from(2)

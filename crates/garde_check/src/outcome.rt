@@ -15,7 +15,7 @@ pub enum Outcome {
     Faults,
 }
 
-/// Why a run was refused.
+/// Why a run failed.
 #[derive(Clone, Copy, PartialEq, Eq, Debug)]
 pub enum RunError {
     /// The input is not UTF-8. Nothing was written.
@@ -38,7 +38,7 @@ impl From<AllocError> for RunError {
     }
 }
 
-/// Why the run was refused, in words.
+/// Why the run failed, in words.
 impl fmt::Display for RunError {
     ghost output = { λ error. Some (run_error_text error) };
 

@@ -68,7 +68,7 @@ pub fn lines_output(alloc: Global, lines: Lines, form: Form) -> Result<Output, R
     Ok(output)
 }
 
-// The body that a text spells. `Form` is answered only where it spells none.
+// The body that a text spells. `Form` is returned only where it spells none.
 fn body_of(alloc: Global, input: &str) -> Result<Body, JsonRefused>
     ensures ok { IfOk result (λ body. Spells input.now (content body)) }
     ensures form { result ≡ Err JsonRefused.Form → SpellsNothing input.now }

@@ -3,7 +3,7 @@ ghost use Rattle.std.specs.Prelude.{◌≡◌, ℕ, List, [], false, true, IfOk,
 ghost use Rattle.std.specs.Prelude.{string_bytes};
 ghost use Rattle.std.specs.Io.KnownBytes.{Appends, IsAtEnd};
 ghost use Rattle.std.specs.Str.{IsUtf8};
-ghost use Rattle.garde_check.specs.Ran.{Leaves, TakeFails, MakeFails};
+ghost use Rattle.garde_check.specs.Ran.{Leaves, device, TakeFails, MakeFails};
 ghost use Rattle.garde_check.specs.Request.{SpellsNothing};
 ghost use Rattle.garde_check.specs.Tasks.{Reports, BodyReports, Gives, Refuses, Never};
 ghost use Rattle.garde_check.specs.Users.{IsCut};
@@ -104,9 +104,8 @@ fn run_task<S: Source, W: Sink>(
     requires fresh_reader { S.has_failed reader.old ≡ false }
     requires fresh_writer { W.has_failed writer.old ≡ false }
     ensures { Leaves (Gives task) (Refuses task)
-        (S.remaining reader.old) (S.remaining reader.new)
-        (W.contents writer.old) (W.contents writer.new)
-        (S.has_failed reader.new) (W.has_failed writer.new) result }
+        (device S.remaining S.has_failed reader.old reader.new)
+        (device W.contents W.has_failed writer.old writer.new) result }
 {
     let output = take_output(alloc, reader, task)?;
     let Ok(()) = give_all(writer, output.text.as_bytes()) else {
@@ -116,11 +115,11 @@ fn run_task<S: Source, W: Sink>(
 }
 
 /// Reads the reader to its end, validates the users of its lines and writes the report. With
-/// `show_nodes` a line `nodes: n` follows, which tells how many path nodes were made.
+/// `show_nodes` a line `nodes: n` follows, with the number of path nodes that were made.
 ///
 /// The whole output is made in memory before its first byte is written, and each byte is written
 /// once. All lines that are read are kept, so a reader that never ends leads to `RunError::Memory`.
-/// After `RunError::Write` a beginning of the output was written, and after each other refusal
+/// After `RunError::Write` a beginning of the output was written, and after each other error
 /// nothing.
 pub fn run<S: Source, W: Sink>(
     alloc: Global,
@@ -131,9 +130,8 @@ pub fn run<S: Source, W: Sink>(
     requires fresh_reader { S.has_failed reader.old ≡ false }
     requires fresh_writer { W.has_failed writer.old ≡ false }
     ensures { Leaves (Reports (Form.Text show_nodes)) Never
-        (S.remaining reader.old) (S.remaining reader.new)
-        (W.contents writer.old) (W.contents writer.new)
-        (S.has_failed reader.new) (W.has_failed writer.new) result }
+        (device S.remaining S.has_failed reader.old reader.new)
+        (device W.contents W.has_failed writer.old writer.new) result }
 {
     run_task(alloc, reader, writer, Task::Lines(Form::Text(show_nodes)))
 }
@@ -148,17 +146,16 @@ pub fn run_json<S: Source, W: Sink>(
     requires fresh_reader { S.has_failed reader.old ≡ false }
     requires fresh_writer { W.has_failed writer.old ≡ false }
     ensures { Leaves (Reports Form.Json) Never
-        (S.remaining reader.old) (S.remaining reader.new)
-        (W.contents writer.old) (W.contents writer.new)
-        (S.has_failed reader.new) (W.has_failed writer.new) result }
+        (device S.remaining S.has_failed reader.old reader.new)
+        (device W.contents W.has_failed writer.old writer.new) result }
 {
     run_task(alloc, reader, writer, Task::Lines(Form::Json))
 }
 
 /// As `run_json`, but it reads the whole input as the body of a request, which it validates.
 ///
-/// `RunError::BadBody` is answered where `serde_json` reads no tree in the input, or where
-/// `Body::from_json` refuses that tree for its form. Nothing is written then.
+/// `RunError::BadBody` is returned where `serde_json` reads no tree in the input, or where
+/// `Body::from_json` rejects that tree for its form. Nothing is written then.
 pub fn run_body<S: Source, W: Sink>(
     alloc: Global,
     reader: &mut S,
@@ -167,9 +164,8 @@ pub fn run_body<S: Source, W: Sink>(
     requires fresh_reader { S.has_failed reader.old ≡ false }
     requires fresh_writer { W.has_failed writer.old ≡ false }
     ensures { Leaves BodyReports SpellsNothing
-        (S.remaining reader.old) (S.remaining reader.new)
-        (W.contents writer.old) (W.contents writer.new)
-        (S.has_failed reader.new) (W.has_failed writer.new) result }
+        (device S.remaining S.has_failed reader.old reader.new)
+        (device W.contents W.has_failed writer.old writer.new) result }
 {
     run_task(alloc, reader, writer, Task::Body)
 }

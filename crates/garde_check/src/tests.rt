@@ -18,7 +18,7 @@ use runs::{Row, given, gives, is_ran, ran_by_bytes, reads_failed, refuses, rooms
 use std::alloc::Global;
 use std::process::Abort;
 
-/// What an answer holds, where a test asks nothing of its refusal.
+/// The value of an Ok, where a test asks nothing of the error.
 trait OrEnd<T> {
     /// The value, or the end of the test.
     fn or_end(self, rt: &impl Abort) -> T;
@@ -168,7 +168,7 @@ static ERRORS: [(RunError, &str); 5] = [
     (RunError::Memory, "garde_check: out of memory"),
 ];
 
-// Whether an error has the exit status 2, and is told so by its line and by its text.
+// Whether an error has the exit status 2, and this line and text.
 fn is_told(rt: &impl Abort, alloc: Global, error: RunError, line: &str) -> bool {
     let told = format!(in alloc; "garde_check: {error}").or_end(rt);
     status(&Err(error)) == 2 && fault_line(&error) == line && told.as_str() == line
@@ -184,7 +184,7 @@ fn errors_told(rt: &impl Abort, alloc: Global) -> usize {
     ERRORS.len()
 }
 
-// Whether a failed call is told so.
+// Whether a failed call prints this.
 fn failure_is_told(rt: &impl Abort, alloc: Global, text: &str) -> bool {
     Failed.to_string(alloc).or_end(rt).as_str() == text
 }
@@ -277,7 +277,7 @@ fn users(rt: &impl Abort, alloc: Global) -> Vec<Option<User>> {
     vec![in alloc; Some(User { username })].or_end(rt)
 }
 
-// Whether this is reported of users on a trail.
+// Whether this is reported for users on a trail.
 fn reports<'a>(
     rt: &impl Abort,
     alloc: Global,
@@ -303,7 +303,7 @@ fn stands_at(
     told.as_str() == path && trail.nodes() == nodes
 }
 
-// Whether the faults of users stand beneath the trail's component, and the trail is left as it was.
+// Whether the faults of users stand under the trail's component, and the trail is left as it was.
 fn are_told_beneath(rt: &impl Abort, alloc: Global, want: &str) -> bool {
     let users = users(rt, alloc);
     let mut trail = Trail::new(alloc);

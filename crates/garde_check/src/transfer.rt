@@ -32,7 +32,7 @@ pub trait Source {
     ghost has_failed: { Self → Bool };
 
     /// Moves bytes to the front of `part`, which is not empty, and says how many. Where it says 0,
-    /// none are left. Where it fails, it took none of the bytes that it knows.
+    /// none are left. What a call that failed has taken is lost.
     fn take(&mut self, part: &mut [u8]) -> Result<usize, Failed>
         requires { 0 < length part.old }
         ensures bound { IfOk result (λ n. n ≤ length part.new) }
@@ -40,8 +40,7 @@ pub trait Source {
             Consumes (remaining self.old) (remaining self.new) (take n part.new)) }
         ensures end { IfOk result (λ n. n ≡ 0 → IsAtEnd (remaining self.new)) }
         ensures ok { OnOk result (has_failed self.new ≡ has_failed self.old) }
-        ensures err { OnErr result (has_failed self.new ≡ true) }
-        ensures kept { OnErr result (Keeps (remaining self.old) (remaining self.new)) };
+        ensures err { OnErr result (has_failed self.new ≡ true) };
 }
 
 /// What bytes are given to.
@@ -103,7 +102,17 @@ impl<R: Read> Source for Plain<R> {
 
     ghost has_failed = { λ p. p.has_failed };
 
-    fn take(&mut self, part: &mut [u8]) -> Result<usize, Failed> {
+    /// As `Source::take`. Where it fails, it took none of the bytes that the reader knows.
+    fn take(&mut self, part: &mut [u8]) -> Result<usize, Failed>
+        requires { 0 < length part.old }
+        ensures bound { IfOk result (λ n. n ≤ length part.new) }
+        ensures bytes { IfOk result (λ n.
+            Consumes (R.remaining self.old.device) (R.remaining self.new.device) (take n part.new)) }
+        ensures end { IfOk result (λ n. n ≡ 0 → IsAtEnd (R.remaining self.new.device)) }
+        ensures ok { OnOk result (self.new.has_failed ≡ self.old.has_failed) }
+        ensures err { OnErr result (self.new.has_failed ≡ true) }
+        ensures kept { OnErr result (Keeps (R.remaining self.old.device) (R.remaining self.new.device)) }
+    {
         match self.device.read(part) {
             Ok(n) => Ok(n),
             Err(_) => {

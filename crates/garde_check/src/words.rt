@@ -1,4 +1,4 @@
-//! What the words of the command line ask for, and how the end of a run is told.
+//! What the words of the command line ask for, and how the end of a run is reported.
 ghost use Rattle.std.specs.Prelude.{◌≡◌, ◌≢◌, IfSome, IfNone, map, string_bytes};
 ghost use Rattle.garde_check.specs.declared.mode.Command.{Command};
 ghost use Rattle.garde_check.specs.Words.{words_of, status_of, line_of};
@@ -23,8 +23,8 @@ pub fn command(words: &[String]) -> Option<Command>
     }
 }
 
-/// The exit status after a run: 0 where no fault was found, 1 where one was, 2 where the run was
-/// refused.
+/// The exit status after a run: 0 where no fault was found, 1 where one was, 2 where the run
+/// failed.
 pub fn status(answer: &Result<Outcome, RunError>) -> u8
     ensures { result ≡ status_of answer.now }
 {
@@ -35,7 +35,7 @@ pub fn status(answer: &Result<Outcome, RunError>) -> u8
     }
 }
 
-/// The line on standard error that tells why a run was refused, without its line feed.
+/// The line on standard error that says why a run failed, without its line feed.
 pub fn fault_line(error: &RunError) -> &'static str
     ensures { result.now ≡ line_of error.now }
 {

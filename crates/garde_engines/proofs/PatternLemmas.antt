@@ -37,7 +37,7 @@ pub reads_pattern : (source : List ℕ) (hir : Hir) (names : Names) → Reads de
 unfolding Reads
 reads_pattern source hir names h = keep_depth (reading source) default_config.nest_limit hir names h
 
--- a text that the grammar refuses for another reason than memory is no pattern
+-- a text that the grammar rejects for another reason than memory is no pattern
 pub refuses_pattern : (source : List ℕ) (kind : ErrorKind) → Refuses default_config source kind → kind ≢ OutOfMemory → IsNoPattern source
 unfolding Refuses
 refuses_pattern source kind (inl e) other = absurd (other e)

@@ -1,4 +1,4 @@
--- What is printed of a pattern that was refused.
+-- What the error of a pattern that was not compiled prints.
 use Rattle.std.specs.Prelude.{ℕ, List, codes}
 use Rattle.garde_engines.specs.declared.patterns.PatternRefused.{PatternRefused}
 use Rattle.garde_engines.specs.declared.patterns.PatternRefused.TheVariants.{Syntax, Other}

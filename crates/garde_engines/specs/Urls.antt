@@ -7,8 +7,8 @@ use Rattle.url.specs.declared.error.ParseError.TheVariants as error
 use Rattle.garde_i18n.specs.declared.reasons.InvalidUrl.{InvalidUrl}
 use Rattle.garde_i18n.specs.declared.reasons.InvalidUrl.TheVariants as reason
 
--- The reason of an error: that of the same name, and `Other` where there is none of it. Want of
--- memory and a URL of 4 GB have none, since they say nothing of the text.
+-- The reason of an error: that of the same name, and `Other` where there is none of it.
+-- `OutOfMemory` and a URL of 4 GB have none, since they say nothing about the text.
 abbrev pub reason_of : ParseError → Option InvalidUrl
 reason_of error.EmptyHost = Some reason.EmptyHost
 reason_of error.IdnaError = Some reason.IdnaError

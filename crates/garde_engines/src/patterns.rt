@@ -59,8 +59,8 @@ impl Regex {
 
     /// Compiles a pattern of the syntax of `regex`, under its default options.
     ///
-    /// `PatternRefused::Syntax` is answered only where the syntax does not allow the text. A text
-    /// that it allows may be refused with `PatternRefused::Other`.
+    /// `PatternRefused::Syntax` is returned only where the syntax does not allow the text. A text
+    /// that it allows may still give `PatternRefused::Other`.
     pub fn new(alloc: Global, source: &str) -> Result<Regex, PatternRefused>
         ensures source { IfOk result (λ regex. regex ≡ source.now) }
         ensures pattern { OnOk result (IsPattern source.now) }
@@ -82,7 +82,7 @@ impl Regex {
 
     /// Whether the pattern matches anywhere in the text.
     ///
-    /// `AllocError` is answered where there is no memory for the search.
+    /// `AllocError` is returned where there is no memory for the search.
     pub fn is_match(&self, alloc: Global, text: &str) -> Result<bool, AllocError>
         ensures { IfOk result (λ found. found ≡ matches_source self.now text.now) }
     {
@@ -90,9 +90,9 @@ impl Regex {
         Ok(matcher.is_match(text))
     }
 
-    /// The pattern with the memory that its searches write to, which is taken once.
+    /// The pattern with the memory that its searches write to, which is allocated once.
     ///
-    /// `AllocError` is answered where there is no such memory.
+    /// `AllocError` is returned where there is no such memory.
     pub fn searcher(&self, alloc: Global) -> Result<Searcher<'_>, AllocError>
         ensures { IfOk result (λ searcher. searcher ≡ self.now) }
     {
@@ -105,7 +105,8 @@ impl Regex {
     }
 }
 
-/// A compiled pattern with the memory that its searches write to, so that a search takes none.
+/// A compiled pattern with the memory that its searches write to, so that a search allocates
+/// nothing.
 #[derive(Drop)]
 pub struct Searcher<'r> {
     regex: &'r Regex,
@@ -131,8 +132,8 @@ impl<'r> Searcher<'r> {
 
     /// Whether the pattern matches anywhere in the text.
     ///
-    /// Memory is wanted, and `AllocError` answered where there is none, only by a search that begins
-    /// while another one of the same searcher runs.
+    /// A search allocates only if it begins while another one of the same searcher runs; then
+    /// `AllocError` may be returned.
     pub fn is_match(&self, alloc: Global, text: &str) -> Result<bool, AllocError>
         ensures { IfOk result (λ found. found ≡ matches_source self.now text.now) }
     {

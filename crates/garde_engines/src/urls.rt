@@ -31,7 +31,7 @@ pub fn reason(error: &ParseError) -> Option<InvalidUrl>
 
 /// Parses the text as an absolute URL: Ok where it is one, and else the reason why it is none.
 ///
-/// `AllocError` is answered where there is no memory for the parts of the URL, or they come to 4
+/// `AllocError` is returned where there is no memory for the parts of the URL, or they come to 4
 /// GB; it says nothing of the text.
 pub fn check_url(alloc: Global, text: &str) -> Result<Result<(), InvalidUrl>, AllocError>
     ensures value { IfOk result (λ answer. url_answer text.now ≡ Some answer) }

@@ -8,7 +8,7 @@ use std::alloc::Global;
 
 /// A rule as a value, which says what is wrong with a `T`.
 ///
-/// A check of one's own is a rule too: its fault is a message of its own, which no handler changes.
+/// A user-defined check is a rule too: its fault is its own message, which no handler changes.
 pub trait Rule<T> {
     /// What the rule finds in a value.
     ghost finds: { Self → T → Option Fault };
@@ -22,9 +22,9 @@ pub trait Rule<T> {
         false
     }
 
-    /// Answers Ok where the rule finds nothing, and else the fault with the handler's text of it.
+    /// Returns Ok where the rule finds nothing, and else the fault with the handler's text of it.
     ///
-    /// `RuleError::Memory` is answered only where there is a fault whose text could not be made.
+    /// `RuleError::Memory` is returned only where there is a fault whose text could not be made.
     fn find<H: I18n>(&self, alloc: Global, value: &T, h: &H) -> Result<(), RuleError>
         ensures { Applies (finds self.now value.now) (H.text h.now) result };
 }

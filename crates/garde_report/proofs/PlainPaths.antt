@@ -1,10 +1,10 @@
--- Paths that their texts tell apart: a text is cut where its first component ends.
+-- Paths that are equal where their texts are: a text is cut where its first component ends.
 use Rattle.std.proofs.Common.{◌≡◌, ℕ, suc, List, [], ◌∷◌, ◌++◌, ◌⊎◌, inl, inr, refl, sym, subst, ◌∙◌, append_assoc, arith}
 use Rattle.std.specs.List.{Contains, flat_map}
 use Rattle.garde_report.specs.declared.error.component.Kind.{Kind}
 use Rattle.garde_report.specs.declared.error.component.Kind.TheVariants.{None, Key, Index}
 use Rattle.garde_report.specs.Part.{Part}
-use Rattle.garde_report.specs.Path.{below_text, root_text, part_text}
+use Rattle.garde_report.specs.Path.{child_text, root_text, part_text}
 use Rattle.garde_report.specs.Plain.{IsPlain, IsPlainPath, PlainPathsDiffer}
 
 -- no byte is one at which a component ends
@@ -45,12 +45,12 @@ free_key (b ∷ bs) dot bracket = (
   free_key bs (λ (k, lt, is). dot (suc k, omega arith, is)) (λ (k, lt, is). bracket (suc k, omega arith, is)),
 )
 
--- so is a text of digits
+-- so is a plain index
 free_index : (text : List ℕ) → IsPlain Index text → IsFree EndsIndex text
-free_index [] digits = tt
-free_index (b ∷ bs) digits = (
-  λ e. let digit = digits 0 b (omega arith) in omega (arith, digit.1),
-  free_index bs (λ k d lt. digits (suc k) d (omega arith)),
+free_index [] bracket = tt
+free_index (b ∷ bs) bracket = (
+  λ e. bracket (0, omega arith, e),
+  free_index bs (λ (k, lt, is). bracket (suc k, omega arith, is)),
 )
 
 -- what stands after a component begins with a dot or a bracket, if anything does
@@ -58,7 +58,7 @@ stops : (ps : List Part) → IsPlainPath ps → IsAtStop EndsKey (flat_map part_
 stops [] plain = tt
 stops (p ∷ ps) plain = below p.kind p.text (plain 0 p (omega arith))
   where
-    below : (kind : Kind) (text : List ℕ) → IsPlain kind text → IsAtStop EndsKey (below_text kind text ++ flat_map part_text ps)
+    below : (kind : Kind) (text : List ℕ) → IsPlain kind text → IsAtStop EndsKey (child_text kind text ++ flat_map part_text ps)
     below None text is = absurd is
     below Key text is = inl refl
     below Index text is = inr refl
@@ -68,7 +68,7 @@ abbrev Same : Kind → Kind → List ℕ → List ℕ → List ℕ → List ℕ 
 Same k l s t us vs = (k ≡ l) × (s ≡ t) × (us ≡ vs)
 
 -- an index is cut before its closing bracket
-index_apart : (s t us vs : List ℕ) → IsPlain Index s → IsPlain Index t → below_text Index s ++ us ≡ below_text Index t ++ vs → Same Index Index s t us vs
+index_apart : (s t us vs : List ℕ) → IsPlain Index s → IsPlain Index t → child_text Index s ++ us ≡ child_text Index t ++ vs → Same Index Index s t us vs
 index_apart s t us vs is it e =
     let inside : (s ++ 93 ∷ []) ++ us ≡ (t ++ 93 ∷ []) ++ vs = cc in
     let both = cut EndsIndex s t (93 ∷ us) (93 ∷ vs) (free_index s is) (free_index t it) refl refl
@@ -91,8 +91,8 @@ heads_differ b c us vs differ e = let same : b ≡ c = cc in differ same
 dot_is_no_bracket : (us vs : List ℕ) → 46 ∷ us ≡ 91 ∷ vs → ⊥
 dot_is_no_bracket us vs e = heads_differ 46 91 us vs (λ same. omega arith) e
 
--- components below others are the same where what they print is
-below_apart : (k l : Kind) (s t us vs : List ℕ) → IsPlain k s → IsPlain l t → IsAtStop EndsKey us → IsAtStop EndsKey vs → below_text k s ++ us ≡ below_text l t ++ vs → Same k l s t us vs
+-- components under others are the same where what they print is
+below_apart : (k l : Kind) (s t us vs : List ℕ) → IsPlain k s → IsPlain l t → IsAtStop EndsKey us → IsAtStop EndsKey vs → child_text k s ++ us ≡ child_text l t ++ vs → Same k l s t us vs
 below_apart None l s t us vs is it at_s at_t e = absurd is
 below_apart Key None s t us vs is it at_s at_t e = absurd it
 below_apart Index None s t us vs is it at_s at_t e = absurd it
@@ -117,7 +117,7 @@ root_apart Index Key s t us vs is it at_s at_t e = absurd (key_is_no_index t vs 
 root_apart Index Index s t us vs is it at_s at_t e = index_apart s t us vs is it e
 
 -- a plain component prints something
-below_filled : (k : Kind) (s us : List ℕ) → IsPlain k s → [] ≡ below_text k s ++ us → ⊥
+below_filled : (k : Kind) (s us : List ℕ) → IsPlain k s → [] ≡ child_text k s ++ us → ⊥
 below_filled None s us is e = is
 below_filled Key s us is e = cc
 below_filled Index s us is e = cc
@@ -134,7 +134,7 @@ plain_rest p ps plain = λ k d lt. plain (suc k) d (omega arith)
 same_part : (p q : Part) → p.kind ≡ q.kind → p.text ≡ q.text → p ≡ q
 same_part p q k t = λ i. record { kind = k i; text = t i }
 
--- the components below the first are the same where what they print is
+-- the components under the first are the same where what they print is
 rest_apart : (ps qs : List Part) → IsPlainPath ps → IsPlainPath qs → flat_map part_text ps ≡ flat_map part_text qs → ps ≡ qs
 rest_apart [] [] plain clear e = refl
 rest_apart [] (q ∷ qs) plain clear e = absurd (below_filled q.kind q.text (flat_map part_text qs) (clear 0 q (omega arith)) e)

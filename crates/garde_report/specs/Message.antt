@@ -1,5 +1,5 @@
 -- What a message says.
-use Rattle.std.specs.Prelude.{ℕ, List, string_bytes}
+use Rattle.std.specs.Prelude.{⊤, ℕ, List, string_bytes}
 use Rattle.garde_report.specs.declared.error.message.Message.{Message}
 use Rattle.garde_report.specs.declared.error.message.Message.TheVariants.{Short, Long}
 
@@ -7,3 +7,8 @@ use Rattle.garde_report.specs.declared.error.message.Message.TheVariants.{Short,
 abbrev pub message_bytes : Message → List ℕ
 message_bytes (Short text) = text
 message_bytes (Long text) = string_bytes text
+
+-- the message lies in the value itself
+abbrev pub IsInline : Message → Type 0
+IsInline (Short text) = ⊤
+IsInline (Long text) = ⊥

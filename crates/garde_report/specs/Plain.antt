@@ -1,20 +1,16 @@
 -- Paths that their texts tell apart.
-use Rattle.std.specs.Prelude.{◌≡◌, ℕ, ◌<◌, ◌≤◌, List, length}
+use Rattle.std.specs.Prelude.{◌≡◌, ℕ, ◌<◌, List, length}
 use Rattle.std.specs.List.{All, Contains}
 use Rattle.garde_report.specs.declared.error.component.Kind.{Kind}
 use Rattle.garde_report.specs.declared.error.component.Kind.TheVariants.{None, Key, Index}
 use Rattle.garde_report.specs.Part.{Part}
 use Rattle.garde_report.specs.Path.{path_text}
 
--- the byte is a decimal digit
-abbrev pub IsDigit : ℕ → Type 0
-IsDigit b = (48 ≤ b) × (b ≤ 57)
-
--- a component with a name: a key that is not empty and holds neither `.` nor `[`, or an index of decimal digits alone
+-- a component with a name: a key that is not empty and holds neither `.` nor `[`, or an index that holds no `]`
 abbrev pub IsPlain : Kind → List ℕ → Type 0
 IsPlain None text = ⊥
 IsPlain Key text = (0 < length text) × ¬ (Contains text 46) × ¬ (Contains text 91)
-IsPlain Index text = All IsDigit text
+IsPlain Index text = ¬ (Contains text 93)
 
 -- each component of the path is plain
 abbrev pub IsPlainPath : List Part → Type 0

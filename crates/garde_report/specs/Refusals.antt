@@ -1,11 +1,11 @@
--- What is printed of a call that was refused.
+-- What the errors of failed calls print.
 use Rattle.std.specs.Prelude.{ℕ, List, codes}
 use Rattle.garde_report.specs.declared.rc_list.JoinError.{JoinError}
 use Rattle.garde_report.specs.declared.rc_list.JoinError.TheVariants as join
 use Rattle.garde_report.specs.declared.json.JsonRefused.{JsonRefused}
 use Rattle.garde_report.specs.declared.json.JsonRefused.TheVariants as json
-use Rattle.garde_report.specs.declared.error.fault.RuleError.{RuleError}
-use Rattle.garde_report.specs.declared.error.fault.RuleError.TheVariants as rule
+use Rattle.garde_report.specs.declared.error.rule_error.RuleError.{RuleError}
+use Rattle.garde_report.specs.declared.error.rule_error.RuleError.TheVariants as rule
 
 -- why an item could not be appended
 abbrev pub join_error_text : JoinError → List ℕ

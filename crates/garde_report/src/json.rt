@@ -3,7 +3,7 @@
 //! A report is an object with the one member `errors`, an array of its faults in order. A fault is
 //! an array of two values: its path, and an object with the one member `message`, the text of its
 //! error. A path is an array of its components from the root. A component is an array of two texts:
-//! its kind, `none`, `key` or `index`, and its text. Every other tree is refused.
+//! its kind, `none`, `key` or `index`, and its text. Every other tree is rejected.
 
 mod form;
 mod path;

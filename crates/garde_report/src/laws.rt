@@ -2,7 +2,8 @@
 ghost use Rattle.garde_report.specs.Plain.{PlainPathsDiffer};
 
 /// Two different paths print different texts, where no component is unnamed, each key is not empty
-/// and holds neither `.` nor `[`, and the text of each index is a decimal number.
+/// and holds neither `.` nor `[`, and no index holds `]`: the number of a list's item does not, and
+/// neither does a negative number that is a key.
 pub fn plain_paths()
     ensures { PlainPathsDiffer }
 {}

@@ -8,7 +8,7 @@ use std::str;
 /// The most decimal digits that a `usize` has.
 const MOST_DIGITS: usize = 20;
 
-/// A text of at most `N` bytes, which takes no memory of its own.
+/// A text of at most `N` bytes, which allocates nothing.
 #[derive(Drop)]
 pub(crate) struct Short<const N: usize> {
     len: u8,
@@ -74,7 +74,7 @@ impl<const N: usize> Short<N> {
     }
 }
 
-// Writes the decimal digits of a number at the end of `digits`, and tells where they start.
+// Writes the decimal digits of a number at the end of `digits`, and returns where they start.
 fn write_digits(number: usize, digits: &mut [u8; MOST_DIGITS]) -> usize
     ensures within { result ≤ 20 }
     ensures written { drop result digits.new ≡ decimal number }

@@ -5,13 +5,13 @@ ghost use Rattle.garde_report.specs.Way.{way_items, IsWay};
 use std::alloc::{AllocError, Global};
 use std::marker::Model;
 
-/// A stack that takes memory only where it has more than 8 items.
+/// A stack that allocates only if it has more than 8 items.
 pub(crate) struct Way<T> {
     depth: usize,
     // The first items, of which the first `depth` count where there are at most 8.
     near: [T; 8],
-    // Where there are more than 8 items, they stand here first. Behind them may stand some that were
-    // taken, so that taking one is a subtraction.
+    // Where there are more than 8 items, they stand here first. Behind them may stand some that
+    // were taken off the stack, so that taking one is a subtraction.
     far: Vec<T>,
 }
 
@@ -69,8 +69,8 @@ impl<T: Copy> Way<T> {
         }
     }
 
-    /// Puts an item on the stack. Below 8 items this takes no memory. Where there is none, the stack
-    /// stays as it was.
+    /// Puts an item on the stack. With fewer than 8 items this allocates nothing. When memory runs
+    /// out, the stack stays as it was.
     #[inline(always)]
     pub(crate) fn push(&mut self, item: T) -> Result<(), AllocError>
         ensures ok { OnOk result (self.new ≡ self.old ++ item ∷ []) }

@@ -21,8 +21,8 @@ phone_fault = reason_fault phone
 abbrev pub url_fault : Result (Unit {0}) InvalidUrl → Option Fault
 url_fault = reason_fault url
 
--- what is read of an answer that is not known, as of a URL of 4 GB: the reason `Overflow`, of which
--- no rule of the library tells
+-- what is read of an answer that is not known, as of a URL of 4 GB: the reason `Overflow`, which no
+-- rule of the library reports
 abbrev pub read_answer : Option (Result (Unit {0}) InvalidUrl) → Result (Unit {0}) InvalidUrl
 read_answer known = unwrap_or known (Err Overflow)
 

@@ -3,8 +3,7 @@ ghost use Rattle.std.specs.Fn.{FnOnceReturnsAt, FnOnceTakesAt};
 
 use garde_report::RuleError;
 
-/// Answers what the rule answers of the view of the value. No memory is taken but by the view and
-/// the rule.
+/// Returns what the rule returns of the view of the value. Only the view and the rule may allocate.
 ///
 /// `view` must be callable on the value, and `rule` on what the view may give of it.
 pub fn adapt<'a, T, U, V, F>(v: &'a T, view: V, rule: F) -> Result<(), RuleError>

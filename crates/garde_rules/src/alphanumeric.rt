@@ -33,7 +33,8 @@ fn are_ascii_alphanumeric(bytes: &[u8]) -> bool
     bytes.iter().all(|byte| byte.is_ascii_alphanumeric())
 }
 
-// Whether every character of the text is a letter or a number. A text of ASCII is told by its bytes.
+// Whether every character of the text is a letter or a number. A text of ASCII is decided by its
+// bytes.
 #[tactic(auto, using(crate::proofs::AlphanumericLemmas::ascii_alphanumeric_text))]
 fn all_alphanumeric(text: &str) -> bool
     ensures { result ≡ is_alphanumeric_text text.now }
@@ -71,10 +72,10 @@ impl<T: Alphanumeric> Alphanumeric for Option<T> {
     }
 }
 
-/// Answers Ok where every character is a letter or a number, and else the fault with the handler's
+/// Returns Ok where every character is a letter or a number, and else the fault with the handler's
 /// text.
 ///
-/// `RuleError::Memory` is answered only where the rule does not hold.
+/// `RuleError::Memory` is returned only where the rule does not hold.
 pub fn apply<T: Alphanumeric, H: I18n>(
     alloc: Global,
     v: &T,

@@ -40,9 +40,9 @@ impl<T: Ascii> Ascii for Option<T> {
     }
 }
 
-/// Answers Ok where every byte is below 128, and else the fault with the handler's text.
+/// Returns Ok where every byte is below 128, and else the fault with the handler's text.
 ///
-/// `RuleError::Memory` is answered only where the rule does not hold.
+/// `RuleError::Memory` is returned only where the rule does not hold.
 pub fn apply<T: Ascii, H: I18n>(alloc: Global, v: &T, _args: (), h: &H) -> Result<(), RuleError>
     ensures { Applies (unless (T.passes v.now) not_ascii) (H.text h.now) result }
 {

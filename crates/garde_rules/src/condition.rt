@@ -4,8 +4,8 @@ ghost use Rattle.std.specs.Prelude.{◌≡◌, Ok, IsTrue};
 
 use garde_report::RuleError;
 
-/// Answers what the rule answers where the condition holds, and else Ok. The rule is then not
-/// called. No memory is taken but by the rule.
+/// Returns what the rule returns where the condition holds, and else Ok. The rule is then not
+/// called. Only the rule may allocate.
 ///
 /// `rule` must be callable, if the condition holds.
 pub fn when<F>(cond: bool, rule: F) -> Result<(), RuleError>

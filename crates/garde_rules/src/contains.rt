@@ -61,9 +61,9 @@ impl<T: Contains> Contains for Option<T> {
     }
 }
 
-/// Answers Ok where the text has the pattern as a part, and else the fault with the handler's text.
+/// Returns Ok where the text has the pattern as a part, and else the fault with the handler's text.
 ///
-/// `RuleError::Memory` is answered only where the rule does not hold.
+/// `RuleError::Memory` is returned only where the rule does not hold.
 pub fn apply<T: Contains, H: I18n>(
     alloc: Global,
     v: &T,

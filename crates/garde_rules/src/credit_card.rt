@@ -15,7 +15,7 @@ pub trait CreditCard {
     /// Ok of a credit card number, and else why the value is none.
     ghost answer: { Self → Result (Unit {0}) InvalidCreditCard };
 
-    /// Answers Ok where the value is a credit card number, and else why it is none. An option
+    /// Returns Ok where the value is a credit card number, and else why it is none. An option
     /// without a value passes.
     fn validate_credit_card(&self) -> Result<(), InvalidCreditCard>
         ensures { result ≡ answer self.now };
@@ -32,10 +32,10 @@ impl<T: CreditCard> CreditCard for Option<T> {
     }
 }
 
-/// Answers Ok where the value is a credit card number, and else the fault with the handler's text
+/// Returns Ok where the value is a credit card number, and else the fault with the handler's text
 /// of why it is none.
 ///
-/// `RuleError::Memory` is answered only where the rule does not hold.
+/// `RuleError::Memory` is returned only where the rule does not hold.
 pub fn apply<T: CreditCard, H: I18n>(
     alloc: Global,
     v: &T,

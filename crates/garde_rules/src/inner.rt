@@ -3,7 +3,7 @@ ghost use Rattle.std.specs.Prelude.{◌≡◌, ◌<◌, ℕ, List, refl, length,
 ghost use Rattle.std.specs.Option.{option_to_list};
 ghost use Rattle.std.specs.Box.{boxed_slice_items};
 ghost use Rattle.garde_report.specs.Part.{Part, part_of, index_part, unnamed_part};
-ghost use Rattle.garde_rules.specs.Inner.{placed, keyed_items, key_place, Called, CalledOver, CallableAtEach};
+ghost use Rattle.garde_rules.specs.Inner.{component_items, keyed_items, key_place, Called, CalledOver, CallableAtEach};
 
 use garde_report::{Component, NoKey, PathComponentKind, Report, Trail};
 use std::alloc::AllocError;
@@ -12,7 +12,7 @@ use std::collections::BTreeMap;
 use std::collections::btree_map::Iter;
 
 /// A value whose items can be walked one after the other: a vector, an array, a slice, an option, a
-/// map in the order of its keys, or a collection of one's own.
+/// map in the order of its keys, or a user-defined collection.
 ///
 /// The values of a map come under their keys, the item of an option as unnamed, all others under
 /// their index.
@@ -42,7 +42,7 @@ pub trait Inner<T> {
     /// All items with their keys in one pass, of a value whose items are dear to find by their number.
     fn in_order<'a>(&'a self) -> Option<Iter<'a, Self::Key, T>>
         ensures { IfSome result (λ entries. keyed_items Self.Key.kind Self.Key.text entries
-            ≡ placed (place self.now) (contents self.now)) }
+            ≡ component_items (place self.now) (contents self.now)) }
     {
         None
     }
@@ -50,9 +50,9 @@ pub trait Inner<T> {
     /// The components have the kind of the key.
     ghost keyed: { (v : Self) (index : ℕ) → (place v index).kind ≡ Self.Key.kind };
 
-    /// Calls `f` on each item once, in order, with its component, until it refuses, and answers its
-    /// refusal. Trail and report are handed on as the call before left them. To push the component,
-    /// to visit and to pop is the work of `f`.
+    /// Calls `f` on each item once, in order, with its component, until it returns `Err`, and
+    /// returns that error. Trail and report are handed on as the call before left them. To push the
+    /// component, to visit and to pop is the work of `f`.
     ///
     /// `f` must be callable at each item under its component, whatever trail and report are.
     final fn validate_inner<'a, F>(
@@ -64,8 +64,8 @@ pub trait Inner<T> {
     where
         T: 'a,
         F: Fn(&'a T, Component<'a>, &mut Trail<'a>, &mut Report) -> Result<(), AllocError> + Drop,
-        requires { CallableAtEach (F.pre f) (placed (place self.now) (contents self.now)) }
-        ensures { CalledOver (F.post f) (placed (place self.now) (contents self.now))
+        requires { CallableAtEach (F.pre f) (component_items (place self.now) (contents self.now)) }
+        ensures { CalledOver (F.post f) (component_items (place self.now) (contents self.now))
             trail.old report.old result trail.new report.new }
     {
         apply(self, trail, report, f)
@@ -217,8 +217,8 @@ impl<K: Ord + PathComponentKind, T> Inner<T> for BTreeMap<K, T> {
     }
 }
 
-/// Calls `f` on each item of the field once, in order, with its component, until it refuses, and
-/// answers its refusal. Trail and report are handed on as the call before left them.
+/// Calls `f` on each item of the field once, in order, with its component, until it returns `Err`,
+/// and returns that error. Trail and report are handed on as the call before left them.
 ///
 /// `f` must be callable at each item under its component, whatever trail and report are.
 pub fn apply<'a, T, C, F>(
@@ -231,8 +231,8 @@ where
     T: 'a,
     C: Inner<T>,
     F: Fn(&'a T, Component<'a>, &mut Trail<'a>, &mut Report) -> Result<(), AllocError> + Drop,
-    requires { CallableAtEach (F.pre f) (placed (C.place field.now) (C.contents field.now)) }
-    ensures { CalledOver (F.post f) (placed (C.place field.now) (C.contents field.now))
+    requires { CallableAtEach (F.pre f) (component_items (C.place field.now) (C.contents field.now)) }
+    ensures { CalledOver (F.post f) (component_items (C.place field.now) (C.contents field.now))
         trail.old report.old result trail.new report.new }
 {
     match field.in_order() {
@@ -252,8 +252,8 @@ where
     T: 'a,
     C: Inner<T>,
     F: Fn(&'a T, Component<'a>, &mut Trail<'a>, &mut Report) -> Result<(), AllocError>,
-    requires { CallableAtEach (F.pre f.now) (placed (C.place field.now) (C.contents field.now)) }
-    ensures { CalledOver (F.post f.now) (placed (C.place field.now) (C.contents field.now))
+    requires { CallableAtEach (F.pre f.now) (component_items (C.place field.now) (C.contents field.now)) }
+    ensures { CalledOver (F.post f.now) (component_items (C.place field.now) (C.contents field.now))
         trail.old report.old result trail.new report.new }
 {
     for index in 0..field.count() {

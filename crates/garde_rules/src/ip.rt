@@ -18,7 +18,7 @@ use std::alloc::Global;
 use std::fmt;
 use std::marker::Model;
 
-/// Why a text is refused: it is no address of the kind that was asked for.
+/// Why a text is rejected: it is no address of the kind that was asked for.
 #[derive(Drop)]
 pub struct AddrParseError {
     kind: IpKind,
@@ -54,7 +54,7 @@ impl std::error::Error for AddrParseError {}
 
 /// A value that may be an IP address. Every text may, and an option of one.
 pub trait Ip {
-    /// Why a value is refused.
+    /// Why a value is rejected.
     type Error: fmt::Display + Drop;
 
     /// Whether the value is an address of the kind.
@@ -63,8 +63,9 @@ pub trait Ip {
     /// Which errors say why the value is no address of the kind.
     ghost refused: { IpKind → Self → Self.Error → Type 0 };
 
-    /// Answers Ok where the value is an IP address of the kind, and else an error that says why it
-    /// is none. An option without a value passes, and one with a value answers as that value.
+    /// Returns Ok where the value is an IP address of the kind, and else an error that says why it
+    /// is none. An option without a value passes, and one with a value gives the answer of that
+    /// value.
     fn validate_ip(&self, kind: IpKind) -> Result<(), Self::Error>
         ensures value { is_ok result ≡ passes kind self.now }
         ensures error { IfErr result (refused kind self.now) };
@@ -105,10 +106,10 @@ impl<T: Ip> Ip for Option<T> {
     }
 }
 
-/// Answers Ok where the value is an IP address of the kind, and else the fault with the handler's
+/// Returns Ok where the value is an IP address of the kind, and else the fault with the handler's
 /// text.
 ///
-/// `RuleError::Memory` is answered only where the rule does not hold.
+/// `RuleError::Memory` is returned only where the rule does not hold.
 pub fn apply<T: Ip, H: I18n>(alloc: Global, v: &T, args: (IpKind,), h: &H) -> Result<(), RuleError>
     ensures { Applies (unless (T.passes args.0 v.now) (datum.ip args.0)) (H.text h.now) result }
 {

@@ -27,10 +27,10 @@ impl<T: PartialEq> Matches<T> for T {
     }
 }
 
-/// Answers Ok where the value matches the second of `args`, and else the fault with the handler's
+/// Returns Ok where the value matches the second of `args`, and else the fault with the handler's
 /// text of the first, which is the name of the field that the other value comes from.
 ///
-/// `RuleError::Memory` is answered only where the rule does not hold.
+/// `RuleError::Memory` is returned only where the rule does not hold.
 pub fn apply<T: Matches<O>, O, H: I18n>(
     alloc: Global,
     v: &T,

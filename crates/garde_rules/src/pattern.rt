@@ -1,7 +1,7 @@
 //! Texts that match a pattern.
-ghost use Rattle.std.specs.Prelude.{◌≡◌, ℕ, List, Bool, IfOk, IsOk, None};
+ghost use Rattle.std.specs.Prelude.{◌≡◌, ℕ, List, Bool, true, false, IfOk, IsOk, Ok};
 ghost use Rattle.garde_i18n.specs.Datum as datum;
-ghost use Rattle.garde_rules.specs.Holds.{unless, passes_option};
+ghost use Rattle.garde_rules.specs.Holds.{is_exempt_option, unless, passes_option};
 ghost use Rattle.garde_rules.specs.Memory.{AppliesInMemory};
 
 pub mod regex;
@@ -26,12 +26,16 @@ pub trait Pattern {
     /// Whether the value passes with a matcher that matches these texts.
     ghost passes: { (List ℕ → Bool) → Self → Bool };
 
+    /// Whether the value passes with no search, as an option without a value does.
+    ghost is_exempt: { Self → Bool } = { λ _. false };
+
     /// Whether the matcher says that its pattern matches anywhere in the text. An option without a
     /// value passes, whatever memory there is.
     ///
     /// Else `AllocError` says nothing of the value.
     fn validate_pattern<M: Matcher>(&self, alloc: Global, matcher: &M) -> Result<bool, AllocError>
-        ensures { IfOk result (λ found. found ≡ passes (M.matches matcher.now) self.now) };
+        ensures value { IfOk result (λ matched. matched ≡ passes (M.matches matcher.now) self.now) }
+        ensures exempt { is_exempt self.now ≡ true → result ≡ Ok true };
 }
 
 impl<T: AsStr> Pattern for T {
@@ -45,10 +49,9 @@ impl<T: AsStr> Pattern for T {
 impl<T: Pattern> Pattern for Option<T> {
     ghost passes = { λ matches. passes_option (T.passes matches) };
 
-    fn validate_pattern<M: Matcher>(&self, alloc: Global, matcher: &M) -> Result<bool, AllocError>
-        ensures value { IfOk result (λ found. found ≡ passes_option (T.passes (M.matches matcher.now)) self.now) }
-        ensures none { self.now ≡ None → IsOk result }
-    {
+    ghost is_exempt = { is_exempt_option T.is_exempt };
+
+    fn validate_pattern<M: Matcher>(&self, alloc: Global, matcher: &M) -> Result<bool, AllocError> {
         match self {
             None => Ok(true),
             Some(v) => v.validate_pattern(alloc, matcher),
@@ -56,21 +59,22 @@ impl<T: Pattern> Pattern for Option<T> {
     }
 }
 
-/// Answers Ok where the matcher's pattern matches anywhere in the text, and else the fault with the
+/// Returns Ok where the matcher's pattern matches anywhere in the text, and else the fault with the
 /// handler's text of the pattern.
 ///
-/// `RuleError::Memory` is answered where there is no memory for the search or the fault; it says
-/// nothing of the value.
+/// An option without a value passes, whatever memory there is. Else `RuleError::Memory` is returned
+/// where there is no memory for the search or the fault; it says nothing of the value.
 pub fn apply<T: Pattern, M: Matcher, H: I18n>(
     alloc: Global,
     v: &T,
     args: (&M,),
     h: &H,
 ) -> Result<(), RuleError>
-    ensures { let matcher = args.entry.0.now in
+    ensures answer { let matcher = args.entry.0.now in
         AppliesInMemory
         (unless (T.passes (M.matches matcher) v.now) (datum.pattern (M.text matcher)))
         (H.text h.now) result }
+    ensures exempt { T.is_exempt v.now ≡ true → IsOk result }
 {
     let (matcher,) = args;
     match v.validate_pattern(alloc, matcher) {

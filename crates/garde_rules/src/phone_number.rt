@@ -15,7 +15,7 @@ pub trait PhoneNumber {
     /// Ok of a phone number, and else why the value is none.
     ghost answer: { Self → Result (Unit {0}) InvalidPhoneNumber };
 
-    /// Answers Ok where the value is a phone number, and else why it is none. An option without a
+    /// Returns Ok where the value is a phone number, and else why it is none. An option without a
     /// value passes.
     fn validate_phone_number(&self) -> Result<(), InvalidPhoneNumber>
         ensures { result ≡ answer self.now };
@@ -32,10 +32,10 @@ impl<T: PhoneNumber> PhoneNumber for Option<T> {
     }
 }
 
-/// Answers Ok where the value is a phone number, and else the fault with the handler's text of why
+/// Returns Ok where the value is a phone number, and else the fault with the handler's text of why
 /// it is none.
 ///
-/// `RuleError::Memory` is answered only where the rule does not hold.
+/// `RuleError::Memory` is returned only where the rule does not hold.
 pub fn apply<T: PhoneNumber, H: I18n>(
     alloc: Global,
     v: &T,

@@ -41,9 +41,9 @@ impl<T: Prefix> Prefix for Option<T> {
     }
 }
 
-/// Answers Ok where the text begins with the pattern, and else the fault with the handler's text.
+/// Returns Ok where the text begins with the pattern, and else the fault with the handler's text.
 ///
-/// `RuleError::Memory` is answered only where the rule does not hold.
+/// `RuleError::Memory` is returned only where the rule does not hold.
 pub fn apply<T: Prefix, H: I18n>(
     alloc: Global,
     v: &T,

@@ -26,9 +26,9 @@ impl<T> Required for Option<T> {
     }
 }
 
-/// Answers Ok where the value is there, and else the fault with the handler's text.
+/// Returns Ok where the value is there, and else the fault with the handler's text.
 ///
-/// `RuleError::Memory` is answered only where the rule does not hold.
+/// `RuleError::Memory` is returned only where the rule does not hold.
 pub fn apply<T: Required, H: I18n>(alloc: Global, v: &T, _args: (), h: &H) -> Result<(), RuleError>
     ensures { Applies (unless (T.set v.now) datum.not_set) (H.text h.now) result }
 {

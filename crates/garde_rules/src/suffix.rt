@@ -41,9 +41,9 @@ impl<T: Suffix> Suffix for Option<T> {
     }
 }
 
-/// Answers Ok where the text ends with the pattern, and else the fault with the handler's text.
+/// Returns Ok where the text ends with the pattern, and else the fault with the handler's text.
 ///
-/// `RuleError::Memory` is answered only where the rule does not hold.
+/// `RuleError::Memory` is returned only where the rule does not hold.
 pub fn apply<T: Suffix, H: I18n>(
     alloc: Global,
     v: &T,

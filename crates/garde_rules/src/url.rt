@@ -1,7 +1,8 @@
 //! Texts that are URLs.
-ghost use Rattle.std.specs.Prelude.{◌≡◌, IfOk, IsOk, MatchResult, None, Some, Option, Result, option_map};
+ghost use Rattle.std.specs.Prelude.{◌≡◌, Bool, true, false, IfOk, IsOk, Ok, MatchResult, Some, Option, Result, option_map};
 ghost use Rattle.garde_engines.specs.Urls.{url_answer, IsUrl, IsNoUrl};
 ghost use Rattle.garde_i18n.specs.declared.reasons.InvalidUrl.{InvalidUrl};
+ghost use Rattle.garde_rules.specs.Holds.{is_exempt_option};
 ghost use Rattle.garde_rules.specs.Memory.{AppliesIfKnown};
 ghost use Rattle.garde_rules.specs.Reasons.{url_fault, option_if_known};
 
@@ -18,13 +19,17 @@ pub trait Url {
     /// Ok of a URL, and else why the value is none, where that is known.
     ghost answer: { Self → Option (Result (Unit {0}) InvalidUrl) };
 
-    /// Answers Ok where the text is an absolute URL, as the crate `url` parses it, and else why it
+    /// Whether the value passes with no parse, as an option without a value does.
+    ghost is_exempt: { Self → Bool } = { λ _. false };
+
+    /// Returns Ok where the text is an absolute URL, as the crate `url` parses it, and else why it
     /// is none. An option without a value passes, whatever memory there is.
     ///
-    /// Else `AllocError` is answered where there is no memory for the parts of the URL, or they come to
-    /// 4 GB; it says nothing of the text.
+    /// Else `AllocError` is returned where there is no memory for the parts of the URL, or they
+    /// come to 4 GB; it says nothing of the text.
     fn validate_url(&self, alloc: Global) -> Result<Result<(), InvalidUrl>, AllocError>
-        ensures { IfOk result (λ given. answer self.now ≡ Some given) };
+        ensures value { IfOk result (λ given. answer self.now ≡ Some given) }
+        ensures exempt { is_exempt self.now ≡ true → result ≡ Ok (Ok tt) };
 }
 
 impl<T: AsStr> Url for T {
@@ -43,10 +48,9 @@ impl<T: AsStr> Url for T {
 impl<T: Url> Url for Option<T> {
     ghost answer = { option_if_known T.answer };
 
-    fn validate_url(&self, alloc: Global) -> Result<Result<(), InvalidUrl>, AllocError>
-        ensures value { IfOk result (λ given. option_if_known T.answer self.now ≡ Some given) }
-        ensures none { self.now ≡ None → IsOk result }
-    {
+    ghost is_exempt = { is_exempt_option T.is_exempt };
+
+    fn validate_url(&self, alloc: Global) -> Result<Result<(), InvalidUrl>, AllocError> {
         match self {
             None => Ok(Ok(())),
             Some(v) => v.validate_url(alloc),
@@ -54,13 +58,14 @@ impl<T: Url> Url for Option<T> {
     }
 }
 
-/// Answers Ok where the text is an absolute URL, and else the fault with the handler's text of why
+/// Returns Ok where the text is an absolute URL, and else the fault with the handler's text of why
 /// it is none.
 ///
-/// `RuleError::Memory` is answered where there is no memory for the parts of the URL or the fault;
-/// it says nothing of the text.
+/// An option without a value passes, whatever memory there is. Else `RuleError::Memory` is returned
+/// where there is no memory for the parts of the URL or the fault; it says nothing of the text.
 pub fn apply<T: Url, H: I18n>(alloc: Global, v: &T, _args: (), h: &H) -> Result<(), RuleError>
-    ensures { AppliesIfKnown (option_map url_fault (T.answer v.now)) (H.text h.now) result }
+    ensures answer { AppliesIfKnown (option_map url_fault (T.answer v.now)) (H.text h.now) result }
+    ensures exempt { T.is_exempt v.now ≡ true → IsOk result }
 {
     match v.validate_url(alloc) {
         Ok(Ok(())) => Ok(()),

@@ -261,11 +261,11 @@ impl<T: phone_number::PhoneNumber> Rule<T> for PhoneNumber {
     }
 }
 
-/// The rule as a value: this rule holds of the value. What it finds is told by this message, which
-/// no handler changes.
+/// The rule as a value: this rule holds of the value. What it finds is reported by this message,
+/// which no handler changes.
 ///
 /// The handler's text is not used, and yet it is made: where there is no memory for it,
-/// `RuleError::Memory` is answered.
+/// `RuleError::Memory` is returned.
 #[derive(Clone, Copy, Debug)]
 pub struct WithMessage<'a, R>(pub R, pub &'a str);
 
@@ -296,7 +296,7 @@ pub trait View<T> {
     /// The value that is seen.
     ghost seen: { Self → T → Self.Seen };
 
-    /// Answers the value that is seen.
+    /// Returns the value that is seen.
     fn see<'v>(&self, value: &'v T) -> &'v Self::Seen
         ensures { result.now ≡ seen self.now value.now };
 }
@@ -322,13 +322,13 @@ impl<T, V: View<T>, R: Rule<V::Seen>> Rule<T> for Adapt<V, R> {
     }
 }
 
-/// A rule as a value that may want memory for its answer, as the search for a pattern does.
+/// A rule as a value that may allocate for its answer, as the search for a pattern does.
 pub trait MemoryRule<T> {
     /// What the rule finds in a value.
     ghost finds: { Self → T → Option Fault };
 
-    /// Answers Ok only where the rule finds nothing, and a fault only with the handler's text of what
-    /// it finds. `RuleError::Memory` says nothing of the value.
+    /// Returns Ok only where the rule finds nothing, and a fault only with the handler's text of
+    /// what it finds. `RuleError::Memory` says nothing of the value.
     fn find_in_memory<H: I18n>(&self, alloc: Global, value: &T, h: &H) -> Result<(), RuleError>
         ensures { AppliesInMemory (finds self.now value.now) (H.text h.now) result };
 }
@@ -366,7 +366,7 @@ impl<T: url::Url> MemoryRule<T> for Url {
     ghost finds = { λ _ v. url_fault (read_answer (T.answer v)) };
 
     fn find_in_memory<H: I18n>(&self, alloc: Global, value: &T, h: &H) -> Result<(), RuleError>
-        ensures found { AppliesInMemory (url_fault (read_answer (T.answer value.now))) (H.text h.now) result }
+        ensures fault { AppliesInMemory (url_fault (read_answer (T.answer value.now))) (H.text h.now) result }
         ensures known { AppliesIfKnown (option_map url_fault (T.answer value.now)) (H.text h.now) result }
     {
         url::apply(alloc, value, (), h)

@@ -3,9 +3,9 @@ ghost use Rattle.garde.specs.Fields.{◌and◌, Equals, each_value, field, map_b
 
 use crate::logging::Logging;
 use crate::server::Server;
-use garde::fields::{Dive, Each, Field, Fields, Is, Length, Range};
+use garde::fields::{Dive, Each, Field, Fields, Is};
 use garde::rules::pattern::regex::Regex;
-use garde::{I18n, Report, Trail, Valid, Validate};
+use garde::{I18n, Report, Trail, Valid, Validate, length, range};
 use serde::Deserialize;
 use std::alloc::{AllocError, Global};
 use std::collections::BTreeMap;
@@ -33,7 +33,7 @@ impl Validate for Limit {
         h: &H,
     ) -> Result<(), AllocError> {
         let Self { min, max } = self;
-        Field("max", max, Is(Range::min(*min))).visit(alloc, trail, report, h)
+        Field("max", max, Is(range!(min = *min))).visit(alloc, trail, report, h)
     }
 }
 
@@ -69,7 +69,7 @@ impl Validate for Config {
             logging,
             limits,
         } = self;
-        let few = Is(Length::between(1, 100));
+        let few = Is(length!(min = 1, max = 100));
         (
             Field("server", server, Dive(ctx)),
             Field("logging", logging, Dive(&())),

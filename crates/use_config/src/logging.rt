@@ -2,8 +2,8 @@
 ghost use Rattle.garde.specs.Fields.{◌and◌, Bool, true, false, field, length_between, optional, required, when};
 ghost use Rattle.use_config.specs.declared.logging.Level.TheVariants.{Debug};
 
-use garde::fields::{Field, Fields, IfSome, Is, Length, Required, When};
-use garde::{I18n, Report, Trail, Validate};
+use garde::fields::{Field, Fields, IfSome, Is, Required, When};
+use garde::{I18n, Report, Trail, Validate, length};
 use serde::Deserialize;
 use std::alloc::{AllocError, Global};
 
@@ -41,7 +41,7 @@ impl Validate for Logging {
     ) -> Result<(), AllocError> {
         let Self { level, file } = self;
         let wanted = When(matches!(level, Level::Debug), Is(Required));
-        let named = IfSome(Is(Length { min: 1, max: 255 }));
+        let named = IfSome(Is(length!(min = 1, max = 255)));
         Field("file", file, (wanted, named)).visit(alloc, trail, report, h)
     }
 }

@@ -1,10 +1,10 @@
 //! Where the service listens, and how much it takes.
 ghost use Rattle.garde.specs.Fields.{◌and◌, Equals, either, field, is_ipv4, is_ipv4_text, is_ipv6, is_ipv6_text, not, optional, pattern, range_between, suffix, u16_min, when};
 
-use garde::fields::{Dive, Field, Fields, IfSome, Is, IsInMemory, Pattern, Range, Suffix, When};
+use garde::fields::{Dive, Field, Fields, IfSome, Is, IsInMemory, Pattern, Suffix, When};
 use garde::rules::ip::{is_ipv4, is_ipv6};
 use garde::rules::pattern::regex::Regex;
-use garde::{I18n, Report, Trail, Validate};
+use garde::{I18n, Report, Trail, Validate, range};
 use serde::Deserialize;
 use std::alloc::{AllocError, Global};
 
@@ -90,8 +90,8 @@ impl Validate for Server {
         let named = !is_address(host.as_str());
         (
             Field("host", host, When(named, IsInMemory(Pattern(ctx)))),
-            Field("port", port, Is(Range::min(1))),
-            Field("workers", workers, Is(Range::between(1, 64))),
+            Field("port", port, Is(range!(min = 1))),
+            Field("workers", workers, Is(range!(min = 1, max = 64))),
             Field("tls", tls, IfSome(Dive(&()))),
         )
             .visit(alloc, trail, report, h)

@@ -1,4 +1,4 @@
-//! Reads a stock list in CSV on standard input, a row at a time, and tells the faults of each row:
+//! Reads a stock list in CSV on standard input, a row at a time, and prints the faults of each row:
 //! all of them, or as many at most as its first word says.
 #![tactic(auto)]
 
@@ -13,7 +13,7 @@ use std::io::{BufWriter, Read, Write};
 use std::process::ExitCode;
 use std::{env, io};
 
-/// How many faults are to be told at most.
+/// How many faults are to be printed at most.
 fn most(word: Option<String>) -> Result<usize> {
     let Some(word) = word else {
         return Ok(usize::MAX);
@@ -43,7 +43,7 @@ fn reason(error: &csv::Error) -> Option<&'static str> {
     }
 }
 
-/// Tells so many faults of a report at most, and says how many it told.
+/// Prints at most so many faults of a report, and returns how many it printed.
 fn tell<W: Write>(report: &Report, most: usize, out: &mut W) -> io::Result<usize> {
     for (path, error) in report.iter().take(most) {
         writeln!(out, "{path}: {error}")?;
@@ -51,7 +51,7 @@ fn tell<W: Write>(report: &Report, most: usize, out: &mut W) -> io::Result<usize
     Ok(report.len().min(most))
 }
 
-/// Tells so many faults of a row at most, and says how many it told.
+/// Prints at most so many faults of a row, and returns how many it printed.
 fn check<W: Write>(
     alloc: Global,
     index: usize,
@@ -68,7 +68,7 @@ fn check<W: Write>(
     }
 }
 
-/// Tells the faults of one row after the other, so many at most. The answer is whether there was
+/// Prints the faults of one row after the other, so many at most. The answer is whether there was
 /// none.
 fn import<R: Read + Drop, W: Write>(
     alloc: Global,

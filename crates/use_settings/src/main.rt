@@ -1,5 +1,5 @@
-//! Copies files, as far as its command line goes: reads the settings by `clap`, tells every fault of
-//! them on standard error, and prints what would be done.
+//! Copies files, as far as its command line goes: reads the settings by `clap`, prints every fault
+//! of them on standard error, and prints what would be done.
 #![tactic(auto)]
 
 mod line;
@@ -13,10 +13,10 @@ use garde::{IntoValidError, Unvalidated, Valid};
 use std::env;
 use std::process::ExitCode;
 
-/// The status of a command line that is refused, as `clap` has it.
+/// The status of a command line that is rejected, as `clap` has it.
 const USAGE: u8 = 2;
 
-/// Tells each fault in a line, as `clap` tells its own.
+/// Prints each fault in a line, as `clap` prints its own.
 fn refuse(rt: &HostRuntime, report: &Report) -> Result<ExitCode> {
     for (path, fault) in report.iter() {
         eprintln!(rt; "error: {path}: {fault}")?;

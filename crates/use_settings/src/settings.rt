@@ -2,9 +2,9 @@
 ghost use Rattle.garde.specs.Fields.{◌and◌, IsAtMost, V4, each, field, ip, items_between, optional, product, range_between, required, suffix, vec_len, when};
 
 use clap::ArgMatches;
-use garde::fields::{Each, Field, Fields, IfSome, Ip, Is, Length, Range, Required, Suffix, When};
+use garde::fields::{Each, Field, Fields, IfSome, Ip, Is, Required, Suffix, When};
 use garde::i18n::IpKind;
-use garde::{I18n, Report, Trail, Valid, Validate};
+use garde::{I18n, Report, Trail, Valid, Validate, length, range};
 use std::alloc::{AllocError, Global};
 
 /// What is to be copied, and how.
@@ -72,9 +72,9 @@ impl Validate for Settings {
         let wanted = When(*upload, Is(Required));
         let named = Each(Is(Suffix(".csv")));
         (
-            Field("--jobs", jobs, Is(Range::between(1, 16))),
+            Field("--jobs", jobs, Is(range!(min = 1, max = 16))),
             Field("--remote", remote, (wanted, IfSome(Is(Ip(IpKind::V4))))),
-            Field("FILE", files, (Is(Length::between(1, 3)), named)),
+            Field("FILE", files, (Is(length!(min = 1, max = 3)), named)),
         )
             .visit(alloc, trail, report, h)
     }

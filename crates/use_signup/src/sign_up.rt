@@ -1,11 +1,8 @@
 //! A form to sign up with: what is asked of each field, in one expression.
 ghost use Rattle.garde.specs.Fields.{◌and◌, Equals, Some, alphanumeric, chars_between, field, found, length_between, matches_text, optional, own_unless, prefix, range_between, required};
 
-use garde::fields::{
-    Alphanumeric, CharLength, Field, Fields, IfSome, Is, Length, Matches, Prefix, Range, Required,
-    Rule,
-};
-use garde::{I18n, Report, RuleError, Trail, Valid, Validate};
+use garde::fields::{Alphanumeric, Field, Fields, IfSome, Is, Matches, Prefix, Required, Rule};
+use garde::{I18n, Report, RuleError, Trail, Valid, Validate, length, range};
 use std::alloc::{AllocError, Global};
 use std::borrow::CowStr;
 
@@ -78,19 +75,20 @@ impl Validate for SignUp {
             field: "password",
             other: password,
         };
-        let adult = IfSome(Is(Range {
-            min: Some(18),
-            max: Some(120),
-        }));
-        let called = IfSome((Is(Prefix("+")), Is(Length { min: 9, max: 16 })));
+        let adult = IfSome(Is(range!(min = 18, max = 120)));
+        let called = IfSome((Is(Prefix("+")), Is(length!(min = 9, max = 16))));
         (
-            Field("name", name, Is(CharLength::between(1, 40))),
+            Field("name", name, Is(length!(chars, min = 1, max = 40))),
             Field(
                 "username",
                 username,
-                (Is(Alphanumeric), Is(CharLength::between(3, 25))),
+                (Is(Alphanumeric), Is(length!(chars, min = 3, max = 25))),
             ),
-            Field("password", password, Is(CharLength::between(12, 128))),
+            Field(
+                "password",
+                password,
+                Is(length!(chars, min = 12, max = 128)),
+            ),
             Field("password_again", password_again, Is(same)),
             Field("age", age, (Is(Required), adult)),
             Field("phone", phone, called),

@@ -25,7 +25,7 @@ trait Items<'a> {
     /// The one context of the items.
     type Context;
 
-    /// What a visit of the items under a context comes by.
+    /// The visits of the items under a context.
     ghost visits: { Self → Self.Context → Visits };
 
     /// Appends the faults of the items to the report, under the terms of `Validate::validate_into`.

@@ -1,7 +1,7 @@
 //! Checks of a value.
 ghost use Rattle.std.specs.Prelude.{◌≡◌};
 ghost use Rattle.garde_report.specs.Part.{part_of};
-ghost use Rattle.garde.specs.Visits.{Visits, Visited, below, found, taking, ◌and◌};
+ghost use Rattle.garde.specs.Visits.{Visits, Visited, under, found, may_allocate, ◌and◌};
 
 use crate::validate::Validate;
 use garde_i18n::I18n;
@@ -12,12 +12,12 @@ use std::alloc::{AllocError, Global};
 
 /// What is checked of a `T` that stands where the trail leads.
 pub trait Check<'a, T> {
-    /// What a visit of a value by this check comes by.
+    /// The visits of a value by this check.
     ghost visits: { Self → T → Visits };
 
     /// Appends the faults that the check finds to the report.
     ///
-    /// `AllocError` is answered where memory runs out, under the terms of
+    /// `AllocError` is returned where memory runs out, under the terms of
     /// `Validate::validate_into`.
     fn check<H: I18n>(
         &self,
@@ -72,12 +72,12 @@ fn put_found<'a, T, R: Rule<T>, H: I18n>(
     trail.put(report, rule.find(alloc, value, h))
 }
 
-/// The check that a rule holds of the value which may want memory for its answer.
+/// The check that a rule holds of the value which may allocate for its answer.
 #[derive(Clone, Copy, Debug)]
 pub struct IsInMemory<R>(pub R);
 
 impl<'a, T, R: MemoryRule<T>> Check<'a, T> for IsInMemory<R> {
-    ghost visits = { λ is v. taking (found (R.finds is.0 v)) };
+    ghost visits = { λ is v. may_allocate (found (R.finds is.0 v)) };
 
     #[inline(always)]
     fn check<H: I18n>(
@@ -183,10 +183,10 @@ impl<'a, T, A: Check<'a, T>, B: Check<'a, T>, C: Check<'a, T>, D: Check<'a, T>> 
     }
 }
 
-/// Checks a value that stands beneath a component: the component is pushed, the value checked, the
+/// Checks a value that stands under a component: the component is pushed, the value checked, the
 /// component popped.
 ///
-/// `AllocError` is answered where memory runs out, under the terms of `Validate::validate_into`.
+/// `AllocError` is returned where memory runs out, under the terms of `Validate::validate_into`.
 #[inline(always)]
 pub fn check_under<'a, T, C: Check<'a, T>, H: I18n>(
     alloc: Global,
@@ -197,7 +197,7 @@ pub fn check_under<'a, T, C: Check<'a, T>, H: I18n>(
     report: &mut Report,
     h: &H,
 ) -> Result<(), AllocError>
-    ensures { Visited (below (part_of component.entry) (C.visits check.now value.now))
+    ensures { Visited (under (part_of component.entry) (C.visits check.now value.now))
         (H.text h.now) trail.old trail.new report.old report.new result }
 {
     trail.push(component)?;

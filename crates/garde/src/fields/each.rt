@@ -1,6 +1,7 @@
 //! A check of each item.
-ghost use Rattle.garde.specs.Visits.{inside};
+ghost use Rattle.garde.specs.Visits.{each_of_option};
 
+mod loops;
 mod maps;
 mod sequences;
 mod sets;
@@ -19,7 +20,7 @@ pub struct Each<C>(pub C);
 /// What the option holds, under the component without a name; nothing of none.
 #[tactic(auto, unfolding(crate::specs::Visits::optional))]
 impl<'a, T, C: Check<'a, T>> Check<'a, Option<T>> for Each<C> {
-    ghost visits = { λ each v. inside (λ x. C.visits each.0 x) v };
+    ghost visits = { λ each v. each_of_option (λ x. C.visits each.0 x) v };
 
     fn check<H: I18n>(
         &self,

@@ -1,6 +1,6 @@
 //! The fields of a value.
 ghost use Rattle.garde_report.specs.Part.{index_part, key_part};
-ghost use Rattle.garde.specs.Visits.{Visits, Visited, none, below};
+ghost use Rattle.garde.specs.Visits.{Visits, Visited, none, under};
 
 use super::check::{Check, check_under};
 use garde_i18n::I18n;
@@ -10,12 +10,12 @@ use std::alloc::{AllocError, Global};
 /// Fields that are checked in turn, each under its name. It is implemented for one `Field`, for one
 /// `Item`, for one `Transparent`, for tuples of fields and for `()`, which checks nothing.
 pub trait Fields<'a> {
-    /// What a visit of the fields comes by.
+    /// The visits of the fields.
     ghost visits: { Self → Visits };
 
     /// Appends the faults of the fields to the report.
     ///
-    /// `AllocError` is answered where memory runs out, under the terms of
+    /// `AllocError` is returned where memory runs out, under the terms of
     /// `Validate::validate_into`.
     fn visit<H: I18n>(
         &self,
@@ -49,7 +49,7 @@ pub trait Fields<'a> {
 pub struct Field<'a, T, C>(pub &'a str, pub &'a T, pub C);
 
 impl<'a, T, C: Check<'a, T>> Fields<'a> for Field<'a, T, C> {
-    ghost visits = { λ field. below (key_part field.0.now) (C.visits field.2 field.1.now) };
+    ghost visits = { λ field. under (key_part field.0.now) (C.visits field.2 field.1.now) };
 
     #[inline(always)]
     fn visit<H: I18n>(
@@ -76,7 +76,7 @@ impl<'a, T, C: Check<'a, T>> Fields<'a> for Field<'a, T, C> {
 pub struct Item<'a, T, C>(pub usize, pub &'a T, pub C);
 
 impl<'a, T, C: Check<'a, T>> Fields<'a> for Item<'a, T, C> {
-    ghost visits = { λ field. below (index_part field.0) (C.visits field.2 field.1.now) };
+    ghost visits = { λ field. under (index_part field.0) (C.visits field.2 field.1.now) };
 
     #[inline(always)]
     fn visit<H: I18n>(

@@ -159,7 +159,7 @@ fn addresses_from_json(
 }
 
 impl Body {
-    /// The body that a tree spells. `Form` is answered exactly where the tree spells none, whatever
+    /// The body that a tree spells. `Form` is returned exactly where the tree spells none, whatever
     /// memory there is.
     ///
     /// A tree spells a body if it is an object of exactly four members: `username`, a text; `age`,

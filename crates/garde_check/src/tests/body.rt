@@ -66,7 +66,7 @@ static NO_BODIES: [&[u8]; 10] = [
     br#"{"username":"test","age":null,"tags":[1],"addresses":{"a":"::"}}"#,
 ];
 
-// How many of the inputs are refused before the first that is not.
+// How many of the inputs are rejected before the first that is not.
 fn refused(alloc: Global) -> usize {
     for (place, input) in NO_BODIES.iter().enumerate() {
         if !refuses(alloc, Command::Body, input, RunError::BadBody) {

@@ -4,9 +4,9 @@ ghost use Rattle.std.specs.Prelude.{None, Some, false};
 use crate::outcome::RunError;
 use crate::running::run;
 use crate::transfer::{Failed, Plain, Sink, Source};
-use garde_hog::Hog;
 use std::alloc::{AllocError, Global};
 use std::test::Fail;
+use test_memory::Hog;
 
 /// A reader that gives one byte a call, and fails once it has given as many as `whole` says.
 #[derive(Drop)]
@@ -72,7 +72,7 @@ impl Sink for Narrow {
     }
 }
 
-// Whether a run whose reader always has more ends in want of memory, and writes nothing.
+// Whether a run whose reader always has more runs out of memory, and writes nothing.
 fn ends_in_want_of_memory(alloc: Global) -> Result<bool, AllocError> {
     let mut hog = Hog::new(alloc)?;
     let mut writer = Plain::new(Vec::new(alloc));

@@ -2,10 +2,10 @@
 
 use crate::body::Body;
 use garde::json::JsonRefused;
-use garde_hog::Scarce;
 use serde_json::Value;
 use std::alloc::Global;
 use std::test::Fail;
+use test_memory::Scarce;
 
 /// A name that is kept on the heap stands before what is wrong.
 static FORMS: [&str; 8] = [
@@ -23,7 +23,7 @@ static FORMS: [&str; 8] = [
 static BODY: &str =
     r#"{"username":"abcdefghijklmnopqrstuvwxyz","age":18,"tags":["a"],"addresses":{"a":"::"}}"#;
 
-// Whether the tree of a text is refused so, where all memory is taken.
+// Whether the tree of a text is rejected so, where all memory is taken.
 fn is_refused(
     alloc: Global,
     text: &str,
@@ -37,7 +37,7 @@ fn is_refused(
     Ok(answer.err() == Some(want))
 }
 
-// How many of the forms are refused as such before the first that is not.
+// How many of the forms are rejected as such before the first that is not.
 fn forms_refused(alloc: Global) -> Result<usize, Fail> {
     let mut memory = Scarce::taken(alloc)?;
     for (place, text) in FORMS.iter().enumerate() {

@@ -1,4 +1,4 @@
-//! Devices that fail once: the failure is told, and the device is not asked again.
+//! Devices that fail once: the failure is reported, and the device is not asked again.
 
 use super::LINES;
 use super::body::BODY;
@@ -73,7 +73,7 @@ fn input_of(command: Command) -> &'static [u8] {
     }
 }
 
-// What a run answers whose reader and writer fail at these calls, and how often each was called.
+// What a run returns whose reader and writer fail at these calls, and how often each was called.
 fn ran(
     alloc: Global,
     command: Command,

@@ -1,4 +1,4 @@
-//! Runs whose requests for memory are refused in turn. The writer has its room before.
+//! Runs whose allocations fail in turn. The writer has its room before.
 
 use super::body::{BODY, BODY_JSON};
 use super::json::JSON;
@@ -7,9 +7,9 @@ use super::{LINES, REPORT, REPORT_WITH_NODES};
 use crate::mode::Command;
 use crate::outcome::{Outcome, RunError};
 use crate::transfer::Plain;
-use garde_hog::{Calls, Met, Scarce};
 use std::alloc::{AllocError, Global};
 use std::test::Fail;
+use test_memory::{Calls, Met, Scarce};
 
 // What is read where this is asked for, and what is written of it.
 fn texts_of(command: Command) -> (&'static [u8], &'static [u8]) {

@@ -9,7 +9,7 @@ use crate::transfer::{Plain, Sink, Source};
 use crate::words::status;
 use std::alloc::Global;
 
-/// What a run answers, and what it wrote.
+/// What a run returns, and what it wrote.
 pub type Ran = (Result<Outcome, RunError>, Vec<u8>);
 
 /// Runs what the words ask for.
@@ -67,7 +67,7 @@ pub fn ran_in_room(alloc: Global, command: Command, input: &[u8], room: usize) -
     (answer, taken)
 }
 
-/// Whether a run answered this, and wrote this.
+/// Whether a run returned this, and wrote this.
 pub fn is_ran((answer, written): Ran, want: Result<Outcome, RunError>, text: &[u8]) -> bool {
     answer == want && written.as_slice() == text
 }
@@ -78,12 +78,12 @@ pub fn gives(alloc: Global, command: Command, input: &[u8], want: u8, text: &[u8
     status(&answer) == want && written.as_slice() == text
 }
 
-/// Whether a run on an input is refused so, and writes nothing.
+/// Whether a run on an input fails so, and writes nothing.
 pub fn refuses(alloc: Global, command: Command, input: &[u8], error: RunError) -> bool {
     is_ran(ran(alloc, command, input), Err(error), b"")
 }
 
-/// Whether a run whose reader fails after so many bytes tells that, and writes nothing.
+/// Whether a run whose reader fails after so many bytes reports that, and writes nothing.
 pub fn fails_to_read(alloc: Global, command: Command, bytes: &[u8], whole: usize) -> bool {
     is_ran(
         ran_by_bytes(alloc, command, bytes, whole),
@@ -92,8 +92,8 @@ pub fn fails_to_read(alloc: Global, command: Command, bytes: &[u8], whole: usize
     )
 }
 
-// Whether a run that would write this writes as much of it as there is room for, and tells whether
-// that is all.
+// Whether a run that would write this writes as much of it as there is room for, and reports
+// whether that is all.
 fn fills(alloc: Global, command: Command, input: &[u8], text: &[u8], room: usize) -> bool {
     let Some(front) = text.get(..room) else {
         return false;

@@ -121,7 +121,7 @@ pub trait Bytes {
     /// What holding the number of bytes against a lower and an upper bound gives.
     ghost answer: { ℕ → ℕ → Self → Result (Unit {0}) OutOfBounds };
 
-    /// Answers Ok where there are at least `min` and at most `max` bytes, and else which bound the
+    /// Returns Ok where there are at least `min` and at most `max` bytes, and else which bound the
     /// number is beyond. A number that is beyond both, since `min` is above `max`, is below the
     /// lower one. An option without a value is within all bounds.
     fn validate_num_bytes(&self, min: usize, max: usize) -> Result<(), OutOfBounds>
@@ -147,10 +147,10 @@ impl<T: Bytes> Bytes for Option<T> {
     }
 }
 
-/// Answers Ok where there are at least as many bytes as the first of `args` and at most as many as
+/// Returns Ok where there are at least as many bytes as the first of `args` and at most as many as
 /// the second, and else the fault with the handler's text of the bound that the number is beyond.
 ///
-/// `RuleError::Memory` is answered only where the rule does not hold.
+/// `RuleError::Memory` is returned only where the rule does not hold.
 pub fn apply<T: Bytes, H: I18n>(
     alloc: Global,
     v: &T,

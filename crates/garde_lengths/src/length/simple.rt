@@ -30,7 +30,7 @@ pub trait Simple {
     /// What holding the length against a lower and an upper bound gives.
     ghost answer: { ℕ → ℕ → Self → Result (Unit {0}) OutOfBounds };
 
-    /// Answers Ok where the length is at least `min` and at most `max`, and else which bound it is
+    /// Returns Ok where the length is at least `min` and at most `max`, and else which bound it is
     /// beyond. A length that is beyond both, since `min` is above `max`, is below the lower one. An
     /// option without a value is within all bounds.
     fn validate_length(&self, min: usize, max: usize) -> Result<(), OutOfBounds>
@@ -72,10 +72,10 @@ impl<T: Simple> Simple for Option<T> {
     }
 }
 
-/// Answers Ok where the length is at least the first of `args` and at most the second, and else the
+/// Returns Ok where the length is at least the first of `args` and at most the second, and else the
 /// fault with the handler's text of the bound that it is beyond.
 ///
-/// `RuleError::Memory` is answered only where the rule does not hold.
+/// `RuleError::Memory` is returned only where the rule does not hold.
 pub fn apply<T: Simple, H: I18n>(
     alloc: Global,
     v: &T,

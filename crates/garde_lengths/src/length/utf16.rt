@@ -115,7 +115,7 @@ pub trait Utf16CodeUnits {
     /// What holding the number of code units against a lower and an upper bound gives.
     ghost answer: { ℕ → ℕ → Self → Result (Unit {0}) OutOfBounds };
 
-    /// Answers Ok where there are at least `min` and at most `max` code units, and else which bound
+    /// Returns Ok where there are at least `min` and at most `max` code units, and else which bound
     /// the number is beyond. A number that is beyond both, since `min` is above `max`, is below the
     /// lower one. An option without a value is within all bounds.
     fn validate_num_code_units(&self, min: usize, max: usize) -> Result<(), OutOfBounds>
@@ -141,11 +141,11 @@ impl<T: Utf16CodeUnits> Utf16CodeUnits for Option<T> {
     }
 }
 
-/// Answers Ok where there are at least as many code units as the first of `args` and at most as
+/// Returns Ok where there are at least as many code units as the first of `args` and at most as
 /// many as the second, and else the fault with the handler's text of the bound that the number is
 /// beyond.
 ///
-/// `RuleError::Memory` is answered only where the rule does not hold.
+/// `RuleError::Memory` is returned only where the rule does not hold.
 pub fn apply<T: Utf16CodeUnits, H: I18n>(
     alloc: Global,
     v: &T,

@@ -1,12 +1,12 @@
 //! The text of an error.
-ghost use Rattle.std.specs.Prelude.{◌≡◌, IfOk, string_bytes};
-ghost use Rattle.garde_report.specs.Message.{message_bytes};
+ghost use Rattle.std.specs.Prelude.{◌≡◌, ◌≤◌, length, IfOk, IsOk, string_bytes};
+ghost use Rattle.garde_report.specs.Message.{IsInline, message_bytes};
 
 use crate::short::Short;
 use std::alloc::{AllocError, Global};
 use std::fmt;
 
-/// The most bytes of a message that takes no memory of its own.
+/// The most bytes of a message that allocates nothing.
 const SHORT: usize = 30;
 
 /// A message. One of up to 30 bytes lies in the value itself.
@@ -19,7 +19,9 @@ pub(super) enum Message {
 impl Message {
     /// A copy of a text.
     pub(super) fn copy_of(alloc: Global, text: &str) -> Result<Message, AllocError>
-        ensures { IfOk result (λ message. message_bytes message ≡ text.now) }
+        ensures text { IfOk result (λ message. message_bytes message ≡ text.now) }
+        ensures inline { IfOk result (λ message. length text.now ≤ 30 → IsInline message) }
+        ensures short { length text.now ≤ 30 → IsOk result }
     {
         match Short::of(text) {
             Some(short) => Ok(Message::Short(short)),
@@ -29,7 +31,8 @@ impl Message {
 
     /// A text that is handed over.
     pub(super) fn of(text: String) -> Message
-        ensures { message_bytes result ≡ string_bytes text }
+        ensures text { message_bytes result ≡ string_bytes text }
+        ensures inline { length (string_bytes text) ≤ 30 → IsInline result }
     {
         match Short::of(text.as_str()) {
             Some(short) => Message::Short(short),
@@ -48,7 +51,9 @@ impl Message {
 
     /// The same message once more.
     pub(super) fn copy(&self) -> Result<Message, AllocError>
-        ensures { IfOk result (λ copy. message_bytes copy ≡ message_bytes self.now) }
+        ensures text { IfOk result (λ copy. message_bytes copy ≡ message_bytes self.now) }
+        ensures inline { IfOk result (λ copy. IsInline self.now → IsInline copy) }
+        ensures short { IsInline self.now → IsOk result }
     {
         match self {
             Message::Short(short) => Ok(Message::Short(short.copy())),

@@ -1,8 +1,8 @@
 //! A component as a path keeps it.
-ghost use Rattle.std.specs.Prelude.{◌≡◌, Some, IfOk, refl};
+ghost use Rattle.std.specs.Prelude.{◌≡◌, ◌≤◌, Some, length, IfOk, IsOk, refl};
 ghost use Rattle.std.specs.Cmp.{partial_equiv_from_equiv, partial_order_from_agreeing_total};
 ghost use Rattle.garde_report.specs.Part.{part, part_of};
-ghost use Rattle.garde_report.specs.Stored.{stored_part};
+ghost use Rattle.garde_report.specs.Stored.{IsKeptInline, stored_part};
 ghost use Rattle.garde_report.specs.PartOrder.{part_cmp, part_eq, part_writes};
 ghost use Rattle.garde_report.specs.PartOrder.{part_eq-equiv, part_cmp-total, part_cmp-ties};
 ghost use Rattle.garde_report.specs.PartOrder.{part_writes-alike};
@@ -18,7 +18,7 @@ use std::marker::Model;
 /// The most bytes of a text that lies in the component itself.
 const SHORT: usize = 22;
 
-/// A component with a text of its own. Of up to 22 bytes it takes no memory.
+/// A component with a text of its own. With up to 22 bytes it allocates nothing.
 #[derive(Drop)]
 pub(super) struct OwnedComponent {
     stored: Stored,
@@ -44,7 +44,8 @@ impl Model for OwnedComponent {
 
 impl OwnedComponent {
     pub(super) fn new(alloc: Global, component: Component<'_>) -> Result<OwnedComponent, AllocError>
-        ensures { IfOk result (λ owned. owned ≡ part_of component.entry) }
+        ensures part { IfOk result (λ owned. owned ≡ part_of component.entry) }
+        ensures inline { IsKeptInline component.entry → IsOk result }
     {
         let stored = match component {
             Component::Text(kind, text) => store(alloc, kind, text)?,
@@ -80,7 +81,8 @@ impl OwnedComponent {
 
 // A copy of a text, with its kind.
 fn store(alloc: Global, kind: Kind, text: &str) -> Result<Stored, AllocError>
-    ensures { IfOk result (λ stored. stored_part stored ≡ part kind text.now) }
+    ensures part { IfOk result (λ stored. stored_part stored ≡ part kind text.now) }
+    ensures inline { length text.now ≤ 22 → IsOk result }
 {
     let Some(short) = Short::of(text) else {
         let text = String::from_str(alloc, text)?;

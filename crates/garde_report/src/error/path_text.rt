@@ -23,8 +23,8 @@ pub(super) fn write_path<W: fmt::Write>(
     write_from(&components.front(), 1, f)
 }
 
-// Writes the components from `from` on, each as below another one. It goes down by halves, so
-// that a long path needs little of the stack, and takes no memory.
+// Writes the components from `from` on, each as under another one. It goes down by halves, so that
+// a long path needs little of the stack, and it allocates nothing.
 fn write_from<W: fmt::Write>(
     components: &Front<'_, OwnedComponent>,
     from: usize,
@@ -48,7 +48,7 @@ fn write_from<W: fmt::Write>(
     write_from(components, middle, f)
 }
 
-// What a component prints below another one.
+// What a component prints under another one.
 fn write_below<W: fmt::Write>(component: &OwnedComponent, f: &mut fmt::Formatter<W>) -> fmt::Result
     ensures { WritesOnOk W.write_str_gives f.old result (part_text component.now) f.new }
 {

@@ -1,5 +1,5 @@
 //! Components and paths as JSON trees.
-ghost use Rattle.std.specs.Prelude.{◌≡◌, ◌≢◌, List, IfOk, Err, MatchOption};
+ghost use Rattle.std.specs.Prelude.{◌≡◌, ◌≢◌, List, true, false, IfOk, Err, MatchOption};
 ghost use Rattle.serde_json.specs.View.{view};
 ghost use Rattle.garde_report.specs.Json.{kind_text, part_json, path_json};
 ghost use Rattle.garde_report.specs.Part.{Part, part, part_of};
@@ -64,8 +64,39 @@ pub fn path_to_json(alloc: Global, path: &Path) -> Result<Value, AllocError>
     Ok(Value::Array(items))
 }
 
-/// The path whose written form a tree is. `Form` is answered only where no path has that form.
+/// Whether a tree is the written form of a path. No memory is asked for.
+pub(super) fn is_path(tree: &Value) -> bool
+    ensures written { result ≡ true → (path : List Part) × (view tree.now ≡ path_json path) }
+    ensures other { result ≡ false → (path : List Part) → view tree.now ≢ path_json path }
+{
+    let Some(items) = tree.as_array() else {
+        return false;
+    };
+    for item in items {
+        let Some(_component) = component_from_json(item) else {
+            return false;
+        };
+    }
+    true
+}
+
+/// The path whose written form a tree is. `Form` is returned exactly where no path has that form,
+/// whatever memory there is.
 pub fn path_from_json(alloc: Global, tree: &Value) -> Result<Path, JsonRefused>
+    ensures ok { IfOk result (λ path. path_json path ≡ view tree.now) }
+    ensures form { result ≡ Err JsonRefused.Form
+        → (path : List Part) → view tree.now ≢ path_json path }
+    ensures refused { ((path : List Part) → view tree.now ≢ path_json path)
+        → result ≡ Err JsonRefused.Form }
+{
+    if !is_path(tree) {
+        return Err(JsonRefused::Form);
+    }
+    read_path(alloc, tree)
+}
+
+// The path whose written form a tree is.
+pub(super) fn read_path(alloc: Global, tree: &Value) -> Result<Path, JsonRefused>
     ensures ok { IfOk result (λ path. path_json path ≡ view tree.now) }
     ensures form { result ≡ Err JsonRefused.Form
         → (path : List Part) → view tree.now ≢ path_json path }

@@ -1,5 +1,5 @@
 //! Errors, faults and reports as JSON trees.
-ghost use Rattle.std.specs.Prelude.{◌≡◌, ◌≢◌, ℕ, List, IfOk, Err};
+ghost use Rattle.std.specs.Prelude.{◌≡◌, ◌≢◌, ℕ, List, true, false, IfOk, Err};
 ghost use Rattle.serde_json.specs.View.{view};
 ghost use Rattle.garde_report.specs.Json.{error_json, entry_json, report_json};
 ghost use Rattle.garde_report.specs.Report.{Entry};
@@ -7,7 +7,7 @@ ghost use Rattle.garde_report.specs.declared.json.JsonRefused.{JsonRefused};
 
 use super::JsonRefused;
 use super::form::{pair, sole_member};
-use super::path::{path_from_json, path_to_json};
+use super::path::{is_path, path_to_json, read_path};
 use crate::error::{Error, Path, Report};
 use serde_json::{Value, json};
 use std::alloc::{AllocError, Global};
@@ -17,6 +17,20 @@ fn error_to_json(alloc: Global, error: &Error) -> Result<Value, AllocError>
 {
     let message = error.message();
     json!(in alloc; {"message": message})
+}
+
+// Whether a tree is the written form of an error.
+fn is_error(tree: &Value) -> bool
+    ensures written { result ≡ true → (error : List ℕ) × (view tree.now ≡ error_json error) }
+    ensures other { result ≡ false → (error : List ℕ) → view tree.now ≢ error_json error }
+{
+    let Some(message) = sole_member(tree, "message") else {
+        return false;
+    };
+    let Some(_message) = message.as_str() else {
+        return false;
+    };
+    true
 }
 
 fn error_from_json(alloc: Global, tree: &Value) -> Result<Error, JsonRefused>
@@ -41,6 +55,17 @@ fn entry_to_json(alloc: Global, path: &Path, error: &Error) -> Result<Value, All
     json!(in alloc; [path, error])
 }
 
+// Whether a tree is the written form of a fault.
+fn is_entry(tree: &Value) -> bool
+    ensures written { result ≡ true → (entry : Entry) × (view tree.now ≡ entry_json entry) }
+    ensures other { result ≡ false → (entry : Entry) → view tree.now ≢ entry_json entry }
+{
+    let Some((path, error)) = pair(tree) else {
+        return false;
+    };
+    is_path(path) && is_error(error)
+}
+
 fn entry_from_json(alloc: Global, tree: &Value) -> Result<(Path, Error), JsonRefused>
     ensures ok { IfOk result (λ entry. view tree.now ≡ entry_json entry) }
     ensures form { result ≡ Err JsonRefused.Form
@@ -49,7 +74,7 @@ fn entry_from_json(alloc: Global, tree: &Value) -> Result<(Path, Error), JsonRef
     let Some((path, error)) = pair(tree) else {
         return Err(JsonRefused::Form);
     };
-    let path = path_from_json(alloc, path)?;
+    let path = read_path(alloc, path)?;
     let error = error_from_json(alloc, error)?;
     Ok((path, error))
 }
@@ -66,8 +91,42 @@ pub fn report_to_json(alloc: Global, report: &Report) -> Result<Value, AllocErro
     json!(in alloc; {"errors": errors})
 }
 
-/// The report whose written form a tree is. `Form` is answered only where no report has that form.
+// Whether a tree is the written form of a report.
+fn is_report(tree: &Value) -> bool
+    ensures written { result ≡ true → (report : List Entry) × (view tree.now ≡ report_json report) }
+    ensures other { result ≡ false → (report : List Entry) → view tree.now ≢ report_json report }
+{
+    let Some(errors) = sole_member(tree, "errors") else {
+        return false;
+    };
+    let Some(entries) = errors.as_array() else {
+        return false;
+    };
+    for entry in entries {
+        if !is_entry(entry) {
+            return false;
+        }
+    }
+    true
+}
+
+/// The report whose written form a tree is. `Form` is returned exactly where no report has that
+/// form, whatever memory there is.
 pub fn report_from_json(alloc: Global, tree: &Value) -> Result<Report, JsonRefused>
+    ensures ok { IfOk result (λ report. report_json report ≡ view tree.now) }
+    ensures form { result ≡ Err JsonRefused.Form
+        → (report : List Entry) → view tree.now ≢ report_json report }
+    ensures refused { ((report : List Entry) → view tree.now ≢ report_json report)
+        → result ≡ Err JsonRefused.Form }
+{
+    if !is_report(tree) {
+        return Err(JsonRefused::Form);
+    }
+    read_report(alloc, tree)
+}
+
+// The report whose written form a tree is.
+fn read_report(alloc: Global, tree: &Value) -> Result<Report, JsonRefused>
     ensures ok { IfOk result (λ report. report_json report ≡ view tree.now) }
     ensures form { result ≡ Err JsonRefused.Form
         → (report : List Entry) → view tree.now ≢ report_json report }

@@ -83,7 +83,7 @@ impl<T: Drop> Chain<T> {
     }
 }
 
-/// The clone shares all nodes. It is refused only where a shared node cannot be counted once more.
+/// The clone shares all nodes. It fails only where a shared node cannot be counted once more.
 impl<T: Drop> Clone for Chain<T> {
     ghost is_clone = { λ chain copy. copy ≡ chain };
 

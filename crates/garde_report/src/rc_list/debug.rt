@@ -14,7 +14,7 @@ impl<T: fmt::Debug> fmt::Debug for List<T> {
 }
 
 // Shows the items from `from` on. It goes down by halves, so that a long list needs little of the
-// stack, and takes no memory.
+// stack, and it allocates nothing.
 fn show_from<T: fmt::Debug, W: fmt::Write>(
     list: &Front<'_, T>,
     from: usize,

@@ -4,7 +4,7 @@ ghost use Rattle.garde.specs.Visits.{entries, entries_in_any_order};
 
 use super::Each;
 use crate::fields::check::Check;
-use crate::fields::source::check_entries;
+use crate::fields::each::loops::check_entries;
 use garde_i18n::I18n;
 use garde_report::{PathComponentKind, Report, Trail};
 use std::alloc::{AllocError, Global};

@@ -4,7 +4,7 @@ ghost use Rattle.garde.specs.Visits.{items, items_in_any_order};
 
 use super::Each;
 use crate::fields::check::Check;
-use crate::fields::source::check_items;
+use crate::fields::each::loops::check_items;
 use garde_i18n::I18n;
 use garde_report::{Report, Trail};
 use std::alloc::{AllocError, Global};

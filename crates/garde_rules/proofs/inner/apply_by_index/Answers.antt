@@ -1,12 +1,12 @@
 use Rattle.std.proofs.Common.{◌≡◌, ◌+◌, ◌∷◌, Some, Ok, Err, refl, sym, ap, ◌∙◌, subst, arith}
 use Rattle.std.proofs.lemmas.Result.{err_from_is_err_and}
 use Rattle.garde_rules.specs.Inner.{Called, CalledAtEach}
-use Rattle.garde_rules.proofs.Calls.{left_step, is_there, called_refused, called_more, contains_placed}
+use Rattle.garde_rules.proofs.Calls.{left_step, is_there, called_refused, called_more, contains_component_items}
 use Rattle.garde_rules.proofs.inner.apply_by_index.Goals.{in-Some+in_ok-call, in_default}
 use Rattle.garde_rules.proofs.inner.apply_by_index.Goals as goal
 
 pub call-requires : goal.call-requires
-call-requires g c k = ((refl, tt), λ t r. c.requires _ _ t r (contains_placed (g.C.Inner.place c.args.field.now) (g.C.Inner.contents c.args.field.now) c.loop-index.index _ _ c.in-Some.ensures c.component.ensures))
+call-requires g c k = ((refl, tt), λ t r. c.requires _ _ t r (contains_component_items (g.C.Inner.place c.args.field.now) (g.C.Inner.contents c.args.field.now) c.loop-index.index _ _ c.in-Some.ensures c.component.ensures))
 
 pub returns-in_err-call : goal.returns-in_err-call
 returns-in_err-call g c =

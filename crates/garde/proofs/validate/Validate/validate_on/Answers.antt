@@ -1,5 +1,5 @@
 use Rattle.std.proofs.Common.{Ok, Err, sym, ◌∙◌}
-use Rattle.garde.specs.declared.refusal.ValidateError.TheVariants.{Report}
+use Rattle.garde.specs.declared.validate_error.ValidateError.TheVariants.{Report}
 use Rattle.garde.proofs.Answering.{answers_valid, answers_faults, headline, surely, empty_report, filled_report}
 use Rattle.garde.proofs.Known.{known_of}
 use Rattle.garde.proofs.validate.Validate.validate_on.Goals as goal

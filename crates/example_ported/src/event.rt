@@ -1,0 +1,83 @@
+//! An enum, each variant with rules of its own.
+ghost use Rattle.garde.specs.Fields.{◌and◌, ascii, field, item, length_max, length_min, minus, none, pos, range_max, signed_between, Visits};
+ghost use Rattle.example_ported.specs.declared.event.Event.TheVariants.{Move, Say, Wait, Pair, Stop, Mark};
+
+use garde::fields::{Ascii, Field, Fields, Is, Item};
+use garde::{I18n, Report, Trail, Validate, length, range};
+use std::alloc::{AllocError, Global};
+
+/// What happens.
+#[derive(Drop)]
+pub enum Event {
+    /// A number under its name.
+    Move {
+        steps: i32,
+    },
+    /// A text and its sender, of whom nothing is asked.
+    Say {
+        text: String,
+        sender: u64,
+        report: String,
+    },
+    /// A number under its index.
+    Wait(u8),
+    /// Two texts, each under its index.
+    Pair(String, String),
+    /// Nothing is asked.
+    Stop,
+    /// Nothing is asked of it either.
+    Mark(u8),
+}
+
+impl Validate for Event {
+    type Context = ();
+
+    ghost visits = { λ v _. elim v as (λ _. Visits) [
+      | Move steps ↦ field "steps" (signed_between (minus 10) (pos 10) steps)
+      | Say text _ the_report ↦ field "text" (ascii text and length_min 1 text) and field "report" (length_max 3 the_report)
+      | Wait value ↦ item 0 (range_max 60 value)
+      | Pair first second ↦ item 0 (ascii first) and item 1 (length_min 2 second)
+      | Stop ↦ none
+      | Mark _ ↦ none
+    ] };
+
+    fn validate_into<'a, H: I18n>(
+        &'a self,
+        alloc: Global,
+        _ctx: &(),
+        trail: &mut Trail<'a>,
+        report: &mut Report,
+        h: &H,
+    ) -> Result<(), AllocError> {
+        match self {
+            Event::Move { steps } => {
+                Field("steps", steps, Is(range!(min = -10, max = 10))).visit(
+                    alloc, trail, report, h,
+                )
+            }
+            Event::Say {
+                text,
+                sender: _,
+                report: the_report,
+            } => {
+                (
+                    Field("text", text, (Is(Ascii), Is(length!(min = 1)))),
+                    Field("report", the_report, Is(length!(max = 3))),
+                )
+                    .visit(alloc, trail, report, h)
+            }
+            Event::Wait(value) => {
+                Item(0, value, Is(range!(max = 60))).visit(alloc, trail, report, h)
+            }
+            Event::Pair(first, second) => {
+                (
+                    Item(0, first, Is(Ascii)),
+                    Item(1, second, Is(length!(min = 2))),
+                )
+                    .visit(alloc, trail, report, h)
+            }
+            Event::Stop => ().visit(alloc, trail, report, h),
+            Event::Mark(_) => ().visit(alloc, trail, report, h),
+        }
+    }
+}

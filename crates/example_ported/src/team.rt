@@ -1,0 +1,164 @@
+//! Parts that validate themselves, under a context and parts of it.
+ghost use Rattle.garde.specs.Fields.{◌and◌, ascii, chars_between, each, each_of_option, field, items_between, optional, u8_min};
+
+use garde::fields::{Ascii, Dive, Each, Field, Fields, IfSome, Is};
+use garde::{I18n, Report, Trail, Validate, length, range};
+use std::alloc::{AllocError, Global};
+
+/// What is asked of a member.
+#[derive(Clone, Copy)]
+pub struct Terms {
+    /// The least age in years.
+    pub age: u8,
+    pub title: usize,
+}
+
+/// What a league asks of its teams.
+#[derive(Clone, Copy)]
+pub struct League {
+    pub members: Terms,
+    pub most: usize,
+}
+
+/// Someone of a team.
+#[derive(Drop)]
+pub struct Member {
+    pub age: u8,
+    pub title: String,
+}
+
+impl Validate for Member {
+    type Context = Terms;
+
+    ghost visits = { λ v terms.
+        field "years" (u8_min terms.age v.age)
+        and field "title" (chars_between 1 terms.title v.title) };
+
+    fn validate_into<'a, H: I18n>(
+        &'a self,
+        alloc: Global,
+        terms: &Terms,
+        trail: &mut Trail<'a>,
+        report: &mut Report,
+        h: &H,
+    ) -> Result<(), AllocError> {
+        let Self { age, title } = self;
+        (
+            Field("years", age, Is(range!(min = terms.age))),
+            Field(
+                "title",
+                title,
+                Is(length!(chars, min = 1, max = terms.title)),
+            ),
+        )
+            .visit(alloc, trail, report, h)
+    }
+}
+
+/// A team.
+#[derive(Drop)]
+pub struct Team {
+    pub members: Vec<Member>,
+    pub captain: Box<Member>,
+    pub coach: Option<Member>,
+    pub ground: Ground,
+    pub reserve: Option<Member>,
+}
+
+impl Validate for Team {
+    type Context = League;
+
+    ghost visits = { λ v league.
+        field "members" (items_between 1 league.most v.members and each (λ x. ⟦<Member as Validate>⟧.visits x league.members) v.members)
+        and field "captain" (⟦<Member as Validate>⟧.visits v.captain.value league.members)
+        and field "coach" (optional (λ x. ⟦<Member as Validate>⟧.visits x league.members) v.coach)
+        and field "home" (⟦<Ground as Validate>⟧.visits v.ground tt)
+        and field "reserve" (each_of_option (λ x. ⟦<Member as Validate>⟧.visits x league.members) v.reserve) };
+
+    fn validate_into<'a, H: I18n>(
+        &'a self,
+        alloc: Global,
+        league: &League,
+        trail: &mut Trail<'a>,
+        report: &mut Report,
+        h: &H,
+    ) -> Result<(), AllocError> {
+        let Self {
+            members,
+            captain,
+            coach,
+            ground,
+            reserve,
+        } = self;
+        (
+            Field(
+                "members",
+                members,
+                (
+                    Is(length!(min = 1, max = league.most)),
+                    Each(Dive(&league.members)),
+                ),
+            ),
+            Field("captain", captain, Dive(&league.members)),
+            Field("coach", coach, IfSome(Dive(&league.members))),
+            Field("home", ground, Dive(&())),
+            Field("reserve", reserve, Each(Dive(&league.members))),
+        )
+            .visit(alloc, trail, report, h)
+    }
+}
+
+/// Where a team plays.
+#[derive(Drop)]
+pub struct Ground {
+    pub town: String,
+}
+
+impl Validate for Ground {
+    type Context = ();
+
+    ghost visits = { λ v _. field "town" (ascii v.town) };
+
+    fn validate_into<'a, H: I18n>(
+        &'a self,
+        alloc: Global,
+        _ctx: &(),
+        trail: &mut Trail<'a>,
+        report: &mut Report,
+        h: &H,
+    ) -> Result<(), AllocError> {
+        let Self { town } = self;
+        Field("town", town, Is(Ascii)).visit(alloc, trail, report, h)
+    }
+}
+
+/// Teams that meet.
+#[derive(Drop)]
+pub struct Cup {
+    pub teams: Vec<Team>,
+    pub winner: Option<Team>,
+}
+
+impl Validate for Cup {
+    type Context = League;
+
+    ghost visits = { λ v ctx.
+        field "teams" (each (λ x. ⟦<Team as Validate>⟧.visits x ctx) v.teams)
+        and field "winner" (optional (λ x. ⟦<Team as Validate>⟧.visits x ctx) v.winner) };
+
+    fn validate_into<'a, H: I18n>(
+        &'a self,
+        alloc: Global,
+        ctx: &League,
+        trail: &mut Trail<'a>,
+        report: &mut Report,
+        h: &H,
+    ) -> Result<(), AllocError> {
+        let Self { teams, winner } = self;
+        (
+            Field("teams", teams, Each(Dive(ctx))),
+            Field("winner", winner, IfSome(Dive(ctx))),
+        )
+            .visit(alloc, trail, report, h)
+    }
+}

@@ -1,0 +1,65 @@
+//! Comments, which hold their replies in a vector.
+ghost use Rattle.std.proofs.Common.{arith};
+ghost use Rattle.garde.proofs.Author.{smaller_in};
+ghost use Rattle.garde.specs.Fields.{chars_between, field, in_vec, nest_visits};
+ghost use Rattle.example_types.specs.declared.recursive.comment.Comment.{out-Comment, size-Comment, size_is-Comment};
+
+use garde::fields::{Field, Fields, Is};
+use garde::recursive::{Recursive, walk};
+use garde::{I18n, Report, Trail, Validate, length};
+use std::alloc::{AllocError, Global};
+
+/// A comment and the replies to it, each with a text of 1 to 280 characters.
+#[derive(Debug, Drop)]
+pub struct Comment {
+    pub text: String,
+    pub replies: Vec<Comment>,
+}
+
+impl Recursive for Comment {
+    type Context = ();
+
+    type Children = Vec<Comment>;
+
+    ghost nest = { record {
+      own = λ v _. field "text" (chars_between 1 280 (out-Comment v).text);
+      name = "replies";
+      children = λ v. in_vec (out-Comment v).replies;
+      size = size-Comment;
+      smaller = λ v k x has. omega (arith, size_is-Comment v, smaller_in size-Comment _ _ has);
+    } };
+
+    fn children(&self) -> (&'static str, &Vec<Comment>) {
+        ("replies", &self.replies)
+    }
+
+    fn visit_own<'a, H: I18n>(
+        &'a self,
+        alloc: Global,
+        _ctx: &(),
+        trail: &mut Trail<'a>,
+        report: &mut Report,
+        h: &H,
+    ) -> Result<(), AllocError> {
+        let Self { text, replies: _ } = self;
+        let asked = Is(length!(chars, min = 1, max = 280));
+        Field("text", text, asked).visit(alloc, trail, report, h)
+    }
+}
+
+impl Validate for Comment {
+    type Context = ();
+
+    ghost visits = { nest_visits ⟦<Comment as Recursive>⟧.nest };
+
+    fn validate_into<'a, H: I18n>(
+        &'a self,
+        alloc: Global,
+        ctx: &(),
+        trail: &mut Trail<'a>,
+        report: &mut Report,
+        h: &H,
+    ) -> Result<(), AllocError> {
+        walk(alloc, self, ctx, trail, report, h)
+    }
+}

@@ -1,0 +1,77 @@
+//! Expressions, which hold their parts in boxes.
+ghost use Rattle.garde.specs.Author.{Visited, item};
+ghost use Rattle.example_types.specs.ExprVisits.{expr_visits};
+
+use garde::fields::{Field, Fields, Is};
+use garde::{Component, I18n, Report, Trail, Validate, range};
+use std::alloc::{AllocError, Global};
+
+/// An expression whose numbers are at least -10 and at most 10.
+#[derive(Debug, Drop)]
+pub enum Expr {
+    /// A number.
+    Num(i64),
+    /// What is taken with the other sign.
+    Neg(Box<Expr>),
+    /// A sum.
+    Add(Box<Expr>, Box<Expr>),
+}
+
+impl Validate for Expr {
+    type Context = ();
+
+    ghost visits = { λ v _. expr_visits v };
+
+    fn validate_into<'a, H: I18n>(
+        &'a self,
+        alloc: Global,
+        _ctx: &(),
+        trail: &mut Trail<'a>,
+        report: &mut Report,
+        h: &H,
+    ) -> Result<(), AllocError> {
+        walk(alloc, self, trail, report, h)
+    }
+}
+
+#[cycle(walk)]
+fn walk<'a, H: I18n>(
+    alloc: Global,
+    expr: &'a Expr,
+    trail: &mut Trail<'a>,
+    report: &mut Report,
+    h: &H,
+) -> Result<(), AllocError>
+    ensures { Visited (expr_visits expr.now) (H.text h.now)
+        trail.old trail.new report.old report.new result }
+{
+    match expr {
+        Expr::Num(num) => {
+            let within = Is(range!(min = -10, max = 10));
+            Field("num", num, within).visit(alloc, trail, report, h)
+        }
+        Expr::Neg(part) => walk_at(alloc, 0, part, trail, report, h),
+        Expr::Add(left, right) => {
+            walk_at(alloc, 0, left, trail, report, h)?;
+            walk_at(alloc, 1, right, trail, report, h)
+        }
+    }
+}
+
+#[cycle(walk)]
+fn walk_at<'a, H: I18n>(
+    alloc: Global,
+    index: usize,
+    expr: &'a Expr,
+    trail: &mut Trail<'a>,
+    report: &mut Report,
+    h: &H,
+) -> Result<(), AllocError>
+    ensures { Visited (item index (expr_visits expr.now)) (H.text h.now)
+        trail.old trail.new report.old report.new result }
+{
+    trail.push(Component::index(index))?;
+    let outcome = walk(alloc, expr, trail, report, h);
+    trail.pop();
+    outcome
+}

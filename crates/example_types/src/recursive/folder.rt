@@ -1,0 +1,64 @@
+//! Folders, which hold folders in a vector.
+ghost use Rattle.std.proofs.Common.{arith};
+ghost use Rattle.garde.proofs.Author.{smaller_in};
+ghost use Rattle.garde.specs.Fields.{field, in_vec, length_between, nest_visits};
+ghost use Rattle.example_types.specs.declared.recursive.folder.Folder.{out-Folder, size-Folder, size_is-Folder};
+
+use garde::fields::{Field, Fields, Is};
+use garde::recursive::{Recursive, walk};
+use garde::{I18n, Report, Trail, Validate, length};
+use std::alloc::{AllocError, Global};
+
+/// A folder and the folders in it, each with a name of 1 to 9 bytes.
+#[derive(Debug, Drop)]
+pub struct Folder {
+    pub name: String,
+    pub folders: Vec<Folder>,
+}
+
+impl Recursive for Folder {
+    type Context = ();
+
+    type Children = Vec<Folder>;
+
+    ghost nest = { record {
+      own = λ v _. field "name" (length_between 1 9 (out-Folder v).name);
+      name = "folders";
+      children = λ v. in_vec (out-Folder v).folders;
+      size = size-Folder;
+      smaller = λ v k x has. omega (arith, size_is-Folder v, smaller_in size-Folder _ _ has);
+    } };
+
+    fn children(&self) -> (&'static str, &Vec<Folder>) {
+        ("folders", &self.folders)
+    }
+
+    fn visit_own<'a, H: I18n>(
+        &'a self,
+        alloc: Global,
+        _ctx: &(),
+        trail: &mut Trail<'a>,
+        report: &mut Report,
+        h: &H,
+    ) -> Result<(), AllocError> {
+        let Self { name, folders: _ } = self;
+        Field("name", name, Is(length!(min = 1, max = 9))).visit(alloc, trail, report, h)
+    }
+}
+
+impl Validate for Folder {
+    type Context = ();
+
+    ghost visits = { nest_visits ⟦<Folder as Recursive>⟧.nest };
+
+    fn validate_into<'a, H: I18n>(
+        &'a self,
+        alloc: Global,
+        ctx: &(),
+        trail: &mut Trail<'a>,
+        report: &mut Report,
+        h: &H,
+    ) -> Result<(), AllocError> {
+        walk(alloc, self, ctx, trail, report, h)
+    }
+}

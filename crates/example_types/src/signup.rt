@@ -1,0 +1,91 @@
+//! Fields that depend on one another, conditions, user-defined rules and your own messages.
+ghost use Rattle.garde.specs.Fields.{◌and◌, Equals, not, either, field, length_between, chars_min, suffix, required, range_between, optional, when, matches_text, asks, with_message, message_unless, is_ipv4, is_ipv6, is_ipv4_text, is_ipv6_text};
+ghost use Rattle.garde.specs.Finds as rules;
+
+use garde::fields::{
+    Field, Fields, IfSome, Is, Matches, Required, Rule, Suffix, When, WithMessage,
+};
+use garde::rules::ip::{is_ipv4, is_ipv6};
+use garde::{I18n, Report, RuleError, Trail, Validate, length, range};
+use std::alloc::{AllocError, Global};
+use std::borrow::CowStr;
+
+/// The rule that the terms are accepted.
+#[derive(Clone, Copy, Debug)]
+pub struct Accepted;
+
+impl Rule<bool> for Accepted {
+    ghost finds = { λ _ accepted. message_unless "accept the terms" accepted };
+
+    fn find<H: I18n>(&self, alloc: Global, value: &bool, _h: &H) -> Result<(), RuleError> {
+        if *value {
+            Ok(())
+        } else {
+            Err(RuleError::of(alloc, Ok(CowStr::Borrowed("accept the terms"))))
+        }
+    }
+}
+
+/// Who signs up.
+#[derive(Debug, Drop)]
+pub struct Signup {
+    pub name: String,
+    pub password: String,
+    pub again: String,
+    pub age: Option<u8>,
+    pub host: String,
+    pub terms: bool,
+}
+
+/// Whether a host is an address.
+fn is_address(host: &str) -> bool
+    ensures { Equals result (either (is_ipv4_text host.now) (is_ipv6_text host.now)) }
+{
+    is_ipv4(host) || is_ipv6(host)
+}
+
+impl Validate for Signup {
+    type Context = ();
+
+    ghost visits = { λ v _.
+        field "name" (with_message "choose a longer name" (rules.length_between 3 25 v.name))
+        and field "password" (chars_min 12 v.password)
+        and field "again" (matches_text "password" v.again v.password)
+        and field "age" (required v.age and optional (λ age. range_between 18 120 age) v.age)
+        and field "host" (when (not (either (is_ipv4 v.host) (is_ipv6 v.host))) (suffix ".org" v.host))
+        and field "terms" (asks "accept the terms" v.terms) };
+
+    fn validate_into<'a, H: I18n>(
+        &'a self,
+        alloc: Global,
+        _ctx: &(),
+        trail: &mut Trail<'a>,
+        report: &mut Report,
+        h: &H,
+    ) -> Result<(), AllocError> {
+        let Self {
+            name,
+            password,
+            again,
+            age,
+            host,
+            terms,
+        } = self;
+        let long = WithMessage(length!(min = 3, max = 25), "choose a longer name");
+        let same = Matches {
+            field: "password",
+            other: password,
+        };
+        let adult = IfSome(Is(range!(min = 18, max = 120)));
+        let named = !is_address(host.as_str());
+        (
+            Field("name", name, Is(long)),
+            Field("password", password, Is(length!(chars, min = 12))),
+            Field("again", again, Is(same)),
+            Field("age", age, (Is(Required), adult)),
+            Field("host", host, When(named, Is(Suffix(".org")))),
+            Field("terms", terms, Is(Accepted)),
+        )
+            .visit(alloc, trail, report, h)
+    }
+}

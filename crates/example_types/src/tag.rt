@@ -1,0 +1,37 @@
+//! A value that borrows its texts.
+ghost use Rattle.garde.specs.Author.{codes, length, ◌and◌, field, ascii, length_in, items};
+
+use garde::fields::{Ascii, Each, Field, Fields, Is};
+use garde::{I18n, Report, Trail, Validate, length};
+use std::alloc::{AllocError, Global};
+
+/// A name, and other names for the same.
+#[derive(Clone, Copy, Debug)]
+pub struct Tag<'t> {
+    pub name: &'t str,
+    pub also: &'t [&'t str],
+}
+
+impl<'t> Validate for Tag<'t> {
+    type Context = ();
+
+    ghost visits = { λ v _.
+        field (codes "name") (ascii v.name.now and length_in 1 9 (length v.name.now))
+        and field (codes "also") (items (λ name. ascii name.now) v.also.now) };
+
+    fn validate_into<'a, H: I18n>(
+        &'a self,
+        alloc: Global,
+        _ctx: &(),
+        trail: &mut Trail<'a>,
+        report: &mut Report,
+        h: &H,
+    ) -> Result<(), AllocError> {
+        let Self { name, also } = self;
+        (
+            Field("name", name, (Is(Ascii), Is(length!(min = 1, max = 9)))),
+            Field("also", also, Each(Is(Ascii))),
+        )
+            .visit_of(self, alloc, trail, report, h)
+    }
+}

@@ -1,0 +1,75 @@
+//! New types round a text, and a value that holds one of them.
+ghost use Rattle.garde.specs.Fields.{field, item, length_min};
+
+use garde::fields::{Check, Dive, Field, Fields, Is, check_under};
+use garde::{Component, I18n, Report, Trail, Validate, length};
+use std::alloc::{AllocError, Global};
+
+/// A name that is transparent: its faults stand where the name stands.
+#[derive(Debug, Drop)]
+pub struct Username(pub String);
+
+impl Validate for Username {
+    type Context = ();
+
+    ghost visits = { λ v _. length_min 3 v.0 };
+
+    fn validate_into<'a, H: I18n>(
+        &'a self,
+        alloc: Global,
+        _ctx: &(),
+        trail: &mut Trail<'a>,
+        report: &mut Report,
+        h: &H,
+    ) -> Result<(), AllocError> {
+        let Self(name) = self;
+        Is(length!(min = 3)).check(alloc, name, trail, report, h)
+    }
+}
+
+/// A name that is a tuple of one field: its faults stand under the field's index.
+#[derive(Debug, Drop)]
+pub struct NumberedUsername(pub String);
+
+impl Validate for NumberedUsername {
+    type Context = ();
+
+    ghost visits = { λ v _. item 0 (length_min 3 v.0) };
+
+    fn validate_into<'a, H: I18n>(
+        &'a self,
+        alloc: Global,
+        _ctx: &(),
+        trail: &mut Trail<'a>,
+        report: &mut Report,
+        h: &H,
+    ) -> Result<(), AllocError> {
+        let Self(name) = self;
+        let long = Is(length!(min = 3));
+        check_under(alloc, Component::index(0), &long, name, trail, report, h)
+    }
+}
+
+/// A value that validates itself, under the name `username`.
+#[derive(Debug, Drop)]
+pub struct User<N> {
+    pub username: N,
+}
+
+impl<N: Validate> Validate for User<N> {
+    type Context = N::Context;
+
+    ghost visits = { λ v c. field "username" (N.visits v.username c) };
+
+    fn validate_into<'a, H: I18n>(
+        &'a self,
+        alloc: Global,
+        ctx: &N::Context,
+        trail: &mut Trail<'a>,
+        report: &mut Report,
+        h: &H,
+    ) -> Result<(), AllocError> {
+        let Self { username } = self;
+        Field("username", username, Dive(ctx)).visit_of(self, alloc, trail, report, h)
+    }
+}

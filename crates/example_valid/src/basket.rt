@@ -1,0 +1,39 @@
+//! A list that is not empty, and its first item.
+ghost use Rattle.std.specs.Prelude.{◌≡◌, slice_get};
+ghost use Rattle.garde.specs.Fields.{Some, field, items_between};
+
+use garde::fields::{Field, Fields, Is};
+use garde::{I18n, Report, Trail, Valid, Validate, length};
+use std::alloc::{AllocError, Global};
+
+/// The names of 1 to 50 articles.
+#[derive(Debug, Drop)]
+pub struct Basket {
+    pub articles: Vec<String>,
+}
+
+impl Validate for Basket {
+    type Context = ();
+
+    ghost visits = { λ v _. field "articles" (items_between 1 50 v.articles) };
+
+    fn validate_into<'a, H: I18n>(
+        &'a self,
+        alloc: Global,
+        _ctx: &(),
+        trail: &mut Trail<'a>,
+        report: &mut Report,
+        h: &H,
+    ) -> Result<(), AllocError> {
+        let Self { articles } = self;
+        Field("articles", articles, Is(length!(min = 1, max = 50))).visit(alloc, trail, report, h)
+    }
+}
+
+/// The first article, which a valid basket has.
+#[tactic(auto, unfolding(garde::specs::Fields::Known))]
+pub fn first(basket: &Valid<Basket>) -> &String
+    ensures { slice_get basket.now.articles.items 0 ≡ Some result.now }
+{
+    &basket.articles[0]
+}

@@ -1,0 +1,39 @@
+//! A number that fits a narrower type, and a cast that loses nothing.
+ghost use Rattle.std.specs.Prelude.{◌≡◌};
+ghost use Rattle.garde.specs.Fields.{field, range_max};
+
+use garde::fields::{Field, Fields, Is};
+use garde::{I18n, Report, Trail, Valid, Validate, range};
+use std::alloc::{AllocError, Global};
+
+/// How loud something is played, in percent.
+#[derive(Debug, Drop)]
+pub struct Level {
+    pub percent: u32,
+}
+
+impl Validate for Level {
+    type Context = ();
+
+    ghost visits = { λ v _. field "percent" (range_max 200 v.percent) };
+
+    fn validate_into<'a, H: I18n>(
+        &'a self,
+        alloc: Global,
+        _ctx: &(),
+        trail: &mut Trail<'a>,
+        report: &mut Report,
+        h: &H,
+    ) -> Result<(), AllocError> {
+        let Self { percent } = self;
+        Field("percent", percent, Is(range!(max = 200))).visit(alloc, trail, report, h)
+    }
+}
+
+/// The level as a byte. That of a valid level fits one.
+#[tactic(auto, unfolding(garde::specs::Fields::Known))]
+pub fn byte(level: &Valid<Level>) -> u8
+    ensures { result ≡ level.now.percent }
+{
+    level.percent as u8
+}

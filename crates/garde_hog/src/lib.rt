@@ -1,8 +1,0 @@
-//! Memory that runs out: what tests share that refuse it.
-#![tactic(auto)]
-
-mod hog;
-mod scarce;
-
-pub use hog::Hog;
-pub use scarce::{Calls, Met, Scarce};

@@ -1,8 +1,0 @@
-//! The tests of `garde_report` and `garde_json`, by their public calls. They stand in a crate of
-//! their own, since the tests within a crate prove all of it once more.
-#![tactic(auto)]
-
-#[cfg(test)]
-mod samples;
-#[cfg(test)]
-mod tests;

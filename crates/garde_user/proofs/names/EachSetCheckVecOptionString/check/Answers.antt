@@ -1,6 +1,0 @@
-use Rattle.std.proofs.Common.{rules}
-use Rattle.garde.proofs.Author.{visited_calls}
-use Rattle.garde_user.proofs.names.EachSetCheckVecOptionString.check.Goals as goal
-
-pub returns : goal.returns
-returns g c = visited_calls _ _ _ _ c.apply.ensures (search rules)

@@ -1,0 +1,187 @@
+//! The whole reports of the guide's types.
+use super::{is_told, owned, text, told};
+use crate::tests::OrEnd;
+use example_types::order::Order;
+use example_types::payment::{CardText, Payment, PhoneText};
+use example_types::profile::Profile;
+use example_types::signup::Signup;
+use example_types::stay::Stay;
+use example_types::stock::Stock;
+use example_types::tag::Tag;
+use garde::Validate;
+use std::alloc::Global;
+use std::collections::{BTreeMap, BTreeSet};
+use std::process::Abort;
+
+/// A stock of two articles, two shelves, a floor below the street and a mark.
+fn stock(
+    rt: &impl Abort,
+    alloc: Global,
+    pears: u32,
+    shelf: &str,
+    floor: &str,
+    mark: &str,
+) -> Stock {
+    let mut pieces = BTreeMap::new(alloc);
+    pieces.insert(text(rt, alloc, "apples"), 1).or_end(rt);
+    pieces.insert(text(rt, alloc, "pears"), pears).or_end(rt);
+    let mut shelves = BTreeMap::new(alloc);
+    shelves.insert(7, text(rt, alloc, "left")).or_end(rt);
+    shelves
+        .insert(4_000_000_000, text(rt, alloc, shelf))
+        .or_end(rt);
+    let mut floors = BTreeMap::new(alloc);
+    floors.insert(-1, text(rt, alloc, floor)).or_end(rt);
+    let mut marks = BTreeSet::new(alloc);
+    marks.insert(text(rt, alloc, mark)).or_end(rt);
+    Stock {
+        pieces,
+        shelves,
+        floors,
+        marks,
+    }
+}
+
+#[test]
+fn keys_that_are_texts_and_numbers(rt: HostRuntime) {
+    let alloc = rt.alloc();
+    let good = stock(&rt, alloc, 999, "right", "cellar", "12345678");
+    assert!(rt; good.validate(alloc).is_ok());
+    let bad = stock(&rt, alloc, 1000, "é", "under the street, deep", "123456789");
+    let told = told(&rt, alloc, bad.validate(alloc));
+    assert_eq!(rt;
+        told.as_str(),
+        "pieces.pears: greater than 999\nshelves[4000000000]: not ascii\nfloors[-1]: length is greater than 20\nmarks[0]: length is greater than 8\n"
+    );
+}
+
+/// Whether this is reported for a stay from one day to another.
+fn is_told_of_a_stay(
+    rt: &impl Abort,
+    alloc: Global,
+    arrival: u32,
+    departure: u32,
+    text: &str,
+) -> bool {
+    is_told(rt, alloc, &Stay { arrival, departure }, text)
+}
+
+#[test]
+fn a_field_compared_with_another(rt: HostRuntime) {
+    assert!(rt; is_told_of_a_stay(&rt, rt.alloc(), 8, 9, ""));
+    let early = "departure: leave after you arrive\n";
+    assert!(rt; is_told_of_a_stay(&rt, rt.alloc(), 8, 8, early));
+    let closed = "arrival: closed on Mondays\ndeparture: leave after you arrive\n";
+    assert!(rt; is_told_of_a_stay(&rt, rt.alloc(), 7, 6, closed));
+}
+
+#[test]
+fn options_that_are_asked_as_a_whole(rt: HostRuntime) {
+    let alloc = rt.alloc();
+    let rows = [
+        (
+            (Some("abc"), Some(18)),
+            (Some("a"), Some("http://example.org")),
+            "",
+        ),
+        ((None, None), (None, None), "name: not set\n"),
+        (
+            (Some("ab"), Some(17)),
+            (Some("é"), Some("example")),
+            "name: length is lower than 3\nage: lower than 18\nmotto: not ascii\npage: not a valid url: relative URL without a base\n",
+        ),
+    ];
+    for ((name, age), (motto, page), told) in rows {
+        let profile = Profile {
+            name: owned(&rt, alloc, name),
+            age,
+            motto: owned(&rt, alloc, motto),
+            page: owned(&rt, alloc, page),
+        };
+        assert_eq!(rt;
+            super::told(&rt, alloc, profile.validate(alloc)).as_str(),
+            told
+        );
+    }
+}
+
+/// Who signs up, under a name and from a host.
+pub(super) fn signup(
+    rt: &impl Abort,
+    alloc: Global,
+    name: &str,
+    host: &str,
+    terms: bool,
+) -> Signup {
+    Signup {
+        name: text(rt, alloc, name),
+        password: text(rt, alloc, "analytical engine"),
+        again: text(rt, alloc, "analytical"),
+        age: None,
+        host: text(rt, alloc, host),
+        terms,
+    }
+}
+
+#[test]
+fn messages_of_ones_own(rt: HostRuntime) {
+    let alloc = rt.alloc();
+    let bad = signup(&rt, alloc, "é", "example.com", false);
+    let told = told(&rt, alloc, bad.validate(alloc));
+    assert_eq!(rt;
+        told.as_str(),
+        "name: choose a longer name\nagain: does not match password field\nage: not set\nhost: does not end with \".org\"\nterms: accept the terms\n"
+    );
+}
+
+#[test]
+fn texts_that_are_borrowed(rt: HostRuntime) {
+    let also = ["b", "é"];
+    let tag = Tag {
+        name: "0123456789",
+        also: &also,
+    };
+    let text = "name: length is greater than 9\nalso[1]: not ascii\n";
+    assert!(rt; is_told(&rt, rt.alloc(), &tag, text));
+}
+
+/// Whether this is reported for an order whose texts are empty, all but its customer.
+fn is_told_of_an_order(rt: &impl Abort, alloc: Global, told: &str) -> bool {
+    let order = Order {
+        number: 0,
+        customer: text(rt, alloc, "é"),
+        street: String::new(alloc),
+        town: String::new(alloc),
+        lines: vec![in alloc; String::new(alloc)].or_end(rt),
+        note: Some(String::new(alloc)),
+        parcels: 21,
+    };
+    is_told(rt, alloc, &order, told)
+}
+
+#[test]
+fn seven_fields(rt: HostRuntime) {
+    let text =
+        "number: lower than 1\ncustomer: not ascii\ncustomer: length is lower than 3\nstreet: length is lower than 1\ntown: length is lower than 1\nlines[0]: length is lower than 1\nnote: length is lower than 1\nparcels: greater than 20\n";
+    assert!(rt; is_told_of_an_order(&rt, rt.alloc(), text));
+}
+
+/// Whether this is reported for numbers of a card and of a phone.
+fn is_told_of_a_payment(
+    rt: &impl Abort,
+    alloc: Global,
+    card: &str,
+    phone: &str,
+    told: &str,
+) -> bool {
+    let card = CardText(text(rt, alloc, card));
+    let phone = PhoneText(text(rt, alloc, phone));
+    is_told(rt, alloc, &Payment { card, phone }, told)
+}
+
+#[test]
+fn numbers_of_cards_and_phones(rt: HostRuntime) {
+    let text =
+        "card: not a valid credit card number: invalid length\nphone: not a valid phone number: the number is too long\n";
+    assert!(rt; is_told_of_a_payment(&rt, rt.alloc(), "4111", "+420 123 456 789", text));
+}

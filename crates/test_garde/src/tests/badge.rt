@@ -1,0 +1,34 @@
+//! A value whose path is made by hand: push the component, ask the rule, pop.
+ghost use Rattle.garde.specs.Author.{codes, field, unsigned_in};
+
+use garde::rules::range;
+use garde::{Component, I18n, Report, Trail, Validate};
+use std::alloc::{AllocError, Global};
+
+/// A number of at least 1.
+#[derive(Drop)]
+pub struct Badge {
+    pub number: u8,
+}
+
+impl Validate for Badge {
+    type Context = ();
+
+    ghost visits = { λ v _. field (codes "number") (unsigned_in 1 255 v.number) };
+
+    fn validate_into<'a, H: I18n>(
+        &'a self,
+        alloc: Global,
+        _ctx: &(),
+        trail: &mut Trail<'a>,
+        report: &mut Report,
+        h: &H,
+    ) -> Result<(), AllocError> {
+        let Self { number } = self;
+        trail.push(Component::key("number"))?;
+        let answer = range::apply(alloc, number, (Some(1), None), h);
+        let outcome = trail.put(report, answer);
+        trail.pop();
+        outcome
+    }
+}

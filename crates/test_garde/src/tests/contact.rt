@@ -1,0 +1,37 @@
+//! An enum, whose variants are checked each in its way.
+ghost use Rattle.garde.specs.Author.{Visits, codes, string_bytes, none, field, ascii};
+ghost use Rattle.test_garde.specs.declared.tests.contact.Contact.TheVariants.{Mail, Silent};
+
+use garde::fields::{Ascii, Field, Fields, Is};
+use garde::{I18n, Report, Trail, Validate};
+use std::alloc::{AllocError, Global};
+
+/// How someone is reached.
+#[derive(Drop)]
+pub enum Contact {
+    Mail(String),
+    Silent,
+}
+
+impl Validate for Contact {
+    type Context = ();
+
+    ghost visits = { λ v _. elim v as (λ _. Visits) [
+      | Mail text ↦ field (codes "mail") (ascii (string_bytes text))
+      | Silent ↦ none
+    ] };
+
+    fn validate_into<'a, H: I18n>(
+        &'a self,
+        alloc: Global,
+        _ctx: &(),
+        trail: &mut Trail<'a>,
+        report: &mut Report,
+        h: &H,
+    ) -> Result<(), AllocError> {
+        match self {
+            Contact::Mail(text) => { Field("mail", text, Is(Ascii)).visit(alloc, trail, report, h) }
+            Contact::Silent => ().visit(alloc, trail, report, h),
+        }
+    }
+}

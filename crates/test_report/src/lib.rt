@@ -1,0 +1,8 @@
+//! The tests of `garde_report`, `garde_json` and `garde_problem`, by their public calls. They stand
+//! in a crate of their own, since the tests within a crate prove all of it once more.
+#![tactic(auto)]
+
+#[cfg(test)]
+mod samples;
+#[cfg(test)]
+mod tests;

@@ -1,0 +1,144 @@
+//! Values of the tests.
+
+use garde_report::rc_list::List;
+use garde_report::{Component, Error, Kind, Path, PathComponentKind, Report, Trail};
+use std::alloc::Global;
+use std::cmp::Ordering;
+use std::fmt::{Debug, Display};
+use std::hash::{DefaultHasher, Hash, Hasher};
+use std::process::Abort;
+
+/// The value of an Ok, where a test asks nothing of the error.
+pub(crate) trait OrEnd<T> {
+    /// The value, or the end of the test.
+    fn or_end(self, rt: &impl Abort) -> T;
+}
+
+impl<T: Drop, E: Drop> OrEnd<T> for Result<T, E> {
+    fn or_end(self, rt: &impl Abort) -> T {
+        match self {
+            Ok(value) => value,
+            Err(_) => rt.abort(),
+        }
+    }
+}
+
+/// The list of these items, the first of them appended first.
+pub(crate) fn list_of(rt: &impl Abort, alloc: Global, items: &[char]) -> List<char> {
+    let mut list = List::new();
+    for item in items {
+        list = list.append(alloc, *item).or_end(rt);
+    }
+    list
+}
+
+/// The path of components of these kinds and texts.
+pub(crate) fn path_of(rt: &impl Abort, alloc: Global, components: &[(Kind, &str)]) -> Path {
+    let mut trail = Trail::new(alloc);
+    for (kind, text) in components {
+        trail.push(Component::text(*kind, text)).or_end(rt);
+    }
+    trail.path().or_end(rt)
+}
+
+/// The path of one component.
+pub(crate) fn path_of_one<C: PathComponentKind + Drop>(
+    rt: &impl Abort,
+    alloc: Global,
+    component: C,
+) -> Path {
+    Path::new(alloc, component).or_end(rt)
+}
+
+/// The path of the indexes below this number, by joins.
+pub(crate) fn path_to(rt: &impl Abort, alloc: Global, size: usize) -> Path {
+    let mut path = Path::empty();
+    for index in 0..size {
+        path = path.join(alloc, index).or_end(rt);
+    }
+    path
+}
+
+/// The path of these keys.
+pub(crate) fn keys(rt: &impl Abort, alloc: Global, keys: &[&str]) -> Path {
+    let mut path = Path::empty();
+    for key in keys {
+        path = path.join(alloc, *key).or_end(rt);
+    }
+    path
+}
+
+/// Adds a fault at the path of these keys.
+pub(crate) fn add(
+    rt: &impl Abort,
+    report: &mut Report,
+    alloc: Global,
+    components: &[&str],
+    message: &str,
+) {
+    report
+        .append(
+            keys(rt, alloc, components),
+            Error::new(alloc, message).or_end(rt),
+        )
+        .or_end(rt);
+}
+
+/// Adds a fault at the path of these components.
+pub(crate) fn add_at(
+    rt: &impl Abort,
+    report: &mut Report,
+    alloc: Global,
+    components: &[(Kind, &str)],
+    message: &str,
+) {
+    let error = Error::new(alloc, message).or_end(rt);
+    report
+        .append(path_of(rt, alloc, components), error)
+        .or_end(rt)
+}
+
+/// A report of these faults.
+pub(crate) fn report_of(
+    rt: &impl Abort,
+    alloc: Global,
+    faults: &[(&[(Kind, &str)], &str)],
+) -> Report {
+    let mut report = Report::new(alloc);
+    for (components, message) in faults {
+        add_at(rt, &mut report, alloc, components, message);
+    }
+    report
+}
+
+/// A report of four faults, two of them at one path.
+pub(crate) fn four_faults(rt: &impl Abort, alloc: Global) -> Report {
+    let mut report = Report::new(alloc);
+    add(rt, &mut report, alloc, &["a", "b"], "lol");
+    add(rt, &mut report, alloc, &["a", "b", "c"], "that seems wrong");
+    add(rt, &mut report, alloc, &["a", "b", "c"], "pog");
+    add(rt, &mut report, alloc, &["array", "0", "c"], "pog");
+    report
+}
+
+/// The text of a value.
+pub(crate) fn printed<T: Display>(rt: &impl Abort, alloc: Global, value: &T) -> String {
+    format!(in alloc; "{value}").or_end(rt)
+}
+
+/// The text of a value for a programmer.
+pub(crate) fn shown<T: Debug>(rt: &impl Abort, alloc: Global, value: &T) -> String {
+    format!(in alloc; "{value:?}").or_end(rt)
+}
+
+/// How a value compares with another, and whether it equals it.
+pub(crate) fn compared<T: Ord>(value: &T, other: &T) -> (Ordering, bool) {
+    (value.cmp(other), value == other)
+}
+
+/// What a hasher gives of a value.
+pub(crate) fn hash_of<T: Hash>(value: &T) -> u64 {
+    let mut state = DefaultHasher::new();
+    value.hash(&mut state);
+    state.finish()
+}

@@ -1,0 +1,12 @@
+//! Tests by what they are of.
+
+mod ample;
+mod errors;
+mod json;
+mod json_text;
+mod laws;
+mod lists;
+mod numbers;
+mod problems;
+mod refusals;
+mod trails;

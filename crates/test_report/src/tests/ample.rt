@@ -1,0 +1,230 @@
+//! Ample memory: what is long, deep or many gets the answers of what is small.
+
+use crate::samples::{OrEnd, path_of, path_to};
+use garde_json::report_to_json_text;
+use garde_report::json::{report_from_json, report_to_json};
+use garde_report::rc_list::List;
+use garde_report::{Component, Error, Kind, Path, Report, RuleError, Trail};
+use serde_json::Value;
+use std::alloc::Global;
+use std::borrow::CowStr;
+use std::process::Abort;
+
+const SIZES: [usize; 6] = [0, 1, 8, 9, 12, 1000];
+
+/// A text of 120 bytes that is there as long as the program is.
+const LONG: &str =
+    "abcdefghijklmnopqrstuvwxyz0123abcdefghijklmnopqrstuvwxyz0123abcdefghijklmnopqrstuvwxyz0123abcdefghijklmnopqrstuvwxyz0123";
+
+// How many items stand before the last one of a list of so many.
+fn items_before(rt: &impl Abort, alloc: Global, size: usize) -> Option<usize> {
+    let mut list = List::new();
+    for index in 0..size {
+        list = list.append(alloc, index).or_end(rt);
+    }
+    let before = list.before().or_end(rt);
+    before.map(|list| list.len())
+}
+
+// How many components a path of so many has without its last.
+fn components_above(rt: &impl Abort, alloc: Global, size: usize) -> Option<usize> {
+    let parent = path_to(rt, alloc, size).parent().or_end(rt);
+    parent.map(|path| path.len())
+}
+
+// How many components a clone of a path of so many gives.
+fn components_of_a_clone(rt: &impl Abort, alloc: Global, size: usize) -> usize {
+    let path = path_to(rt, alloc, size).clone().or_end(rt);
+    path.iter(alloc).or_end(rt).count()
+}
+
+// Whether a list and a path of so many are cut and cloned.
+fn is_cut(rt: &impl Abort, alloc: Global, size: usize) -> bool {
+    let above = size.checked_sub(1);
+    let is_cut = items_before(rt, alloc, size) == above
+        && components_above(rt, alloc, size) == above;
+    is_cut && components_of_a_clone(rt, alloc, size) == size
+}
+
+#[test]
+fn lists_and_paths_of_each_size_are_cut(rt: HostRuntime) {
+    for size in SIZES {
+        assert!(rt; is_cut(&rt, rt.alloc(), size), "of {size}");
+    }
+}
+
+// Goes down so far, and puts a fault with this text. Gives the nodes that this made.
+fn walk(
+    rt: &impl Abort,
+    alloc: Global,
+    size: usize,
+    text: &'static str,
+    report: &mut Report,
+) -> usize {
+    let mut trail = Trail::new(alloc);
+    for index in 0..size {
+        trail.push(Component::index(index)).or_end(rt);
+    }
+    let fault = RuleError::of(alloc, Ok(CowStr::Borrowed(text)));
+    trail.put(report, Err(fault)).or_end(rt);
+    trail.nodes()
+}
+
+// Whether the one fault of a report stands so deep, and has this text.
+fn is_one_fault(report: &Report, size: usize, text: &str) -> bool {
+    let is_right = |(path, error): &(Path, Error)| path.len() == size && error.message() == text;
+    report.iter().count() == 1 && report.iter().all(is_right)
+}
+
+// Whether a way of so many components makes so many nodes, and gives its one fault.
+fn is_walked(rt: &impl Abort, alloc: Global, size: usize) -> bool {
+    let mut report = Report::new(alloc);
+    let nodes = walk(rt, alloc, size, LONG, &mut report);
+    nodes == size && is_one_fault(&report, size, LONG)
+}
+
+#[test]
+fn ways_of_each_size_are_walked_and_reported(rt: HostRuntime) {
+    for size in SIZES {
+        assert!(rt; is_walked(&rt, rt.alloc(), size), "of {size}");
+    }
+}
+
+// Whether the path of a component has it, and no other.
+fn is_component_kept(rt: &impl Abort, alloc: Global, kind: Kind, text: &str) -> bool {
+    let path = path_of(rt, alloc, &[(kind, text)]);
+    let mut parts = path.iter(alloc).or_end(rt);
+    parts.len() == 1 && parts.next() == Some((kind, text))
+}
+
+// Whether an error, its clone, and the fault of the text have it as their message.
+fn is_message_kept(rt: &impl Abort, alloc: Global, text: &str) -> bool {
+    let error = Error::new(alloc, text).or_end(rt);
+    let copy = error.clone().or_end(rt);
+    let owned = String::from_str(alloc, text).or_end(rt);
+    let fault = RuleError::of(alloc, Ok(CowStr::Owned(owned)));
+    let is_kept = matches!(&fault, RuleError::Fault(same) if same.message() == text);
+    is_kept && copy.message() == text
+}
+
+// Whether a letter so many times is kept by a component of each kind, and by a message.
+fn is_text_kept(rt: &impl Abort, alloc: Global, letter: &str, times: usize) -> bool {
+    let text = letter.repeat(alloc, times).or_end(rt);
+    let text = text.as_str();
+    let is_named = is_component_kept(rt, alloc, Kind::Key, text);
+    let is_other = is_component_kept(rt, alloc, Kind::None, text)
+        && is_component_kept(rt, alloc, Kind::Index, text);
+    is_named && is_other && is_message_kept(rt, alloc, text)
+}
+
+#[test]
+fn texts_of_each_length_are_kept(rt: HostRuntime) {
+    for letter in ["a", "\u{0}", "\u{1f}", "\u{e9}"] {
+        for times in [0usize, 1, 11, 15, 16, 22, 23, 30, 31, 1000] {
+            assert!(rt;
+                is_text_kept(&rt, rt.alloc(), letter, times),
+                "{times} times"
+            );
+        }
+    }
+}
+
+// So many faults with this key and message, each so many components deep.
+fn faults(rt: &impl Abort, alloc: Global, count: usize, depth: usize, text: &str) -> Report {
+    let path = path_to(rt, alloc, depth).join(alloc, text).or_end(rt);
+    let mut report = Report::new(alloc);
+    for _ in 0..count {
+        append(rt, alloc, &mut report, &path, text);
+    }
+    report
+}
+
+// Appends a fault with this message, at the path.
+fn append(rt: &impl Abort, alloc: Global, report: &mut Report, path: &Path, text: &str) {
+    let error = Error::new(alloc, text).or_end(rt);
+    report.append(path.clone().or_end(rt), error).or_end(rt)
+}
+
+// Whether both writers give one text of a report, which is then read back, as its clone is the same.
+fn is_read_back(rt: &impl Abort, alloc: Global, report: &Report) -> bool {
+    let text = report_to_json_text(alloc, report).or_end(rt);
+    let tree = report_to_json(alloc, report)
+        .or_end(rt)
+        .to_string(alloc)
+        .or_end(rt);
+    let again = Value::from_str(alloc, text.as_str()).or_end(rt);
+    let Ok(back) = report_from_json(alloc, &again) else {
+        return false;
+    };
+    let copy = report.clone().or_end(rt);
+    let is_same = copy.iter().eq(report.iter()) && back.iter().eq(report.iter());
+    is_same && tree.as_str() == text.as_str()
+}
+
+// Whether the report of so many faults is read back.
+fn are_read_back(rt: &impl Abort, alloc: Global, count: usize, depth: usize, text: &str) -> bool {
+    is_read_back(rt, alloc, &faults(rt, alloc, count, depth, text))
+}
+
+#[test]
+fn reports_of_each_size_are_read_back(rt: HostRuntime) {
+    for (count, depth) in [
+        (0usize, 0usize),
+        (1, 0),
+        (1, 12),
+        (1, 1000),
+        (100, 2),
+        (1000, 2),
+    ] {
+        assert!(rt;
+            are_read_back(&rt, rt.alloc(), count, depth, LONG),
+            "{count}, {depth} deep"
+        );
+    }
+}
+
+#[test]
+fn each_control_character_is_read_back(rt: HostRuntime) {
+    for code in 0..0xa0u8 {
+        let mut room = [0; 4];
+        let text = char::from(code).encode_utf8(&mut room);
+        assert!(rt; are_read_back(&rt, rt.alloc(), 1, 1, text), "{code}");
+    }
+}
+
+// Whether a fault's path and message print as these, whatever the width.
+fn is_fault_unpadded(
+    rt: &impl Abort,
+    alloc: Global,
+    (path, error): &(Path, Error),
+    way: &str,
+    message: &str,
+) -> bool {
+    let path = format!(in alloc; "{path:>40}").or_end(rt);
+    let error = format!(in alloc; "{error:>40}").or_end(rt);
+    path.as_str() == way && error.as_str() == message
+}
+
+// Whether each fault of a report prints as these, whatever the width.
+fn are_unpadded(rt: &impl Abort, alloc: Global, report: &Report, way: &str, message: &str) -> bool {
+    for fault in report.iter() {
+        if !is_fault_unpadded(rt, alloc, fault, way, message) {
+            return false;
+        }
+    }
+    true
+}
+
+// Whether a report prints as this text, whatever the width.
+fn is_unpadded(rt: &impl Abort, alloc: Global, report: &Report, text: &str) -> bool {
+    format!(in alloc; "{report:>40}").or_end(rt).as_str() == text
+}
+
+// The width is that of nothing: what has parts prints as if none were asked for.
+#[test]
+fn a_width_pads_nothing(rt: HostRuntime) {
+    let report = faults(&rt, rt.alloc(), 2, 1, "x");
+    assert!(rt; is_unpadded(&rt, rt.alloc(), &report, "[0].x: x\n[0].x: x\n"));
+    assert!(rt; are_unpadded(&rt, rt.alloc(), &report, "[0].x", "x"));
+    assert!(rt; Kind::default() == Kind::None);
+}

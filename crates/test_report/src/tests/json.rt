@@ -1,0 +1,138 @@
+//! Written forms, and trees that are none.
+
+use crate::samples::{OrEnd, path_of, printed, report_of};
+use garde_report::json::{
+    JsonRefused, path_from_json, path_to_json, report_from_json, report_to_json,
+};
+use garde_report::{Kind, Path, Report};
+use serde_json::Value;
+use std::alloc::Global;
+use std::process::Abort;
+
+const A: (Kind, &str) = (Kind::Key, "a");
+
+const B: (Kind, &str) = (Kind::Key, "b");
+
+const C: (Kind, &str) = (Kind::Key, "c");
+
+const ZERO: (Kind, &str) = (Kind::Index, "0");
+
+const ONE: (Kind, &str) = (Kind::Index, "1");
+
+const TWO: (Kind, &str) = (Kind::Index, "2");
+
+// Whether a report is written as this text, and is read back from its tree.
+fn is_there_and_back(rt: &impl Abort, alloc: Global, report: &Report, text: &str) -> bool {
+    let tree = report_to_json(alloc, report).or_end(rt);
+    let Ok(back) = report_from_json(alloc, &tree) else {
+        return false;
+    };
+    let is_same = back.iter().eq(report.iter());
+    is_same && tree.to_string(alloc).or_end(rt).as_str() == text
+}
+
+// The same of a path.
+fn is_path_there_and_back(rt: &impl Abort, alloc: Global, path: &Path, text: &str) -> bool {
+    let tree = path_to_json(alloc, path).or_end(rt);
+    let Ok(back) = path_from_json(alloc, &tree) else {
+        return false;
+    };
+    let is_same = back == *path;
+    is_same && tree.to_string(alloc).or_end(rt).as_str() == text
+}
+
+// Whether the report that is read from the tree of a text prints these lines.
+fn is_read(rt: &impl Abort, alloc: Global, text: &str, lines: &str) -> bool {
+    let tree = Value::from_str(alloc, text).or_end(rt);
+    let Ok(report) = report_from_json(alloc, &tree) else {
+        return false;
+    };
+    printed(rt, alloc, &report).as_str() == lines
+}
+
+// Whether the tree of a text is rejected as a report for its form.
+fn is_refused(rt: &impl Abort, alloc: Global, text: &str) -> bool {
+    let tree = Value::from_str(alloc, text).or_end(rt);
+    matches!(&report_from_json(alloc, &tree), Err(JsonRefused::Form))
+}
+
+// Whether the tree of a text is rejected as a path for its form.
+fn is_refused_as_a_path(rt: &impl Abort, alloc: Global, text: &str) -> bool {
+    let tree = Value::from_str(alloc, text).or_end(rt);
+    matches!(&path_from_json(alloc, &tree), Err(JsonRefused::Form))
+}
+
+#[test]
+fn a_report_is_written_and_read_back(rt: HostRuntime) {
+    let rows: [(&[(&[(Kind, &str)], &str)], &str); 3] = [
+        (&[], r#"{"errors":[]}"#),
+        (
+            &[(&[A, ZERO], "lorem"), (&[B, C], "dolor")],
+            r#"{"errors":[[[["key","a"],["index","0"]],{"message":"lorem"}],[[["key","b"],["key","c"]],{"message":"dolor"}]]}"#,
+        ),
+        (
+            &[
+                (&[A, ZERO], "lorem"),
+                (&[A, ONE], "ispum"),
+                (&[A, TWO], "dolor"),
+                (&[B, C], "dolor"),
+            ],
+            r#"{"errors":[[[["key","a"],["index","0"]],{"message":"lorem"}],[[["key","a"],["index","1"]],{"message":"ispum"}],[[["key","a"],["index","2"]],{"message":"dolor"}],[[["key","b"],["key","c"]],{"message":"dolor"}]]}"#,
+        ),
+    ];
+    for (faults, text) in rows {
+        assert!(rt; is_there_and_back(&rt, rt.alloc(), &report_of(&rt, rt.alloc(), faults), text));
+    }
+}
+
+#[test]
+fn a_path_is_written_and_read_back(rt: HostRuntime) {
+    let text = r#"[["key","a"],["index","0"]]"#;
+    assert!(rt;
+        is_path_there_and_back(&rt, rt.alloc(), &path_of(&rt, rt.alloc(), &[A, ZERO]), text)
+    );
+    assert!(rt; is_refused_as_a_path(&rt, rt.alloc(), r#"{"key":"a"}"#));
+}
+
+#[test]
+fn every_other_tree_is_refused(rt: HostRuntime) {
+    let rows = [
+        "null",
+        "{}",
+        "[[]]",
+        r#"{"errors":{}}"#,
+        r#"{"errors":[[[["key","a"],["index","0"]],{"message":"lorem"}],[[["key","b"],["key","c"]],{"message":"dolor"}]],"count":2}"#,
+        r#"{"errors":[[]]}"#,
+        r#"{"errors":[[[],{"message":"x"},"y"]]}"#,
+        r#"{"errors":[[[],{"message":1}]]}"#,
+        r#"{"errors":[[[],{"message":1.5}]]}"#,
+        r#"{"errors":[[[["key"]],{"message":"x"}]]}"#,
+        r#"{"errors":[[[["none","",""]],{"message":"x"}]]}"#,
+        r#"{"errors":[[[["Key","a"],["index","0"]],{"message":"lorem"}],[[["key","b"],["key","c"]],{"message":"dolor"}]]}"#,
+        r#"{"errors":[[[["Index","0"]],{"message":"x"}]]}"#,
+        r#"{"errors":[[[["key","a"],["index",0]],{"message":"lorem"}],[[["key","b"],["key","c"]],{"message":"dolor"}]]}"#,
+        r#"{"errors":[[[{"key":"a"}],{"message":"x"}]]}"#,
+        r#"{"errors":[[[],{"message":"x","code":"y"}]]}"#,
+    ];
+    for text in rows {
+        assert!(rt; is_refused(&rt, rt.alloc(), text), "at {text}");
+    }
+}
+
+#[test]
+fn any_text_stands_with_any_kind(rt: HostRuntime) {
+    let rows = [
+        (r#"{"errors":[[[],{"message":""}]]}"#, "\n"),
+        (
+            r#"{"errors":[[[["none","a.b"]],{"message":"x"}]]}"#,
+            "a.b: x\n",
+        ),
+        (
+            r#"{"errors":[[[["index","b"],["key",""]],{"message":"x"}]]}"#,
+            "[b].: x\n",
+        ),
+    ];
+    for (text, lines) in rows {
+        assert!(rt; is_read(&rt, rt.alloc(), text, lines), "at {text}");
+    }
+}

@@ -1,0 +1,127 @@
+//! Ways down and up, with the paths that are asked for and the nodes made so far.
+
+use crate::samples::{OrEnd, printed};
+use garde_report::{Component, Error, Report, RuleError, Trail};
+use std::alloc::{AllocError, Global};
+use std::process::Abort;
+
+/// A step on a way.
+#[derive(Clone, Copy)]
+enum Step {
+    Index(usize),
+    Key(&'static str),
+    Pop,
+    Path(&'static str, usize),
+}
+
+/// Whether the path of a trail prints this text.
+fn is_at(rt: &impl Abort, trail: &mut Trail<'_>, alloc: Global, text: &str) -> bool {
+    printed(rt, alloc, &trail.path().or_end(rt)).as_str() == text
+}
+
+/// Takes a step. Returns whether the path has its text then, and the trail so many nodes.
+fn takes(rt: &impl Abort, trail: &mut Trail<'_>, alloc: Global, step: Step) -> bool {
+    match step {
+        Step::Index(index) => trail.push(Component::index(index)).or_end(rt),
+        Step::Key(text) => trail.push(Component::key(text)).or_end(rt),
+        Step::Pop => {
+            if trail.depth() > 0 {
+                trail.pop();
+            }
+        }
+        Step::Path(text, nodes) => return is_at(rt, trail, alloc, text) && trail.nodes() == nodes,
+    }
+    true
+}
+
+/// How many of these steps are taken before the first path or count that is another.
+fn taken(rt: &impl Abort, alloc: Global, steps: &[Step]) -> usize {
+    let mut trail = Trail::new(alloc);
+    for (number, step) in steps.iter().enumerate() {
+        if !takes(rt, &mut trail, alloc, *step) {
+            return number;
+        }
+    }
+    steps.len()
+}
+
+#[test]
+fn a_path_is_made_once_and_goes_with_its_component(rt: HostRuntime) {
+    let steps = [
+        Step::Index(0),
+        Step::Key("a"),
+        Step::Path("[0].a", 2),
+        Step::Path("[0].a", 2),
+        Step::Pop,
+        Step::Key("b"),
+        Step::Path("[0].b", 3),
+        Step::Pop,
+        Step::Pop,
+        Step::Path("", 3),
+    ];
+    assert_eq!(rt; taken(&rt, rt.alloc(), &steps), steps.len());
+}
+
+#[test]
+fn missing_paths_are_made_from_the_deepest_one_on(rt: HostRuntime) {
+    let steps = [
+        Step::Key("a"),
+        Step::Index(0),
+        Step::Path("a[0]", 2),
+        Step::Pop,
+        Step::Index(1),
+        Step::Key("b"),
+        Step::Path("a[1].b", 4),
+        Step::Pop,
+        Step::Pop,
+        Step::Path("a", 4),
+        Step::Pop,
+        Step::Key("a"),
+        Step::Path("a", 5),
+    ];
+    assert_eq!(rt; taken(&rt, rt.alloc(), &steps), steps.len());
+}
+
+/// Puts the fault `weak`.
+fn put_weak(rt: &impl Abort, trail: &mut Trail<'_>, alloc: Global, report: &mut Report) {
+    let weak = Error::new(alloc, "weak").or_end(rt);
+    trail.put(report, Err(RuleError::Fault(weak))).or_end(rt)
+}
+
+/// Whether Ok puts nothing into a report, and makes no node.
+fn puts_nothing(trail: &mut Trail<'_>, report: &mut Report) -> Result<bool, AllocError> {
+    trail.put(report, Ok(()))?;
+    Ok(report.is_empty() && trail.nodes() == 0)
+}
+
+/// Whether one fault and one `Memory` under a key make one line and one node.
+fn puts_a_fault(rt: &impl Abort, alloc: Global) -> bool {
+    let mut report = Report::new(alloc);
+    let mut trail = Trail::new(alloc);
+    trail.push(Component::key("a")).or_end(rt);
+    let is_nothing = puts_nothing(&mut trail, &mut report).or_end(rt);
+    put_weak(rt, &mut trail, alloc, &mut report);
+    let is_refused = trail.put(&mut report, Err(RuleError::Memory)).is_err();
+    let is_one = trail.nodes() == 1 && printed(rt, alloc, &report).as_str() == "a: weak\n";
+    is_nothing && is_refused && is_one
+}
+
+#[test]
+fn put_appends_a_fault_and_nothing_else(rt: HostRuntime) {
+    assert!(rt; puts_a_fault(&rt, rt.alloc()));
+}
+
+/// Whether the path of a way of so many components has as many, and as many nodes.
+fn has_all_its_nodes(rt: &impl Abort, alloc: Global, size: usize) -> bool {
+    let mut trail = Trail::new(alloc);
+    for index in 0..size {
+        trail.push(Component::index(index)).or_end(rt);
+    }
+    let length = trail.path().or_end(rt).len();
+    length == size && trail.nodes() == size && trail.depth() == size
+}
+
+#[test]
+fn a_deep_way_has_all_its_nodes(rt: HostRuntime) {
+    assert!(rt; has_all_its_nodes(&rt, rt.alloc(), 12));
+}

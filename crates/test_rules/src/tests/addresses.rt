@@ -1,0 +1,418 @@
+//! Tests of IP addresses, on a table of texts.
+use super::tells;
+use crate::tests::OrEnd;
+use garde_i18n::DefaultI18n;
+use garde_rules::ip::{self, Ip, IpKind, is_ipv4, is_ipv6};
+use std::alloc::Global;
+use std::fmt::Display;
+use std::process::Abort;
+
+// The texts of the tables below are made from the text forms and the examples of RFC 4291, sections
+// 2.2 and 2.3: every place of `::`, with an IPv4 address at the end and without, groups of 1 to 5
+// digits, either case; and from what RFC 6943, sections 3.1.1 and 3.1.2, says of forms that other
+// programs take: leading zeros, octal and hexadecimal parts, missing parts, zones and brackets.
+
+/// Addresses of version 4.
+static V4: [&str; 16] = [
+    "0.0.0.0",
+    "255.255.255.255",
+    "10.0.0.1",
+    "192.0.2.1",
+    "127.0.0.1",
+    "1.2.3.4",
+    "9.10.99.100",
+    "199.200.249.250",
+    "13.1.68.3",
+    "129.144.52.38",
+    "100.101.102.103",
+    "0.0.0.1",
+    "1.0.0.0",
+    "255.0.0.255",
+    "198.51.100.254",
+    "203.0.113.9",
+];
+
+/// Texts near those of version 4, none of them an address.
+static NEAR_V4: [&str; 57] = [
+    "",
+    ".",
+    "...",
+    "1",
+    "1.2",
+    "1.2.3",
+    "1.2.3.4.5",
+    "1.2.3.",
+    ".1.2.3",
+    "1..2.3",
+    "1.2..3",
+    "1.2.3..4",
+    ".1.2.3.4",
+    "1.2.3.4.",
+    "256.1.1.1",
+    "1.256.1.1",
+    "1.1.256.1",
+    "1.1.1.256",
+    "1.1.1.999",
+    "1000.1.1.1",
+    "1.1.1.1000",
+    "01.2.3.4",
+    "1.02.3.4",
+    "1.2.03.4",
+    "1.2.3.04",
+    "00.0.0.0",
+    "0.0.0.00",
+    "001.2.3.4",
+    "1.2.3.010",
+    "1.2.3.0377",
+    "0300.0.2.1",
+    "0x1.2.3.4",
+    "1.2.3.0x4",
+    "0x7f000001",
+    "2130706433",
+    "127.1",
+    "127.0.1",
+    " 1.2.3.4",
+    "1.2.3.4 ",
+    "1. 2.3.4",
+    "+1.2.3.4",
+    "-1.2.3.4",
+    "1.2.3.-4",
+    "1,2,3,4",
+    "1.2.3.4/24",
+    "1.2.3.4:80",
+    "[1.2.3.4]",
+    "1.2.3.4%0",
+    "1.2.3.a",
+    "a.b.c.d",
+    "1.2.3.4a",
+    "1.2.3.4\n",
+    "\t1.2.3.4",
+    "1.2.3.4\0",
+    "\u{FF11}.2.3.4",
+    "1.2.3.\u{664}",
+    "1\u{3002}2\u{3002}3\u{3002}4",
+];
+
+/// Addresses of version 6.
+static V6: [&str; 83] = [
+    "ABCD:EF01:2345:6789:ABCD:EF01:2345:6789",
+    "2001:DB8:0:0:8:800:200C:417A",
+    "2001:DB8::8:800:200C:417A",
+    "FF01:0:0:0:0:0:0:101",
+    "FF01::101",
+    "0:0:0:0:0:0:0:1",
+    "::1",
+    "0:0:0:0:0:0:0:0",
+    "0:0:0:0:0:0:13.1.68.3",
+    "0:0:0:0:0:FFFF:129.144.52.38",
+    "::13.1.68.3",
+    "::FFFF:129.144.52.38",
+    "0000:0000:0000:0000:0000:0000:0000:0000",
+    "0001:0002:0003:0004:0005:0006:0007:0008",
+    "::0000",
+    "0::0",
+    "00:000::0000:0",
+    "::fffF:127.0.0.1",
+    "abcd:EF01::aBcD",
+    "2001:db8::1",
+    "fe80::1",
+    "1:2:3:4:5:6:255.255.255.255",
+    "::",
+    "::1:2",
+    "::1:2:3",
+    "::1:2:3:4",
+    "::1:2:3:4:5",
+    "::1:2:3:4:5:6",
+    "::1:2:3:4:5:6:7",
+    "1::",
+    "1::2",
+    "1::2:3",
+    "1::2:3:4",
+    "1::2:3:4:5",
+    "1::2:3:4:5:6",
+    "1::2:3:4:5:6:7",
+    "1:2::",
+    "1:2::3",
+    "1:2::3:4",
+    "1:2::3:4:5",
+    "1:2::3:4:5:6",
+    "1:2::3:4:5:6:7",
+    "1:2:3::",
+    "1:2:3::4",
+    "1:2:3::4:5",
+    "1:2:3::4:5:6",
+    "1:2:3::4:5:6:7",
+    "1:2:3:4::",
+    "1:2:3:4::5",
+    "1:2:3:4::5:6",
+    "1:2:3:4::5:6:7",
+    "1:2:3:4:5::",
+    "1:2:3:4:5::6",
+    "1:2:3:4:5::6:7",
+    "1:2:3:4:5:6::",
+    "1:2:3:4:5:6::7",
+    "1:2:3:4:5:6:7::",
+    "::9.8.7.6",
+    "::1:9.8.7.6",
+    "::1:2:9.8.7.6",
+    "::1:2:3:9.8.7.6",
+    "::1:2:3:4:9.8.7.6",
+    "::1:2:3:4:5:9.8.7.6",
+    "1::9.8.7.6",
+    "1::2:9.8.7.6",
+    "1::2:3:9.8.7.6",
+    "1::2:3:4:9.8.7.6",
+    "1::2:3:4:5:9.8.7.6",
+    "1:2::9.8.7.6",
+    "1:2::3:9.8.7.6",
+    "1:2::3:4:9.8.7.6",
+    "1:2::3:4:5:9.8.7.6",
+    "1:2:3::9.8.7.6",
+    "1:2:3::4:9.8.7.6",
+    "1:2:3::4:5:9.8.7.6",
+    "1:2:3:4::9.8.7.6",
+    "1:2:3:4::5:9.8.7.6",
+    "1:2:3:4:5::9.8.7.6",
+    "1:2:3:4:5:6:7:8",
+    "1:2:3:4:5:6:1.2.3.4",
+    "::1.2.3.4",
+    "::2:3:4:5:6:7:8",
+    "1:2:3:4:5::1.2.3.4",
+];
+
+/// Texts near those of version 6, none of them an address.
+static NEAR_V6: [&str; 97] = [
+    "::1:2:3:4:5:6:7:8",
+    "1::2:3:4:5:6:7:8",
+    "1:2::3:4:5:6:7:8",
+    "1:2:3::4:5:6:7:8",
+    "1:2:3:4::5:6:7:8",
+    "1:2:3:4:5::6:7:8",
+    "1:2:3:4:5:6::7:8",
+    "1:2:3:4:5:6:7::8",
+    "1:2:3:4:5:6:7:8::",
+    "::1:2:3:4:5:6:9.8.7.6",
+    "1::2:3:4:5:6:9.8.7.6",
+    "1:2::3:4:5:6:9.8.7.6",
+    "1:2:3::4:5:6:9.8.7.6",
+    "1:2:3:4::5:6:9.8.7.6",
+    "1:2:3:4:5::6:9.8.7.6",
+    "1:2:3:4:5:6::9.8.7.6",
+    "9.8.7.6:1:2:3:4:5:6",
+    "1:9.8.7.6:2:3:4:5:6",
+    "1:2:9.8.7.6:3:4:5:6",
+    "1:2:3:9.8.7.6:4:5:6",
+    "1:2:3:4:9.8.7.6:5:6",
+    "1:2:3:4:5:9.8.7.6:6",
+    "1:2:3:4:5:9.8.7.6",
+    "1:2:3:4:5:6:7:9.8.7.6",
+    "9.8.7.6::",
+    "9.8.7.6::1",
+    "1::9.8.7.6:2",
+    "9.8.7.6::9.8.7.6",
+    "::9.8.7.6:5.4.3.2",
+    "1:2",
+    "1:2:3:4:5:6:7",
+    "1:2:3:4:5:6:7:8:9",
+    "2001:db8:0:0:0:0:1",
+    ":",
+    ":::",
+    "::::",
+    ":1",
+    "1:",
+    ":1:2:3:4:5:6:7:8",
+    "1:2:3:4:5:6:7:8:",
+    "1:2:3:4:5:6:7:",
+    ":1:2:3:4:5:6:7",
+    "1::2::3",
+    "::1::",
+    "1:::2",
+    ":1::2",
+    "1::2:",
+    ":::1",
+    "1:::",
+    "12345::",
+    "::00001",
+    "2001:db8::12345",
+    "1:2:3:4:5:6:7:12345",
+    "::g",
+    "g::",
+    "::1g",
+    "1:2:3:4:5:6:7:G",
+    "::0x1",
+    "::+1",
+    "::-1",
+    " ::1",
+    "::1 ",
+    ":: 1",
+    "::1\n",
+    "::\u{FF11}",
+    "::1%0",
+    "fe80::1%eth0",
+    "fe80::1%",
+    "fe80::1%25en0",
+    "::ffff:9.8.7.6%1",
+    "[::1]",
+    "[::]",
+    "[::1",
+    "::1]",
+    "[::1]:80",
+    "2001:0DB8:0000:CD30:0000:0000:0000:0000/60",
+    "2001:0DB8::CD30:0:0:0:0/60",
+    "2001:0DB8:0:CD3/60",
+    "::1.2.3",
+    "::1.2.3.256",
+    "::01.2.3.4",
+    "::1.2.3.04",
+    "::1.2.3.4.5",
+    "::1.2..3",
+    "::.1.2.3",
+    "::1.2.3.",
+    "::1.2.3.4/96",
+    "::1.2.3.a",
+    "::ffff:1.2.3.4:",
+    "::ffff::1.2.3.4",
+    ":1.2.3.4",
+    "1.2.3.4:",
+    "::0x1.2.3.4",
+    "::1.2.3.0xa",
+    "1:2:3:4:5:6:7:1.2.3.4",
+    "1:2:3:4:5:6::1.2.3.4",
+    "1.2.3.4::",
+];
+
+/// Whether a text is an address of this version alone, or none where the version is `-`.
+fn is_of_version(text: &str, version: char) -> bool {
+    is_ipv4(text) == (version == '4') && is_ipv6(text) == (version == '6')
+}
+
+/// The first of these texts that is of another version.
+fn first_other<'t>(texts: &[&'t str], version: char) -> Option<&'t str> {
+    for text in texts {
+        if !is_of_version(text, version) {
+            return Some(text);
+        }
+    }
+    None
+}
+
+#[test]
+fn tells_addresses_by_their_version(rt: HostRuntime) {
+    assert_eq!(rt; first_other(&V4, '4'), None);
+    assert_eq!(rt; first_other(&NEAR_V4, '-'), None);
+    assert_eq!(rt; first_other(&V6, '6'), None);
+    assert_eq!(rt; first_other(&NEAR_V6, '-'), None);
+}
+
+/// Whether this is found in a text that is asked for an address of a kind.
+fn finds(alloc: Global, kind: IpKind, text: &str, fault: Option<&str>) -> bool {
+    tells(ip::apply(alloc, &text, (kind,), &DefaultI18n), fault)
+}
+
+/// The kind that is asked for, a text, and the fault that is found.
+static ASKED: [(IpKind, &str, Option<&str>); 8] = [
+    (IpKind::Any, "0.0.0.0", None),
+    (IpKind::Any, "::", None),
+    (IpKind::Any, "1.2.3", Some("not a valid IP address")),
+    (IpKind::Any, "::1.2.3.256", Some("not a valid IP address")),
+    (IpKind::V4, "0.0.0.0", None),
+    (IpKind::V4, "::", Some("not a valid IPv4 address")),
+    (IpKind::V6, "::", None),
+    (IpKind::V6, "0.0.0.0", Some("not a valid IPv6 address")),
+];
+
+#[test]
+fn asks_for_an_address_of_a_kind(rt: HostRuntime) {
+    for (kind, text, fault) in &ASKED {
+        assert!(rt; finds(rt.alloc(), *kind, text, *fault), "{text}");
+    }
+}
+
+/// Whether an error prints this.
+fn prints<E: Display>(rt: &impl Abort, alloc: Global, refusal: &E, printed: &str) -> bool {
+    refusal.to_string(alloc).or_end(rt).as_str() == printed
+}
+
+/// Whether a text is rejected that is asked for an address of a kind, and the error shows this.
+fn refusal_shows(rt: &impl Abort, alloc: Global, text: &str, kind: IpKind, wanted: &str) -> bool {
+    match text.validate_ip(kind) {
+        Ok(()) => false,
+        Err(refusal) => format!(in alloc; "{refusal:?}").or_end(rt).as_str() == wanted,
+    }
+}
+
+/// Whether a value is rejected that is asked for an address of a kind, and the error prints this.
+fn refusal_prints<T: Ip>(
+    rt: &impl Abort,
+    alloc: Global,
+    value: &T,
+    kind: IpKind,
+    printed: &str,
+) -> bool {
+    match value.validate_ip(kind) {
+        Ok(()) => false,
+        Err(refusal) => prints(rt, alloc, &refusal, printed),
+    }
+}
+
+#[test]
+fn prints_the_kind_that_was_asked_for(rt: HostRuntime) {
+    let rows = [
+        (
+            IpKind::Any,
+            "invalid IP address syntax",
+            "AddrParseError(IP)",
+        ),
+        (
+            IpKind::V4,
+            "invalid IPv4 address syntax",
+            "AddrParseError(IPv4)",
+        ),
+        (
+            IpKind::V6,
+            "invalid IPv6 address syntax",
+            "AddrParseError(IPv6)",
+        ),
+    ];
+    for (kind, printed, shown) in rows {
+        assert!(rt;
+            refusal_prints(&rt, rt.alloc(), &"1.2.3", kind, printed),
+            "{printed}"
+        );
+        assert!(rt;
+            refusal_shows(&rt, rt.alloc(), "1.2.3", kind, shown),
+            "{shown}"
+        );
+    }
+}
+
+/// The kind that is asked for, the text of an option, and what its error prints.
+static REFUSED: [(IpKind, &str, &str); 5] = [
+    (IpKind::Any, "zzz", "invalid IP address syntax"),
+    (IpKind::V4, "zzz", "invalid IPv4 address syntax"),
+    (IpKind::V6, "zzz", "invalid IPv6 address syntax"),
+    (IpKind::V4, "::", "invalid IPv4 address syntax"),
+    (IpKind::V6, "0.0.0.0", "invalid IPv6 address syntax"),
+];
+
+#[test]
+fn prints_the_kind_through_an_option(rt: HostRuntime) {
+    for (kind, text, printed) in &REFUSED {
+        assert!(rt;
+            refusal_prints(&rt, rt.alloc(), &Some(Some(*text)), *kind, printed),
+            "{text}: {printed}"
+        );
+    }
+}
+
+/// Whether an option passes that is asked for an address of version 4.
+fn passes(option: Option<&str>) -> bool {
+    option.validate_ip(IpKind::V4).is_ok()
+}
+
+#[test]
+fn passes_an_option_without_an_address(rt: HostRuntime) {
+    assert!(rt; passes(None));
+    assert!(rt; !passes(Some("1.2.3")));
+    assert!(rt; passes(Some("1.2.3.4")));
+}

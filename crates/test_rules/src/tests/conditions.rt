@@ -1,0 +1,125 @@
+//! Tests of rules under a condition, and of rules of a view.
+ghost use Rattle.std.specs.Prelude.{string_bytes};
+ghost use Rattle.garde_i18n.specs.Datum.{not_ascii, prefix};
+ghost use Rattle.garde_lengths.specs.Applies.{Applies};
+ghost use Rattle.garde_rules.specs.Holds.{fault_when, unless};
+ghost use Rattle.garde_rules.specs.Text.{has_prefix, is_ascii_text};
+
+use super::tells;
+use crate::tests::OrEnd;
+use garde_i18n::{DefaultI18n, I18n};
+use garde_report::{Component, Report, RuleError, Trail};
+use garde_rules::{adapt, ascii, inner, prefix, when};
+use std::alloc::{AllocError, Global};
+use std::process::Abort;
+
+/// The rule of ASCII, where it is asked for: the contract of `when` alone gives its datum.
+fn ascii_when<H: I18n>(alloc: Global, cond: bool, text: &str, h: &H) -> Result<(), RuleError>
+    ensures { Applies (fault_when cond (unless (is_ascii_text text.now) not_ascii)) (H.text h.now) result }
+{
+    when(cond, || ascii::apply(alloc, &text, (), h))
+}
+
+/// A text that is no rule's text by itself.
+#[derive(Drop)]
+struct Label {
+    text: String,
+}
+
+/// The rule of a prefix, of the text of a label: the contract of `adapt` alone gives its datum.
+fn label_prefix<H: I18n>(
+    alloc: Global,
+    label: &Label,
+    pattern: &str,
+    h: &H,
+) -> Result<(), RuleError>
+    ensures { Applies (unless (has_prefix pattern.now (string_bytes label.now.text)) (prefix pattern.now))
+        (H.text h.now) result }
+{
+    adapt(
+        label,
+        |label| label.text.as_str(),
+        |text| prefix::apply(alloc, text, (pattern,), h),
+    )
+}
+
+/// Whether this is found in a text that is asked for ASCII under a condition.
+fn finds(alloc: Global, cond: bool, text: &str, fault: Option<&str>) -> bool {
+    tells(ascii_when(alloc, cond, text, &DefaultI18n), fault)
+}
+
+#[test]
+fn asks_where_the_condition_holds(rt: HostRuntime) {
+    assert!(rt; finds(rt.alloc(), true, "é", Some("not ascii")));
+    assert!(rt; finds(rt.alloc(), true, "e", None));
+    assert!(rt; finds(rt.alloc(), false, "é", None));
+}
+
+/// Whether a rule that passes is called so often under a condition, and the answer is Ok.
+fn is_called(cond: bool, times: u8) -> bool {
+    let mut calls = 0u8;
+    let answer = when(cond, || {
+        calls = calls.wrapping_add(1);
+        Ok(())
+    });
+    answer.is_ok() && calls == times
+}
+
+#[test]
+fn calls_the_rule_once_or_never(rt: HostRuntime) {
+    assert!(rt; is_called(false, 0));
+    assert!(rt; is_called(true, 1));
+}
+
+/// Whether this is found in the label `t-1` that is asked for its beginning.
+fn finds_in_label(rt: &impl Abort, alloc: Global, pattern: &str, fault: Option<&str>) -> bool {
+    let text = String::from_str(alloc, "t-1").or_end(rt);
+    let answer = label_prefix(alloc, &Label { text }, pattern, &DefaultI18n);
+    tells(answer, fault)
+}
+
+#[test]
+fn asks_of_the_view(rt: HostRuntime) {
+    let fault = Some("value does not begin with \"x\"");
+    assert!(rt; finds_in_label(&rt, rt.alloc(), "t-", None));
+    assert!(rt; finds_in_label(&rt, rt.alloc(), "x", fault));
+}
+
+/// What is found in a word of less than three bytes that is asked for ASCII.
+fn word_answer(alloc: Global, word: &str) -> Result<(), RuleError> {
+    ascii_when(alloc, word.len() < 3, word, &DefaultI18n)
+}
+
+/// Asks a word of less than three bytes for ASCII, under its component.
+fn check_word<'a>(
+    alloc: Global,
+    word: &str,
+    component: Component<'a>,
+    trail: &mut Trail<'a>,
+    report: &mut Report,
+) -> Result<(), AllocError> {
+    trail.push(component)?;
+    let put = trail.put(report, word_answer(alloc, word));
+    trail.pop();
+    put
+}
+
+/// Whether a walk of three words finds faults that print this.
+fn walk_prints(rt: &impl Abort, alloc: Global, words: &[&str; 3], text: &str) -> bool {
+    let mut trail = Trail::new(alloc);
+    let mut report = Report::new(alloc);
+    inner::apply(
+        words,
+        &mut trail,
+        &mut report,
+        |word: &&str, component, trail, report| check_word(alloc, word, component, trail, report),
+    )
+    .or_end(rt);
+    report.to_string(alloc).or_end(rt).as_str() == text
+}
+
+#[test]
+fn asks_in_a_walk(rt: HostRuntime) {
+    let text = "[0]: not ascii\n[2]: not ascii\n";
+    assert!(rt; walk_prints(&rt, rt.alloc(), &["é", "ué", "ü"], text));
+}

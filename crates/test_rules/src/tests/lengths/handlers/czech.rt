@@ -1,0 +1,226 @@
+//! A handler in another language, whose texts stand as constants that its contract cites.
+ghost use Rattle.std.specs.Prelude.{◌≡◌, ℕ, List, ◌++◌, ◌==◌, ◌&&◌, if◌then◌else◌, nat_le, codes};
+ghost use Rattle.std.specs.Fmt.{decimal};
+ghost use Rattle.garde_i18n.specs.Datum as datum;
+ghost use Rattle.garde_i18n.specs.Reasons.{ip_kind_text};
+ghost use Rattle.test_rules.specs.declared.tests.lengths.handlers.czech.TheConstants as words;
+
+use super::{Asked, assert_answers};
+use garde_i18n::{I18n, InvalidCreditCard, InvalidPhoneNumber, InvalidUrl, IpKind};
+use std::alloc::{AllocError, Global};
+use std::borrow::CowStr;
+
+const SHORTER: &str = "délka je menší než";
+
+const LONGER: &str = "délka je větší než";
+
+const ONE: &str = "znak";
+
+const FEW: &str = "znaky";
+
+const MANY: &str = "znaků";
+
+const LESS: &str = "hodnota je menší než";
+
+const GREATER: &str = "hodnota je větší než";
+
+const CARD: &str = "neplatné číslo platební karty";
+
+const PATTERN: &str = "text neodpovídá vzoru";
+
+const CONTAINS: &str = "text neobsahuje";
+
+const URL: &str = "neplatná adresa URL";
+
+const PREFIX: &str = "text nezačíná na";
+
+const SUFFIX: &str = "text nekončí na";
+
+const PHONE: &str = "neplatné telefonní číslo";
+
+const ADDRESS: &str = "neplatná adresa";
+
+const MATCHES: &str = "hodnota se liší od pole";
+
+const NOT_ASCII: &str = "text má jiné znaky než ASCII";
+
+const NOT_ALPHANUMERIC: &str = "text má jiné znaky než písmena a číslice";
+
+const NOT_SET: &str = "hodnota chybí";
+
+/// A handler whose texts are Czech. It names no reason.
+#[derive(Drop)]
+pub struct Czech;
+
+/// The word for that many characters: Czech has a form for 1, one for 2 to 4, and one for the rest.
+fn characters(count: usize) -> &'static str
+    ensures { result.now ≡ (if count == 1 then ONE.now
+        else (if nat_le 2 count && nat_le count 4 then FEW.now else MANY.now)) }
+{
+    match count {
+        1 => ONE,
+        2..=4 => FEW,
+        _ => MANY,
+    }
+}
+
+impl I18n for Czech {
+    ghost text = { λ _ asked.
+        let characters : ℕ → List ℕ = λ count.
+        (if count == 1 then words.ONE.now
+        else (if nat_le 2 count && nat_le count 4 then words.FEW.now
+        else words.MANY.now)) in
+        elim asked [
+          | datum.length_lower min ↦
+              words.SHORTER.now ++ (codes " " ++ (decimal min ++ (codes " " ++ characters min)))
+          | datum.length_greater max ↦
+              words.LONGER.now ++ (codes " " ++ (decimal max ++ (codes " " ++ characters max)))
+          | datum.range_lower min ↦ words.LESS.now ++ (codes " " ++ min)
+          | datum.range_greater max ↦ words.GREATER.now ++ (codes " " ++ max)
+          | datum.card _ ↦ words.CARD.now
+          | datum.pattern pattern ↦
+              words.PATTERN.now ++ (codes " /" ++ (pattern ++ codes "/"))
+          | datum.contains pattern ↦
+              words.CONTAINS.now ++ (codes " \"" ++ (pattern ++ codes "\""))
+          | datum.url _ ↦ words.URL.now
+          | datum.prefix pattern ↦
+              words.PREFIX.now ++ (codes " \"" ++ (pattern ++ codes "\""))
+          | datum.suffix pattern ↦
+              words.SUFFIX.now ++ (codes " \"" ++ (pattern ++ codes "\""))
+          | datum.phone _ ↦ words.PHONE.now
+          | datum.ip kind ↦ words.ADDRESS.now ++ (codes " " ++ ip_kind_text kind)
+          | datum.matches field ↦ words.MATCHES.now ++ (codes " " ++ field)
+          | datum.not_ascii ↦ words.NOT_ASCII.now
+          | datum.not_alphanumeric ↦ words.NOT_ALPHANUMERIC.now
+          | datum.not_set ↦ words.NOT_SET.now
+        ] };
+
+    fn length_lower_than(&self, alloc: Global, min: usize) -> Result<CowStr<'static>, AllocError> {
+        let word = characters(min);
+        Ok(CowStr::Owned(format!(in alloc; "{SHORTER} {min} {word}")?))
+    }
+
+    fn length_greater_than(
+        &self,
+        alloc: Global,
+        max: usize,
+    ) -> Result<CowStr<'static>, AllocError> {
+        let word = characters(max);
+        Ok(CowStr::Owned(format!(in alloc; "{LONGER} {max} {word}")?))
+    }
+
+    fn range_lower_than(&self, alloc: Global, min: &str) -> Result<CowStr<'static>, AllocError> {
+        Ok(CowStr::Owned(format!(in alloc; "{LESS} {min}")?))
+    }
+
+    fn range_greater_than(&self, alloc: Global, max: &str) -> Result<CowStr<'static>, AllocError> {
+        Ok(CowStr::Owned(format!(in alloc; "{GREATER} {max}")?))
+    }
+
+    fn credit_card_invalid(
+        &self,
+        _alloc: Global,
+        _reason: InvalidCreditCard,
+    ) -> Result<CowStr<'static>, AllocError> {
+        Ok(CowStr::Borrowed(CARD))
+    }
+
+    fn pattern_no_match(
+        &self,
+        alloc: Global,
+        pattern: &str,
+    ) -> Result<CowStr<'static>, AllocError> {
+        Ok(CowStr::Owned(format!(in alloc; "{PATTERN} /{pattern}/")?))
+    }
+
+    fn contains_missing(
+        &self,
+        alloc: Global,
+        pattern: &str,
+    ) -> Result<CowStr<'static>, AllocError> {
+        Ok(CowStr::Owned(format!(in alloc; "{CONTAINS} \"{pattern}\"")?))
+    }
+
+    fn url_invalid(
+        &self,
+        _alloc: Global,
+        _reason: InvalidUrl,
+    ) -> Result<CowStr<'static>, AllocError> {
+        Ok(CowStr::Borrowed(URL))
+    }
+
+    fn prefix_missing(&self, alloc: Global, pattern: &str) -> Result<CowStr<'static>, AllocError> {
+        Ok(CowStr::Owned(format!(in alloc; "{PREFIX} \"{pattern}\"")?))
+    }
+
+    fn suffix_missing(&self, alloc: Global, pattern: &str) -> Result<CowStr<'static>, AllocError> {
+        Ok(CowStr::Owned(format!(in alloc; "{SUFFIX} \"{pattern}\"")?))
+    }
+
+    fn phone_number_invalid(
+        &self,
+        _alloc: Global,
+        _reason: InvalidPhoneNumber,
+    ) -> Result<CowStr<'static>, AllocError> {
+        Ok(CowStr::Borrowed(PHONE))
+    }
+
+    fn ip_invalid(&self, alloc: Global, kind: IpKind) -> Result<CowStr<'static>, AllocError> {
+        Ok(CowStr::Owned(format!(in alloc; "{ADDRESS} {kind}")?))
+    }
+
+    fn matches_field_mismatch(
+        &self,
+        alloc: Global,
+        field: &str,
+    ) -> Result<CowStr<'static>, AllocError> {
+        Ok(CowStr::Owned(format!(in alloc; "{MATCHES} {field}")?))
+    }
+
+    fn ascii_invalid(&self, _alloc: Global) -> Result<CowStr<'static>, AllocError> {
+        Ok(CowStr::Borrowed(NOT_ASCII))
+    }
+
+    fn alphanumeric_invalid(&self, _alloc: Global) -> Result<CowStr<'static>, AllocError> {
+        Ok(CowStr::Borrowed(NOT_ALPHANUMERIC))
+    }
+
+    fn required_not_set(&self, _alloc: Global) -> Result<CowStr<'static>, AllocError> {
+        Ok(CowStr::Borrowed(NOT_SET))
+    }
+}
+
+#[test]
+fn answers_czech_texts(rt: HostRuntime) {
+    let rows = [
+        (Asked::LengthLower(0), "délka je menší než 0 znaků"),
+        (Asked::LengthLower(1), "délka je menší než 1 znak"),
+        (Asked::LengthLower(2), "délka je menší než 2 znaky"),
+        (Asked::LengthGreater(4), "délka je větší než 4 znaky"),
+        (Asked::LengthGreater(5), "délka je větší než 5 znaků"),
+        (Asked::RangeLower("18"), "hodnota je menší než 18"),
+        (Asked::RangeGreater("120"), "hodnota je větší než 120"),
+        (
+            Asked::Card(InvalidCreditCard::Other),
+            "neplatné číslo platební karty",
+        ),
+        (Asked::Pattern("[0-9]"), "text neodpovídá vzoru /[0-9]/"),
+        (Asked::Contains("@"), "text neobsahuje \"@\""),
+        (Asked::Url(InvalidUrl::Other), "neplatná adresa URL"),
+        (Asked::Prefix("+"), "text nezačíná na \"+\""),
+        (Asked::Suffix(".cz"), "text nekončí na \".cz\""),
+        (
+            Asked::Phone(InvalidPhoneNumber::TooLong),
+            "neplatné telefonní číslo",
+        ),
+        (Asked::Ip(IpKind::Any), "neplatná adresa IP"),
+        (Asked::Matches("heslo"), "hodnota se liší od pole heslo"),
+        (Asked::NotAscii, "text má jiné znaky než ASCII"),
+        (
+            Asked::NotAlphanumeric,
+            "text má jiné znaky než písmena a číslice",
+        ),
+        (Asked::NotSet, "hodnota chybí"),
+    ];
+    assert_answers(&rt, rt.alloc(), &Czech, &rows);
+}

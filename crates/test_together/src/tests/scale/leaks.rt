@@ -1,0 +1,332 @@
+//! What is made is given back: each kind of object is made and dropped many times, while no more
+//! than 32 KiB are left. What leaks a byte of each object runs out of memory.
+use crate::tests::custom::Custom;
+use crate::tests::paths::{keys, longer};
+use crate::tests::reports::add;
+use crate::tests::rules::regex;
+use crate::tests::starved::document;
+use garde::json::{report_from_json, report_to_json};
+use garde::rc_list::List;
+use garde::rules::ascii;
+use garde::rules::pattern::regex::Regex;
+use garde::samples::Document;
+use garde::{
+    Component, Error, IntoValidError, Path, Report, RuleError, Trail, Unvalidated, Validate,
+    ValidateError, select, with_i18n,
+};
+use garde_json::report_to_json_text;
+use std::alloc::{AllocError, Global};
+use std::borrow::CowStr;
+use std::fmt::Display;
+use std::test::Fail;
+use test_memory::Hog;
+
+/// The bytes that are left while objects are made and dropped.
+const BUDGET: usize = 1 << 15;
+
+/// How often each object is made: a piece of memory has 16 bytes at least, so what keeps one of each
+/// object would take more than the budget.
+const TIMES: usize = 4000;
+
+/// A text that is kept on the heap, as a key and as a message.
+const LONG: &str = "abcdefghijklmnopqrstuvwxyz0123456789";
+
+/// What is made and dropped.
+#[derive(Clone, Copy)]
+enum Made {
+    Lists,
+    Paths,
+    Ways,
+    Reports,
+    Errors,
+    Trees,
+    Handlers,
+    Patterns,
+    Valid,
+    Invalid,
+    Refused,
+}
+
+static KINDS: [(&str, Made); 11] = [
+    ("lists", Made::Lists),
+    ("paths", Made::Paths),
+    ("ways", Made::Ways),
+    ("reports", Made::Reports),
+    ("errors", Made::Errors),
+    ("trees", Made::Trees),
+    ("handlers", Made::Handlers),
+    ("patterns", Made::Patterns),
+    ("valid", Made::Valid),
+    ("invalid", Made::Invalid),
+    ("refused", Made::Refused),
+];
+
+// A list of long texts.
+fn list(alloc: Global) -> Result<List<String>, AllocError> {
+    let mut list = List::new();
+    for _ in 0..9usize {
+        list = longer(alloc, &list, String::from_str(alloc, LONG)?)?;
+    }
+    Ok(list)
+}
+
+// The list before a list.
+fn before(list: &List<String>) -> Result<(), AllocError> {
+    let _before = list.before()?;
+    Ok(())
+}
+
+// A list, its clone, and the list before it.
+fn lists(alloc: Global) -> Result<(), AllocError> {
+    let list = list(alloc)?;
+    let copy = list.clone()?;
+    before(&copy)
+}
+
+// The parent of a path.
+fn parent(path: &Path) -> Result<(), AllocError> {
+    let _parent = path.parent()?;
+    Ok(())
+}
+
+// A walk of a path, from which one component is taken.
+fn walk(alloc: Global, path: &Path) -> Result<(), AllocError> {
+    let mut walk = path.iter(alloc)?;
+    let _last = walk.next();
+    Ok(())
+}
+
+// The text of a value.
+fn text<T: Display>(alloc: Global, value: &T) -> Result<(), AllocError> {
+    let _text = value.to_string(alloc)?;
+    Ok(())
+}
+
+// A path, its parent, a walk of it, and its text.
+fn paths(alloc: Global) -> Result<(), AllocError> {
+    let path = keys(alloc, &[LONG; 9])?;
+    parent(&path)?;
+    walk(alloc, &path)?;
+    text(alloc, &path)
+}
+
+// So many steps down.
+fn go_down(trail: &mut Trail<'static>, steps: usize) -> Result<(), AllocError> {
+    for _ in 0..steps {
+        trail.push(Component::key(LONG))?;
+    }
+    Ok(())
+}
+
+// So many steps up.
+fn go_up(trail: &mut Trail<'static>, steps: usize) {
+    for _ in 0..steps {
+        if trail.depth() > 0 {
+            trail.pop();
+        }
+    }
+}
+
+// The path of a trail.
+fn path(trail: &mut Trail<'static>) -> Result<(), AllocError> {
+    let _path = trail.path()?;
+    Ok(())
+}
+
+// A trail after so many steps down, with its path or without it, and so many steps up.
+fn way(alloc: Global, (down, asked, up): (usize, bool, usize)) -> Result<(), AllocError> {
+    let mut trail = Trail::new(alloc);
+    go_down(&mut trail, down)?;
+    if asked {
+        path(&mut trail)?;
+    }
+    go_up(&mut trail, up);
+    Ok(())
+}
+
+// Trails in each state.
+fn ways(alloc: Global) -> Result<(), AllocError> {
+    for steps in [
+        (0, true, 0),
+        (3, false, 0),
+        (3, true, 0),
+        (3, true, 2),
+        (12, false, 0),
+        (12, true, 0),
+        (12, true, 5),
+        (12, true, 12),
+    ] {
+        way(alloc, steps)?;
+    }
+    Ok(())
+}
+
+// A report of so many faults.
+fn report_of(alloc: Global, count: usize) -> Result<Report, AllocError> {
+    let mut report = Report::new(alloc);
+    for _ in 0..count {
+        add(alloc, &mut report, LONG, LONG)?;
+    }
+    Ok(report)
+}
+
+// A report, its text, its clone, and its faults.
+fn reports(alloc: Global) -> Result<(), AllocError> {
+    let report = report_of(alloc, 9)?;
+    text(alloc, &report)?;
+    let copy = report.clone()?;
+    let _found = select(&copy, &[LONG]).count();
+    let _faults = report.into_inner();
+    Ok(())
+}
+
+// An error, and its clone.
+fn error(alloc: Global) -> Result<(), AllocError> {
+    let error = Error::new(alloc, LONG)?;
+    let _copy = error.clone()?;
+    Ok(())
+}
+
+// What a rule finds, of a text that is borrowed, and of one that is owned; and `Memory`.
+fn found(alloc: Global) -> Result<(), AllocError> {
+    let text = String::from_str(alloc, LONG)?;
+    let _owned = RuleError::of(alloc, Ok(CowStr::Owned(text)));
+    let _borrowed = RuleError::of(alloc, Ok(CowStr::Borrowed(LONG)));
+    let _none = RuleError::of(alloc, Err(AllocError));
+    Ok(())
+}
+
+// Errors, what rules find, and `Memory`.
+fn errors(alloc: Global) -> Result<(), AllocError> {
+    error(alloc)?;
+    found(alloc)?;
+    text(alloc, &ValidateError::Memory)
+}
+
+// The tree of a report, and the report of the tree.
+fn tree(alloc: Global, report: &Report) -> Result<(), AllocError> {
+    let tree = report_to_json(alloc, report)?;
+    match report_from_json(alloc, &tree) {
+        Ok(_) => Ok(()),
+        Err(_) => Err(AllocError),
+    }
+}
+
+// The text of a tree of a report.
+fn tree_text(alloc: Global, report: &Report) -> Result<(), AllocError> {
+    let _text = report_to_json_text(alloc, report)?;
+    Ok(())
+}
+
+// The tree of a report, its text, and the report of the tree.
+fn trees(alloc: Global) -> Result<(), AllocError> {
+    let report = report_of(alloc, 2)?;
+    tree(alloc, &report)?;
+    tree_text(alloc, &report)
+}
+
+// Work under a handler that holds memory.
+fn handlers(alloc: Global) -> Result<(), AllocError> {
+    let custom = Custom {
+        weight: Vec::with_capacity(alloc, 100)?,
+    };
+    match with_i18n(custom, |h| ascii::apply(alloc, &"é", (), h)) {
+        Err(RuleError::Fault(_)) => Ok(()),
+        _ => Err(AllocError),
+    }
+}
+
+// A searcher of a pattern, and a search.
+fn search(alloc: Global, pattern: &Regex) -> Result<(), AllocError> {
+    let searcher = pattern.searcher(alloc)?;
+    let _found = searcher.is_match(alloc, "x")?;
+    Ok(())
+}
+
+// A pattern, and two searches.
+fn patterns(alloc: Global) -> Result<(), AllocError> {
+    let pattern = regex(alloc, "^[0-9]+$")?;
+    let _found = pattern.is_match(alloc, "12345")?;
+    search(alloc, &pattern)
+}
+
+// A value that becomes a valid one, and is taken out of it.
+fn valid(alloc: Global) -> Result<(), AllocError> {
+    match Unvalidated::new(document(alloc, Some(LONG), "t-1")?).validate(alloc) {
+        Ok(valid) => {
+            let _document = valid.into_inner();
+            Ok(())
+        }
+        Err(_) => Err(AllocError),
+    }
+}
+
+// A value that is none, and its report.
+fn invalid(alloc: Global) -> Result<(), AllocError> {
+    match Unvalidated::new(document(alloc, None, LONG)?).validate(alloc) {
+        Err(IntoValidError::Report(report)) => text(alloc, &report),
+        _ => Err(AllocError),
+    }
+}
+
+// So many documents, each with two faults.
+fn crowd(alloc: Global, count: usize) -> Result<Vec<Document>, AllocError> {
+    let mut crowd = Vec::new(alloc);
+    for _ in 0..count {
+        crowd.push(document(alloc, None, LONG)?)?;
+    }
+    Ok(crowd)
+}
+
+// A walk that fails before its end.
+fn refused(alloc: Global, crowd: &Vec<Document>) -> Result<(), AllocError> {
+    match crowd.validate(alloc) {
+        Err(ValidateError::Memory) => Ok(()),
+        _ => Err(AllocError),
+    }
+}
+
+// Makes objects of a kind, and drops them.
+fn make(alloc: Global, kind: Made, crowd: &Vec<Document>) -> Result<(), AllocError> {
+    match kind {
+        Made::Lists => lists(alloc),
+        Made::Paths => paths(alloc),
+        Made::Ways => ways(alloc),
+        Made::Reports => reports(alloc),
+        Made::Errors => errors(alloc),
+        Made::Trees => trees(alloc),
+        Made::Handlers => handlers(alloc),
+        Made::Patterns => patterns(alloc),
+        Made::Valid => valid(alloc),
+        Made::Invalid => invalid(alloc),
+        Made::Refused => refused(alloc, crowd),
+    }
+}
+
+// How often objects of a kind could be made in turn.
+fn times_made(alloc: Global, kind: Made, crowd: &Vec<Document>) -> usize {
+    for time in 0..TIMES {
+        if make(alloc, kind, crowd).is_err() {
+            return time;
+        }
+    }
+    TIMES
+}
+
+// How often objects of a kind could be made in turn while little memory is left.
+fn times_given_back(alloc: Global, kind: Made) -> Result<usize, AllocError> {
+    let crowd = crowd(alloc, 300)?;
+    let mut hog = Hog::new(alloc)?;
+    hog.leave(BUDGET);
+    let times = times_made(alloc, kind, &crowd);
+    hog.release();
+    Ok(times)
+}
+
+#[test]
+fn what_is_made_is_given_back(rt: HostRuntime) -> Result<(), Fail> {
+    for (name, kind) in &KINDS {
+        assert_eq!(rt; times_given_back(rt.alloc(), *kind)?, TIMES, "{name}");
+    }
+    Ok(())
+}

@@ -1,0 +1,198 @@
+//! A user-defined type: a length of its own, a check that reads the context, and two fields that
+//! match.
+ghost use Rattle.std.specs.Prelude.{if◌then◌else◌};
+ghost use Rattle.garde.specs.Author.{length_in};
+ghost use Rattle.garde.specs.Fields.{◌and◌, Some, None, nat_lt, byte_count, string_bytes, codes, own, found, field, matches_text};
+
+use super::parcel::Label;
+use crate::tests::OrEnd;
+use crate::tests::told::{prints, tells_all};
+use garde::fields::{Field, Fields, Is, Length, Matches, Rule};
+use garde::rules::length::HasSimpleLength;
+use garde::rules::{adapt, inner, prefix};
+use garde::{Component, DefaultI18n, I18n, Report, RuleError, Trail, Validate};
+use std::alloc::{AllocError, Global};
+use std::borrow::CowStr;
+use std::process::Abort;
+
+/// A purse, whose length is the number of its coins.
+#[derive(Clone, Copy)]
+struct Purse {
+    coins: usize,
+}
+
+impl HasSimpleLength for Purse {
+    ghost simple_len = { λ purse. purse.coins };
+
+    fn length(&self) -> usize {
+        self.coins
+    }
+}
+
+/// What a bank asks of its accounts: the least number of bytes of a password.
+#[derive(Clone, Copy)]
+struct Bank {
+    least: usize,
+}
+
+/// The rule that a password is as long as the bank asks for.
+#[derive(Clone, Copy)]
+struct Strong<'c>(&'c Bank);
+
+impl Rule<String> for Strong<'_> {
+    ghost finds = { λ rule v.
+        if nat_lt (byte_count (string_bytes v)) rule.0.now.least then Some (own (codes "weak")) else None };
+
+    fn find<H: I18n>(&self, alloc: Global, value: &String, _h: &H) -> Result<(), RuleError> {
+        if value.len() < self.0.least {
+            Err(RuleError::of(alloc, Ok(CowStr::Borrowed("weak"))))
+        } else {
+            Ok(())
+        }
+    }
+}
+
+/// An account.
+#[derive(Drop)]
+struct Account {
+    purse: Purse,
+    password: String,
+    again: String,
+}
+
+impl Validate for Account {
+    type Context = Bank;
+
+    ghost visits = { λ v bank.
+        field "purse" (length_in 1 9 v.purse.coins)
+        and field "password"
+        (found (if nat_lt (byte_count (string_bytes v.password)) bank.least then Some (own (codes "weak")) else None))
+        and field "again" (matches_text "password" v.again v.password) };
+
+    fn validate_into<'a, H: I18n>(
+        &'a self,
+        alloc: Global,
+        ctx: &Bank,
+        trail: &mut Trail<'a>,
+        report: &mut Report,
+        h: &H,
+    ) -> Result<(), AllocError> {
+        let Self {
+            purse,
+            password,
+            again,
+        } = self;
+        let same = Matches {
+            field: "password",
+            other: password,
+        };
+        (
+            Field("purse", purse, Is(Length { min: 1, max: 9 })),
+            Field("password", password, Is(Strong(ctx))),
+            Field("again", again, Is(same)),
+        )
+            .visit(alloc, trail, report, h)
+    }
+}
+
+// An account of so many coins.
+fn account_of(rt: &impl Abort, alloc: Global, coins: usize, again: &str) -> Account {
+    let password = String::from_str(alloc, "secret").or_end(rt);
+    Account {
+        purse: Purse { coins },
+        password,
+        again: String::from_str(alloc, again).or_end(rt),
+    }
+}
+
+// Whether this is reported for an account under a bank that asks for so many bytes.
+fn is_told(
+    rt: &impl Abort,
+    alloc: Global,
+    coins: usize,
+    (again, least): (&str, usize),
+    text: &str,
+) -> bool {
+    let answer = account_of(rt, alloc, coins, again).validate_with(alloc, &Bank { least });
+    tells_all(rt, alloc, answer, text)
+}
+
+/// Coins, a second password, what a bank asks for, and what is reported.
+static ACCOUNTS: [(usize, &str, usize, &str); 7] = [
+    (1, "secret", 6, ""),
+    (9, "secret", 0, ""),
+    (0, "secret", 6, "purse: length is lower than 1\n"),
+    (10, "secret", 6, "purse: length is greater than 9\n"),
+    (1, "secret", 7, "password: weak\n"),
+    (1, "Secret", 6, "again: does not match password field\n"),
+    (
+        0,
+        "",
+        7,
+        "purse: length is lower than 1\npassword: weak\nagain: does not match password field\n",
+    ),
+];
+
+#[test]
+fn a_length_a_context_and_a_match(rt: HostRuntime) {
+    for (coins, again, least, text) in &ACCOUNTS {
+        let asked = (*again, *least);
+        assert!(rt; is_told(&rt, rt.alloc(), *coins, asked, text), "{text}");
+    }
+}
+
+// Asks the text of a label for its beginning, under its component.
+fn check_label<'a>(
+    alloc: Global,
+    label: &Label,
+    component: Component<'a>,
+    trail: &mut Trail<'a>,
+    report: &mut Report,
+) -> Result<(), AllocError> {
+    trail.push(component)?;
+    let answer = adapt(
+        label,
+        |label| label.text.as_str(),
+        |text| prefix::apply(alloc, text, ("t-",), &DefaultI18n),
+    );
+    let put = trail.put(report, answer);
+    trail.pop();
+    put
+}
+
+// The labels of these texts.
+fn labels(rt: &impl Abort, alloc: Global, texts: &[&str]) -> Vec<Label> {
+    let mut labels = Vec::new(alloc);
+    for text in texts {
+        let text = String::from_str(alloc, text).or_end(rt);
+        labels.push(Label { text }).or_end(rt);
+    }
+    labels
+}
+
+// Asks the text of each label for its beginning.
+fn check_labels(rt: &impl Abort, alloc: Global, labels: &Vec<Label>, report: &mut Report) {
+    let mut trail = Trail::new(alloc);
+    inner::apply(
+        labels,
+        &mut trail,
+        report,
+        |label: &Label, component, trail, report| {
+            check_label(alloc, label, component, trail, report)
+        },
+    )
+    .or_end(rt)
+}
+
+// Whether this is reported for labels of these texts.
+fn is_told_of_labels(rt: &impl Abort, alloc: Global, texts: &[&str], text: &str) -> bool {
+    let mut report = Report::new(alloc);
+    check_labels(rt, alloc, &labels(rt, alloc, texts), &mut report);
+    prints(rt, alloc, &report, text)
+}
+
+#[test]
+fn a_view_of_each_item(rt: HostRuntime) {
+    let text = "[1]: value does not begin with \"t-\"\n[3]: value does not begin with \"t-\"\n";
+    assert!(rt; is_told_of_labels(&rt, rt.alloc(), &["t-1", "1", "t-", ""], text));
+}

@@ -1,0 +1,92 @@
+//! Calls that need no memory, and one that does, while each request for memory fails.
+
+use super::asked::{Asked, Row, said};
+use super::rules::regex;
+use garde::rules::Rule;
+use garde::rules::pattern::regex::Searcher;
+use garde::rules::values::{Length, WithMessage};
+use garde::{DefaultI18n, RuleError};
+use std::alloc::{AllocError, Global};
+use std::test::Fail;
+use test_memory::Scarce;
+
+/// A pattern of 64 bytes.
+const LONG: &str = "^(one|two|three|four|five|six|seven|eight|nine|ten|eleven|more)$";
+
+/// Texts, and whether that pattern matches them.
+static SEARCHED: [(&str, bool); 3] = [("seven", true), ("zero", false), ("more", true)];
+
+// Whether a searcher answers each of these.
+fn answers_each(alloc: Global, searcher: &Searcher<'_>) -> bool {
+    let mut all = true;
+    for (text, wanted) in &SEARCHED {
+        all = all && searcher.is_match(alloc, text) == Ok(*wanted);
+    }
+    all
+}
+
+// Whether a searcher that was made before answers each search.
+fn searches_without_memory(alloc: Global, pattern: &str) -> Result<bool, AllocError> {
+    let code = regex(alloc, pattern)?;
+    let searcher = code.searcher(alloc)?;
+    let mut memory = Scarce::taken(alloc)?;
+    memory.begin();
+    let answer = answers_each(alloc, &searcher);
+    memory.end();
+    Ok(answer)
+}
+
+#[test]
+fn a_searcher_searches_without_memory(rt: HostRuntime) -> Result<(), Fail> {
+    assert!(rt; searches_without_memory(rt.alloc(), LONG)?);
+    assert!(rt; searches_without_memory(rt.alloc(), "^(seven|more)$")?);
+    Ok(())
+}
+
+/// The texts that the default handler has without memory.
+static STORED: [Row; 3] = [
+    (Asked::Ascii, "not ascii"),
+    (Asked::Alphanumeric, "not alphanumeric"),
+    (Asked::Required, "not set"),
+];
+
+// Whether a reference to the handler hands on each of these texts.
+fn hands_on_each(alloc: Global) -> bool {
+    let mut all = true;
+    for (asked, wanted) in &STORED {
+        all = all
+            && matches!(&said(alloc, &&DefaultI18n, *asked), Ok(text) if text.as_str() == *wanted);
+    }
+    all
+}
+
+// Whether it does so without memory.
+fn hands_on_without_memory(alloc: Global) -> Result<bool, AllocError> {
+    let mut memory = Scarce::taken(alloc)?;
+    memory.begin();
+    let answer = hands_on_each(alloc);
+    memory.end();
+    Ok(answer)
+}
+
+#[test]
+fn a_reference_to_a_handler_copies_no_text(rt: HostRuntime) -> Result<(), Fail> {
+    assert!(rt; hands_on_without_memory(rt.alloc())?);
+    Ok(())
+}
+
+// Whether a rule with a message is out of memory where its handler is.
+fn message_needs_the_handler(alloc: Global) -> Result<bool, AllocError> {
+    let rule = WithMessage(Length { min: 5, max: 9 }, "too short");
+    let mut memory = Scarce::taken(alloc)?;
+    memory.begin();
+    let answer = rule.find(alloc, &"four", &DefaultI18n);
+    memory.end();
+    Ok(matches!(answer, Err(RuleError::Memory)))
+}
+
+#[test]
+fn a_message_is_out_of_memory_where_the_handler_is(rt: HostRuntime) -> Result<(), Fail> {
+    assert!(rt; message_needs_the_handler(rt.alloc())?);
+    Ok(())
+}

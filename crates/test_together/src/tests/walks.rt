@@ -1,0 +1,144 @@
+//! Walks of users, also of nests of lists, where memory runs out.
+
+use super::reports::{has, report_of};
+use super::told::{reads, shows, told};
+use super::user::User;
+use garde::{
+    Component, DefaultI18n, I18n, IntoValidError, Report, Trail, Unvalidated, Validate,
+    ValidateError,
+};
+use std::alloc::{AllocError, Global};
+use std::process::Abort;
+use test_memory::{Met, Scarce};
+
+/// One user of this name.
+pub fn user(alloc: Global, name: &str) -> Result<User, AllocError> {
+    Ok(User {
+        username: String::from_str(alloc, name)?,
+    })
+}
+
+/// What a walk on a new trail reports, and the nodes that it made.
+pub fn walked<T: Validate, H: I18n>(
+    rt: &impl Abort,
+    alloc: Global,
+    value: &T,
+    ctx: &T::Context,
+    h: &H,
+) -> (String, usize) {
+    let mut trail = Trail::new(alloc);
+    let answer = value.validate_on(alloc, ctx, &mut trail, h);
+    let nodes = trail.nodes();
+    (told(rt, alloc, answer), nodes)
+}
+
+/// Whether a walk on a new trail reports just this, and makes so many nodes.
+pub fn is_told<T: Validate, H: I18n>(
+    rt: &impl Abort,
+    alloc: Global,
+    value: &T,
+    ctx: &T::Context,
+    h: &H,
+    (text, nodes): (&str, usize),
+) -> bool {
+    let (told, made) = walked(rt, alloc, value, ctx, h);
+    told.as_str() == text && made == nodes
+}
+
+const OLD: &[&str] = &["old"];
+
+const FOUND: &[&str] = &["not ascii", "length is lower than 3"];
+
+const FAULTS: &[&str] = &["old", "not ascii", "length is lower than 3"];
+
+// Whether a report has the first of the faults, and after it none or some of the others in turn.
+fn begins(report: &Report) -> bool {
+    has(report, OLD) || has(report, &["old", "not ascii"]) || has(report, FAULTS)
+}
+
+pub fn on_users(alloc: Global, memory: &mut Scarce) -> Result<Met, AllocError> {
+    let users = one(alloc, Some(user(alloc, "é")?))?;
+    let mut report = report_of(alloc, OLD)?;
+    let mut trail = Trail::new(alloc);
+    trail.push(Component::key("users"))?;
+    memory.begin();
+    let answer = users.validate_into(alloc, &(), &mut trail, &mut report, &DefaultI18n);
+    memory.end();
+    let mut again = Report::new(alloc);
+    users.validate_into(alloc, &(), &mut trail, &mut again, &DefaultI18n)?;
+    let stands = trail.depth() == 1 && has(&again, FOUND);
+    let text = "users[0].username: not ascii\nusers[0].username: length is lower than 3\n";
+    let same_place = reads(alloc, &again, text)?;
+    Ok(match answer {
+        Ok(()) if stands && same_place && has(&report, FAULTS) => Met::Ample,
+        Err(AllocError) if stands && same_place && begins(&report) => Met::Want,
+        _ => Met::Wrong,
+    })
+}
+
+/// Lists in lists, four deep.
+pub type Four<T> = Vec<Vec<Vec<Vec<T>>>>;
+
+/// The list of one value.
+pub fn one<T: Drop>(alloc: Global, value: T) -> Result<Vec<T>, AllocError> {
+    let mut list = Vec::new(alloc);
+    match list.push(value) {
+        Ok(()) => Ok(list),
+        Err(_) => Err(AllocError),
+    }
+}
+
+/// A value in lists, two deep.
+pub fn two<T: Drop>(alloc: Global, value: T) -> Result<Vec<Vec<T>>, AllocError> {
+    one(alloc, one(alloc, value)?)
+}
+
+/// A value in lists, four deep.
+pub fn four<T: Drop>(alloc: Global, value: T) -> Result<Four<T>, AllocError> {
+    two(alloc, two(alloc, value)?)
+}
+
+/// A value in lists, eight deep.
+pub fn eight<T: Drop>(alloc: Global, value: T) -> Result<Four<Four<T>>, AllocError> {
+    four(alloc, four(alloc, value)?)
+}
+
+/// A user of this name in twelve lists, one in the other.
+pub fn twelve(alloc: Global, name: &str) -> Result<Four<Four<Four<User>>>, AllocError> {
+    let user = user(alloc, name)?;
+    eight(alloc, four(alloc, user)?)
+}
+
+const NESTED: &str = "[0][0][0][0][0][0][0][0][0][0][0][0].username: length is lower than 3\n";
+
+pub fn nest(alloc: Global, memory: &mut Scarce) -> Result<Met, AllocError> {
+    let lists = twelve(alloc, "ab")?;
+    let mut trail = Trail::new(alloc);
+    memory.begin();
+    let answer = lists.validate_on(alloc, &(), &mut trail, &DefaultI18n);
+    memory.end();
+    let stands = trail.depth() == 0;
+    match answer {
+        Err(ValidateError::Report(report)) => {
+            let told = reads(alloc, &report, NESTED)? && trail.nodes() == 13;
+            Ok(Met::Ample.when(stands && told))
+        }
+        Err(ValidateError::Memory) => Ok(Met::Want.when(stands)),
+        Ok(()) => Ok(Met::Wrong),
+    }
+}
+
+pub fn typed(alloc: Global, memory: &mut Scarce) -> Result<Met, AllocError> {
+    let users = Unvalidated::new(one(alloc, Some(user(alloc, "é")?))?);
+    memory.begin();
+    let answer = users.validate(alloc);
+    memory.end();
+    match answer {
+        Err(IntoValidError::Report(report)) => Ok(Met::Ample.when(has(&report, FOUND))),
+        Err(IntoValidError::Memory(back)) => {
+            let same = shows(alloc, &back, "[Some(User { username: \"é\" })]")?;
+            Ok(Met::Want.when(same))
+        }
+        Ok(_) => Ok(Met::Wrong),
+    }
+}

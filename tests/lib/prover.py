@@ -1,0 +1,93 @@
+"""Checks of edited crates by the prover, and what it says of each function."""
+import functools
+import pathlib
+import shutil
+import subprocess
+import tempfile
+
+from lib import repository
+from lib.copies import Copy
+from lib.edits import source_of
+from lib.verdicts import functions_of, without_answers
+
+CRATES = repository.ROOT / "crates"
+
+
+@functools.cache
+def kit():
+    """The folder of the toolchain."""
+    said = subprocess.run(["rt", "doc"], check=True, capture_output=True, text=True).stdout
+    return pathlib.Path(said.strip()).parent
+
+
+def command(crate, functions, jobs, root=repository.ROOT):
+    """A check of some functions of a crate, over the libraries as they were built last, by so many jobs."""
+    libraries, rlibs, crates = repository.libraries(root), kit() / "rlibs", root / "crates"
+    main = "src/main.rt" if (crates / crate / "src/main.rt").is_file() else "src/lib.rt"
+    words = [f"{kit()}/bin/rattle", "check", "--crate-name", crate, main, "--extern", f"std={rlibs}/std.rlib"]
+    for it in libraries[crate]:
+        folder = crates / it / "out/rlib" if it in libraries else rlibs
+        words += ["--extern", f"{it}={folder}/{it}.rlib"]
+    for it in repository.below(crate, root):
+        words += ["-L", f"dependency={crates}/{it}/out/rlib"]
+    words += ["-L", f"dependency={rlibs}", "--antt-project", f"{kit()}/rattle/logic/antt-project.json"]
+    words += ["--logic-built", f"{kit()}/logic_built", "--links", f"{crate}=", "--jobs", str(jobs)]
+    for it in functions:
+        words += ["--only", it]
+    return words
+
+
+def edited(crate, edits, room):
+    """Copies the crate into a folder, with these edits."""
+    copied(CRATES / crate, room)
+    for path in {span[0] for it in edits for span in it.spans}:
+        lines, text, at = source_of(crate, path).split("\n"), [], 0
+        for _, first, end, new in sorted((s for it in edits for s in it.spans if s[0] == path), key=lambda s: s[1:3]):
+            text += lines[at:first] + new
+            at = end
+        pathlib.Path(room, path).write_text("\n".join(text + lines[at:]), encoding="utf-8")
+    for it in edits:
+        if isinstance(it, Copy):
+            it.add_proofs(room)
+        if it.unanswered:
+            leave_out_answers(it, room)
+
+
+def copied(folder, room):
+    """Copies what a check reads of a crate into a folder."""
+    for part in ("src", "specs", "proofs"):
+        if (folder / part).is_dir():
+            shutil.copytree(folder / part, f"{room}/{part}")
+
+
+def leave_out_answers(edit, room):
+    """Takes the answers of some goals out of the proof of an edit's function."""
+    for file in pathlib.Path(room).rglob("proofs/**/Answers.antt"):
+        if edit.function.partition("::")[2] in functions_of(str(file.parent.relative_to(room))):
+            text = without_answers(file.read_text(encoding="utf-8"), edit.unanswered)
+            file.write_text(text, encoding="utf-8")
+
+
+def checked(crate, edits, kept, jobs):
+    """The lines that a check prints of the crate with these edits."""
+    with tempfile.TemporaryDirectory(prefix="wrong-bodies-") as room:
+        edited(crate, edits, room)
+        functions = [it.function.partition("::")[2] for it in edits]
+        return run(["nice", *command(crate, functions, jobs)], room, kept)
+
+
+def run(words, room, kept):
+    """The lines that a check prints in a folder, over the folder of what earlier checks kept."""
+    how = {"stdin": subprocess.DEVNULL, "stdout": subprocess.PIPE, "stderr": subprocess.STDOUT, "errors": "replace"}
+    return subprocess.run([*words, "--incremental", kept], cwd=room, text=True, **how).stdout.splitlines()
+
+
+def build(crates, root=repository.ROOT):
+    """Builds the libraries below these crates that are missing, or older than a source."""
+    for name in dict.fromkeys(it for crate in crates for it in repository.below(crate, root)):
+        made = root / "crates" / name / f"out/rlib/{name}.rlib"
+        below = [*repository.below(name, root), name]
+        folders = [root / "crates" / it / part for it in below for part in ("src", "specs", "proofs")]
+        newest = max(file.stat().st_mtime for folder in folders for file in folder.rglob("*.*"))
+        if not made.is_dir() or made.stat().st_mtime < newest:
+            subprocess.run(["rt", "lib"], cwd=root / "crates" / name, check=True, stdout=subprocess.DEVNULL)

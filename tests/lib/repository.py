@@ -1,0 +1,62 @@
+"""The repository: its files, its crates, and where its documents lie."""
+import functools
+import pathlib
+import re
+import subprocess
+
+ROOT = pathlib.Path(__file__).resolve().parent.parent.parent
+PLACES_OF_PROMISES = ("docs/reference/promises.md", "docs/PROMISES.md")
+
+
+@functools.cache
+def files():
+    """The files that git tracks, or would."""
+    listed = subprocess.run(
+        ["git", "ls-files", "--cached", "--others", "--exclude-standard"],
+        cwd=ROOT, check=True, capture_output=True, text=True,
+    )
+    return [name for name in listed.stdout.splitlines() if (ROOT / name).is_file()]
+
+
+@functools.cache
+def text_of(name):
+    """The text of a file, or an empty one where it is not there."""
+    file = ROOT / name
+    return file.read_text(encoding="utf-8", errors="replace") if file.is_file() else ""
+
+
+def lines_of(name):
+    """The lines of a file with their numbers."""
+    return list(enumerate(text_of(name).splitlines(), 1))
+
+
+@functools.cache
+def libraries(root=ROOT):
+    """The crates of the crates.txt of a repository in its order, each with the libraries on its line."""
+    text = (root / "crates.txt").read_text(encoding="utf-8", errors="replace")
+    rows = [line.partition("#")[0].partition(":") for line in text.splitlines()]
+    return {name.split()[0]: uses.split() for name, _, uses in rows if name.strip()}
+
+
+def crates():
+    """The names of the crates of crates.txt."""
+    return list(libraries())
+
+
+def stating():
+    """The crates whose public functions promise something: the product's, and the examples."""
+    return [name for name in crates() if re.match(r"(garde|example)(_|$)", name)]
+
+
+def below(crate, root=ROOT):
+    """The crates of a repository below one, each after those that it lists."""
+    found = []
+    for it in libraries(root)[crate]:
+        if it in libraries(root):
+            found += [other for other in [*below(it, root), it] if other not in found]
+    return found
+
+
+def promises():
+    """The name of the document that lists the promises."""
+    return next((name for name in PLACES_OF_PROMISES if (ROOT / name).is_file()), PLACES_OF_PROMISES[0])

@@ -1,0 +1,161 @@
+"""The repository that gets the copy."""
+import fcntl
+import os
+import pathlib
+import shutil
+
+from .listing import with_lines
+from .origin import Refusal, read_line
+from .record import NAME, Record, hash_of, read_record
+
+PART = ".vendored-garde.part"
+
+
+class Folder:
+    """The top of a repository: what was copied there before, and the crates of its own. It is locked while in use."""
+
+    def __init__(self, path, root):
+        self.path = pathlib.Path(path)
+        if not self.path.is_dir():
+            raise Refusal(f"{path}: there is no such folder")
+        if pathlib.Path(root).resolve() in (self.path.resolve(), *self.path.resolve().parents):
+            raise Refusal(f"{path}: it lies in the repository that is copied")
+        if not (self.path / "crates.txt").exists() and any((self.path / it).exists() for it in ("MODULE.bazel", "BUILD.bazel")):
+            raise Refusal(f"{path}: it names its crates in BUILD.bazel: list them in crates.txt first, which stands for those files")
+        self.lines = list(filter(None, map(read_line, self.read("crates.txt").splitlines())))
+        self.record = read_record(self.read(NAME))
+        self.prefix = "" if self.lines and not (self.path / "crates").is_dir() else "crates/"
+
+    def __enter__(self):
+        self.lock = os.open(self.path, os.O_RDONLY)
+        try:
+            fcntl.flock(self.lock, fcntl.LOCK_EX | fcntl.LOCK_NB)
+        except BlockingIOError:
+            os.close(self.lock)
+            raise Refusal(f"{self.path}: another call of this command is at work there") from None
+        return self
+
+    def __exit__(self, *_):
+        os.close(self.lock)
+
+    def read(self, name):
+        """The text of a file, empty where there is none. Bytes that are no UTF-8 stay as they are."""
+        try:
+            with open(self.path / name, encoding="utf-8", errors="surrogateescape", newline="") as file:
+                return file.read()
+        except FileNotFoundError:
+            return ""
+
+    def own_lines(self):
+        """The lines of crates.txt that are not of copied crates."""
+        return [it for it in self.lines if it.name not in self.record.lines]
+
+    def own_names(self):
+        return {it.name for it in self.own_lines()}
+
+    def place(self, path):
+        return self.path / f"{self.prefix}{path}"
+
+    # Why nothing is written.
+
+    def refuse_taken(self, name, told):
+        if os.path.lexists(self.place(name)):
+            raise Refusal(f"{self.place(name)}: {told}")
+        if name in self.own_names():
+            raise Refusal(f"{self.path}/crates.txt: {name}: {told}")
+
+    def refuse_changes(self, new):
+        """Refuses a copy that was changed by hand. What is missing is copied again."""
+        for it in self.lines:
+            if it.name in self.record.lines and it.text() not in self.record.lines[it.name]:
+                raise Refusal(f"{self.path}/crates.txt: the line of {it.name} was changed by hand")
+        for name in self.record.lines:
+            for path in self.files(name):
+                if path not in self.record.files:
+                    raise Refusal(f"{self.place(path)}: this file is not of the copy: move it to a crate of your own")
+                if self.mark(path) not in self.record.files[path]:
+                    raise Refusal(f"{self.place(path)}: it was changed by hand: put it back, or delete it to have it copied again")
+
+    def files(self, crate):
+        """The files of a copied crate as they lie there, but for what `rt` builds."""
+        top = self.place(crate)
+        if os.path.lexists(top) and (top.is_symlink() or not top.is_dir()):
+            raise Refusal(f"{top}: it is no folder of the copy")
+        found = []
+        for folder, folders, names in os.walk(top):
+            below = os.path.relpath(folder, top)
+            if below == "." and "out" in folders:
+                folders.remove("out")
+            links = [it for it in folders if os.path.islink(os.path.join(folder, it))]
+            found += [os.path.normpath(os.path.join(crate, below, it)) for it in (*names, *links)]
+        return sorted(found)
+
+    def mark(self, path):
+        """The hash of a file, or nothing where there is no plain file."""
+        place = self.place(path)
+        return hash_of(place.read_bytes()) if place.is_file() and not place.is_symlink() else ""
+
+    # Writing.
+
+    def write(self, plan):
+        """Writes what is planned, and returns what was done. Wherever it ends, a second call can go on."""
+        changed = [path for path, text in plan.files.items() if self.mark(path) != hash_of(text)]
+        gone = [path for name in self.record.lines for path in self.files(name) if path not in plan.files]
+        was = f" (before: {self.record.commit[:12]})" if self.record.commit not in ("", plan.record.commit) else ""
+        listing, ignored = with_lines(self.read("crates.txt"), self.record, plan), self.read(".gitignore")
+        if changed or gone or plan.program or self.record.begun:
+            self.put(NAME, self.record.with_new(plan.record, plan.program.name if plan.program else "").text())
+            for path in changed:
+                self.put(f"{self.prefix}{path}", plan.files[path])
+            for path in gone:
+                self.drop(path)
+            if plan.program and not self.place(plan.program.name).exists():
+                self.put_program(plan.program)
+        if not {it.strip() for it in ignored.splitlines()} & {"out/", "out", "**/out/", "**/out"}:
+            self.put(".gitignore", ignored + ("\n" if ignored and not ignored.endswith("\n") else "") + "out/\n")
+        self.put("crates.txt", listing)
+        self.put(NAME, plan.record.text())
+        return f"{len(changed)} files written, {len(gone)} removed{was}" if changed or gone else f"up to date{was}"
+
+    def put(self, path, text):
+        """Writes a file if it is not so already: in full, or not at all."""
+        content = text if isinstance(text, bytes) else text.encode("utf-8", "surrogateescape")
+        place, part = self.path / path, self.path / PART
+        if place.is_file() and place.read_bytes() == content:
+            return
+        place.parent.mkdir(parents=True, exist_ok=True)
+        self.clear()
+        try:
+            part.write_bytes(content)
+            os.replace(part, place)
+        finally:
+            self.clear()
+
+    def put_program(self, program):
+        """Writes a program's folder: in full, or not at all."""
+        part = self.path / PART
+        self.clear()
+        try:
+            for path, content in program.files.items():
+                (part / path).parent.mkdir(parents=True, exist_ok=True)
+                (part / path).write_bytes(content)
+            self.place("").mkdir(exist_ok=True)
+            os.rename(part, self.place(program.name))
+        finally:
+            self.clear()
+
+    def clear(self):
+        """Removes what an interrupted call left."""
+        part = self.path / PART
+        if part.is_dir() and not part.is_symlink():
+            shutil.rmtree(part)
+        else:
+            part.unlink(missing_ok=True)
+
+    def drop(self, path):
+        """Removes a file of the copy, and the folders that hold nothing more."""
+        self.place(path).unlink(missing_ok=True)
+        for folder in self.place(path).parents:
+            if folder == self.place("") or folder == self.path or any(folder.iterdir()):
+                return
+            folder.rmdir()

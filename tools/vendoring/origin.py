@@ -1,0 +1,138 @@
+"""The repository that is copied, as its last commit has it."""
+import os
+import re
+import subprocess
+from dataclasses import dataclass
+
+PRODUCT = re.compile(r"garde(_\w+)?$")
+LICENCES = ("LICENSE-MIT", "LICENSE-APACHE")
+# Mutants, which the prover has to reject: a test of the crates' contracts, which is run where the crates are written.
+NOT_COPIED = ("must-fail", "wrong-bodies")
+PROGRAM_FILES = ("stdin", "stdout", "args", "status")
+PROGRAM_FOLDERS = ("src", "specs", "proofs", "data")
+
+
+class Refusal(Exception):
+    """Why nothing is copied, in one line."""
+
+
+@dataclass(frozen=True)
+class Line:
+    """A line of crates.txt: a crate, the words between its name and the colon, and the crates that it lists."""
+
+    name: str
+    options: tuple
+    uses: tuple
+
+    def text(self, name=None):
+        return f"{' '.join((name or self.name, *self.options))}:{''.join(f' {it}' for it in self.uses)}"
+
+
+def read_line(text):
+    """The crate that a line of crates.txt names, or None."""
+    before, colon, after = text.partition("#")[0].partition(":")
+    words = before.split()
+    return Line(words[0], tuple(words[1:]), tuple(after.split())) if colon and words else None
+
+
+def is_product(name):
+    return PRODUCT.match(name) is not None
+
+
+class Origin:
+    """The repository at `root`. Everything is read from the last commit."""
+
+    def __init__(self, root):
+        self.root = root
+        try:
+            top = self.git("rev-parse", "--show-toplevel").strip()
+            self.commit, self.date = self.git("log", "-1", "--format=%H %cs").split()
+        except Refusal as refusal:
+            raise Refusal(f"{root} is no git repository with a commit, so that the copy could not say what it is of: {refusal}")
+        if os.path.realpath(top) != os.path.realpath(root):
+            raise Refusal(f"{root} is a part of the repository {top}: call tools/vendor of a clone")
+        rows = self.git("ls-tree", "-rz", self.commit).split("\0")[:-1]
+        self.paths = {path: modes.split()[0] for modes, _, path in (it.partition("\t") for it in rows)}
+        for it in ("crates.txt", *LICENCES):
+            if it not in self.paths:
+                raise Refusal(f"{root}: there is no {it}")
+        lines = filter(None, map(read_line, self.texts(["crates.txt"])[0].decode().splitlines()))
+        self.lines = {it.name: it for it in lines}
+
+    def git(self, *words, binary=False, given=b""):
+        """The output of a git command, which is given some bytes."""
+        kept = {name: value for name, value in os.environ.items() if not name.startswith("GIT_")}
+        try:
+            env = {**kept, "LC_ALL": "C"}
+            ended = subprocess.run(["git", "-C", self.root, *words], input=given, capture_output=True, env=env, check=False)
+        except FileNotFoundError:
+            raise Refusal("there is no command `git`") from None
+        if ended.returncode:
+            raise Refusal((ended.stderr.decode(errors="replace").strip() or f"git {words[0]} failed").splitlines()[0])
+        return ended.stdout if binary else ended.stdout.decode()
+
+    def closure(self, asked):
+        """The product's crates among these with all that they stand on, lowest first, as crates.txt has them."""
+        found, ahead = set(), list(asked)
+        while ahead:
+            name = ahead.pop()
+            if name not in found:
+                found.add(name)
+                ahead += [self.own(it, name) for it in self.lines[name].uses if it in self.lines]
+        return [it for it in self.lines.values() if it.name in found]
+
+    def own(self, name, user):
+        """A crate of this repository that another one lists; only the product's are copied."""
+        if not is_product(name):
+            raise Refusal(f"{user} cannot be copied: it stands on {name}, which is no crate of the product")
+        return name
+
+    def program(self, name):
+        """The line of a program to copy."""
+        if name not in self.lines or not name.startswith("use_"):
+            known = ", ".join(it for it in self.lines if it.startswith("use_"))
+            raise Refusal(f"{name} is no program to copy: those are {known}")
+        for it in self.lines[name].uses:
+            if it in self.lines:
+                self.own(it, name)
+        return self.lines[name]
+
+    def crate_files(self, name):
+        """The files of a crate by their paths in it, but for its mutants."""
+        return {path: it for path, it in self.files(f"crates/{name}").items() if path.split("/")[0] not in NOT_COPIED}
+
+    def program_files(self, name, copy):
+        """The files of a program, which is called `copy` in its sources. Its README speaks of tests that stay here."""
+        kept = {}
+        for path, it in self.files(f"crates/{name}").items():
+            first, *more = path.split("/")
+            if first in PROGRAM_FOLDERS and more and first != "data":
+                kept[path] = re.sub(rf"\b{name}\b".encode(), copy.encode(), it)
+            elif path in PROGRAM_FILES or first == "data":
+                kept[path] = it
+        return kept
+
+    def refuse_changes(self, paths):
+        """Refuses files that differ from the last commit."""
+        changed = self.git("status", "--porcelain", "--untracked-files=all", "--", *paths).splitlines()
+        if changed:
+            raise Refusal(f"{self.root}: {changed[0][3:]} has a change with no commit, so that the copy could not say what it is of")
+
+    def files(self, folder):
+        """The files under a folder by their paths in it."""
+        paths = [it for it in self.paths if it.startswith(f"{folder}/")]
+        for path in paths:
+            if not self.paths[path].startswith("100"):
+                raise Refusal(f"{path} is no plain file")
+        return {path[len(folder) + 1 :]: text for path, text in zip(paths, self.texts(paths))}
+
+    def texts(self, paths):
+        """What files hold."""
+        asked = "".join(f"{self.commit}:{path}\n" for path in paths).encode()
+        output, at, found = self.git("cat-file", "--batch", binary=True, given=asked), 0, []
+        for _ in paths:
+            end = output.index(b"\n", at)
+            size = int(output[at:end].split()[2])
+            found.append(output[end + 1 : end + 1 + size])
+            at = end + size + 2
+        return found

@@ -1,0 +1,86 @@
+"""What is to be copied into a folder, and why it may not be."""
+import re
+from dataclasses import dataclass
+
+from .origin import LICENCES, Line, Refusal, is_product
+from .record import Record, hash_of
+
+NAMES = re.compile(r"[a-z][a-z0-9_]*$")
+
+
+@dataclass(frozen=True)
+class Program:
+    """A program to begin with: its name, the program that it is a copy of, its line, its files and the command that runs it."""
+
+    name: str
+    source: str
+    line: str
+    files: dict
+    run: str
+
+
+@dataclass(frozen=True)
+class Plan:
+    """What is to be copied: the crates, lowest first, their files by their paths, the record of it all, and a program."""
+
+    crates: tuple
+    files: dict
+    record: Record
+    program: Program
+
+
+def plan_of(origin, folder, more, program, name):
+    """Reads what is to be copied, and refuses what cannot be."""
+    for it in more:
+        known(origin, it, f"{it} is no crate of the product")
+    for it in folder.record.asked:
+        known(origin, it, f"{it}, which VENDORED-garde asks for, is a crate of the product no more")
+    source = origin.program(program) if program else None
+    listed = [it for line in (*folder.own_lines(), *filter(None, [source])) for it in line.uses]
+    listed = [it for it in listed if it in origin.lines and is_product(it) and it not in folder.own_names()]
+    asked = tuple(sorted({"garde", *folder.record.asked, *more, *listed}))
+    crates = origin.closure(asked)
+    lines = [*crates, *filter(None, [source])]
+    origin.refuse_changes(["crates.txt", *LICENCES, *(f"crates/{it.name}" for it in lines)])
+    copied = program_of(origin, folder, source, name or program) if source else None
+    refuse_names(folder, crates, lines)
+    files = {f"{it.name}/{path}": text for it in crates for path, text in origin.crate_files(it.name).items()}
+    files.update(zip((f"garde/{it}" for it in LICENCES), origin.texts(LICENCES)))
+    record = Record(origin.commit, origin.date, asked)
+    for it in crates:
+        record.add(it)
+    record.files = {path: [hash_of(text)] for path, text in files.items()}
+    folder.refuse_changes(record)
+    return Plan(tuple(crates), files, record, copied)
+
+
+def known(origin, name, told):
+    if name not in origin.lines or not is_product(name):
+        raise Refusal(f"{told}: those are {', '.join(filter(is_product, origin.lines))}")
+
+
+def program_of(origin, folder, source, name):
+    """The program to begin with, under its name."""
+    if not NAMES.match(name):
+        raise Refusal(f"{name} cannot be the name of a crate: lower-case letters, digits and `_`, a letter first")
+    if is_product(name) or name in origin.lines[source.name].uses:
+        raise Refusal(f"{name} cannot be the name of a crate of yours: it is the name of one that the program stands on")
+    if folder.record.begun != name:
+        folder.refuse_taken(name, "yours already: choose another name for the program")
+    files = origin.program_files(source.name, name)
+    line = Line(name, source.options, source.uses).text()
+    words = files["args"].decode().split() if "args" in files else []
+    run = " ".join(["rt try", *(["--", *words] if words else []), *(["< stdin"] if "stdin" in files else [])])
+    return Program(name, source.name, line, files, run)
+
+
+def refuse_names(folder, crates, lines):
+    """Refuses crates whose names the folder uses for others, or whose toolchain crates it does."""
+    for it in crates:
+        if it.name not in folder.record.lines:
+            folder.refuse_taken(it.name, "a crate of that name is there, which is not a copy of ours")
+    copied, own = {it.name for it in crates}, folder.own_names()
+    for line in lines:
+        for it in line.uses:
+            if it not in copied and it in own:
+                raise Refusal(f"{folder.path}/crates.txt: {it} is a crate of yours, and {line.name} stands on the toolchain's of that name")
