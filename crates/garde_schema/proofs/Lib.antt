@@ -1,0 +1,8 @@
+mod Lemmas
+mod Examined
+mod Nulls
+mod Unions
+mod RulesOnValue
+mod Lists
+mod Maps
+mod Making

@@ -1,0 +1,51 @@
+-- What reading bytes returns.
+use Rattle.std.specs.Prelude.{◌≡◌, ◌<◌, ⊤, ℕ, List, length, None, IsSomeAnd, Result, Ok, Err, codes, IsUtf8}
+use Rattle.json.specs.Json.{Json, document}
+use Rattle.garde_i18n.specs.Datum.{Datum}
+use Rattle.garde_report.specs.Report.{report_text}
+use Rattle.garde_tape.specs.declared.parse_error.ParseError.{ParseError}
+use Rattle.garde_tape.specs.declared.parse_error.ParseError.TheVariants as parse
+use Rattle.garde_tape.specs.Refusals.{parse_error_text}
+use Rattle.garde.specs.Answers.{Answers}
+use Rattle.garde.specs.Visits.{Visits}
+use Rattle.garde.specs.declared.validate_error.ValidateError.{ValidateError}
+use Rattle.garde.specs.declared.validate_error.ValidateError.TheVariants as errors
+use Rattle.garde_schema.specs.declared.read_error.ReadError.{ReadError}
+use Rattle.garde_schema.specs.declared.read_error.ReadError.TheVariants.{Parse, Report, Memory}
+
+-- the bytes are UTF-8 and a JSON text, and this holds of its value
+abbrev pub OfDocument : List ℕ → (Json → Type 0) → Type 0
+OfDocument bytes holds = IsUtf8 bytes × IsSomeAnd (document bytes) holds
+
+-- why the bytes are not read as a JSON text: that memory ran out is said otherwise
+abbrev pub NoDocument : List ℕ → ParseError → Type 0
+NoDocument bytes (parse.NotUtf8 place) = ¬ IsUtf8 bytes
+NoDocument bytes (parse.NotJson place) = IsUtf8 bytes × (document bytes ≡ None)
+NoDocument bytes parse.TooLong = 4294967040 < length bytes
+NoDocument bytes parse.Memory = ⊥
+
+-- The result. Ok: the bytes are a JSON text, and no tree of faults of its value has a fault. A report: it is that of a tree of faults
+-- of its value. `Memory` is the answer of the parser or of the walk: no reason is promised for it.
+abbrev pub AnswersBytes : (Json → Visits) → (Datum → List ℕ) → List ℕ → Result (Unit {0}) ReadError → Type 0
+AnswersBytes visits text bytes (Ok done) = OfDocument bytes (λ j. Answers (visits j) text (Ok done))
+AnswersBytes visits text bytes (Err (Parse error)) = NoDocument bytes error
+AnswersBytes visits text bytes (Err (Report report)) = OfDocument bytes (λ j. Answers (visits j) text (Err (errors.Report report)))
+AnswersBytes visits text bytes (Err Memory) = ⊤
+
+-- the error of the parser, as one of reading
+abbrev pub of_parse_error : ParseError → ReadError
+of_parse_error (parse.NotUtf8 place) = Parse (parse.NotUtf8 place)
+of_parse_error (parse.NotJson place) = Parse (parse.NotJson place)
+of_parse_error parse.TooLong = Parse parse.TooLong
+of_parse_error parse.Memory = Memory
+
+-- the error of validation, as one of reading
+abbrev pub of_validate_error : ValidateError → ReadError
+of_validate_error (errors.Report report) = Report report
+of_validate_error errors.Memory = Memory
+
+-- what the error prints
+abbrev pub read_error_text : ReadError → List ℕ
+read_error_text (Parse error) = parse_error_text error
+read_error_text (Report report) = report_text report
+read_error_text Memory = codes "out of memory"

@@ -1,0 +1,81 @@
+-- The texts of the faults of form: in English, and as codes.
+use Rattle.std.specs.Prelude.{ℕ, List, ◌++◌, codes}
+use Rattle.garde_tape.specs.declared.kind.Kind.{Kind}
+use Rattle.garde_tape.specs.declared.kind.Kind.TheVariants as kinds
+use Rattle.garde_schema.specs.declared.fault.FormFault.{FormFault}
+use Rattle.garde_schema.specs.declared.fault.FormFault.TheVariants as faults
+use Rattle.garde_schema.specs.declared.fault.Wanted.{Wanted}
+use Rattle.garde_schema.specs.declared.fault.Wanted.TheVariants as wants
+use Rattle.garde_schema.specs.declared.fault.Integer.{Integer}
+use Rattle.garde_schema.specs.declared.fault.Integer.TheVariants as integers
+
+-- that something else is wanted, in English
+abbrev pub wanted_text : Wanted → List ℕ
+wanted_text wants.Text = codes "not a text"
+wanted_text wants.Whole = codes "not a whole number"
+wanted_text wants.Boolean = codes "not true or false"
+wanted_text wants.Null = codes "not null"
+wanted_text wants.List = codes "not a list"
+wanted_text wants.Object = codes "not an object"
+
+-- that a whole number is not one of those of this type, which are named, in English
+abbrev pub range_text : Integer → List ℕ
+range_text integers.U8 = codes "out of range: 0 to 255"
+range_text integers.U16 = codes "out of range: 0 to 65535"
+range_text integers.U32 = codes "out of range: 0 to 4294967295"
+range_text integers.U64 = codes "out of range: 0 to 18446744073709551615"
+range_text integers.U128 = codes "out of range: 0 to 340282366920938463463374607431768211455"
+range_text integers.I8 = codes "out of range: -128 to 127"
+range_text integers.I16 = codes "out of range: -32768 to 32767"
+range_text integers.I32 = codes "out of range: -2147483648 to 2147483647"
+range_text integers.I64 = codes "out of range: -9223372036854775808 to 9223372036854775807"
+range_text integers.I128 = codes "out of range: -170141183460469231731687303715884105728 to 170141183460469231731687303715884105727"
+
+-- the text of a fault of form, in English: what was found is not told
+abbrev pub default_form_text : FormFault → List ℕ
+default_form_text (faults.Wrong wanted found) = wanted_text wanted
+default_form_text (faults.OutOfRange integer) = range_text integer
+default_form_text faults.Missing = codes "missing"
+default_form_text faults.Repeated = codes "repeated"
+default_form_text faults.Unknown = codes "not known here"
+default_form_text faults.NotOneOf = codes "not one of the known values"
+
+-- the name of what is wanted
+abbrev pub wanted_code : Wanted → List ℕ
+wanted_code wants.Text = codes "Text"
+wanted_code wants.Whole = codes "Whole"
+wanted_code wants.Boolean = codes "Boolean"
+wanted_code wants.Null = codes "Null"
+wanted_code wants.List = codes "List"
+wanted_code wants.Object = codes "Object"
+
+-- the name of what was found
+abbrev pub kind_code : Kind → List ℕ
+kind_code kinds.Text = codes "Text"
+kind_code kinds.Number = codes "Number"
+kind_code kinds.Boolean = codes "Boolean"
+kind_code kinds.Null = codes "Null"
+kind_code kinds.List = codes "List"
+kind_code kinds.Object = codes "Object"
+
+-- the name of a type of whole numbers
+abbrev pub integer_code : Integer → List ℕ
+integer_code integers.U8 = codes "u8"
+integer_code integers.U16 = codes "u16"
+integer_code integers.U32 = codes "u32"
+integer_code integers.U64 = codes "u64"
+integer_code integers.U128 = codes "u128"
+integer_code integers.I8 = codes "i8"
+integer_code integers.I16 = codes "i16"
+integer_code integers.I32 = codes "i32"
+integer_code integers.I64 = codes "i64"
+integer_code integers.I128 = codes "i128"
+
+-- the text of a fault of form, as a code: the name of the method, and the name and the value of each argument
+abbrev pub code_form_text : FormFault → List ℕ
+code_form_text (faults.Wrong wanted found) = codes "wrong_form wanted=" ++ (wanted_code wanted ++ (codes " found=" ++ kind_code found))
+code_form_text (faults.OutOfRange integer) = codes "out_of_range of=" ++ integer_code integer
+code_form_text faults.Missing = codes "member_missing"
+code_form_text faults.Repeated = codes "member_repeated"
+code_form_text faults.Unknown = codes "member_unknown"
+code_form_text faults.NotOneOf = codes "value_unknown"

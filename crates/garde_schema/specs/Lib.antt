@@ -1,0 +1,12 @@
+pub mod Bytes
+pub mod FormText
+pub mod Forms
+pub mod Members
+pub mod Nulls
+pub mod OneOf
+pub mod Variants
+pub mod Whole
+pub mod RulesOnValue
+pub mod Flat
+pub mod Lists
+pub mod Maps

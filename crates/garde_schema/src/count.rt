@@ -1,0 +1,49 @@
+//! How many items a list has.
+ghost use Rattle.std.specs.Prelude.{◌≡◌, length, IfSome};
+ghost use Rattle.garde_schema.specs.Lists.{list_of};
+
+use garde::rules::length::HasSimpleLength;
+use garde_tape::Tree;
+use std::marker::Model;
+
+/// How many items a list has, which the rules of a list ask. A contract sees the number. It is the
+/// simple length, so `length!` asks it.
+#[derive(Clone, Copy, Debug)]
+pub struct Count(usize);
+
+impl Model for Count {
+    ghost use Rattle.std.specs.Prelude.{ℕ};
+
+    ghost Value = { ℕ };
+
+    ghost view = { λ count. count.0 };
+
+    ghost inverse = { λ number. record { 0 = number } };
+}
+
+impl Count {
+    // How many items a list has.
+    pub(crate) fn of(tree: &Tree<'_, '_>) -> Count
+        ensures { IfSome (list_of tree.now) (λ items. result ≡ length items) }
+    {
+        match tree.items() {
+            Some(items) => Count(items.count()),
+            None => Count(0),
+        }
+    }
+
+    /// The number.
+    pub fn get(&self) -> usize
+        ensures { result ≡ self.now }
+    {
+        self.0
+    }
+}
+
+impl HasSimpleLength for Count {
+    ghost simple_len = { λ count. count };
+
+    fn length(&self) -> usize {
+        self.0
+    }
+}

@@ -1,0 +1,72 @@
+//! The form, the rules and the value of a JSON tree, said as one expression.
+#![tactic(auto)]
+
+mod built;
+mod checked;
+mod closed;
+mod code;
+mod count;
+mod default;
+mod duplicate;
+mod either;
+mod fault;
+mod form;
+mod from_bytes;
+mod handler;
+mod items;
+mod leaf;
+mod list;
+mod list_under;
+mod map;
+mod member;
+mod nullable;
+mod nullish;
+mod object;
+mod one_of;
+mod optional;
+mod put;
+mod read_error;
+mod reading;
+mod rules;
+mod simple;
+mod tagged;
+mod text;
+mod text_ref;
+mod tuples;
+mod variants;
+mod whole;
+mod with_default;
+
+pub use built::{Build, Built};
+pub use checked::{Checked, Under};
+pub use closed::Closed;
+pub use count::Count;
+pub use duplicate::Duplicate;
+pub use either::Either;
+pub use fault::{FormFault, Integer, Wanted};
+pub use form::{Form, Members};
+pub use from_bytes::read_json;
+pub use garde_tape::{
+    Found, Kind, ParseError, Place, Scratch, Tape, Tree, TreeItems, TreeMembers, parse, parse_bytes,
+};
+pub use handler::FormI18n;
+pub use items::Items;
+pub use list::List;
+pub use list_under::ListUnder;
+pub use map::{Entries, Map};
+pub use member::Member;
+pub use nullable::Nullable;
+pub use nullish::Nullish;
+pub use object::Object;
+pub use one_of::OneOf;
+pub use optional::Optional;
+pub use read_error::ReadError;
+pub use reading::read;
+pub use rules::Rules;
+pub use simple::{Any, Flag, Null};
+pub use tagged::Tagged;
+pub use text::Text;
+pub use text_ref::TextRef;
+pub use variants::{Variant, Variants};
+pub use whole::{I8, I16, I32, I64, Isize, U8, U16, U32, U64, Usize, Whole, WholeType};
+pub use with_default::WithDefault;

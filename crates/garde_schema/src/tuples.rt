@@ -1,0 +1,124 @@
+//! Tuples of members, of one to twelve.
+ghost use Rattle.std.specs.Prelude.{◌≡◌, ◌||◌};
+ghost use Rattle.garde.specs.Visits.{◌and◌};
+ghost use Rattle.garde_schema.specs.Flat.{all1};
+ghost use Rattle.garde_schema.specs.Forms.{both};
+
+/// References to the members of a tuple: those at the first indexes, and a tuple of the others.
+macro_rules! nested {
+    ($tuple:expr; [$($front:tt)+] [$($rest:tt)+]) => {
+        ($(&$tuple.$front),+, ($(&$tuple.$rest),+))
+    };
+}
+
+mod flat;
+mod long;
+mod middle;
+mod short;
+
+use crate::form::Members;
+use crate::handler::FormI18n;
+use garde::{I18n, Report, Trail};
+use garde_tape::Tree;
+use std::alloc::{AllocError, Global};
+
+/// One alone.
+impl<'a, A: Members<'a>> Members<'a> for (A,) {
+    type Out = (A::Out,);
+
+    ghost visits = { λ all texts j. A.visits all.0 texts j };
+
+    ghost value = { λ all j. all1 (A.value all.0 j) };
+
+    ghost keeps = { λ all out. A.keeps all.0 out.0 };
+
+    ghost names = { λ all name. A.names all.0 name };
+
+    fn read_members<'t, H: I18n + FormI18n>(
+        &self,
+        alloc: Global,
+        object: &Tree<'t, 'a>,
+        trail: &mut Trail<'a>,
+        report: &mut Report,
+        h: &H,
+    ) -> Result<Option<Self::Out>, AllocError> {
+        match self.0.read_members(alloc, object, trail, report, h) {
+            Ok(Some(value)) => Ok(Some((value,))),
+            Ok(None) => Ok(None),
+            Err(refused) => Err(refused),
+        }
+    }
+
+    fn names(&self, name: &str) -> bool {
+        self.0.names(name)
+    }
+}
+
+// Both values, where both are there.
+#[inline(always)]
+fn pair<A: Drop, B: Drop>(first: Option<A>, second: Option<B>) -> Option<(A, B)>
+    ensures { result ≡ both first second }
+{
+    match (first, second) {
+        (Some(first), Some(second)) => Some((first, second)),
+        _ => None,
+    }
+}
+
+/// Two in turn.
+impl<'a, A: Members<'a>, B: Members<'a>> Members<'a> for (A, B) {
+    type Out = (A::Out, B::Out);
+
+    ghost visits = { λ all texts j. A.visits all.0 texts j and B.visits all.1 texts j };
+
+    ghost value = { λ all j. both (A.value all.0 j) (B.value all.1 j) };
+
+    ghost keeps = { λ all out. A.keeps all.0 out.0 × B.keeps all.1 out.1 };
+
+    ghost names = { λ all name. A.names all.0 name || B.names all.1 name };
+
+    fn read_members<'t, H: I18n + FormI18n>(
+        &self,
+        alloc: Global,
+        object: &Tree<'t, 'a>,
+        trail: &mut Trail<'a>,
+        report: &mut Report,
+        h: &H,
+    ) -> Result<Option<(A::Out, B::Out)>, AllocError> {
+        let first = self.0.read_members(alloc, object, trail, report, h)?;
+        let second = self.1.read_members(alloc, object, trail, report, h)?;
+        Ok(pair(first, second))
+    }
+
+    fn names(&self, name: &str) -> bool {
+        self.0.names(name) || self.1.names(name)
+    }
+}
+
+/// The members that are referred to.
+impl<'r, 'a, M: Members<'a>> Members<'a> for &'r M {
+    type Out = M::Out;
+
+    ghost visits = { λ members texts j. M.visits members.now texts j };
+
+    ghost value = { λ members j. M.value members.now j };
+
+    ghost keeps = { λ members out. M.keeps members.now out };
+
+    ghost names = { λ members name. M.names members.now name };
+
+    fn read_members<'t, H: I18n + FormI18n>(
+        &self,
+        alloc: Global,
+        object: &Tree<'t, 'a>,
+        trail: &mut Trail<'a>,
+        report: &mut Report,
+        h: &H,
+    ) -> Result<Option<M::Out>, AllocError> {
+        (**self).read_members(alloc, object, trail, report, h)
+    }
+
+    fn names(&self, name: &str) -> bool {
+        (**self).names(name)
+    }
+}

@@ -1,0 +1,215 @@
+//! Tuples of more than two values, which are read as pairs in pairs.
+ghost use Rattle.std.specs.Prelude.{◌≡◌, IfOk, OnOk, option_map};
+ghost use Rattle.garde.specs.Visits.{Visited};
+ghost use Rattle.garde_schema.specs.Flat.{flat3, flat4, flat5, flat6, flat7, flat8, flat9, flat10, flat11, flat12};
+ghost use Rattle.garde_schema.specs.Forms.{forget, Sound};
+
+use crate::form::Members;
+use crate::handler::FormI18n;
+use garde::{I18n, Report, Trail};
+use garde_tape::Tree;
+use std::alloc::{AllocError, Global};
+
+/// A tuple whose values lie in pairs as well.
+pub(crate) trait Flat {
+    /// The first, and a pair of the others in turn.
+    type Nested;
+
+    /// The tuple of these pairs.
+    ghost flat: { Self.Nested → Self };
+
+    /// The pairs of this tuple.
+    ghost nested: { Self → Self.Nested };
+
+    /// The tuple of these pairs.
+    fn flat(pairs: Self::Nested) -> Self
+        ensures flat { result ≡ flat pairs }
+        ensures nested { nested result ≡ pairs };
+}
+
+// Reads members that are nested in pairs, as a tuple.
+pub(crate) fn read_nested<
+    't,
+    'a,
+    T: Flat + Drop,
+    M: Members<'a, Out = T::Nested>,
+    H: I18n + FormI18n,
+>(
+    alloc: Global,
+    members: &M,
+    object: &Tree<'t, 'a>,
+    trail: &mut Trail<'a>,
+    report: &mut Report,
+    h: &H,
+) -> Result<Option<T>, AllocError>
+    ensures answer { Visited (M.visits members.now (H.form_text h.now) object.now) (H.text h.now)
+        trail.old trail.new report.old report.new (forget result) }
+    ensures value { IfOk result (λ out. out ≡ option_map (λ v. T.flat v) (M.value members.now object.now)) }
+    ensures sound { OnOk result (Sound (M.visits members.now (H.form_text h.now) object.now)
+        (λ out. M.keeps members.now (T.nested out))
+        (option_map (λ v. T.flat v) (M.value members.now object.now))) }
+{
+    match members.read_members(alloc, object, trail, report, h) {
+        Ok(Some(pairs)) => Ok(Some(T::flat(pairs))),
+        Ok(None) => Ok(None),
+        Err(refused) => Err(refused),
+    }
+}
+
+impl<A: Drop, B: Drop, C: Drop> Flat for (A, B, C) {
+    type Nested = (A, (B, C));
+
+    ghost flat = { λ v. flat3 v };
+
+    ghost nested = { λ v. (v.0, (v.1, v.2)) };
+
+    fn flat(parts: (A, (B, C))) -> (A, B, C) {
+        let (a, (b, c)) = parts;
+        (a, b, c)
+    }
+}
+
+impl<A: Drop, B: Drop, C: Drop, D: Drop> Flat for (A, B, C, D) {
+    type Nested = (A, B, (C, D));
+
+    ghost flat = { λ v. flat4 v };
+
+    ghost nested = { λ v. (v.0, v.1, (v.2, v.3)) };
+
+    fn flat(parts: (A, B, (C, D))) -> (A, B, C, D) {
+        let (a, b, (c, d)) = parts;
+        (a, b, c, d)
+    }
+}
+
+impl<A: Drop, B: Drop, C: Drop, D: Drop, E: Drop> Flat for (A, B, C, D, E) {
+    type Nested = (A, B, C, (D, E));
+
+    ghost flat = { λ v. flat5 v };
+
+    ghost nested = { λ v. (v.0, v.1, v.2, (v.3, v.4)) };
+
+    fn flat(parts: (A, B, C, (D, E))) -> (A, B, C, D, E) {
+        let (a, b, c, (d, e)) = parts;
+        (a, b, c, d, e)
+    }
+}
+
+impl<A: Drop, B: Drop, C: Drop, D: Drop, E: Drop, F: Drop> Flat for (A, B, C, D, E, F) {
+    type Nested = (A, B, C, (D, E, F));
+
+    ghost flat = { λ v. flat6 v };
+
+    ghost nested = { λ v. (v.0, v.1, v.2, (v.3, v.4, v.5)) };
+
+    fn flat(parts: (A, B, C, (D, E, F))) -> (A, B, C, D, E, F) {
+        let (a, b, c, (d, e, f)) = parts;
+        (a, b, c, d, e, f)
+    }
+}
+
+impl<A: Drop, B: Drop, C: Drop, D: Drop, E: Drop, F: Drop, G: Drop> Flat for (A, B, C, D, E, F, G) {
+    type Nested = (A, B, C, (D, E, F, G));
+
+    ghost flat = { λ v. flat7 v };
+
+    ghost nested = { λ v. (v.0, v.1, v.2, (v.3, v.4, v.5, v.6)) };
+
+    fn flat(parts: (A, B, C, (D, E, F, G))) -> (A, B, C, D, E, F, G) {
+        let (a, b, c, (d, e, f, g)) = parts;
+        (a, b, c, d, e, f, g)
+    }
+}
+
+impl<A: Drop, B: Drop, C: Drop, D: Drop, E: Drop, F: Drop, G: Drop, I: Drop> Flat
+    for (A, B, C, D, E, F, G, I) {
+    type Nested = (A, B, C, (D, E, F, G, I));
+
+    ghost flat = { λ v. flat8 v };
+
+    ghost nested = { λ v. (v.0, v.1, v.2, (v.3, v.4, v.5, v.6, v.7)) };
+
+    fn flat(parts: (A, B, C, (D, E, F, G, I))) -> (A, B, C, D, E, F, G, I) {
+        let (a, b, c, (d, e, f, g, i)) = parts;
+        (a, b, c, d, e, f, g, i)
+    }
+}
+
+impl<A: Drop, B: Drop, C: Drop, D: Drop, E: Drop, F: Drop, G: Drop, I: Drop, J: Drop> Flat
+    for (A, B, C, D, E, F, G, I, J) {
+    type Nested = (A, B, C, (D, E, F, G, I, J));
+
+    ghost flat = { λ v. flat9 v };
+
+    ghost nested = { λ v. (v.0, v.1, v.2, (v.3, v.4, v.5, v.6, v.7, v.8)) };
+
+    fn flat(parts: (A, B, C, (D, E, F, G, I, J))) -> (A, B, C, D, E, F, G, I, J) {
+        let (a, b, c, (d, e, f, g, i, j)) = parts;
+        (a, b, c, d, e, f, g, i, j)
+    }
+}
+
+impl<A: Drop, B: Drop, C: Drop, D: Drop, E: Drop, F: Drop, G: Drop, I: Drop, J: Drop, K: Drop> Flat
+    for (A, B, C, D, E, F, G, I, J, K) {
+    type Nested = (A, B, C, (D, E, F, G, I, J, K));
+
+    ghost flat = { λ v. flat10 v };
+
+    ghost nested = { λ v. (v.0, v.1, v.2, (v.3, v.4, v.5, v.6, v.7, v.8, v.9)) };
+
+    fn flat(parts: (A, B, C, (D, E, F, G, I, J, K))) -> (A, B, C, D, E, F, G, I, J, K) {
+        let (a, b, c, (d, e, f, g, i, j, k)) = parts;
+        (a, b, c, d, e, f, g, i, j, k)
+    }
+}
+
+impl<
+    A: Drop,
+    B: Drop,
+    C: Drop,
+    D: Drop,
+    E: Drop,
+    F: Drop,
+    G: Drop,
+    I: Drop,
+    J: Drop,
+    K: Drop,
+    L: Drop,
+> Flat for (A, B, C, D, E, F, G, I, J, K, L) {
+    type Nested = (A, B, C, (D, E, F, G, I, J, K, L));
+
+    ghost flat = { λ v. flat11 v };
+
+    ghost nested = { λ v. (v.0, v.1, v.2, (v.3, v.4, v.5, v.6, v.7, v.8, v.9, v.10)) };
+
+    fn flat(parts: (A, B, C, (D, E, F, G, I, J, K, L))) -> (A, B, C, D, E, F, G, I, J, K, L) {
+        let (a, b, c, (d, e, f, g, i, j, k, l)) = parts;
+        (a, b, c, d, e, f, g, i, j, k, l)
+    }
+}
+
+impl<
+    A: Drop,
+    B: Drop,
+    C: Drop,
+    D: Drop,
+    E: Drop,
+    F: Drop,
+    G: Drop,
+    I: Drop,
+    J: Drop,
+    K: Drop,
+    L: Drop,
+    M: Drop,
+> Flat for (A, B, C, D, E, F, G, I, J, K, L, M) {
+    type Nested = (A, B, C, (D, E, F, G, I, J, K, L, M));
+
+    ghost flat = { λ v. flat12 v };
+
+    ghost nested = { λ v. (v.0, v.1, v.2, (v.3, v.4, v.5, v.6, v.7, v.8, v.9, v.10, v.11)) };
+
+    fn flat(parts: (A, B, C, (D, E, F, G, I, J, K, L, M))) -> (A, B, C, D, E, F, G, I, J, K, L, M) {
+        let (a, b, c, (d, e, f, g, i, j, k, l, m)) = parts;
+        (a, b, c, d, e, f, g, i, j, k, l, m)
+    }
+}

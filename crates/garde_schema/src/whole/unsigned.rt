@@ -1,0 +1,138 @@
+//! The types of whole numbers without a sign.
+ghost use Rattle.std.specs.Prelude.{◌≡◌, ◌-◌, ◌^◌};
+ghost use Rattle.garde_schema.specs.declared.fault.Integer.TheVariants as integers;
+ghost use Rattle.garde_schema.specs.Whole.{up_to, unsigned_value};
+
+use super::WholeType;
+use crate::fault::Integer;
+use garde_tape::Tree;
+
+/// `u8`.
+#[derive(Clone, Copy, Debug)]
+pub struct U8;
+
+impl WholeType for U8 {
+    type Number = u8;
+
+    ghost integer = { λ _. integers.U8 };
+
+    ghost spelled = { λ _ j. up_to (2 ^ 8 - 1) (unsigned_value j) };
+
+    fn integer(&self) -> Integer {
+        Integer::U8
+    }
+
+    fn spelled(&self, tree: &Tree<'_, '_>) -> Option<u8> {
+        match tree.as_u64() {
+            None => None,
+            Some(n) => {
+                if n > u8::MAX as u64 {
+                    None
+                } else {
+                    Some(n as u8)
+                }
+            }
+        }
+    }
+}
+
+/// `u16`.
+#[derive(Clone, Copy, Debug)]
+pub struct U16;
+
+impl WholeType for U16 {
+    type Number = u16;
+
+    ghost integer = { λ _. integers.U16 };
+
+    ghost spelled = { λ _ j. up_to (2 ^ 16 - 1) (unsigned_value j) };
+
+    fn integer(&self) -> Integer {
+        Integer::U16
+    }
+
+    fn spelled(&self, tree: &Tree<'_, '_>) -> Option<u16> {
+        match tree.as_u64() {
+            None => None,
+            Some(n) => {
+                if n > u16::MAX as u64 {
+                    None
+                } else {
+                    Some(n as u16)
+                }
+            }
+        }
+    }
+}
+
+/// `u32`.
+#[derive(Clone, Copy, Debug)]
+pub struct U32;
+
+impl WholeType for U32 {
+    type Number = u32;
+
+    ghost integer = { λ _. integers.U32 };
+
+    ghost spelled = { λ _ j. up_to (2 ^ 32 - 1) (unsigned_value j) };
+
+    fn integer(&self) -> Integer {
+        Integer::U32
+    }
+
+    fn spelled(&self, tree: &Tree<'_, '_>) -> Option<u32> {
+        match tree.as_u64() {
+            None => None,
+            Some(n) => {
+                if n > u32::MAX as u64 {
+                    None
+                } else {
+                    Some(n as u32)
+                }
+            }
+        }
+    }
+}
+
+/// `u64`.
+#[derive(Clone, Copy, Debug)]
+pub struct U64;
+
+impl WholeType for U64 {
+    type Number = u64;
+
+    ghost integer = { λ _. integers.U64 };
+
+    ghost spelled = { λ _ j. unsigned_value j };
+
+    fn integer(&self) -> Integer {
+        Integer::U64
+    }
+
+    fn spelled(&self, tree: &Tree<'_, '_>) -> Option<u64> {
+        tree.as_u64()
+    }
+}
+
+/// `usize`.
+#[derive(Clone, Copy, Debug)]
+pub struct Usize;
+
+impl WholeType for Usize {
+    type Number = usize;
+
+    ghost integer = { λ _. integers.U64 };
+
+    ghost spelled = { λ _ j. unsigned_value j };
+
+    fn integer(&self) -> Integer {
+        Integer::U64
+    }
+
+    fn spelled(&self, tree: &Tree<'_, '_>) -> Option<usize> {
+        match tree.as_u64() {
+            None => None,
+            Some(n) => Some(n as usize),
+        }
+    }
+}

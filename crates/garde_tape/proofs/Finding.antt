@@ -1,0 +1,47 @@
+-- One walk over the members finds how many have a name, and the value of the last of them.
+use Rattle.std.proofs.Common.{◌≡◌, ℕ, ◌+◌, List, [], ◌∷◌, cond, Option, Some, None, option_map, refl, sym, ap, ◌∙◌, zero-add}
+use Rattle.std.specs.Str.{bytes_eq}
+use Rattle.json.specs.Json.{Json, null, boolean, number, string, array, object, Members, no_members, member}
+use Rattle.json.specs.Find.{later_or, get_member, as_object}
+use Rattle.garde_tape.specs.Reading.{member_list}
+use Rattle.garde_tape.specs.declared.found.Found.{Found}
+use Rattle.garde_tape.specs.Look.{times_in, answer_of, find_answer}
+
+-- the value of the last member of the name among these
+abbrev pub get_in : List ℕ → List (List ℕ × Json) → Option Json
+get_in name [] = None
+get_in name (m ∷ ms) = later_or (get_in name ms) (cond (bytes_eq m.0 name) (Some m.1) None)
+
+abbrev pub one_if_some : Option Json → ℕ
+one_if_some None = 0
+one_if_some (Some j) = 1
+
+-- what is found once the members before these had the first value, if any
+abbrev pub answer_from : List ℕ → Option Json → List (List ℕ × Json) → Found
+answer_from name first ms = answer_of (one_if_some first + times_in name ms) (later_or (get_in name ms) first)
+
+pub get_in-list : (name : List ℕ) (ms : Members) → get_member name ms ≡ get_in name (member_list ms)
+get_in-list name no_members = refl
+get_in-list name (member k j ms) = ap (λ o. later_or o (cond (bytes_eq k name) (Some j) None)) (get_in-list name ms)
+
+later_or-none : (o : Option Json) → later_or o None ≡ o
+later_or-none None = refl
+later_or-none (Some j) = refl
+
+answer_before : (name : List ℕ) (ms : List (List ℕ × Json)) → answer_of (times_in name ms) (get_in name ms) ≡ answer_from name None ms
+answer_before name ms =
+    ap (λ o. answer_of (times_in name ms) o) (sym (later_or-none (get_in name ms)))
+    ∙ ap (λ n. answer_of n (later_or (get_in name ms) None)) (sym (zero-add (times_in name ms)))
+
+-- at the start of the walk over an object
+pub answer_at_start : (name : List ℕ) (j : Json) (ms : List (List ℕ × Json)) → Some ms ≡ option_map member_list (as_object j) → find_answer name j ≡ answer_from name None ms
+answer_at_start name null ms e = cc
+answer_at_start name (boolean b) ms e = cc
+answer_at_start name (number s) ms e = cc
+answer_at_start name (string s) ms e = cc
+answer_at_start name (array js) ms e = cc
+answer_at_start name (object all) ms e =
+    let same : member_list all ≡ ms = cc in
+    ap (answer_of (times_in name (member_list all))) (get_in-list name all)
+    ∙ answer_before name (member_list all)
+    ∙ ap (answer_from name None) same

@@ -1,0 +1,18 @@
+//! Tests by what they are of.
+
+mod bodies;
+mod checked;
+mod enums;
+mod forms;
+mod json;
+mod lists;
+mod maps;
+mod members;
+mod nulls;
+mod numbers;
+mod reports;
+mod signup;
+mod sizes;
+mod texts;
+mod tuples;
+mod unions;
