@@ -1,35 +1,46 @@
 //! Reads a page of orders in JSON on standard input. Where all of them are valid it confirms each
-//! of them, else it tells every fault.
+//! of them, else it prints every fault of form and of the rules.
 #![tactic(auto)]
 
+mod form;
+mod line;
 mod order;
 mod page;
 
-use crate::order::{Order, cost, destination, first};
+use crate::form::read_orders;
+use crate::line::cost;
+use crate::order::{Order, destination, first};
 use crate::page::Page;
-use anyhow::{Result, anyhow};
-use garde::{IntoValidError, Unvalidated, Valid};
+use anyhow::Result;
+use garde::{DefaultI18n, Valid};
+use garde_schema::{ReadError, Scratch};
 use std::io;
+use std::io::Read;
 use std::process::ExitCode;
 
 /// Confirms an order by its customer, its first line, where it goes, and what each line costs.
 #[tactic(auto, unfolding(garde::specs::Fields::Known))]
-fn confirm(rt: &impl Print, order: &Valid<Order>) -> io::Result<()> {
-    let (customer, code) = (&order.customer, &first(order).code);
+fn confirm(rt: &impl Print, order: &Valid<Order<'_>>) -> io::Result<()> {
+    let (customer, code) = (order.customer.text(), first(order).code.text());
     match destination(order) {
         Some(address) => println!(rt; "{customer}: {code} .., by post to {address}")?,
         None => println!(rt; "{customer}: {code} .., at the counter")?,
     }
-    for line in &order.lines {
-        println!(rt; "    {} x {}: {} cents", line.count, line.code, cost(line))?;
+    for line in order.lines.as_slice() {
+        println!(rt;
+            "    {} x {}: {} cents",
+            line.count,
+            line.code.text(),
+            cost(line)
+        )?;
     }
     Ok(())
 }
 
 /// Confirms each order of a page.
 #[tactic(auto, unfolding(garde::specs::Fields::Known))]
-fn confirm_all(rt: &impl Print, page: Valid<Page<Order>>) -> io::Result<()> {
-    for order in page.into_inner().entries {
+fn confirm_all(rt: &impl Print, page: Valid<Page<Order<'_>>>) -> io::Result<()> {
+    for order in page.into_inner().entries.into_vec() {
         let order = Valid::known(order, &());
         confirm(rt, &order)?;
     }
@@ -39,18 +50,19 @@ fn confirm_all(rt: &impl Print, page: Valid<Page<Order>>) -> io::Result<()> {
 /// Whether the page on standard input is valid.
 fn run(rt: &HostRuntime) -> Result<bool> {
     let alloc = rt.alloc();
-    let body = io::read_to_string(alloc, rt.stdin())?;
-    let page: Page<Order> = serde_json::from_str(alloc, body.as_str())?;
-    match Unvalidated::new(page).validate(alloc) {
+    let mut body = Vec::new(alloc);
+    rt.stdin().read_to_end(&mut body)?;
+    let mut scratch = Scratch::new(alloc);
+    match read_orders(alloc, body.as_slice(), &mut scratch, &DefaultI18n) {
         Ok(page) => {
             confirm_all(rt, page)?;
             Ok(true)
         }
-        Err(IntoValidError::Report(report)) => {
+        Err(ReadError::Report(report)) => {
             print!(rt; "{report}")?;
             Ok(false)
         }
-        Err(IntoValidError::Memory(_)) => Err(anyhow!("out of memory")),
+        Err(error) => Err(error.into()),
     }
 }
 

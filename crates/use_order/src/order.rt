@@ -1,76 +1,120 @@
-//! An order with its lines: what is asked of them, and code that relies on a valid one.
-ghost use Rattle.garde.specs.Fields.{◌and◌, Bool, Known, chars_between, each, false, field, items_between, items_max, optional, prefix, range_between, required, true, when};
+//! An order with its lines: how it is made, its rules, and code that relies on a valid one.
+ghost use Rattle.std.specs.Prelude.{Bool, true, false, refl};
+ghost use Rattle.garde.specs.Author.{codes, length, ◌and◌, char_count, field, items, length_in, optional, required, when};
 ghost use Rattle.use_order.specs.declared.order.Delivery.TheVariants.{Counter, Post};
 
-use garde::fields::{
-    CharLength, Dive, Each, Field, Fields, IfSome, Is, Length, Prefix, Range, Required, When,
-};
-use garde::{I18n, Report, Trail, Valid, Validate};
-use serde::Deserialize;
+use crate::line::Line;
+use garde::fields::{Dive, Each, Field, Fields, IfSome, Is, Required, When};
+use garde::{I18n, Report, Trail, Valid, Validate, length};
+use garde_schema::{Build, Items, Rules, TextRef};
 use std::alloc::{AllocError, Global};
+use std::marker::PhantomData;
 
 /// How an order comes to its customer.
-#[derive(Clone, Copy, Deserialize)]
-#[serde(rename_all = "lowercase")]
+#[derive(Clone, Copy)]
 pub enum Delivery {
     Counter,
     Post,
 }
 
-/// So many pieces of an article, each at so many cents.
-#[derive(Drop, Deserialize)]
-pub struct Line {
-    pub code: String,
-    pub count: u32,
-    pub cents: u32,
-}
-
 /// What a customer orders. What goes by post has an address, and at the counter 3 lines are the
 /// most.
-#[derive(Drop, Deserialize)]
-pub struct Order {
-    pub customer: String,
+#[derive(Drop)]
+pub struct Order<'t> {
+    pub customer: TextRef<'t>,
     pub delivery: Delivery,
-    pub address: Option<String>,
-    pub lines: Vec<Line>,
+    pub address: Option<TextRef<'t>>,
+    pub lines: Items<Line<'t>>,
 }
 
-impl Validate for Line {
-    type Context = ();
+/// Makes an order of its members.
+#[derive(Drop)]
+pub struct MakeOrder<'t>(pub PhantomData<&'t str>);
 
-    ghost visits = { λ v _.
-        field "code" (prefix "P" v.code)
-        and field "count" (range_between 1 99 v.count)
-        and field "cents" (range_between 1 9999 v.cents) };
+/// How an order comes to its customer, and the address.
+pub type Destination<'t> = (Delivery, Option<TextRef<'t>>);
 
-    fn validate_into<'a, H: I18n>(
-        &'a self,
+impl<'t> Build for MakeOrder<'t> {
+    type Parts = (TextRef<'t>, (Destination<'t>, Items<Line<'t>>));
+
+    type Made = Order<'t>;
+
+    ghost builds = { λ _ parts. record {
+      customer = parts.0;
+      delivery = parts.1.0.0;
+      address = parts.1.0.1;
+      lines = parts.1.1;
+    } };
+
+    ghost parts_of = { λ _ order. (order.customer, ((order.delivery, order.address), order.lines)) };
+
+    ghost kept = { λ _ _. refl };
+
+    fn build(&self, parts: (TextRef<'t>, (Destination<'t>, Items<Line<'t>>))) -> Order<'t> {
+        let (customer, ((delivery, address), lines)) = parts;
+        Order {
+            customer,
+            delivery,
+            address,
+            lines,
+        }
+    }
+}
+
+/// The rule that what goes by post has an address.
+#[derive(Clone, Copy)]
+pub struct AddressByPost;
+
+impl<A> Rules<(Delivery, Option<A>)> for AddressByPost {
+    ghost asks = { λ _ v.
+        when (elim v.0 as (λ _. Bool) [ Post ↦ true | _ ↦ false ]) (required v.1) };
+
+    fn ask<'a, H: I18n>(
+        &self,
         alloc: Global,
-        _ctx: &(),
+        value: &(Delivery, Option<A>),
         trail: &mut Trail<'a>,
         report: &mut Report,
         h: &H,
     ) -> Result<(), AllocError> {
-        let Self { code, count, cents } = self;
-        (
-            Field("code", code, Is(Prefix("P"))),
-            Field("count", count, Is(Range::between(1, 99))),
-            Field("cents", cents, Is(Range::between(1, 9999))),
-        )
-            .visit(alloc, trail, report, h)
+        let (delivery, address) = value;
+        let posted = When(matches!(delivery, Delivery::Post), Is(Required));
+        posted.ask(alloc, address, trail, report, h)
     }
 }
 
-impl Validate for Order {
+/// The rule that at the counter 3 lines are the most.
+#[derive(Clone, Copy)]
+pub struct FewAtTheCounter;
+
+impl<A, L> Rules<((Delivery, A), Items<L>)> for FewAtTheCounter {
+    ghost asks = { λ _ v.
+        when (elim v.0.0 as (λ _. Bool) [ Counter ↦ true | _ ↦ false ]) (length_in 0 3 (length v.1)) };
+
+    fn ask<'a, H: I18n>(
+        &self,
+        alloc: Global,
+        value: &((Delivery, A), Items<L>),
+        trail: &mut Trail<'a>,
+        report: &mut Report,
+        h: &H,
+    ) -> Result<(), AllocError> {
+        let ((delivery, _), lines) = value;
+        let few = When(matches!(delivery, Delivery::Counter), Is(length!(max = 3)));
+        few.ask(alloc, lines, trail, report, h)
+    }
+}
+
+impl<'t> Validate for Order<'t> {
     type Context = ();
 
     ghost visits = { λ v _.
-        field "customer" (chars_between 1 80 v.customer)
-        and field "address" (when (elim v.delivery as (λ _. Bool) [ Post ↦ true | _ ↦ false ]) (required v.address)
-        and optional (λ address. chars_between 5 200 address) v.address)
-        and field "lines" (items_between 1 50 v.lines
-        and when (elim v.delivery as (λ _. Bool) [ Counter ↦ true | _ ↦ false ]) (items_max 3 v.lines)
-        and each (λ line. ⟦<Line as Validate>⟧.visits line tt) v.lines) };
+        field (codes "customer") (length_in 1 80 (char_count v.customer))
+        and field (codes "address") (when (elim v.delivery as (λ _. Bool) [ Post ↦ true | _ ↦ false ]) (required v.address)
+        and optional (λ address. length_in 5 200 (char_count address)) v.address)
+        and field (codes "lines") (length_in 1 50 (length v.lines)
+        and when (elim v.delivery as (λ _. Bool) [ Counter ↦ true | _ ↦ false ]) (length_in 0 3 (length v.lines))
+        and items (λ line. ⟦<Line<'static> as Validate>⟧.visits line tt) v.lines) };
 
     fn validate_into<'a, H: I18n>(
         &'a self,
@@ -87,40 +131,29 @@ impl Validate for Order {
             lines,
         } = self;
         let posted = When(matches!(delivery, Delivery::Post), Is(Required));
-        let long = IfSome(Is(CharLength { min: 5, max: 200 }));
-        let some = Is(Length::between(1, 50));
-        let few = When(
-            matches!(delivery, Delivery::Counter),
-            Is(Length { min: 0, max: 3 }),
-        );
+        let long = IfSome(Is(length!(chars, min = 5, max = 200)));
+        let some = Is(length!(min = 1, max = 50));
+        let few = When(matches!(delivery, Delivery::Counter), Is(length!(max = 3)));
         (
-            Field("customer", customer, Is(CharLength::between(1, 80))),
+            Field("customer", customer, Is(length!(chars, min = 1, max = 80))),
             Field("address", address, (posted, long)),
             Field("lines", lines, (some, few, Each(Dive(ctx)))),
         )
-            .visit(alloc, trail, report, h)
+            .visit_of(self, alloc, trail, report, h)
     }
-}
-
-/// What a line costs in cents. That of a valid line is no more than fits.
-#[tactic(auto, unfolding(garde::specs::Fields::Known))]
-pub fn cost(line: &Line) -> u32
-    requires { Known (⟦<Line as Validate>⟧.visits line.now tt) }
-{
-    line.count * line.cents
 }
 
 /// The first line. A valid order has one.
 #[tactic(auto, unfolding(garde::specs::Fields::Known))]
-pub fn first(order: &Valid<Order>) -> &Line {
-    &order.lines[0]
+pub fn first<'o, 't>(order: &'o Valid<Order<'t>>) -> &'o Line<'t> {
+    &order.lines.as_slice()[0]
 }
 
 /// Where an order is sent, or none where it is fetched. A valid one that is sent has an address.
 #[tactic(auto, unfolding(garde::specs::Fields::Known))]
-pub fn destination(order: &Valid<Order>) -> Option<&String> {
+pub fn destination<'t>(order: &Valid<Order<'t>>) -> Option<&'t str> {
     match order.delivery {
         Delivery::Counter => None,
-        Delivery::Post => Some(order.address.as_ref().unwrap()),
+        Delivery::Post => Some(order.address.as_ref().unwrap().text()),
     }
 }

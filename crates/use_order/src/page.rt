@@ -1,24 +1,25 @@
-//! A page of values of any type that validates itself.
-ghost use Rattle.garde.specs.Fields.{◌and◌, each, field, items_max, u32_min};
+//! A page of values of any type, and its rules.
+ghost use Rattle.garde.specs.Author.{codes, length, ◌and◌, field, items, length_in, unsigned_in};
 
-use garde::fields::{Dive, Each, Field, Fields, Is, Length, Range};
-use garde::{I18n, Report, Trail, Validate};
-use serde::Deserialize;
+use garde::fields::{Dive, Each, Field, Fields, Is};
+use garde::{I18n, Report, Trail, Validate, length, range};
+use garde_schema::Items;
 use std::alloc::{AllocError, Global};
 
 /// One page of several, with 20 values at most.
-#[derive(Drop, Deserialize)]
+#[derive(Drop)]
 pub struct Page<T> {
     pub number: u32,
-    pub entries: Vec<T>,
+    pub entries: Items<T>,
 }
 
 impl<T: Validate> Validate for Page<T> {
     type Context = T::Context;
 
     ghost visits = { λ v c.
-        field "number" (u32_min 1 v.number)
-        and field "entries" (items_max 20 v.entries and each (λ entry. T.visits entry c) v.entries) };
+        field (codes "number") (unsigned_in 1 4294967295 v.number)
+        and field (codes "entries") (length_in 0 20 (length v.entries)
+        and items (λ entry. T.visits entry c) v.entries) };
 
     fn validate_into<'a, H: I18n>(
         &'a self,
@@ -30,8 +31,8 @@ impl<T: Validate> Validate for Page<T> {
     ) -> Result<(), AllocError> {
         let Self { number, entries } = self;
         (
-            Field("number", number, Is(Range::min(1))),
-            Field("entries", entries, (Is(Length::max(20)), Each(Dive(ctx)))),
+            Field("number", number, Is(range!(min = 1))),
+            Field("entries", entries, (Is(length!(max = 20)), Each(Dive(ctx)))),
         )
             .visit_of(self, alloc, trail, report, h)
     }

@@ -1,0 +1,59 @@
+//! The form of a page of orders in JSON.
+
+use crate::line::MakeLine;
+use crate::order::{AddressByPost, Delivery, FewAtTheCounter, MakeOrder, Order};
+use crate::page::Page;
+use garde::fields::{Is, Prefix};
+use garde::{I18n, Valid, length, range};
+use garde_schema::{
+    Built, Checked, Closed, FormI18n, ListUnder, Member, Nullish, Object, OneOf, ReadError,
+    Scratch, Text, U32, Under, Whole, read_json,
+};
+use std::alloc::Global;
+use std::marker::PhantomData;
+
+/// The names of the ways of delivery.
+const DELIVERIES: [(&str, Delivery); 2] = [
+    ("counter", Delivery::Counter),
+    ("post", Delivery::Post),
+];
+
+/// Reads a page of orders, or reports every fault of its form and of its rules. The form asks all
+/// that the rules of a page ask, so the page is valid with no second walk.
+#[tactic(auto, unfolding(garde::specs::Fields::Known))]
+pub fn read_orders<'a, H: I18n + FormI18n>(
+    alloc: Global,
+    bytes: &'a [u8],
+    scratch: &'a mut Scratch,
+    h: &H,
+) -> Result<Valid<Page<Order<'a>>>, ReadError> {
+    let line = Built(
+        Object(Closed((
+            Member("code", Text(Is(Prefix("P")))),
+            Member("count", Whole(U32, Is(range!(min = 1, max = 99)))),
+            Member("cents", Whole(U32, Is(range!(min = 1, max = 9999)))),
+        ))),
+        MakeLine(PhantomData),
+    );
+    let destination = (
+        Member("delivery", OneOf(&DELIVERIES)),
+        Nullish("address", Text(Is(length!(chars, min = 5, max = 200)))),
+    );
+    let destination = Checked(destination, Under("address", AddressByPost));
+    let lines = Member("lines", ListUnder(Is(length!(min = 1, max = 50)), line));
+    let order = Built(
+        Object(Closed((
+            Member("customer", Text(Is(length!(chars, min = 1, max = 80)))),
+            Checked((destination, lines), Under("lines", FewAtTheCounter)),
+        ))),
+        MakeOrder(PhantomData),
+    );
+    let page = Object(Closed((
+        Member("number", Whole(U32, Is(range!(min = 1)))),
+        Member("entries", ListUnder(Is(length!(max = 20)), order)),
+    )));
+    match read_json(alloc, bytes, scratch, &page, h) {
+        Ok((number, entries)) => Ok(Valid::known(Page { number, entries }, &())),
+        Err(error) => Err(error),
+    }
+}

@@ -1,0 +1,72 @@
+//! A line of an order: how it is made, its rules, and what it costs.
+ghost use Rattle.std.specs.Prelude.{refl};
+ghost use Rattle.garde.specs.Author.{Known, codes, ◌and◌, field, prefix, unsigned_in};
+
+use garde::fields::{Field, Fields, Is, Prefix};
+use garde::{I18n, Report, Trail, Validate, range};
+use garde_schema::{Build, TextRef};
+use std::alloc::{AllocError, Global};
+use std::marker::PhantomData;
+
+/// So many pieces of an article, each at so many cents.
+#[derive(Drop)]
+pub struct Line<'t> {
+    pub code: TextRef<'t>,
+    pub count: u32,
+    pub cents: u32,
+}
+
+/// Makes a line of its members.
+#[derive(Drop)]
+pub struct MakeLine<'t>(pub PhantomData<&'t str>);
+
+impl<'t> Build for MakeLine<'t> {
+    type Parts = (TextRef<'t>, u32, u32);
+
+    type Made = Line<'t>;
+
+    ghost builds = { λ _ parts. record { code = parts.0; count = parts.1; cents = parts.2 } };
+
+    ghost parts_of = { λ _ line. (line.code, line.count, line.cents) };
+
+    ghost kept = { λ _ _. refl };
+
+    fn build(&self, parts: (TextRef<'t>, u32, u32)) -> Line<'t> {
+        let (code, count, cents) = parts;
+        Line { code, count, cents }
+    }
+}
+
+impl<'t> Validate for Line<'t> {
+    type Context = ();
+
+    ghost visits = { λ v _.
+        field (codes "code") (prefix (codes "P") v.code)
+        and field (codes "count") (unsigned_in 1 99 v.count)
+        and field (codes "cents") (unsigned_in 1 9999 v.cents) };
+
+    fn validate_into<'a, H: I18n>(
+        &'a self,
+        alloc: Global,
+        _ctx: &(),
+        trail: &mut Trail<'a>,
+        report: &mut Report,
+        h: &H,
+    ) -> Result<(), AllocError> {
+        let Self { code, count, cents } = self;
+        (
+            Field("code", code, Is(Prefix("P"))),
+            Field("count", count, Is(range!(min = 1, max = 99))),
+            Field("cents", cents, Is(range!(min = 1, max = 9999))),
+        )
+            .visit_of(self, alloc, trail, report, h)
+    }
+}
+
+/// What a line costs in cents. That of a valid line is no more than fits.
+#[tactic(auto, unfolding(garde::specs::Fields::Known))]
+pub fn cost(line: &Line<'_>) -> u32
+    requires { Known (⟦<Line<'static> as Validate>⟧.visits line.now tt) }
+{
+    line.count * line.cents
+}
