@@ -1,0 +1,5 @@
+pub mod Backwards
+pub mod Escapes
+pub mod Pointers
+pub mod Shown
+pub mod Tokens

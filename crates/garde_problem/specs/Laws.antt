@@ -1,0 +1,32 @@
+-- Laws of what reports print.
+use Rattle.std.specs.Prelude.{◌≡◌, ◌==◌, ◌||◌, ℕ, List, length, Some}
+use Rattle.std.specs.List.{count_by}
+use Rattle.std.specs.Str.{IsUtf8, NonePass, chars}
+use Rattle.garde_report.specs.Part.{Part}
+use Rattle.garde_report.specs.Report.{Entry}
+use Rattle.garde_problem.specs.Pointer.{path_pointer, part_texts, pointer_texts}
+use Rattle.garde_problem.specs.Escaped.{is_acting, escaped_text, escaped_report_text}
+
+-- the pointer of a path has the texts of its components
+abbrev pub PointersAreRead : Type 0
+PointersAreRead = (path : List Part) → pointer_texts (path_pointer path) ≡ Some (part_texts path)
+
+-- paths with the same pointer have the same texts
+abbrev pub PointersDiffer : Type 0
+PointersDiffer = (p q : List Part) → path_pointer p ≡ path_pointer q → part_texts p ≡ part_texts q
+
+-- how many line feeds a text has
+abbrev pub line_feeds : List ℕ → ℕ
+line_feeds text = count_by (λ b. b == 10) text
+
+-- an escaped report has as many line feeds as faults
+abbrev pub FaultsAreLines : Type 0
+FaultsAreLines = (entries : List Entry) → line_feeds (escaped_report_text entries) ≡ length entries
+
+-- no character of an escaped text acts
+abbrev pub EscapedTextsAreShown : Type 0
+EscapedTextsAreShown = (text : List ℕ) → IsUtf8 text → NonePass is_acting (chars (escaped_text text))
+
+-- a text in which no character acts, and none is a backslash, is not changed
+abbrev pub ShownTextsStay : Type 0
+ShownTextsStay = (text : List ℕ) → IsUtf8 text → NonePass (λ c. is_acting c || (c == 92)) (chars text) → escaped_text text ≡ text

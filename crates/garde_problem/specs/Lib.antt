@@ -1,0 +1,4 @@
+pub mod Escaped
+pub mod Laws
+pub mod Pointer
+pub mod Problem
