@@ -1,0 +1,62 @@
+"""Known causes for which the prover rejects a type whose two sides may say the same. Each is a guess by the text alone."""
+import re
+
+PAGE = "docs/guide/rejected.md"
+CONSTRUCTOR = r"(?:Length|Range|ByteLength|CharLength|GraphemeLength|Utf16Length)::\w+\s*\("
+HELD = r"\b(Each|IfSome|WithMessage)\s*\("
+
+
+def of_pair(place, coded, pair):
+    """The causes that a pair has the look of."""
+    stated = " ".join(it.piece.blank for it in pair.stated)
+    body = coded.bodies[pair.at]
+    lets = {**dict(coded.body.lets()), **body.lets()}
+    code = " ".join(it.piece.blank for it in pair.coded)
+    code += " " + " ".join(lets[name].blank for name in lets if re.search(rf"\b{name}\b", code))
+    if (held := re.search(HELD, code)) and re.search(CONSTRUCTOR, code):
+        yield f"a constructor inside `{held[1]}` is not seen through: write `length!(..)` or `range!(..)`"
+    if "==" in stated:
+        yield "`==` of `Prelude` in `visits`: write `nat_eq` of numbers, and of texts what your rule states"
+    if re.search(r"\boptional\b", stated) and not re.search(r"\bIfSome\b", code):
+        yield "`optional` in `visits` is `IfSome(..)` in the code; a rule of the whole option is `of_option`"
+    if re.search(r"\bof_option\b", stated) and re.search(r"\bIfSome\b", code):
+        yield "`of_option` in `visits` is a rule of the whole option; `IfSome(..)` is `optional`"
+    yield from of_conditions(place, lets, code)
+    if place.is_bounded and re.match(r"\.\s*visit\s*\(", body.call):
+        yield "a type with parameters or lifetimes calls `visit_of(self, ..)` in place of `visit(..)`"
+
+
+def of_conditions(place, lets, code):
+    """Conditions that are calls of a function of the file that states nothing."""
+    silent = [it.name for it in place.plain.items.functions() if not re.search(r"\bensures\b", place.plain.items.header(it))]
+    for found in re.finditer(r"\bWhen\s*\(\s*([\w:]+)\s*([(,])", code):
+        said = lets[found[1]].blank if found[1] in lets else found[0]
+        for name in silent:
+            if re.search(rf"\b{name}\s*\(", said):
+                yield f"the condition calls `{name}`, which has no `ensures`: write what it returns"
+
+
+def of_whole(stated, coded):
+    """The causes that a type has the look of whose parts all agree."""
+    for case, other in zip_cases(stated, coded):
+        if case.shape != other.shape:
+            where = f" of the variant `{case.variant}`" if case.variant else ""
+            yield f"the fields{where} nest as {nested(other.shape)} in the code and as {nested(case.shape)} in `visits`: a tuple within the tuple stands last, or `visits` has the same brackets"
+
+
+def zip_cases(stated, coded):
+    for other in coded.cases:
+        yield from ((case, other) for case in stated.cases if case.variant == other.variant)
+
+
+def nested(shape):
+    """How parts nest, as brackets round their numbers."""
+    texts, row = [], 0
+    for it in [*shape, None]:
+        if it == 1:
+            row += 1
+            continue
+        texts += [str(row)] if row else []
+        texts += [nested(it)] if it else []
+        row = 0
+    return f"({', '.join(texts)})"

@@ -1,0 +1,180 @@
+"""Why the prover rejects a type: asks it of each part, and of the whole."""
+import pathlib
+import re
+import shutil
+import tempfile
+from dataclasses import dataclass, field
+
+from lib import prover
+from lib.edits import OPEN
+from lib.verdicts import PROVED, verdicts
+
+from . import causes, said
+from .coded import read_coded
+from .functions import Functions
+from .pairs import pairs_of
+from .place import Unknown
+from .stated import read_stated
+
+ERROR = re.compile(r"(?:\./)?((?:src|specs)/\S+?):(\d+):\d+: error(?:\[[\w-]+\])?: (.*)|error\b.*")
+
+
+@dataclass
+class Answer:
+    """What was found: lines to print, and the status: 0 where the type is proved, 1 where it differs, 2 where nothing is known."""
+
+    status: int
+    lines: list = field(default_factory=list)
+
+
+class Type:
+    """A type with both halves of its implementation, part by part."""
+
+    def __init__(self, place):
+        self.place, self.stated, self.coded = place, read_stated(place), read_coded(place)
+        if bool(self.stated.head) != bool(self.coded.matched):
+            sides = ("`visits` goes by variants", "the code") if self.stated.head else ("the code goes by variants", "`visits`")
+            raise Unknown(f"{place.file}:{place.visits_line}: {sides[0]}, and {sides[1]} does not in a form that the command reads")
+        self.refuse_unnamed()
+        self.pairs, self.differences = pairs_of(self.stated, self.coded)
+        self.functions = Functions(place, self.stated, self.coded, self.pairs)
+
+    def refuse_unnamed(self):
+        """Refuses a statement that names no field, of code that does: a definition of its own, which the command does not read."""
+        for case, other in causes.zip_cases(self.stated, self.coded):
+            if case.parts and all(it.key is None for it in case.parts) and any(it.key is not None for it in other.parts):
+                text = f"`visits` is `{case.piece.shown}`, which names no field, and the code names some"
+                raise Unknown(f"{self.place.file}:{case.piece.line}: {text}: the command compares `field \"name\" (..)` with `Field(\"name\", ..)`")
+
+    def differing(self):
+        """The lines of what differs without the prover."""
+        return [said.difference(self.place, self.coded, it) for it in self.differences]
+
+    def unread(self):
+        """The lines of the variants that are not found once on each side."""
+        sides = ([it.variant for it in cases] for cases in (self.stated.cases, self.coded.cases))
+        left, right = sides
+        odd = dict.fromkeys(it for it in [*left, *right] if (left.count(it), right.count(it)) != (1, 1))
+        return [f"{self.place.file}:{self.place.visits_line}: variant `{it}`: the command does not find it once in `visits` and once in the code" for it in odd]
+
+    def opened(self, lines):
+        """The lines of the parts that differ by what a check of their functions prints, and those that it does not judge."""
+        found, known, unjudged, said_of = [], verdicts(lines), [], self.said_of_pairs(lines)
+        for pair, path in zip(self.pairs, self.functions.paths()):
+            verdict = known.get(f"{self.place.crate}::{path}", "no verdict")
+            if verdict == OPEN:
+                found.append(said.opened(self.place, self.coded, pair))
+                found += [f"  it may be this: {it} ({causes.PAGE})" for it in causes.of_pair(self.place, self.coded, pair)]
+            elif verdict != PROVED:
+                unjudged.append(said.unjudged(self.place, pair, said_of.get(pair, verdict)))
+        return found, unjudged
+
+    def said_of_pairs(self, lines):
+        """The first error of the function of each pair, without its place there and without advice."""
+        found = {}
+        for it in filter(None, map(ERROR.fullmatch, lines)):
+            pair = self.functions.pair_at(int(it[2])) if it[1] == self.place.file else None
+            if pair:
+                found.setdefault(pair, re.sub(r"^`visits-value`: |: (?:add|help:) .*", "", it[3]))
+        return found
+
+    def errors(self, lines):
+        """The errors of a check that did not come to the parts, those of the author's own lines first."""
+        most = self.place.plain.text.count("\n") + 1
+        found = [it for it in map(ERROR.fullmatch, lines) if it]
+        own = [it[0] for it in found if it[1] and (it[1] != self.place.file or int(it[2]) <= most)]
+        return bool(own), list(dict.fromkeys(own or [it[0] for it in found]))[:5]
+
+    def answers(self):
+        """The file of parts that the prover takes in place of its own search, and its name. None for an enum."""
+        pairs, names = self.pairs, self.place
+        if self.stated.head or not pairs or any(len(it.stated) != 1 or it.is_whole for it in pairs):
+            return None
+        module = ".".join(["Rattle", names.crate, "proofs", *names.modules, f"{names.type_name}Validate", "validate_into"])
+        rows = [f"part (search rules)  -- {it.stated[0].key or 'the value'}" for it in pairs]
+        text = (
+            "use Rattle.std.proofs.Common.{rules}\n"
+            "use Rattle.garde.proofs.Author.{as_stated, part, ◌also◌}\n"
+            f"use {module}.Goals as goal\n\n"
+            "pub returns : goal.returns\nreturns g c = as_stated c.visit.ensures (\n    "
+            + "\n    also ".join(rows) + "\n    )\n"
+        )
+        return f"proofs/{'/'.join(module.split('.')[3:])}/Answers.antt", text
+
+
+class Room:
+    """A copy of a crate, in which some files are others. Nothing of it is left behind. `kept` is a folder of what checks keep, for
+    several copies of one crate."""
+
+    def __init__(self, place, jobs, kept=None):
+        self.place, self.jobs, self.root = place, jobs, place.folder.parent.parent
+        self.kept = kept
+
+    def __enter__(self):
+        self.folder = tempfile.TemporaryDirectory(prefix="why-")
+        self.at = pathlib.Path(self.folder.name, "crate")
+        if self.kept is None:
+            self.kept = pathlib.Path(self.folder.name, "kept")
+            self.begin()
+        self.at.mkdir()
+        prover.copied(self.place.folder, self.at)
+        return self
+
+    def begin(self):
+        """Begins with what earlier checks of the crate kept."""
+        kept = self.place.folder / "out/incremental"
+        if kept.is_dir():
+            shutil.copytree(kept, self.kept, symlinks=True)
+        self.kept.mkdir(exist_ok=True)
+
+    def __exit__(self, *_):
+        self.folder.cleanup()
+
+    def check(self, functions, files):
+        """The lines that a check of some functions prints, with these texts in place of the crate's own."""
+        for name, text in files.items():
+            file = self.at / name
+            file.parent.mkdir(parents=True, exist_ok=True)
+            file.write_text(text, encoding="utf-8")
+        words = prover.command(self.place.crate, functions, self.jobs, self.root)
+        return prover.run(words, self.at, self.kept)
+
+
+def explain(it, check):
+    """What differs in a type, where `check` gives the lines of a check of functions under texts of files."""
+    place, lines = it.place, [*it.unread(), *it.differing()]
+    if it.pairs:
+        printed = check(it.functions.paths(), {place.file: it.functions.text()})
+        opened, unjudged = it.opened(printed)
+        if len(unjudged) == len(it.pairs):
+            is_own, errors = it.errors(printed)
+            why = "the crate does not compile, or `visits` cannot be read" if is_own else "the parts do not compile by themselves"
+            return Answer(2, [*lines, f"{place.name()}: {why}:", *(errors or unjudged), *imports(errors)])
+        lines += [*opened, *unjudged, *imports(unjudged)]
+        if opened or it.differences:
+            return Answer(1, lines)
+        if unjudged:
+            return Answer(2, lines)
+    if lines:
+        return Answer(1 if it.differences else 2, lines)
+    return whole(it, check)
+
+
+def imports(errors):
+    """What to do about a name that is not imported."""
+    if any(re.search(r"not in scope|cannot find|not found|unresolved", it) for it in errors):
+        yield f"`rt check --fix-imports` writes imports that are missing ({causes.PAGE})"
+
+
+def whole(it, check):
+    """What to say of a type whose parts all agree."""
+    place, path = it.place, it.place.function()
+    known = f"{place.crate}::{path}"
+    if verdicts(check([path], {place.file: place.plain.text})).get(known) == PROVED:
+        return Answer(0, [f"{place.name()}: the prover accepts it"])
+    agrees = f"{place.file}:{place.visits_line}: each part of `{place.type_name}` agrees, and the prover does not accept the whole"
+    found = [f"  it may be this: {text} ({causes.PAGE})" for text in causes.of_whole(it.stated, it.coded)]
+    answers = it.answers()
+    if not found and answers and verdicts(check([path], dict([answers]))).get(known) == PROVED:
+        return Answer(1, [f"{agrees} by its own search. It accepts this file, {answers[0]}:", *answers[1].splitlines()])
+    return Answer(1 if found else 2, [agrees, *(found or ["  the command cannot tell why"])])

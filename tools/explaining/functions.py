@@ -1,0 +1,103 @@
+"""A function for each pair of parts: it checks what the code checks of these parts alone, under what `visits` states of them alone.
+So the prover says of each pair by itself whether both sides agree."""
+from .place import TRAIT
+
+WORDS = "garde_words"
+USE = f"ghost use Rattle.garde.specs.Author as {WORDS};"
+DECLARED = f"""
+trait TRAIT {{
+    type Context;
+
+    ghost visits: {{ Self → Self.Context → {WORDS}.Visits }};
+
+    fn validate_into<'a, H: garde::I18n>(
+        &'a self,
+        alloc: std::alloc::Global,
+        ctx: &Self::Context,
+        trail: &mut garde::Trail<'a>,
+        report: &mut garde::Report,
+        h: &H,
+    ) -> Result<(), std::alloc::AllocError>
+        ensures {{ {WORDS}.Visited (visits self.now ctx.now) (H.text h.now) trail.old trail.new report.old report.new result }};
+}}
+"""
+
+
+class Functions:
+    """The functions of the parts of a type, beside the type in the text of its file."""
+
+    def __init__(self, place, stated, coded, pairs):
+        self.place, self.stated, self.coded, self.pairs = place, stated, coded, pairs
+        self.texts = [self.implementation(number, pair) for number, pair in enumerate(pairs)]
+
+    def trait(self, number):
+        return f"GardePart{number}"
+
+    def paths(self):
+        """The path of each function under the crate, as the prover has it."""
+        return [self.place.function(self.trait(number)) for number in range(len(self.pairs))]
+
+    def text(self):
+        """The text of the file with the functions. The lines that it had stay where they are."""
+        text, items = self.place.plain.text, self.place.plain.items.items
+        first = next((it.head for it in items if it.kind in ("use", "ghost use")), self.place.block.start)
+        return f"{text[:first]}{USE} {text[first:]}\n{''.join(self.texts)}"
+
+    def pair_at(self, line):
+        """The pair whose function stands at a line of that text, or None."""
+        begin = self.place.plain.text.count("\n") + 2
+        for pair, text in zip(self.pairs, self.texts):
+            end = begin + text.count("\n")
+            if begin <= line < end:
+                return pair
+            begin = end
+        return None
+
+    def implementation(self, number, pair):
+        """A trait for a pair, and its implementation."""
+        place, block, trait = self.place, self.place.block, self.trait(number)
+        kept, items = place.plain.kept, place.plain.items
+        found = TRAIT.search(place.plain.blank, block.head)
+        head = kept[block.head : found.start()] + trait + kept[found.end() : block.body]
+        others = [it for it in block.members if it not in (place.visits, place.code)]
+        lines = [f"    {USE}"] if any(it.kind == "ghost use" for it in others) else []
+        lines += [f"    {kept[it.head : it.end]}" for it in others]
+        lines += [f"    ghost visits = {{ λ {self.stated.names}. {self.visits(pair)} }};"]
+        before = items.attributes(place.code) if "#" in items.attributes(place.code) else ""
+        lines += [f"    {before}{kept[place.code.head : place.code.body]}{self.body(pair)}"]
+        body = "\n".join(lines)
+        return f"{DECLARED.replace('TRAIT', trait)}\n{head}{{\n{body}\n}}\n"
+
+    def visits(self, pair):
+        """What is stated of a pair."""
+        said = " and ".join(it.piece.text for it in pair.stated) or f"{WORDS}.none"
+        if not self.stated.head:
+            return said
+        cases = [
+            f"| {case.pattern} ↦ {said if at == pair.stated_at else f'{WORDS}.none'}" for at, case in enumerate(self.stated.cases)
+        ]
+        return f"{self.stated.head} {' '.join(cases)} ]"
+
+    def body(self, pair):
+        """The body that checks a pair."""
+        outer = self.coded.body
+        if not self.coded.matched:
+            return braced(*self.checks(pair, outer))
+        statements, last = self.checks(pair, self.coded.bodies[pair.at])
+        wanted = outer.wanted(*statements, last, self.coded.matched)
+        arms = [
+            f"{case.pattern} => {braced(statements, last) if at == pair.at else 'Ok(()),'}" for at, case in enumerate(self.coded.cases)
+        ]
+        return braced([it.text for it in wanted], f"{self.coded.matched} {' '.join(arms)} }}")
+
+    def checks(self, pair, body):
+        """The statements and the last expression of a body that checks a pair alone."""
+        if pair.is_whole:
+            return [it.text for it in body.statements], body.last.text
+        fields = ", ".join(it.piece.text for it in pair.coded)
+        last = (fields if len(pair.coded) == 1 else f"({fields})") + body.call
+        return [it.text for it in body.wanted(last)], last
+
+
+def braced(statements, last):
+    return "{ " + " ".join([*statements, last]) + " }"

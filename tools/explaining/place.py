@@ -1,0 +1,96 @@
+"""Where a type implements `Validate`: its crate, its file, its module, and the two halves of the implementation."""
+import pathlib
+import re
+from dataclasses import dataclass
+
+from lib import paths
+
+from .spans import Plain, Span
+
+TRAIT = re.compile(r"(?:\w+\s*::\s*)*\bValidate(?=\s+for\b)")
+
+
+class Unknown(Exception):
+    """What the command cannot find or read."""
+
+
+@dataclass(frozen=True)
+class Place:
+    """A type that implements `Validate`: the folder of its crate, its file there, and the items of the implementation."""
+
+    folder: pathlib.Path
+    file: str
+    plain: Plain
+    block: object
+    visits: object
+    code: object
+
+    @property
+    def crate(self):
+        return self.folder.name
+
+    @property
+    def modules(self):
+        """The modules that lead to the file."""
+        parts = self.file.removeprefix("src/").removesuffix(".rt").split("/")
+        return [] if parts in (["lib"], ["main"]) else parts
+
+    @property
+    def type_name(self):
+        """The name of the type, as the prover has it."""
+        return paths.name_of_block(self.plain.items, self.block).removesuffix("Validate")
+
+    @property
+    def is_bounded(self):
+        """Whether the type has parameters or lifetimes."""
+        return "<" in self.plain.blank[TRAIT.search(self.plain.blank, self.block.head).end() : self.block.body]
+
+    def function(self, trait="Validate"):
+        """The path of its function under the crate, or of that of another trait, as the prover has it."""
+        return "::".join([*self.modules, f"{self.type_name}{trait}", "validate_into"])
+
+    @property
+    def visits_line(self):
+        return self.plain.line_of(self.visits.head)
+
+    def name(self):
+        return "::".join([*self.modules, self.type_name])
+
+    def span(self, start, end):
+        return Span(self.plain, start, end)
+
+
+def places(folder):
+    """The types of a crate that implement `Validate`."""
+    found = []
+    for path in sorted(folder.glob("src/**/*.rt")):
+        text = path.read_text(encoding="utf-8", errors="replace")
+        if "Validate" in text:
+            plain = Plain(text)
+            blocks = [it for it in plain.items.items if it.kind == "impl" and TRAIT.search(plain.items.header(it))]
+            found += [it for it in (place(folder, path, plain, block) for block in blocks) if it]
+    return found
+
+
+def place(folder, path, plain, block):
+    """An implementation, or None where it lacks one of its halves."""
+    visits = [it for it in block.members if it.kind == "ghost" and it.name == "visits"]
+    code = [it for it in block.members if it.kind == "fn" and it.name == "validate_into"]
+    if len(visits) != 1 or len(code) != 1:
+        return None
+    return Place(folder, str(path.relative_to(folder)), plain, block, visits[0], code[0])
+
+
+def find(folder, name):
+    """The type of a crate that a path names, from its end on."""
+    folder = folder.resolve()
+    if not (folder / "src").is_dir():
+        raise Unknown(f"{folder}: there is no crate in it: it has no folder `src`")
+    every = places(folder)
+    wanted = [it for it in name.split("::") if it not in ("", "crate", folder.name)]
+    fit = [it for it in every if it.name().split("::")[-len(wanted) :] == wanted] if wanted else []
+    if len(fit) == 1:
+        return fit[0]
+    known = ", ".join(it.name() for it in every) or "none"
+    said = "several types" if fit else "no type"
+    raise Unknown(f"{folder.name}: {said} of the name `{name}` with `impl Validate`: it has {known}")

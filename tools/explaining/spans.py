@@ -1,0 +1,94 @@
+"""Pieces of a source of Rattle, and how they are split at what stands in no brackets."""
+import re
+from dataclasses import dataclass
+
+from lib import source
+
+OPENING, CLOSING = "([{⟦", ")]}⟧"
+INSIDE = "\0"
+
+
+class Plain:
+    """A source with spaces for its comments (`kept`), and with spaces for what stands in quotes too (`blank`)."""
+
+    def __init__(self, text):
+        self.items = source.read(text)
+        self.text = text
+        self.kept = source.SKIPPED.sub(lambda it: spaces(it.group()) if it.group()[0] == "/" else it.group(), text)
+        self.blank = self.items.blank
+        for item in self.items.all_items():
+            if item.kind == "ghost":
+                self.drop_comments(item.head, item.end)
+
+    def drop_comments(self, start, end):
+        """Puts spaces for the comments of a statement, which begin with `--`."""
+        for found in re.finditer(r"--[^\n]*", self.blank[start:end]):
+            first, last = start + found.start(), start + found.end()
+            self.kept = self.kept[:first] + spaces(self.kept[first:last]) + self.kept[last:]
+            self.blank = self.blank[:first] + spaces(self.blank[first:last]) + self.blank[last:]
+
+    def line_of(self, at):
+        return self.items.line_of(at)
+
+
+def spaces(text):
+    """A text with a space for each letter, and its lines as they are."""
+    return re.sub(r"[^\n]", " ", text)
+
+
+@dataclass(frozen=True)
+class Span:
+    """A piece of a source, from one place up to another."""
+
+    plain: Plain
+    start: int
+    end: int
+
+    @property
+    def text(self):
+        """The piece, with spaces for its comments."""
+        return self.plain.kept[self.start : self.end]
+
+    @property
+    def blank(self):
+        return self.plain.blank[self.start : self.end]
+
+    @property
+    def line(self):
+        """The line that it begins in, from 1 on."""
+        return self.plain.line_of(self.start)
+
+    @property
+    def shown(self):
+        """The piece on one line."""
+        text = " ".join(self.text.split())
+        return re.sub(r",? ([)\]])", r"\1", re.sub(r"([(\[]) ", r"\1", text))
+
+    @property
+    def flat(self):
+        """The piece with one mark for each letter that stands in brackets."""
+        depth, letters = 0, []
+        for letter in self.blank:
+            depth -= letter in CLOSING
+            letters.append(letter if depth <= 0 else INSIDE)
+            depth += letter in OPENING
+        return "".join(letters)
+
+    def part(self, start, end):
+        """What stands between two places of the piece, without the space round it."""
+        kept = self.text[start:end]
+        return Span(self.plain, self.start + end - len(kept.lstrip()), self.start + start + len(kept.rstrip()))
+
+    def split(self, mark):
+        """The parts between marks that stand in no brackets."""
+        parts, at = [], 0
+        for found in re.finditer(mark, self.flat):
+            parts.append(self.part(at, found.start()))
+            at = found.end()
+        return [it for it in [*parts, self.part(at, self.end - self.start)] if it.start < it.end]
+
+    def inside(self, opening="("):
+        """What stands within the brackets that hold the whole piece, or None."""
+        flat = self.flat
+        is_held = flat[:1] == opening and flat[-1:] in CLOSING and not flat[1:-1].strip(INSIDE)
+        return self.part(1, len(flat) - 1) if is_held and len(flat) > 1 else None
