@@ -7,8 +7,8 @@ import tempfile
 
 HERE = pathlib.Path(__file__).resolve().parent
 CRATES = HERE.parent / "crates"
-# The crates that each program lists, and those below them.
-LISTED, BELOW = ("garde", "garde_json"), ("garde_i18n", "garde_report", "garde_lengths", "garde_engines", "garde_rules")
+# The crates below those that a program lists.
+BELOW = ("garde_i18n", "garde_report", "garde_lengths", "garde_engines", "garde_rules", "garde_tape")
 
 
 def run(words, room):
@@ -17,22 +17,26 @@ def run(words, room):
         sys.exit(f"the program was not built: {done.stdout[-2000:]}")
 
 
-def build(folder):
-    """Proves and builds the program of a folder over the libraries that `rt ci` built, unless none of its files changed since.
-    Gives where it lies, in bench/out/."""
+def build(folder, listed=("garde", "garde_json"), from_kit=("serde_json",)):
+    """Proves and builds the program of a folder over the libraries that `rt ci` built, unless none of its files and of these libraries
+    changed since. It lists these crates, and these of the kit. Gives where it lies, in bench/out/."""
     files, made = list((HERE / folder).glob("*.rt.txt")), HERE / "out" / f"garde_{folder}"
-    if made.is_file() and made.stat().st_mtime > max(it.stat().st_mtime for it in files):
+    libraries = {it: CRATES / it / "out/rlib" / f"{it}.rlib" for it in (*listed, *BELOW)}
+    for it in listed:
+        if not libraries[it].exists():
+            sys.exit(f"{it} is not built: rt ci builds it")
+    if made.is_file() and made.stat().st_mtime > max(it.stat().st_mtime for it in (*files, *libraries.values())):
         return made
     said = subprocess.run(["rt", "doc"], check=True, capture_output=True, text=True).stdout
     kit = pathlib.Path(said.strip()).parent
     made.parent.mkdir(exist_ok=True)
     words = [kit / "bin/rattle", "build", "--crate-name", made.name, "src/main.rt", "--links", f"{made.name}=", "--jobs", str(os.cpu_count())]
     words += ["--antt-project", kit / "rattle/logic/antt-project.json", "--logic-built", kit / "logic_built", "--toolchain", kit / "toolchain"]
-    for it in ("std", "serde_json"):
+    for it in ("std", *from_kit):
         words += ["--extern", f"{it}={kit}/rlibs/{it}.rlib"]
-    for it in LISTED:
-        words += ["--extern", f"{it}={CRATES}/{it}/out/rlib/{it}.rlib"]
-    for it in [*(CRATES / it / "out/rlib" for it in LISTED + BELOW), kit / "rlibs"]:
+    for it in listed:
+        words += ["--extern", f"{it}={libraries[it]}"]
+    for it in [*(file.parent for file in libraries.values()), kit / "rlibs"]:
         words += ["-L", f"dependency={it}"]
     with tempfile.TemporaryDirectory() as room:
         source = pathlib.Path(room, "src")
