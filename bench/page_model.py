@@ -44,8 +44,23 @@ def check(value, depth):
         check(part, depth + 1)
 
 
+def escaped(text, short):
+    """A text with the characters escaped that act in place of being shown; `short` has those that are escaped by a letter."""
+    acting = re.compile("[\\x00-\\x1f\\x7f-\\x9f\\u061c\\u200e\\u200f\\u2028-\\u202e\\u2066-\\u2069]")
+    return "".join(short.get(c) or (f"\\u{{{ord(c):x}}}" if acting.match(c) else c) for c in text)
+
+
+SHORT = {"\\": "\\\\", "\n": "\\n", "\r": "\\r", "\t": "\\t"}
+
+
+def quoted(text):
+    """A text as `{:?}` prints it, which has a quote and NUL escaped by a letter too."""
+    return '"' + escaped(text, {**SHORT, '"': '\\"', "\0": "\\0"}) + '"'
+
+
 def at(path, name):
     """The path of a member; that of the whole value is None."""
+    name = escaped(name, SHORT)
     return name if path is None else f"{path}.{name}"
 
 
@@ -177,10 +192,10 @@ class Reading:
 def confirmed(order):
     """The lines that confirm a valid order."""
     customer, delivery, address, lines = order
-    place = f"by post to {address[0]}" if delivery == "post" else "at the counter"
-    yield f"{customer}: {lines[0][0]} .., {place}\n"
+    place = f"by post to {quoted(address[0])}" if delivery == "post" else "at the counter"
+    yield f"{quoted(customer)}: {quoted(lines[0][0])} .., {place}\n"
     for code, count, cents in lines:
-        yield f"    {count} x {code}: {count * cents} cents\n"
+        yield f"    {count} x {quoted(code)}: {count * cents} cents\n"
 
 
 def answer(body):

@@ -8,13 +8,15 @@ mod server;
 
 use crate::config::{Config, share};
 use crate::server::NAME;
-use anyhow::{Context, Result, bail};
+use anyhow::{Context, Error, Result, bail};
 use garde::rules::pattern::regex::Regex;
 use garde::{IntoValidError, Unvalidated, Valid};
+use garde_problem::Escaped;
 use std::alloc::Global;
-use std::env;
+use std::fmt::Write;
 use std::io::read_to_string;
 use std::process::ExitCode;
+use std::{env, io};
 
 /// The status of a run that judged no configuration.
 const NOT_JUDGED: u8 = 2;
@@ -64,10 +66,33 @@ fn run(rt: &HostRuntime) -> Result<ExitCode> {
     match Unvalidated::new(config).validate_with(alloc, &names) {
         Ok(config) => show(rt, &config),
         Err(IntoValidError::Report(report)) => {
-            print!(rt; "{report}")?;
+            print!(rt; "{}", Escaped(alloc, &report))?;
             Ok(ExitCode::FAILURE)
         }
         Err(IntoValidError::Memory(_)) => bail!("out of memory"),
+    }
+}
+
+/// A message in one line. A name in it may come from anyone, so what is not shown is escaped, and a
+/// line feed is printed as a comma.
+fn in_one_line(alloc: Global, error: &Error) -> Result<String> {
+    let message = format!(in alloc; "{error:#}")?;
+    let mut line = String::new(alloc);
+    for c in message.as_str().chars() {
+        match c {
+            '\n' => line.push_str(", ")?,
+            '"' | '\'' | '\\' => line.push(c)?,
+            _ => write!(line, "{}", c.escape_debug())?,
+        }
+    }
+    Ok(line)
+}
+
+/// Prints in one line why a configuration was not judged.
+fn complain(rt: &HostRuntime, error: &Error) -> io::Result<()> {
+    match in_one_line(rt.alloc(), error) {
+        Ok(line) => eprintln!(rt; "use_config: {line}"),
+        Err(_) => eprintln!(rt; "use_config: out of memory"),
     }
 }
 
@@ -75,7 +100,7 @@ fn main(rt: HostRuntime) -> ExitCode {
     match run(&rt) {
         Ok(status) => status,
         Err(error) => {
-            let _ = eprintln!(rt; "use_config: {error:#}");
+            let _ = complain(&rt, &error);
             ExitCode::from(NOT_JUDGED)
         }
     }

@@ -13,22 +13,24 @@ use crate::order::{Order, destination, first};
 use crate::page::Page;
 use anyhow::Result;
 use garde::{DefaultI18n, Valid};
+use garde_problem::Escaped;
 use garde_schema::{ReadError, Scratch};
 use std::io;
 use std::io::Read;
 use std::process::ExitCode;
 
-/// Confirms an order by its customer, its first line, where it goes, and what each line costs.
+/// Confirms an order by its customer, its first line, where it goes, and what each line costs. Texts
+/// of the order stand in quotes, with what is not shown escaped.
 #[tactic(auto, unfolding(garde::specs::Fields::Known))]
 fn confirm(rt: &impl Print, order: &Valid<Order<'_>>) -> io::Result<()> {
     let (customer, code) = (order.customer.text(), first(order).code.text());
     match destination(order) {
-        Some(address) => println!(rt; "{customer}: {code} .., by post to {address}")?,
-        None => println!(rt; "{customer}: {code} .., at the counter")?,
+        Some(address) => println!(rt; "{customer:?}: {code:?} .., by post to {address:?}")?,
+        None => println!(rt; "{customer:?}: {code:?} .., at the counter")?,
     }
     for line in order.lines.as_slice() {
         println!(rt;
-            "    {} x {}: {} cents",
+            "    {} x {:?}: {} cents",
             line.count,
             line.code.text(),
             cost(line)
@@ -59,7 +61,7 @@ fn run(rt: &HostRuntime) -> Result<bool> {
             Ok(true)
         }
         Err(ReadError::Report(report)) => {
-            print!(rt; "{report}")?;
+            print!(rt; "{}", Escaped(alloc, &report))?;
             Ok(false)
         }
         Err(error) => Err(error.into()),

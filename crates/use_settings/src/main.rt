@@ -10,8 +10,8 @@ use crate::settings::{Settings, share};
 use anyhow::{Context, Result, bail};
 use garde::error::Report;
 use garde::{IntoValidError, Unvalidated, Valid};
-use std::env;
 use std::process::ExitCode;
+use std::{env, io};
 
 /// The status of a command line that is rejected, as `clap` has it.
 const USAGE: u8 = 2;
@@ -23,6 +23,26 @@ fn refuse(rt: &HostRuntime, report: &Report) -> Result<ExitCode> {
     }
     eprintln!(rt; "\nFor more information, try '--help'.")?;
     Ok(ExitCode::from(USAGE))
+}
+
+/// Whether a word has a character that acts on a terminal.
+fn has_control(word: &str) -> bool {
+    for c in word.chars() {
+        if c.is_control() {
+            return true;
+        }
+    }
+    false
+}
+
+/// Prints what `clap` says. It repeats words, and one with a control character could forge a line.
+fn show(rt: &HostRuntime, words: &[String], error: &clap::Error) -> io::Result<()> {
+    for word in words {
+        if error.use_stderr() && has_control(word.as_str()) {
+            return eprintln!(rt; "error: a word has a control character");
+        }
+    }
+    error.print(rt)
 }
 
 /// Prints what valid settings ask for.
@@ -41,7 +61,7 @@ fn run(rt: &HostRuntime) -> Result<ExitCode> {
     let matches = match matches_of(alloc, &words) {
         Ok(matches) => matches,
         Err(error) => {
-            error.print(rt)?;
+            show(rt, &words, &error)?;
             return Ok(if error.use_stderr() {
                 ExitCode::from(USAGE)
             } else {

@@ -31,7 +31,7 @@ fn fill(form: &mut SignUp, field: &str, text: String) -> Result<()> {
         },
         "phone" => form.phone = (!text.is_empty()).then_some(text),
         "terms" => form.terms = text.as_str() == "on",
-        _ => bail!("the form has no field {field}"),
+        _ => bail!("the form has no field {field:?}"),
     }
     Ok(())
 }

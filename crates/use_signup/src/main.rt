@@ -61,7 +61,7 @@ fn answer<H: I18n>(rt: &HostRuntime, form: SignUp, words: &Words, h: &H) -> Resu
     match judge(rt.alloc(), form, words, h) {
         Ok(form) => {
             let (welcome, name, age) = (words.welcome, &form.name, age_of(&form));
-            println!(rt; "{welcome}, {name} ({age})")?;
+            println!(rt; "{welcome}, {name:?} ({age})")?;
             Ok(ExitCode::SUCCESS)
         }
         Err(ValidateError::Report(report)) => {
