@@ -48,6 +48,8 @@ class Implementation:
             raise Refusal(line, "a context that is a tuple")
         kind = read_type(tokens)
         name = tokens.name("the name of the context") if tokens.takes("as") else "ctx"
+        if not tokens.ended():
+            self.writer.notes.refuse(line, f"a context that the port cannot read, from `{tokens.first.text}` on: write `context(TYPE as NAME)`")
         if name in (*OWN, *STATED):
             raise Refusal(line, f"the name `{name}` of the context stands for something else in the implementation")
         return self.writer.type_text(kind), name, False

@@ -1,6 +1,7 @@
 """The items of a Rust source file: structs, enums, constants, functions and imports."""
-from dataclasses import dataclass, field
+from dataclasses import dataclass, field, replace
 
+from .derives import read_serde, type_names
 from .rules import Attributes, no_attributes, number_of, present, read_attributes
 from .tokens import Notes, Refusal, Tokens, tokens_of
 
@@ -29,6 +30,8 @@ class Field:
     attributes: Attributes
     docs: tuple = ()
     vis: str = ""
+    serde: tuple = ()
+    others: tuple = ()
 
 
 @dataclass(frozen=True)
@@ -40,6 +43,8 @@ class Variant:
     fields: tuple
     line: int
     docs: tuple = ()
+    serde: tuple = ()
+    others: tuple = ()
 
 
 @dataclass(frozen=True)
@@ -53,7 +58,8 @@ class Param:
 
 @dataclass(frozen=True)
 class Item:
-    """A struct, which has one variant, or an enum. It stands in the text from `start` to `end`."""
+    """A struct, which has one variant, or an enum. It stands in the text from `start` to `end`. `said` are its derives, each with
+    its line and its path, `serde` its attributes of serde, and `others` all other attributes in it, each with its line."""
 
     kind: str
     name: str
@@ -66,13 +72,16 @@ class Item:
     vis: str = ""
     start: int = 0
     end: int = 0
+    said: tuple = ()
+    serde: tuple = ()
+    others: tuple = ()
 
 
 @dataclass
 class Outer:
     """What stands before an item, a variant or a field. `tests` says that it is for tests alone; `condition` is the line of
     another condition of the build, and `conditions` are the stretches of the text of these; `read` are the places of its
-    derives and its `garde` attributes."""
+    derives and its `garde` attributes; `said`, `serde` and `others` are those of an item."""
 
     docs: tuple = ()
     attributes: Attributes = None
@@ -81,6 +90,9 @@ class Outer:
     condition: int = 0
     conditions: list = field(default_factory=list)
     read: set = field(default_factory=set)
+    said: tuple = ()
+    serde: tuple = ()
+    others: tuple = ()
 
 
 @dataclass
@@ -92,6 +104,7 @@ class Source:
     imports: list = field(default_factory=list)
     functions: dict = field(default_factory=dict)
     numbers: dict = field(default_factory=dict)
+    aliases: set = field(default_factory=set)
     notes: Notes = field(default_factory=Notes)
 
 
@@ -163,6 +176,9 @@ def read_known_item(tokens, source, text, outer, begin):
         source.functions[name] = text[start : tokens.tokens[tokens.at - 1].at + 1]
     elif word == "const":
         read_constant(tokens, source, bool(outer.condition))
+    elif word == "type":
+        source.aliases.add(tokens.first.text)
+        pass_to_end(tokens)
     elif word != ";":
         tokens.at = before
         pass_over(tokens)
@@ -174,6 +190,7 @@ def read_type_item(tokens, source, outer, head):
     unconditional(tokens, outer)
     name, params, variants = (read_struct if word == "struct" else read_enum)(tokens)
     item = Item(word, name, params, variants, line, outer.attributes, outer.derives, outer.docs, vis, begin, tokens.first.at)
+    item = replace(item, said=outer.said, serde=outer.serde, others=outer.others + others_within(variants))
     source.notes.told += outer.conditions
     if None in variants or any(None in it.fields for it in variants):
         source.notes.told.append((begin, item.end))
@@ -184,6 +201,12 @@ def read_type_item(tokens, source, outer, head):
         raise Refusal(line, f"`garde` attributes at `{name}`, which has no `Validate` among its derives")
     source.notes.read |= outer.read
     source.items.append(item)
+
+
+def others_within(variants):
+    """The attributes of variants and fields that are neither of garde nor of serde."""
+    read = [it for it in variants if it is not None]
+    return tuple(found for it in (*read, *(field for it in read for field in it.fields)) if it is not None for found in it.others)
 
 
 def read_use(tokens, source):
@@ -239,7 +262,8 @@ def read_attribute_of(inside, outer, asked, mark, of_the_file):
     if word == "derive" and not inside.opens("("):
         raise Refusal(mark.line, "`derive` with no list behind it")
     if word == "derive":
-        outer.derives += present(inside.group().items(lambda it: read_path(it)[-1]))
+        outer.said += present(inside.group().items(lambda it: (it.line, tuple(read_path(it)))))
+        outer.derives = tuple(path[-1] for _, path in outer.said)
         outer.read.add(at)
     elif word == "garde":
         asked.append(inside.group())
@@ -250,6 +274,10 @@ def read_attribute_of(inside, outer, asked, mark, of_the_file):
     elif word in ("cfg", "cfg_attr"):
         outer.condition = mark.line
         outer.conditions.append((mark.at, None))
+    elif word == "serde" and inside.opens("("):
+        outer.serde += (read_serde(inside.group()),)
+    else:
+        outer.others += ((mark.line, "::".join(path)),)
 
 
 def is_test(tokens):
@@ -356,8 +384,9 @@ def read_variant(tokens):
         tokens.notes.refuse(line, f"an attribute at the variant `{name}`: attributes stand at types and at fields")
     variant = read_variant_body(tokens, name, line, outer.docs)
     if tokens.sees("="):
-        raise Refusal(line, f"the variant `{name}` has a number")
-    return variant
+        tokens.notes.refuse(line, f"the variant `{name}` has a number")
+        tokens.skip_to(",")
+    return replace(variant, serde=outer.serde, others=outer.others)
 
 
 def read_variant_body(tokens, name, line, docs):
@@ -374,20 +403,21 @@ def read_variant_body(tokens, name, line, docs):
 
 def no_where(tokens):
     if tokens.sees("where"):
-        raise Refusal(tokens.line, "a `where` clause: write the bounds at the parameters")
+        tokens.notes.refuse(tokens.line, "a `where` clause: write the bounds at the parameters")
+        tokens.skip_to("{", ";")
 
 
 def read_named_field(tokens):
     outer = unconditional(tokens, read_outer(tokens))
     vis, line, name = read_vis(tokens), tokens.line, tokens.name("the name of a field")
     tokens.expect(":")
-    return Field(name, read_field_type(tokens), line, outer.attributes, outer.docs, vis)
+    return Field(name, read_field_type(tokens), line, outer.attributes, outer.docs, vis, outer.serde, outer.others)
 
 
 def read_tuple_field(tokens):
     outer = unconditional(tokens, read_outer(tokens))
     vis, line = read_vis(tokens), tokens.line
-    return Field("", read_field_type(tokens), line, outer.attributes, outer.docs, vis)
+    return Field("", read_field_type(tokens), line, outer.attributes, outer.docs, vis, outer.serde, outer.others)
 
 
 def read_field_type(tokens):
@@ -424,15 +454,17 @@ def read_param(tokens):
     if tokens.first.kind == "lifetime":
         line, name = tokens.line, tokens.take().text
         if tokens.sees(":"):
-            raise Refusal(line, f"the lifetime `{name}` has bounds")
+            tokens.notes.refuse(line, f"the lifetime `{name}` has bounds")
+            tokens.skip_to(",", ">")
         return Param("lifetime", name)
     kind = "const" if tokens.takes("const") else "type"
     line, name = tokens.line, tokens.name("a parameter")
     if name == "H":
-        raise Refusal(line, "a parameter of the name `H`, which the method has for the handler")
+        tokens.notes.refuse(line, "a parameter of the name `H`, which the method has for the handler")
     bounds = read_bounds(tokens) if tokens.takes(":") else ""
     if tokens.sees("="):
-        raise Refusal(tokens.line, f"the parameter `{name}` has a default")
+        tokens.notes.refuse(tokens.line, f"the parameter `{name}` has a default")
+        tokens.skip_to(",", ">")
     return Param(kind, name, bounds)
 
 
@@ -504,10 +536,3 @@ def is_ported(item):
 def all_rules(rules):
     """Rules with those within them."""
     return [found for rule in rules for found in (rule, *all_rules(rule.rules))]
-
-
-def type_names(kind):
-    """The names that a type consists of."""
-    if isinstance(kind, str):
-        return set()
-    return {kind.name}.union(*(type_names(it) for it in kind.args))

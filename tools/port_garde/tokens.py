@@ -207,6 +207,16 @@ class Tokens:
             found.append(item)
         return found
 
+    def skip_to(self, *marks):
+        """Passes over what stands before one of these marks, groups and what is in angles as wholes."""
+        angles = 0
+        while not self.ended() and (angles or not any(map(self.sees, marks))):
+            if any(map(self.opens, OPEN)):
+                self.group()
+                continue
+            text = self.take().text
+            angles = max(0, angles + (text == "<") - (text == ">"))
+
     def skip_item(self):
         """Passes over the rest of an item of a list, with its comma."""
         angles = 0

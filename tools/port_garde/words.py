@@ -203,7 +203,8 @@ class Checks:
         if other is None:
             raise Refusal(rule.line, f"`matches` of the field `{rule.text}`, which is not there")
         if not (is_path(seen.type, "String") and (is_path(other.type, "String") or other.type.kind == "unread")):
-            raise Refusal(rule.line, "`matches` of values that are not both of type `String`")
+            kinds = " and ".join(dict.fromkeys(f"`{self.writer.type_text(it, True)}`" for it in (seen.type, other.type)))
+            raise Refusal(rule.line, f"`matches` of {kinds}: it is written of two `String`s, so compare others by a rule of your own, by `custom`")
         self.scope.bound.add(rule.text)
         fields = (("field", Word(f'"{rule.text}"')), ("other", Word(other.binding)))
         return Literal(self.field("Matches"), fields), f'{self.word("matches_text")} "{rule.text}" {seen.name} {other.name}'
@@ -262,12 +263,21 @@ class Checks:
             told = f"`range` of the type `{self.writer.type_text(seen.type)}`"
             raise Refusal(rule.line, f"{told}: there are no bounds{floats} here")
         signed = kind in SIGNED
+        self.refuse_bounds(rule, kind, signed)
         code = self.bounds_code(rule, signed)
         end = ending(rule)
         family = "signed" if signed else "range"
         word = f"{kind}_{end}" if end == "min" or (signed and end == "max") else f"{family}_{end}"
         stated = [self.bound(rule.bounds[it], signed)[1] for it in ("min", "max", "equal") if it in rule.bounds]
         return code, " ".join([self.word(word), *stated, seen.name])
+
+    def refuse_bounds(self, rule, kind, signed):
+        """Refuses bounds that no number of the type reaches."""
+        bits = 64 if kind.endswith("size") else int(kind[1:])
+        most = 2 ** (bits - signed) - 1
+        for it in map(self.writer.resolved, rule.bounds.values()):
+            if it.kind == "number" and (it.value > most or (signed and it.value < -most - 1)):
+                raise Refusal(it.line, f"the bound {it.value}, which is no `{kind}`")
 
     def bound(self, it, signed):
         """A bound as code and as it is stated."""

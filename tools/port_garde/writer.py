@@ -1,19 +1,21 @@
 """The Rattle source with the implementations."""
 import re
 
+from .derives import SERDE, Derives, kept_derives, literal_function, named_function, options, serde_lines
 from .implementation import Implementation
 from .layout import CALL, VARIANT, WIDTH, use_line
 from .rules import Expression
 from .scope import Uses
 from .second import faults_of_values, passed_by
-from .source import all_rules, is_ported, type_names
-from .tokens import Refusal, Refusals
+from .source import all_rules, is_ported, read_type, type_names
+from .tokens import Refusal, Refusals, Tokens
 from .words import camel
 
-DERIVES = ("Clone", "Copy", "Debug", "Default", "Eq", "Hash", "Ord", "PartialEq", "PartialOrd")
 COLLECTIONS = ("BTreeMap", "BTreeSet", "BinaryHeap", "HashMap", "HashSet", "LinkedList", "VecDeque")
 IMPORTS = {name: f"std::collections::{name}" for name in COLLECTIONS}
 IMPORTS.update({"Rc": "std::rc::Rc", "Regex": "garde::rules::pattern::regex::Regex"})
+# The crates whose names are imported as the output has them.
+WRITTEN = ("std", "core", "alloc", "garde", "regex", "serde", "serde_derive")
 GARDE = {"I18n", "Report", "Trail", "Validate", "AllocError", "Global", "Rule", "View", "RuleError"}
 RULE = """{docs}
 #[derive(Clone, Copy)]
@@ -42,12 +44,14 @@ impl{bound} View<{kind}> for {name} {{
 
 
 class Writer:
-    """Writes what stands for a source. `module` is the path of what is written, and `own` that of the rules of one's own."""
+    """Writes what stands for a source. `module` is the path of what is written, `own` that of the rules of one's own, and
+    `left_out` are the derives and attributes that are left out without a word."""
 
-    def __init__(self, source, module=None, own=None):
+    def __init__(self, source, module=None, own=None, left_out=()):
         self.source, self.module, self.own = source, module, own
+        self.derives = Derives(source, left_out)
         self.uses = Uses()
-        self.patterns, self.skeletons, self.closures = {}, {}, {}
+        self.patterns, self.skeletons, self.closures, self.copied = {}, {}, {}, {}
         self.item = self.context = self.spot = None
         self.renamed = {}
         self.notes = source.notes
@@ -80,6 +84,8 @@ class Writer:
     def item_texts(self, item):
         """The type, the patterns that it asks for, and its implementation."""
         self.item = item
+        for line, reason in self.derives.faults(item):
+            self.notes.refuse(line, reason)
         self.renamed = {"'a": free_lifetime(item.params)}
         if not is_ported(item):
             return [self.declaration(item)]
@@ -108,15 +114,17 @@ class Writer:
 
     def declaration(self, item):
         """The type itself, with the derives that are here."""
-        derives = [it for it in item.derives if it in DERIVES]
+        derives = kept_derives(item)
+        self.uses.others |= {f"serde::{it}" for it in derives if it in SERDE}
         derives += [] if "Copy" in derives else ["Drop"]
-        lines = [*item.docs, f"#[derive({', '.join(derives)})]"]
+        self.serde_functions(item)
+        lines = [*item.docs, f"#[derive({', '.join(derives)})]", *serde_lines(item.serde)]
         params = self.params_text(item.params, bounds=False)
         if item.kind == "struct":
             head = f"{item.vis}struct {item.name}{params}"
             return "\n".join([*lines, head + self.body(item.variants[0], len(head))])
         tall = any("\n" in self.variant_text(it, False) for it in item.variants)
-        variants = [f"    {line}" for it in item.variants for line in (*it.docs, f"{self.variant_text(it, tall)},")]
+        variants = [f"    {line}" for it in item.variants for line in (*self.heads(it), f"{self.variant_text(it, tall)},")]
         return "\n".join([*lines, f"{item.vis}enum {item.name}{params} {{", *variants, "}"])
 
     def body(self, variant, before):
@@ -125,25 +133,49 @@ class Writer:
             return ";"
         if variant.shape == "named":
             return " {\n" + "".join(self.field_lines(it, 4) for it in variant.fields) + "}"
-        inside = ", ".join(it.vis + self.type_text(it.type, True) for it in variant.fields)
+        inside = ", ".join(self.in_tuple(it) for it in variant.fields)
         if len(inside) <= CALL and before + len(inside) + 3 <= WIDTH and not any(it.docs for it in variant.fields):
             return f"({inside});"
         return "(\n" + "".join(self.field_lines(it, 4) for it in variant.fields) + ");"
 
+    def serde_functions(self, item):
+        """The functions that attributes of serde name: those that give a number as they are, and others as beginnings."""
+        named = [(said, item.name) for said in options(item).values()]
+        fields = [it for variant in item.variants for it in variant.fields]
+        named += [(said, self.type_text(it.type)) for it in fields for said in options(it).values()]
+        for said, kind in named:
+            name = named_function(said)
+            source = self.source.functions.get(name, f"fn {name}")
+            if name and literal_function(source):
+                self.copied[name] = literal_function(source)
+            elif name:
+                head = f"fn {name}() -> {kind}" if said.word == "default" else f"fn {name}(value: &{kind}) -> bool"
+                self.skeletons[name] = ("", f"{begun('function', source)}\n{head} {{\n    todo\n}}")
+
+    def heads(self, variant):
+        """What stands above a variant."""
+        default = ["#[default]"] if "Default" in self.item.derives and any(name == "default" for _, name in variant.others) else []
+        return [*variant.docs, *default, *serde_lines(variant.serde)]
+
+    def in_tuple(self, it):
+        """A field without a name, behind its attributes."""
+        return " ".join([*serde_lines(it.serde), it.vis + self.type_text(it.type, True)])
+
     def field_lines(self, it, indent):
         space = " " * indent
-        name = f"{it.name}: " if it.name else ""
-        return "".join(f"{space}{line}\n" for line in (*it.docs, f"{it.vis}{name}{self.type_text(it.type, True)},"))
+        if not it.name:
+            return "".join(f"{space}{line}\n" for line in (*it.docs, f"{self.in_tuple(it)},"))
+        lines = (*it.docs, *serde_lines(it.serde), f"{it.vis}{it.name}: {self.type_text(it.type, True)},")
+        return "".join(f"{space}{line}\n" for line in lines)
 
     def variant_text(self, variant, tall):
         """A variant of an enum; where one of them is tall, so are all with named fields."""
         if variant.shape == "unit":
             return variant.name
         opening, closing = (" {", "}") if variant.shape == "named" else ("(", ")")
-        names = (f"{it.name}: " if it.name else "" for it in variant.fields)
-        inside = ", ".join(name + self.type_text(it.type, True) for name, it in zip(names, variant.fields))
+        inside = ", ".join((f"{it.name}: " if it.name else "") + self.in_tuple(it) for it in variant.fields)
         fits = len(inside) <= VARIANT and not tall if variant.shape == "named" else len(variant.name + inside) + 7 <= WIDTH
-        if fits and not any(it.docs for it in variant.fields):
+        if fits and not any(it.docs or (it.name and it.serde) for it in variant.fields):
             space = " " if variant.shape == "named" else ""
             return f"{variant.name}{opening}{space}{inside}{space}{closing}"
         fields = "".join(self.field_lines(it, 8) for it in variant.fields)
@@ -230,6 +262,34 @@ class Writer:
             raise Refusal(rule.line, f"{told}: give both types a context with compiled patterns")
         if any(it.name == name and it is self.item for it in self.source.items):
             raise Refusal(rule.line, f"`dive` of `{name}` into itself: such a type is walked by a function of its own")
+        part = next((it for it in self.source.items if it.name == name and is_ported(it)), None)
+        given, wanted = self.given_context(rule), self.context_name(part) if part else None
+        if given and wanted and given != wanted:
+            told = f"`dive` into `{name}`, whose context is `{wanted}`, with the context `{given}`"
+            way = "write `dive(())`" if wanted == "()" else "name a part of the context of that type, as `dive(ctx.FIELD)`"
+            raise Refusal(rule.line, f"{told}: {way}")
+
+    def context_name(self, item):
+        """The last name of the type of a type's context, where that is known."""
+        if not item.attributes.context:
+            return None if any(it.kind == "type" for it in item.params) or self.asks_patterns(item.name) else "()"
+        _, tokens = item.attributes.context
+        try:
+            return read_type(Tokens(tokens.tokens, tokens.text, tokens.notes)).name
+        except Refusal:
+            return None
+
+    def given_context(self, rule):
+        """The last name of the type of the context that a `dive` hands on, where that is known."""
+        if rule.place is None or (rule.place.kind == "place" and len(rule.place.value) == 1):
+            made = rule.place is None and self.asks_patterns(self.item.name)
+            return "()" if made else self.context_name(self.item)
+        if rule.place.kind == "unit":
+            return "()"
+        whole = next((it for it in self.source.items if it.name == self.context_name(self.item) and it.kind == "struct"), None)
+        if whole is None or rule.place.kind != "place" or len(rule.place.value) != 2:
+            return None
+        return next((it.type.name for it in whole.variants[0].fields if it.name == rule.place.value[1] and it.type.kind == "path"), None)
 
     def closure_name(self, rule):
         """A name for a closure, after the type and the field, with a number for each further one of the field."""
@@ -243,11 +303,9 @@ class Writer:
     def own_rule(self, name, rule, kind, unit):
         """A rule of one's own: its type is imported or, with no module for it, written as a beginning."""
         source = rule.source or self.source.functions.get(rule.text, f"fn {rule.text}")
-        quoted = ["```text", *source.splitlines(), "```"]
-        docs = ["/// A rule to be written. In the Rust source it is:", "///", *(f"/// {line}".rstrip() for line in quoted)]
         context = "" if unit else self.context
         self.skeletons[name] = ("Rule", RULE.format(
-            docs="\n".join(docs), vis=self.item.vis, name=name, kind=kind, bound=lifetimes_of(kind),
+            docs=begun("rule", source), vis=self.item.vis, name=name, kind=kind, bound=lifetimes_of(kind),
             life="<'c>" if context else "", lives="<'_>" if context else "",
             holds=f"({self.item.vis}&'c {context})" if context else "",
         ))
@@ -257,8 +315,8 @@ class Writer:
         self.skeletons[name] = ("View", VIEW.format(docs=docs, vis=self.item.vis, name=name, kind=kind, bound=lifetimes_of(kind)))
 
     def skeleton_texts(self):
-        """The beginnings of rules and views."""
-        return [] if self.own else [text for _, text in self.skeletons.values()]
+        """The functions that are copied, and the beginnings of rules, views and functions."""
+        return [*self.copied.values(), *([] if self.own else [text for _, text in self.skeletons.values()])]
 
     # Imports.
 
@@ -289,7 +347,7 @@ class Writer:
         if self.own:
             paths |= {f"{self.own}::{name}" for name in self.skeletons}
         elif self.skeletons:
-            paths |= {f"garde::fields::{kind}" for kind, _ in self.skeletons.values()}
+            paths |= {f"garde::fields::{kind}" for kind, _ in self.skeletons.values() if kind}
             paths |= {"garde::RuleError"} if any(kind == "Rule" for kind, _ in self.skeletons.values()) else set()
         grouped = {}
         for path in paths:
@@ -299,13 +357,20 @@ class Writer:
         return "\n".join(use_line(module, grouped[module]) for module in order)
 
     def crate_imports(self):
-        """The imports of the source from its own crate that the types here still name."""
+        """The imports of the source from its own crate and from others that the types here still name."""
         named = {name for item in self.source.items for name in names_of(item)}
         kept = set()
         for path, name in self.source.imports:
-            if path[0] in ("crate", "self", "super") and name in named:
+            if path[0] not in WRITTEN and name in named:
                 kept.add("::".join(path) + (f" as {name}" if name != path[-1] else ""))
         return kept
+
+
+def begun(what, source):
+    """The doc of what is to be written, with how it stands in the Rust source."""
+    quoted = ["```text", *source.splitlines(), "```"]
+    docs = [f"/// A {what} to be written. In the Rust source it is:", "///", *(f"/// {line}".rstrip() for line in quoted)]
+    return "\n".join(docs)
 
 
 def has_pattern(rules):

@@ -1,0 +1,284 @@
+"""The derives of a type and its attributes beside those of garde: which are kept, and why each other one is not."""
+import re
+from dataclasses import dataclass
+
+from .tokens import Refusal
+
+OWN = ("Clone", "Copy", "Debug", "Default", "Eq", "Hash", "Ord", "PartialEq", "PartialOrd")
+SERDE = ("Deserialize", "Serialize")
+# The attributes that say nothing of values.
+SILENT = ("allow", "warn", "deny", "forbid", "expect", "must_use", "deprecated", "doc", "non_exhaustive", "repr", "rustfmt", "clippy", "diagnostic")
+# What the toolchain's serde reads at each place.
+OPTIONS = {
+    "type": (
+        "rename", "rename_all", "rename_all_fields", "deny_unknown_fields", "tag", "content", "untagged", "default",
+        "transparent", "expecting",
+    ),
+    "variant": ("rename", "alias", "rename_all", "skip", "skip_serializing", "skip_deserializing", "other"),
+    "field": (
+        "rename", "alias", "default", "flatten", "skip", "skip_serializing", "skip_deserializing", "skip_serializing_if", "borrow",
+    ),
+    "field without a name": ("borrow",),
+}
+BY_HAND = ("with", "serialize_with", "deserialize_with")
+BY_IMPL = ("from", "try_from", "into")
+CASES = (
+    "lowercase", "UPPERCASE", "PascalCase", "camelCase", "snake_case", "SCREAMING_SNAKE_CASE", "kebab-case", "SCREAMING-KEBAB-CASE",
+)
+# The types that serde does not read and write here, and those that no `default()` makes, since they allocate.
+UNREAD = ("Rc", "PhantomData", "Duration", "Result", "LinkedList", "BinaryHeap", "Regex")
+MADE = ("String", "Vec", "BTreeMap", "BTreeSet", "HashMap", "HashSet", "VecDeque", "LinkedList", "BinaryHeap", "Box", "Rc")
+HOLDERS = ("Option", *MADE)
+STD = ("Option", "Vec", "String", "str", "BTreeMap", "BTreeSet", "HashMap", "HashSet", "VecDeque")
+# A function that gives a number or a truth value, which is written as it is.
+LITERAL = re.compile(r"(?:pub(?:\([^()]*\))?\s+)?(?:const\s+)?fn\s+(\w+)\s*\(\s*\)\s*->\s*(\w+)\s*\{\s*(-?[0-9][\w.]*|true|false)\s*\}")
+
+
+@dataclass(frozen=True)
+class Said:
+    """An option of `#[serde(..)]`: its word, its line, how it is written, and what stands in quotes behind `=`."""
+
+    word: str
+    line: int
+    text: str
+    value: str = None
+
+    def written(self):
+        """How it is written here: a function by its name alone, and an empty value as the default one."""
+        name = named_function(self)
+        if self.word == "default" and self.value is not None and name is None:
+            return self.word
+        return f'{self.word} = "{name}"' if name else self.text
+
+
+def read_serde(tokens):
+    """Reads the options of one attribute of serde."""
+    return tuple(it for it in tokens.items(read_option) if it is not None)
+
+
+def read_option(tokens):
+    line, word = tokens.line, tokens.name("an option of serde")
+    if tokens.takes("="):
+        text, value = read_quoted(tokens, word)
+        return Said(word, line, f"{word} = {text}", value)
+    if tokens.opens("("):
+        inside = tokens.group().items(read_option)
+        return Said(word, line, f"{word}({', '.join(it.text for it in inside if it is not None)})")
+    return Said(word, line, word)
+
+
+def read_quoted(tokens, word):
+    """Reads a text in quotes: as it is written, and what stands between its quotes."""
+    token = tokens.take()
+    if token.kind not in ("text", "raw"):
+        raise Refusal(token.line, f"`{word}` of serde with `{token.text}`, where a text in quotes is read")
+    return token.text, re.sub(r'^r?#*"|"#*$', "", token.text)
+
+
+def kept_derives(item):
+    """The derives that the type has here too."""
+    return [name for name in item.derives if name in (*OWN, *SERDE)]
+
+
+def has_serde(item):
+    return any(name in SERDE for name in item.derives)
+
+
+def serde_lines(groups):
+    """The attributes of serde, each as it is written."""
+    return [f"#[serde({', '.join(it.written() for it in group)})]" for group in groups if group]
+
+
+def named_function(said):
+    """The function that an option names, if it is none of the standard library."""
+    if said.word not in ("default", "skip_serializing_if") or said.value is None:
+        return None
+    head, last = said.value.split("::")[0], said.value.split("::")[-1]
+    empty = last in ("new", "default") and head in (*STD, "Default")
+    return None if empty or (said.word != "default" and head in STD) else last
+
+
+def type_names(kind):
+    """The names that a type consists of."""
+    return set() if isinstance(kind, str) else {kind.name}.union(*map(type_names, kind.args))
+
+
+def literal_function(text):
+    """A function that gives a number or a truth value, as it is laid out here, or nothing."""
+    found = LITERAL.fullmatch(text.strip())
+    return f"fn {found[1]}() -> {found[2]} {{\n    {found[3]}\n}}" if found else None
+
+
+def options(it):
+    """The options of a type, a variant or a field, by their words."""
+    return {said.word: said for group in it.serde for said in group}
+
+
+class Derives:
+    """What is not kept of the derives and the attributes of the types of a file, each with its line. `left_out` are the names of
+    derives and attributes that are left out without a word."""
+
+    def __init__(self, source, left_out=()):
+        self.source, self.left_out = source, left_out
+        self.items = {it.name: it for it in source.items}
+
+    def faults(self, item):
+        """All of a type."""
+        for it in (it for variant in item.variants for it in variant.fields):
+            for name in sorted(type_names(it.type) & self.source.aliases):
+                yield it.line, f"the type `{name}`, which is another name of a type in this file: write that type"
+        yield from self.of_derives(item)
+        yield from self.of_attributes(item)
+        if not has_serde(item):
+            told = f"an attribute of serde at `{item.name}`, which has neither `Serialize` nor `Deserialize` among its derives"
+            parts = (item, *item.variants, *(it for variant in item.variants for it in variant.fields))
+            yield from ((said.line, told) for part in parts for group in part.serde for said in group[:1])
+            return
+        yield from self.of_the_type(item)
+        for variant in item.variants:
+            if item.kind == "enum":
+                yield from self.of_options(variant, "variant", item)
+            for it in variant.fields:
+                yield from self.of_field(it, item)
+
+    def of_derives(self, item):
+        """The derives that are not here, or not of such a type."""
+        for line, path in item.said:
+            name, home = path[-1], path[0] if len(path) > 1 else self.home(path[-1])
+            known = ("serde", "serde_derive", "") if name in SERDE else ("garde", "") if name == "Validate" else ("std", "core", "")
+            if name in (*OWN, *SERDE, "Validate") and home in known:
+                continue
+            if name not in self.left_out:
+                yield line, f"the derive `{'::'.join(path)}`, which the toolchain has not: take it out, or leave it out by `--leave-out {name}`"
+        lines = {path[-1]: line for line, path in item.said}
+        if "Hash" in lines and "Eq" not in lines:
+            yield lines["Hash"], "the derive `Hash` without `Eq`, which it asks for here"
+        if "Default" in lines and item.kind == "struct":
+            yield from self.of_default(item)
+
+    def of_default(self, item):
+        """The fields that have no default value here."""
+        for it in item.variants[0].fields:
+            if it.type.kind == "path" and it.type.name in MADE:
+                told = f"`Default` of a field of the type `{it.type.name}`, which is made with an allocator here"
+                yield it.line, f"{told}: take the derive out, and write a function that makes the value"
+
+    def home(self, name):
+        """The crate that a name is imported from, or nothing."""
+        return next((path[0] for path, known in self.source.imports if known == name), "")
+
+    def of_attributes(self, item):
+        """The attributes that the port does not know."""
+        known = (*SILENT, *self.left_out, *(["default"] if "Default" in item.derives else []))
+        for line, name in item.others:
+            if name.split("::")[0] not in known:
+                told = f"the attribute `{name}`, which the port does not know"
+                yield line, f"{told}: take it out, or leave it out by `--leave-out {name.split('::')[0]}`"
+
+    def of_options(self, it, place, item):
+        """The options that are not read at a place."""
+        for said in options(it).values():
+            word = said.word
+            if word in BY_HAND:
+                yield said.line, f"`{word}` of serde, whose functions take other arguments here: take it out, and write it by hand"
+            elif word in BY_IMPL:
+                yield said.line, f"`{word}` of serde, which asks for an `impl` that the port leaves out"
+            elif word not in OPTIONS[place]:
+                where = f" at a {place}" if any(word in words for words in OPTIONS.values()) else ""
+                yield said.line, f"`{word}` of serde, which the toolchain's serde has not{where}"
+            elif named_function(said) and not re.fullmatch(r"(?:[a-z_]\w*::)*[a-z_]\w*", said.value):
+                yield said.line, f"`{word}` of serde with `{said.value}`, which is no function outside of `impl` blocks"
+            elif word in ("rename_all", "rename_all_fields") and said.value not in CASES:
+                yield said.line, f"`{word}` of serde without one case of names, as \"camelCase\", for reading and writing"
+
+    def of_the_type(self, item):
+        """What stands at the type itself."""
+        yield from self.of_options(item, "type", item)
+        said, variants = options(item), item.variants
+        if "tag" in said and item.kind == "struct":
+            yield said["tag"].line, "`tag` of serde at a struct, which is read at an enum alone"
+        if "default" in said and (item.kind == "enum" or variants[0].shape != "named"):
+            yield said["default"].line, "`default` of serde at a type that is no struct with named fields"
+        elif "default" in said and said["default"].value is None and "Default" not in item.derives:
+            yield said["default"].line, f"`default` of serde at `{item.name}`, which has no `Default` among its derives"
+        if "tag" in said and "content" not in said and item.kind == "enum":
+            yield from self.of_tagged(item)
+        if any(len(it.fields) > 12 for it in variants if it.shape == "tuple"):
+            yield item.line, "serde of a tuple of more than 12 fields"
+
+    def of_tagged(self, item):
+        """The variants of an enum with an inner tag whose values hold no members beside it."""
+        for variant in item.variants:
+            if variant.shape == "tuple" and len(variant.fields) == 1 and not self.shares(variant.fields[0].type):
+                told = f"the variant `{variant.name}` under `tag` of serde, whose value"
+                yield variant.line, f"{told} is no struct with named fields, or one that refuses unknown members: add `content`"
+
+    def shares(self, kind):
+        """Whether the members of a value may stand among others: those of a struct, or of an enum with an inner tag."""
+        if kind.kind == "unread":
+            return True
+        if kind.kind != "path" or kind.name in (*HOLDERS, *UNREAD) or re.match(r"[a-z]", kind.name):
+            return False
+        found = self.items.get(kind.name)
+        if found is None:
+            return True
+        said = options(found)
+        if found.kind == "enum":
+            return "tag" in said and "content" not in said
+        return found.variants[0].shape == "named" and "deny_unknown_fields" not in said
+
+    def of_field(self, it, item):
+        """What stands at a field, and its type."""
+        yield from self.of_options(it, "field" if it.name else "field without a name", item)
+        said = options(it)
+        if "flatten" in said:
+            yield from self.of_flattened(it, item)
+        if "default" in said and named_function(said["default"]) and it.type.kind == "path" and it.type.name in MADE:
+            told = f"`default` of serde by a function at the type `{it.type.name}`, which is made with an allocator"
+            yield said["default"].line, f"{told}: such a function gets none here"
+        if "skip" in said or ("skip_deserializing" in said and "Serialize" not in item.derives):
+            return
+        for told in sorted(set(self.unread(it.type, item))):
+            yield it.line, f"serde of {told}, which it does not know here"
+        if "Deserialize" in item.derives and self.leads_back(it.type, item.name, set()):
+            told = f"`Deserialize` of `{item.name}`, whose values hold values of its own type"
+            yield it.line, f"{told}: it wants `#[serde(recursive)]` here, at the type and at the field"
+
+    def of_flattened(self, it, item):
+        """What `flatten` does not go with."""
+        said = options(it)
+        line = said["flatten"].line
+        if "deny_unknown_fields" in options(item):
+            yield line, "`flatten` of serde beside `deny_unknown_fields`"
+        others = [word for word in said if word not in ("flatten", "skip_serializing_if", "borrow")]
+        if others:
+            yield line, f"`flatten` of serde beside `{others[0]}`"
+        if not self.shares(it.type):
+            yield line, "`flatten` of serde of what is neither a struct with named fields nor an enum with an inner tag"
+
+    def unread(self, kind, item):
+        """The types within a type that serde does not read or write here."""
+        if isinstance(kind, str):
+            return
+        if kind.kind == "path" and kind.name in UNREAD:
+            yield f"the type `{kind.name}`"
+        if kind.kind == "tuple" and len(kind.args) > 4:
+            yield "a tuple of more than 4 parts"
+        if kind.kind == "ref" and kind.args[0].name != "str" and "Deserialize" in item.derives:
+            yield "a reference that is no `&str`"
+        for it in kind.args:
+            yield from self.unread(it, item)
+
+    def leads_back(self, kind, name, seen):
+        """Whether values of a type hold values of the type of this name."""
+        if isinstance(kind, str) or kind.name in seen:
+            return False
+        if kind.kind == "path" and kind.name == name:
+            return True
+        if any(self.leads_back(it, name, seen) for it in kind.args):
+            return True
+        found = self.items.get(kind.name) if kind.kind == "path" else None
+        if found is None:
+            return False
+        fields = [it.type for variant in found.variants for it in variant.fields]
+        return any(self.leads_back(it, name, {*seen, kind.name}) for it in fields)
