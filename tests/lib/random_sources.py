@@ -4,12 +4,32 @@ import random
 PIECES = ("r", "#", "red", "r#", "##", "a b", "é", "-1", "0x1f", "//", "/*", "is", "x")
 COMPARED = {"==": "(nat_eq {0} {1})", "!=": "(not (nat_eq {0} {1}))", "<": "(nat_lt {0} {1})", "<=": "(nat_le {0} {1})",
             ">": "(nat_lt {1} {0})", ">=": "(nat_le {1} {0})"}
+# what may stand before a type that is ported
+BEFORE = (
+    "", "#[cfg(test)]\nmod tests {\n    #[derive(Validate)]\n    struct T;\n}\n", "/* a /* #[derive(Validate)] */ struct T; */\n",
+    "const A: P = P { a: 3 };\n", "const A: u8 = if C { 3 } else { 4 };\n", "const A: fn(u8) -> u8 = |x| { x };\n",
+    "const A: u8 = match C {\n    1 => 2,\n    _ => { 3 }\n};\n", "const A: [u8; { 3 }] = [1; 3];\n", "const _: () = {};\n", "static mut A: P = P { a: 3 };\n",
+    "m! { a };\n", "m!(a);\n", "m![a];\n", ";\n", "#![allow(dead_code)]\n", "//! Head.\n", "#![allow(dead_code)]\n//! Head.\n",
+    "pub const unsafe fn f() -> u8 { 3 }\n", 'pub const extern "C" fn f() -> u8 { 3 }\n', 'unsafe extern "C" { fn f(); }\n', "extern crate garde;\n",
+    "pub async fn f<T>() where T: Into<P> {}\n", "union U { a: u8 }\n", "mod a;\n", "mod a { fn f() {} }\n", "impl<const N: usize> P<{ N }> {}\n",
+    "pub unsafe trait A {}\n", "type A = [u8; { 3 }];\n", "macro_rules! m { () => {} }\n", "use std::{fmt, io::{self, Read}};\n",
+    "const A: char = '{';\n", "const A: u8 = b'{';\n", 'const A: &str = "{\\"";\n', 'const A: &str = r#"{"#;\n', 'const A: &[u8] = br##"{"#"##;\n',
+    "fn f<'a>(x: &'a str) -> &'a str { 'b: loop { break 'b; } x }\n", "fn f() { let Some(x) = y else { return }; }\n",
+)
 
 
 def number(dice, value):
     """A number as Rust writes it, in one of its forms."""
     sign, size = "-" if value < 0 else "", abs(value)
     return sign + dice.choice((str(size), f"{size:_}", hex(size), oct(size), bin(size), f"{size}_", f"0x{size:X}"))
+
+
+def bound(dice, value):
+    """A bound in the source: a number, or a constant that is one."""
+    if dice.random() < 0.8:
+        return number(dice, value)
+    dice.constants.append(f"const MOST_{len(dice.constants)}: i64 = {number(dice, value)};\n")
+    return f"MOST_{len(dice.constants) - 1}"
 
 
 def text(dice):
@@ -24,7 +44,7 @@ def bounds(dice, low, high, said):
     last = first if dice.random() < 0.2 else last
     names = dice.choice((("min",), ("max",), ("equal",), ("min", "max"), ("max", "min")))
     values = {"min": first, "max": last, "equal": first}
-    given = ", ".join(f"{it} = {number(dice, values[it])}" for it in names)
+    given = ", ".join(f"{it} = {bound(dice, values[it])}" for it in names)
     end = "between" if len(names) == 2 else names[0]
     return given, end, " ".join(said(values[it]) for it in ("min", "max", "equal") if it in names)
 
@@ -67,6 +87,7 @@ def rule(dice, kind, name):
 def source(seed):
     """A source, and the statement of its type on one line."""
     dice, fields, stated = random.Random(seed), [], []
+    dice.constants = []
     for at in range(dice.randint(1, 5)):
         kind, name = dice.choice(("String", "u16", "i32")), f"f{at}"
         rules = [rule(dice, kind, name) for _ in range(dice.randint(1, 3))]
@@ -83,5 +104,5 @@ def source(seed):
         stated.append(f'field "{key}" ({said})')
     extra = "".join(f"    #[garde(skip)]\n    {it},\n" for it in ("flag: bool", "maybe: Option<u8>", "count: u32"))
     derive = dice.choice(("Validate", "Clone, garde::Validate", "Debug, Validate,"))
-    tests = dice.choice(("", "#[cfg(test)]\nmod tests {\n    #[derive(Validate)]\n    struct T;\n}\n"))
-    return f"{tests}#[derive({derive})]\nstruct Made {{\n{''.join(fields)}{extra}}}\n", " and ".join(stated)
+    before = dice.choice(BEFORE) + "".join(dice.constants)
+    return f"{before}#[derive({derive})]\nstruct Made {{\n{''.join(fields)}{extra}}}\n", " and ".join(stated)
