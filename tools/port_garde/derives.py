@@ -145,8 +145,8 @@ class Derives:
         """The derives that are not here, or not of such a type."""
         for line, path in item.said:
             name, home = path[-1], path[0] if len(path) > 1 else self.home(path[-1])
-            known = ("serde", "serde_derive", "") if name in SERDE else ("garde", "") if name == "Validate" else ("std", "core", "")
-            if name in (*OWN, *SERDE, "Validate") and home in known:
+            known = ("serde", "serde_derive", "crate", "self", "super", "") if name in SERDE else ("std", "core", "")
+            if name == "Validate" or (name in (*OWN, *SERDE) and home in known):
                 continue
             if name not in self.left_out:
                 yield line, f"the derive `{'::'.join(path)}`, which the toolchain has not: take it out, or leave it out by `--leave-out {name}`"

@@ -65,6 +65,17 @@ def faults_of_values(text, item, written):
             yield line, f"what the port wrote does not hold {', '.join(lost)} of this line: this is a fault of the port"
 
 
+def lost_of_serde(text, item, declaration):
+    """The derives and the attributes of serde that a type's declaration does not hold, with the line of the type."""
+    plain = blank(text[item.start : item.end])
+    given = len(re.findall(r"#\s*\[\s*serde\s*\(\s*[^\s)]", plain))
+    derives = " ".join(re.findall(r"\bderive\s*\(([^()]*)\)", plain))
+    lost = [it for it in ("Deserialize", "Serialize") if re.search(rf"\b{it}\b", derives) and not re.search(rf"\b{it}\b", declaration)]
+    lost += ["an attribute of serde"] if declaration.count("#[serde(") != given else []
+    if lost:
+        yield item.line, f"what the port wrote does not hold {', '.join(lost)} of this type: this is a fault of the port"
+
+
 def attributes_of(text, item):
     """The `garde` attributes of a type, each with its line, without closures and the paths of functions."""
     whole = blank(text[item.start : item.end], keep=True)

@@ -6,7 +6,7 @@ from .implementation import Implementation
 from .layout import CALL, VARIANT, WIDTH, use_line
 from .rules import Expression
 from .scope import Uses
-from .second import faults_of_values, passed_by
+from .second import faults_of_values, lost_of_serde, passed_by
 from .source import all_rules, is_ported, read_type, type_names
 from .tokens import Refusal, Refusals, Tokens
 from .words import camel
@@ -71,6 +71,9 @@ class Writer:
         """The texts of an item. A refusal is noted, and the next item follows."""
         try:
             texts = self.item_texts(item)
+            if not self.notes.faults:
+                for line, reason in lost_of_serde(rust, item, texts[0]):
+                    self.notes.refuse(line, reason)
             if is_ported(item) and not self.notes.faults:
                 for line, reason in faults_of_values(rust, item, texts):
                     self.notes.refuse(line, reason)
