@@ -10,11 +10,8 @@ def of_pair(place, coded, pair):
     """The causes that a pair has the look of."""
     stated = " ".join(it.piece.blank for it in pair.stated)
     body = coded.bodies[pair.at]
-    lets = {**dict(coded.body.lets()), **body.lets()}
-    code = " ".join(it.piece.blank for it in pair.coded)
-    code += " " + " ".join(lets[name].blank for name in lets if re.search(rf"\b{name}\b", code))
-    if (held := re.search(HELD, code)) and re.search(CONSTRUCTOR, code):
-        yield f"a constructor inside `{held[1]}` is not seen through: write `length!(..)` or `range!(..)`"
+    lets, code = code_of(coded, pair)
+    yield from of_constructors(coded, pair)
     if "==" in stated:
         yield "`==` of `Prelude` in `visits`: write `nat_eq` of numbers, and of texts what your rule states"
     if re.search(r"\boptional\b", stated) and not re.search(r"\bIfSome\b", code):
@@ -24,6 +21,20 @@ def of_pair(place, coded, pair):
     yield from of_conditions(place, lets, code)
     if place.is_bounded and re.match(r"\.\s*visit\s*\(", body.call):
         yield "a type with parameters or lifetimes calls `visit_of(self, ..)` in place of `visit(..)`"
+
+
+def code_of(coded, pair):
+    """The names that the code of a pair may use, each with what it stands for, and that code with what its names stand for."""
+    lets = {**dict(coded.body.lets()), **coded.bodies[pair.at].lets()}
+    code = " ".join(it.piece.blank for it in pair.coded)
+    return lets, code + " " + " ".join(lets[name].blank for name in lets if re.search(rf"\b{name}\b", code))
+
+
+def of_constructors(coded, pair):
+    """A constructor that the prover does not see through."""
+    _, code = code_of(coded, pair)
+    if (held := re.search(HELD, code)) and re.search(CONSTRUCTOR, code):
+        yield f"a constructor inside `{held[1]}` is not seen through: write `length!(..)` or `range!(..)`"
 
 
 def of_conditions(place, lets, code):
@@ -36,8 +47,10 @@ def of_conditions(place, lets, code):
                 yield f"the condition calls `{name}`, which has no `ensures`: write what it returns"
 
 
-def of_whole(stated, coded):
+def of_whole(stated, coded, pairs):
     """The causes that a type has the look of whose parts all agree."""
+    for pair in pairs:
+        yield from of_constructors(coded, pair)
     for case, other in zip_cases(stated, coded):
         if case.shape != other.shape:
             where = f" of the variant `{case.variant}`" if case.variant else ""

@@ -87,8 +87,8 @@ class Type:
 
     def answers(self):
         """The file of parts that the prover takes in place of its own search, and its name. None for an enum."""
-        pairs, names = self.pairs, self.place
-        if self.stated.head or not pairs or any(len(it.stated) != 1 or it.is_whole for it in pairs):
+        pairs, names, call = self.pairs, self.place, re.match(r"\.\s*(visit\w*)", self.coded.body.call)
+        if self.stated.head or not call or not pairs or any(len(it.stated) != 1 or it.is_whole for it in pairs):
             return None
         module = ".".join(["Rattle", names.crate, "proofs", *names.modules, f"{names.type_name}Validate", "validate_into"])
         rows = [f"part (search rules)  -- {it.stated[0].key or 'the value'}" for it in pairs]
@@ -96,7 +96,7 @@ class Type:
             "use Rattle.std.proofs.Common.{rules}\n"
             "use Rattle.garde.proofs.Author.{as_stated, part, ◌also◌}\n"
             f"use {module}.Goals as goal\n\n"
-            "pub returns : goal.returns\nreturns g c = as_stated c.visit.ensures (\n    "
+            f"pub returns : goal.returns\nreturns g c = as_stated c.{call[1]}.ensures (\n    "
             + "\n    also ".join(rows) + "\n    )\n"
         )
         return f"proofs/{'/'.join(module.split('.')[3:])}/Answers.antt", text
@@ -173,7 +173,7 @@ def whole(it, check):
     if verdicts(check([path], {place.file: place.plain.text})).get(known) == PROVED:
         return Answer(0, [f"{place.name()}: the prover accepts it"])
     agrees = f"{place.file}:{place.visits_line}: each part of `{place.type_name}` agrees, and the prover does not accept the whole"
-    found = [f"  it may be this: {text} ({causes.PAGE})" for text in causes.of_whole(it.stated, it.coded)]
+    found = [f"  it may be this: {text} ({causes.PAGE})" for text in causes.of_whole(it.stated, it.coded, it.pairs)]
     answers = it.answers()
     if not found and answers and verdicts(check([path], dict([answers]))).get(known) == PROVED:
         return Answer(1, [f"{agrees} by its own search. It accepts this file, {answers[0]}:", *answers[1].splitlines()])
