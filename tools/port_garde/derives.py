@@ -149,7 +149,7 @@ class Derives:
             if name == "Validate" or (name in (*OWN, *SERDE) and home in known):
                 continue
             if name not in self.left_out:
-                yield line, f"the derive `{'::'.join(path)}`, which the toolchain has not: take it out, or leave it out by `--leave-out {name}`"
+                yield line, f"the derive `{'::'.join(path)}`, which the port does not know: take it out, or leave it out by `--leave-out {name}`"
         lines = {path[-1]: line for line, path in item.said}
         if "Hash" in lines and "Eq" not in lines:
             yield lines["Hash"], "the derive `Hash` without `Eq`, which it asks for here"

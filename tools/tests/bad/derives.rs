@@ -3,8 +3,8 @@ use garde::Validate;
 use serde::Deserialize;
 
 #[derive(Clone, PartialEq, Hash, Validate)] //~ the derive `Hash` without `Eq`, which it asks for here
-#[derive(Debug)] //~ the derive `Debug`, which the toolchain has not: take it out, or leave it out by `--leave-out Debug`
-#[derive(schemars::JsonSchema)] //~ the derive `schemars::JsonSchema`, which the toolchain has not: take it out, or leave it out by `--leave-out JsonSchema`
+#[derive(Debug)] //~ the derive `Debug`, which the port does not know: take it out, or leave it out by `--leave-out Debug`
+#[derive(schemars::JsonSchema)] //~ the derive `schemars::JsonSchema`, which the port does not know: take it out, or leave it out by `--leave-out JsonSchema`
 #[serde_with::serde_as] //~ the attribute `serde_with::serde_as`, which the port does not know: take it out, or leave it out by `--leave-out serde_with`
 #[allow(dead_code)]
 pub struct Bad {

@@ -97,7 +97,7 @@ pub struct Conditional<'a> {
 }
 
 /// Eight.
-#[derive(Validate, sqlx::FromRow)] //~ the derive `sqlx::FromRow`, which the toolchain has not: take it out, or leave it out by `--leave-out FromRow`
+#[derive(Validate, sqlx::FromRow)] //~ the derive `sqlx::FromRow`, which the port does not know: take it out, or leave it out by `--leave-out FromRow`
 pub struct Row {
     #[garde(credit_card, phone_number)] //~ the rule `credit_card` is not ported: give the number a type of its own that implements `CreditCard` //~ the rule `phone_number` is not ported: give the number a type of its own that implements `PhoneNumber`
     #[sqlx(rename = "nr")] //~ the attribute `sqlx`, which the port does not know: take it out, or leave it out by `--leave-out sqlx`
