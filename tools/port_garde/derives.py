@@ -181,6 +181,8 @@ class Derives:
             word = said.word
             if word in BY_HAND:
                 yield said.line, f"`{word}` of serde, whose functions take other arguments here: take it out, and write it by hand"
+            elif word == "bound":
+                yield said.line, "`bound` of serde, which names parameters here, as `bound(T)`: take it out, and write it by hand"
             elif word in BY_IMPL:
                 yield said.line, f"`{word}` of serde, which asks for an `impl` that the port leaves out"
             elif word not in OPTIONS[place]:
