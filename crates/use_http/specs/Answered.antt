@@ -1,0 +1,42 @@
+-- What is answered to a request.
+use Rattle.std.specs.Prelude.{ℕ, List, [], ◌∷◌, codes}
+use Rattle.garde.specs.Handlers.{Datum, default_text}
+use Rattle.garde_schema.specs.Forms.{FormTexts}
+use Rattle.garde_schema.specs.FormText.{default_form_text}
+use Rattle.http.specs.declared.request.Parts.{Parts}
+use Rattle.http_server.specs.declared.response.Response.{Response}
+use Rattle.http_server.specs.Response.{IsResponse}
+use Rattle.use_http.specs.declared.request.Route.{Route}
+use Rattle.use_http.specs.declared.request.Route.TheVariants.{Order, OtherForm, OtherOfOrders, Health, OtherOfHealth, Nowhere}
+use Rattle.use_http.specs.declared.request.Language.{Language}
+use Rattle.use_http.specs.declared.request.Language.TheVariants.{English, Czech}
+use Rattle.use_http.specs.CzechText.{czech_text, czech_form_text}
+use Rattle.use_http.specs.Judged.{Judges}
+use Rattle.use_http.specs.Request.{IsLanguage, IsRoute}
+
+-- the texts of what rules find, and of the faults of form, in a language
+abbrev pub rule_texts : Language → Datum → List ℕ
+rule_texts English datum = default_text datum
+rule_texts Czech datum = czech_text datum
+
+abbrev pub form_texts : Language → FormTexts
+form_texts English fault = default_form_text fault
+form_texts Czech fault = czech_form_text fault
+
+-- the response tells the result of reading the body of an order, in the language that the request asks for
+abbrev pub IsJudged : Parts → List ℕ → Response → Type 0
+IsJudged head body response =
+    (language : Language) × IsLanguage language head × Judges (form_texts language) (rule_texts language) body response
+
+-- the answer to a request for this
+abbrev pub AnswersRoute : Route → Parts → List ℕ → Response → Type 0
+AnswersRoute Order head body response = IsJudged head body response
+AnswersRoute OtherForm head body response = IsResponse 415 [] [] response
+AnswersRoute OtherOfOrders head body response = IsResponse 405 ((codes "allow", codes "POST") ∷ []) [] response
+AnswersRoute Health head body response = IsResponse 200 [] [] response
+AnswersRoute OtherOfHealth head body response = IsResponse 405 ((codes "allow", codes "GET, HEAD") ∷ []) [] response
+AnswersRoute Nowhere head body response = IsResponse 404 [] [] response
+
+-- the answer to a request with this head and this body
+abbrev pub IsAnswered : Parts → List ℕ → Response → Type 0
+IsAnswered head body response = (route : Route) × IsRoute route head × AnswersRoute route head body response

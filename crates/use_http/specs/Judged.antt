@@ -1,0 +1,50 @@
+-- What is answered to the body of an order.
+use Rattle.std.specs.Prelude.{ℕ, List, [], ◌∷◌, Result, Ok, Err, codes}
+use Rattle.std.specs.Fmt.{decimal}
+use Rattle.json.specs.Json.{string, number, array, object, no_members, member}
+use Rattle.garde.specs.Handlers.{Datum}
+use Rattle.garde_report.specs.Report.{Entry}
+use Rattle.garde_problem.specs.Problem.{faults_json, json_text}
+use Rattle.garde_schema.specs.Bytes.{AnswersBytes, read_error_text}
+use Rattle.garde_schema.specs.declared.read_error.ReadError.{ReadError}
+use Rattle.garde_schema.specs.declared.read_error.ReadError.TheVariants.{Parse, Report, Memory}
+use Rattle.garde_schema.specs.Forms.{FormTexts}
+use Rattle.http1.specs.Fields.{Header}
+use Rattle.http_server.specs.declared.response.Response.{Response}
+use Rattle.http_server.specs.Response.{IsResponse}
+use Rattle.use_http.specs.Order.{order_visits}
+
+-- the field that says that a body is problem details
+abbrev pub problem_fields : List Header
+problem_fields = (codes "content-type", codes "application/problem+json") ∷ []
+
+-- the problem details of an order with these faults
+abbrev pub faults_text : List Entry → List ℕ
+faults_text report = json_text (object
+    (member (codes "title") (string (codes "the order has faults"))
+    (member (codes "status") (number (decimal 422))
+    (member (codes "errors") (array (faults_json report)) no_members))))
+
+-- the problem details of a body that is no JSON text, for this reason, with these faults
+abbrev pub no_json_text : List ℕ → List Entry → List ℕ
+no_json_text reason report = json_text (object
+    (member (codes "title") (string (codes "the body is no JSON text"))
+    (member (codes "status") (number (decimal 400))
+    (member (codes "detail") (string reason)
+    (member (codes "errors") (array (faults_json report)) no_members)))))
+
+-- how the result of reading a body is answered: 204 of a body without a fault, 422 with the problem details of its report, or 400
+abbrev pub Tells : Result (Unit {0}) ReadError → Response → Type 0
+Tells (Ok done) response = IsResponse 204 [] [] response
+Tells (Err (Report report)) response = IsResponse 422 problem_fields (faults_text report) response
+Tells (Err (Parse error)) response = IsResponse 400 problem_fields (no_json_text (read_error_text (Parse error)) []) response
+Tells (Err Memory) response = ⊥
+
+-- this is the result of reading the body of an order, with these texts of faults of form and of rules
+abbrev pub Reads : FormTexts → (Datum → List ℕ) → List ℕ → Result (Unit {0}) ReadError → Type 0
+Reads form_text text body read = AnswersBytes (λ j. order_visits form_text j) text body read
+
+-- the response tells the result of reading this body
+abbrev pub Judges : FormTexts → (Datum → List ℕ) → List ℕ → Response → Type 0
+Judges form_text text body response =
+    (read : Result (Unit {0}) ReadError) × Reads form_text text body read × Tells read response

@@ -1,0 +1,5 @@
+pub mod Answered
+pub mod CzechText
+pub mod Judged
+pub mod Order
+pub mod Request

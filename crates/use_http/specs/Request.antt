@@ -1,0 +1,60 @@
+-- What a request asks for.
+use Rattle.std.specs.Prelude.{◌≡◌, ◌≤◌, ◌==◌, Bool, true, false, ◌||◌, ℕ, ◌⊎◌, List, length, map, take, slice_index, codes, IsTrue, IsSomeAnd}
+use Rattle.std.specs.List.{list_any}
+use Rattle.std.specs.Str.{bytes_eq}
+use Rattle.std.specs.Char.{to_ascii_lowercase}
+use Rattle.http.specs.declared.request.Parts.{Parts}
+use Rattle.http_header.specs.HeaderMap.{get}
+use Rattle.http_uri.specs.Uri.{uri_path}
+use Rattle.use_http.specs.declared.request.Route.{Route}
+use Rattle.use_http.specs.declared.request.Route.TheVariants.{Order, OtherForm, OtherOfOrders, Health, OtherOfHealth, Nowhere}
+use Rattle.use_http.specs.declared.request.Language.{Language}
+use Rattle.use_http.specs.declared.request.Language.TheVariants.{English, Czech}
+use Rattle.use_http.specs.declared.request.TheConstants.{TYPE_ENDS, LANGUAGE_ENDS}
+
+-- the value ends there, or one of these bytes stands there
+abbrev pub ends_at : List ℕ → ℕ → List ℕ → Bool
+ends_at value place ends = (length value == place) || list_any (λ byte. byte == slice_index value place) ends
+
+-- the value begins with this word, in small or capital letters, and there it ends or one of these bytes stands
+abbrev pub BeginsWith : List ℕ → List ℕ → List ℕ → Type 0
+BeginsWith value word ends =
+    (length word ≤ length value)
+    × (map to_ascii_lowercase (take (length word) value) ≡ map to_ascii_lowercase word)
+    × IsTrue (ends_at value (length word) ends)
+
+-- the first field of this name does so
+abbrev pub FieldBeginsWith : Parts → List ℕ → List ℕ → List ℕ → Type 0
+FieldBeginsWith head name word ends = IsSomeAnd (get head.headers name) (λ value. BeginsWith value.bytes word ends)
+
+-- the body is said to be JSON
+abbrev pub HasJson : Parts → Type 0
+HasJson head = FieldBeginsWith head (codes "content-type") (codes "application/json") TYPE_ENDS.now
+
+-- the first language that is named is Czech
+abbrev pub AsksForCzech : Parts → Type 0
+AsksForCzech head = FieldBeginsWith head (codes "accept-language") (codes "cs") LANGUAGE_ENDS.now
+
+abbrev pub IsLanguage : Language → Parts → Type 0
+IsLanguage English head = ¬ (AsksForCzech head)
+IsLanguage Czech head = AsksForCzech head
+
+-- the two texts are the same, or not
+abbrev pub Is : List ℕ → List ℕ → Type 0
+Is text other = bytes_eq text other ≡ true
+
+abbrev pub IsNot : List ℕ → List ℕ → Type 0
+IsNot text other = bytes_eq text other ≡ false
+
+-- the path that a request is for
+abbrev pub path_of : Parts → List ℕ
+path_of head = uri_path head.uri
+
+abbrev pub IsRoute : Route → Parts → Type 0
+IsRoute Order head = Is (path_of head) (codes "/orders") × Is head.method (codes "POST") × HasJson head
+IsRoute OtherForm head = Is (path_of head) (codes "/orders") × Is head.method (codes "POST") × ¬ (HasJson head)
+IsRoute OtherOfOrders head = Is (path_of head) (codes "/orders") × IsNot head.method (codes "POST")
+IsRoute Health head = Is (path_of head) (codes "/health") × (Is head.method (codes "GET") ⊎ Is head.method (codes "HEAD"))
+IsRoute OtherOfHealth head =
+    Is (path_of head) (codes "/health") × IsNot head.method (codes "GET") × IsNot head.method (codes "HEAD")
+IsRoute Nowhere head = IsNot (path_of head) (codes "/orders") × IsNot (path_of head) (codes "/health")

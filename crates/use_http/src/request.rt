@@ -1,0 +1,111 @@
+//! What a request asks for, and in which language.
+ghost use Rattle.std.specs.Prelude.{◌≡◌, ◌≤◌, ◌↔◌, IsTrue, codes, length};
+ghost use Rattle.http.specs.Request.{head_of};
+ghost use Rattle.use_http.specs.Request.{BeginsWith, FieldBeginsWith, Is, ends_at, IsLanguage, IsRoute, path_of};
+
+use bytes::Bytes;
+use http::{HeaderName, Request, header};
+
+/// What a request asks for.
+#[derive(Clone, Copy, Debug)]
+pub enum Route {
+    /// That an order in JSON is judged.
+    Order,
+    /// That an order in another form is judged.
+    OtherForm,
+    /// Anything else of the path of orders.
+    OtherOfOrders,
+    /// Whether the service runs.
+    Health,
+    /// Anything else of that path.
+    OtherOfHealth,
+    /// Another path.
+    Nowhere,
+}
+
+/// The languages in which faults are told.
+#[derive(Clone, Copy, Debug)]
+pub enum Language {
+    English,
+    Czech,
+}
+
+/// The bytes that may stand behind a media type.
+const TYPE_ENDS: &[u8] = b"; \t";
+
+/// The bytes that may stand behind a language.
+const LANGUAGE_ENDS: &[u8] = b"-,; \t";
+
+/// Whether a value ends at a place, or one of these bytes stands there.
+fn ends_at(value: &[u8], place: usize, ends: &[u8]) -> bool
+    requires { place ≤ length value.now }
+    ensures { result ≡ ends_at value.now place ends.now }
+{
+    value.len() == place || ends.contains(&value[place])
+}
+
+/// Whether a value begins with a word, in small or capital letters, behind which it ends or one of
+/// these bytes stands.
+fn begins_with(value: &[u8], word: &[u8], ends: &[u8]) -> bool
+    ensures { IsTrue result ↔ BeginsWith value.now word.now ends.now }
+{
+    let len = word.len();
+    if value.len() < len {
+        return false;
+    }
+    value[..len].eq_ignore_ascii_case(word) && ends_at(value, len, ends)
+}
+
+/// Whether the first field of a name begins with a word.
+fn field_begins_with(request: &Request<Bytes>, name: HeaderName, word: &[u8], ends: &[u8]) -> bool
+    ensures { IsTrue result ↔ FieldBeginsWith (head_of request.now) name word.now ends.now }
+{
+    match request.headers().get(name) {
+        Some(value) => begins_with(value.as_bytes(), word, ends),
+        None => false,
+    }
+}
+
+/// What a request for orders asks for.
+fn route_of_orders(request: &Request<Bytes>) -> Route
+    requires { Is (path_of (head_of request.now)) (codes "/orders") }
+    ensures { IsRoute result (head_of request.now) }
+{
+    if request.method().as_str() != "POST" {
+        return Route::OtherOfOrders;
+    }
+    let word = b"application/json";
+    if field_begins_with(request, header::CONTENT_TYPE, word, TYPE_ENDS) {
+        Route::Order
+    } else {
+        Route::OtherForm
+    }
+}
+
+/// What a request asks for.
+pub fn route_of(request: &Request<Bytes>) -> Route
+    ensures { IsRoute result (head_of request.now) }
+{
+    let (path, method) = (request.uri().path(), request.method().as_str());
+    if path == "/orders" {
+        route_of_orders(request)
+    } else if path != "/health" {
+        Route::Nowhere
+    } else if method == "GET" || method == "HEAD" {
+        Route::Health
+    } else {
+        Route::OtherOfHealth
+    }
+}
+
+/// The language that a request asks for: Czech, where that is the first that it names, and else
+/// English.
+pub fn language_of(request: &Request<Bytes>) -> Language
+    ensures { IsLanguage result (head_of request.now) }
+{
+    if field_begins_with(request, header::ACCEPT_LANGUAGE, b"cs", LANGUAGE_ENDS) {
+        Language::Czech
+    } else {
+        Language::English
+    }
+}
