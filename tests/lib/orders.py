@@ -1,0 +1,148 @@
+"""What the program use_http is to answer, said apart from its code: by the texts of crates/use_http/README.md.
+
+`answer(request)` is the status and the body. A place in a text that is no JSON stands as `PLACE` in the body.
+"""
+import json
+import pathlib
+import re
+import sys
+import typing
+
+sys.path.insert(0, str(pathlib.Path(__file__).resolve().parent.parent.parent / "bench"))
+
+from page_model import Number, Object, parsed
+
+MOST = 1024 * 1024
+PLACE = "PLACE"
+ENGLISH = {
+    "text": "not a text", "whole": "not a whole number", "list": "not a list", "object": "not an object",
+    "range": "out of range: 0 to 4294967295", "missing": "missing", "repeated": "repeated", "unknown": "not known here",
+    "short": "length is lower than {}", "long": "length is greater than {}", "low": "lower than {}", "high": "greater than {}",
+    "prefix": 'value does not begin with "{}"',
+}
+CZECH = {
+    **dict.fromkeys(("text", "whole", "list", "object"), "jiný druh hodnoty"),
+    "range": "číslo mimo rozsah", "missing": "položka chybí", "repeated": "položka se opakuje", "unknown": "neznámá položka",
+    "short": "délka je menší než {}", "long": "délka je větší než {}", "low": "hodnota je menší než {}",
+    "high": "hodnota je větší než {}", "prefix": "text nezačíná na {}",
+}
+
+
+class Request(typing.NamedTuple):
+    """A request, and the words that the program is started with."""
+    body: bytes = b""
+    method: str = "POST"
+    path: str = "/orders"
+    media: str = "application/json"
+    language: str = ""
+
+
+def pointer(keys):
+    """The JSON Pointer of a path (RFC 6901)."""
+    return "".join("/" + str(key).replace("~", "~0").replace("/", "~1") for key in keys)
+
+
+class Reading:
+    """A walk over an order that gathers its faults."""
+
+    def __init__(self, texts):
+        self.texts = texts
+        self.faults = []
+
+    def put(self, path, fault, *argument):
+        self.faults.append({"pointer": pointer(path), "detail": self.texts[fault].format(*argument)})
+
+    def length(self, value, path, least, most):
+        if len(value) < least:
+            self.put(path, "short", least)
+        elif len(value) > most:
+            self.put(path, "long", most)
+
+    def customer(self, value, path):
+        if isinstance(value, Number) or not isinstance(value, str):
+            return self.put(path, "text")
+        return self.length(value, path, 1, 80)
+
+    def code(self, value, path):
+        if isinstance(value, Number) or not isinstance(value, str):
+            self.put(path, "text")
+        elif not value.startswith("P"):
+            self.put(path, "prefix", "P")
+
+    def count(self, value, path):
+        if not (isinstance(value, Number) and re.fullmatch(r"0|-?[1-9][0-9]*", value)):
+            self.put(path, "whole")
+        elif not 0 <= int(value) < 2**32:
+            self.put(path, "range")
+        elif int(value) < 1:
+            self.put(path, "low", 1)
+        elif int(value) > 99:
+            self.put(path, "high", 99)
+
+    def lines(self, value, path):
+        if isinstance(value, Object) or not isinstance(value, list):
+            return self.put(path, "list")
+        self.length(value, path, 1, 50)
+        for index, line in enumerate(value):
+            self.members(line, (*path, index), {"code": self.code, "count": self.count})
+
+    def members(self, value, path, known):
+        """Reads each of the known members, and then tells of those that are not known."""
+        if not isinstance(value, Object):
+            return self.put(path, "object")
+        for name, read in known.items():
+            there = [member for key, member in value if key == name]
+            if len(there) == 1:
+                read(there[0], (*path, name))
+            else:
+                self.put((*path, name), "repeated" if there else "missing")
+        for name, _ in value:
+            if name not in known:
+                self.put((*path, name), "unknown")
+
+    def order(self, value):
+        self.members(value, (), {"customer": self.customer, "lines": self.lines})
+
+
+def printed(value):
+    return json.dumps(value, ensure_ascii=False, separators=(",", ":")).encode()
+
+
+def no_json(kind):
+    """The problem of a body that is no JSON text."""
+    return 400, printed({"title": "the body is no JSON text", "status": 400, "detail": f"{kind} at {PLACE}", "errors": []})
+
+
+def judged(body, texts):
+    """The answer to the body of an order."""
+    try:
+        value = parsed(body.decode("utf-8"))
+    except UnicodeDecodeError:
+        return no_json("not UTF-8")
+    except ValueError:
+        return no_json("not JSON")
+    reading = Reading(texts)
+    reading.order(value)
+    if not reading.faults:
+        return 204, b""
+    return 422, printed({"title": "the order has faults", "status": 422, "errors": reading.faults})
+
+
+def answer(request):
+    """The status and the body of the answer to a request."""
+    if request.path == "/health":
+        return (200, b"") if request.method in ("GET", "HEAD") else (405, b"")
+    if request.path != "/orders":
+        return 404, b""
+    if request.method != "POST":
+        return 405, b""
+    if len(request.body) > MOST:
+        return 413, b""
+    if not re.fullmatch(r"application/json([; \t].*)?", request.media, re.IGNORECASE):
+        return 415, b""
+    return judged(request.body, CZECH if re.match(r"cs([-,; \t]|$)", request.language, re.IGNORECASE) else ENGLISH)
+
+
+def placed(body):
+    """The body of an answer, with `PLACE` for the place in a text that is no JSON."""
+    return re.sub(rb"line \d+ column \d+", PLACE.encode(), body)
