@@ -81,7 +81,7 @@ fn put_no_json(alloc: Global, error: &ParseError, response: &mut Response) -> Re
     put_reason(alloc, detail.as_str(), &report, response)
 }
 
-/// Tells the result of reading an order.
+/// Writes the result of reading an order.
 fn tell(
     alloc: Global,
     read: &Result<(), ReadError>,

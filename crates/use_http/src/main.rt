@@ -16,7 +16,7 @@ use std::io::BufWriter;
 use std::process::ExitCode;
 use std::{env, io};
 
-/// A longer body is refused, where the command line names no other length.
+/// A longer body is rejected, where the command line names no other length.
 const MOST: usize = 1024 * 1024;
 
 /// The longest body that is read: what the first word says.

@@ -23,7 +23,7 @@ pub enum Route {
     Nowhere,
 }
 
-/// The languages in which faults are told.
+/// The languages in which faults are reported.
 #[derive(Clone, Copy, Debug)]
 pub enum Language {
     English,
