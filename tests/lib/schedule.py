@@ -17,15 +17,17 @@ class Gate:
         self.lines, self.is_well = lines, False
 
     def ready(self, folders):
-        """Gives each folder of edits once the crates below its own are proved, whose libraries its checks read."""
+        """Gives each folder of edits once the crates below its own are proved, or kept as an earlier run proved them, since its
+        checks read their libraries; at the end what is left."""
         left, proved = list(folders), set()
         for line in itertools.chain([""], self.lines):
             print(line, end="", flush=True)
             self.is_well = re.match(r"\d+ passed, 0 failed$", line) is not None
-            proved |= set(re.findall(r"^rt: (\w+) proved$", line))
+            proved |= set(re.findall(r"^rt: (\w+) (?:proved$|is kept: )", line))
             for it in [it for it in left if {*repository.below(it[0])} <= proved]:
                 left.remove(it)
                 yield it
+        yield from left
 
 
 class Room:
