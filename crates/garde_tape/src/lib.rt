@@ -1,5 +1,5 @@
-//! A JSON text as a tree that borrows from it. A contract sees the JSON value, and no token of the
-//! text.
+//! A JSON text as a tree that borrows from it. A contract sees the JSON value, and the tokens of the
+//! text only where it says when memory may run out.
 //!
 //! The tree stands on `json::Tape`: one list of tokens over the text, with its texts borrowed.
 #![tactic(auto)]
