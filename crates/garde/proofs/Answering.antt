@@ -18,7 +18,7 @@ use Rattle.garde.proofs.Flat.{flat_of_no_fault, no_fault_of_flat}
 use Rattle.garde.proofs.Counts.{trace_by, trace_after-none, nodes_of_no_fault}
 
 -- the report of a walk that began with an empty one
-walk_told : {trees : Tree → Type 0} {text : Datum → List ℕ} {before after : Trace} {old new : List Entry} → old ≡ [] → (walk : Walked trees text before after old new) → new ≡ flat text before.components walk.tree
+pub walk_told : {trees : Tree → Type 0} {text : Datum → List ℕ} {before after : Trace} {old new : List Entry} → old ≡ [] → (walk : Walked trees text before after old new) → new ≡ flat text before.components walk.tree
 walk_told {text = text} {before} began walk = walk.report ∙ ap (λ ls. ls ++ flat text before.components walk.tree) began
 
 -- where the report is empty no tree has a fault

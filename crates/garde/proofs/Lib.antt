@@ -13,3 +13,4 @@ pub mod Quiet
 mod Rest
 pub mod Stated
 mod Answering
+mod Firsts

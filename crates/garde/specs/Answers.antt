@@ -1,8 +1,11 @@
 -- What validation returns.
-use Rattle.std.specs.Prelude.{◌≡◌, ◌≤◌, ◌+◌, ◌-◌, ◌^◌, ℕ, List, [], length, min, Result, Ok, Err, IsTrue}
+use Rattle.std.specs.Prelude.{◌≡◌, ◌<◌, ◌≤◌, ◌+◌, ◌-◌, ◌^◌, ℕ, Bool, true, false, List, [], length, min, take, Result, Ok, Err, IsTrue}
+use Rattle.std.specs.declared.alloc.AllocError.{AllocError}
 use Rattle.garde_i18n.specs.Datum.{Datum}
 use Rattle.garde_report.specs.Report.{Entry}
 use Rattle.garde_report.specs.Trace.{Trace}
+use Rattle.garde.specs.declared.first_error.FirstError.{FirstError}
+use Rattle.garde.specs.declared.first_error.FirstError.TheVariants as firsts
 use Rattle.garde.specs.declared.validate_error.ValidateError.{ValidateError}
 use Rattle.garde.specs.declared.validate_error.ValidateError.TheVariants as errors
 use Rattle.garde.specs.Tree.{Tree, bears, flat, nodes, height}
@@ -29,16 +32,22 @@ Answers visits text (Err (errors.Report report)) =
     (t : Tree) × visits.trees t × IsTrue (bears t) × (report ≡ flat text [] t)
 Answers visits text (Err errors.Memory) = MayRefuse visits.trees visits.allocates 0
 
+-- The trail after a walk that ended somewhere in a tree: it has its components, its front is no smaller, and it made no more nodes
+-- than all of the tree takes.
+abbrev pub EndsWithin : Trace → Trace → Tree → Type 0
+EndsWithin before after t =
+    (after.components ≡ before.components) × (before.front ≤ after.front)
+    × (before.nodes ≤ after.nodes) × (after.nodes ≤ (trace_after before t).nodes)
+
 -- The answer on any trail, with the trail as it was and as it is left. Each path begins with the components of the trail. At
--- `Memory` the trail has its components, its front is no smaller, and it made no more nodes than all of a tree takes.
+-- `Memory` the walk ended somewhere in a tree.
 abbrev pub AnswersOn : Visits → (Datum → List ℕ) → Trace → Trace → Result Unit ValidateError → Type 0
 AnswersOn visits text before after (Ok _) = NoneBears visits.trees × (after ≡ before)
 AnswersOn visits text before after (Err (errors.Report report)) =
     (t : Tree) × visits.trees t × IsTrue (bears t) × (report ≡ flat text before.components t) × (after ≡ trace_after before t)
 AnswersOn visits text before after (Err errors.Memory) =
     MayRefuse visits.trees visits.allocates (length before.components)
-    × ((t : Tree) × visits.trees t × (after.components ≡ before.components) × (before.front ≤ after.front)
-    × (before.nodes ≤ after.nodes) × (after.nodes ≤ (trace_after before t).nodes))
+    × ((t : Tree) × visits.trees t × EndsWithin before after t)
 
 -- A walk under so many components needs no memory: the value allocates nothing, and none of its trees has a fault or is deeper than
 -- eight components.
@@ -46,3 +55,30 @@ pub record NeedsNoMemory (visits : Visits) (depth : ℕ) : Type 0 where
   pub allocates_nothing : visits.allocates → ⊥
   pub none_bears : NoneBears visits.trees
   pub none_deeper : (t : Tree) → visits.trees t → depth + height t ≤ 8
+
+-- the faults are more than so many, and these are the first of them
+abbrev pub AreFirst : ℕ → List Entry → List Entry → Type 0
+AreFirst most all first = (most < length all) × (first ≡ take most all)
+
+-- The answer of at most so many faults, on any trail. `All`: the report of a tree with a fault, and it has no more than so many.
+-- `First`: the first faults of a tree that has more, and the walk ended somewhere in it. Else it is the answer of a whole walk.
+abbrev pub AnswersFirstOn : Visits → (Datum → List ℕ) → ℕ → Trace → Trace → Result Unit FirstError → Type 0
+AnswersFirstOn visits text most before after (Ok _) = AnswersOn visits text before after (Ok tt)
+AnswersFirstOn visits text most before after (Err (firsts.All report)) =
+    (length report ≤ most) × AnswersOn visits text before after (Err (errors.Report report))
+AnswersFirstOn visits text most before after (Err (firsts.First report)) =
+    (t : Tree) × visits.trees t × AreFirst most (flat text before.components t) report × EndsWithin before after t
+AnswersFirstOn visits text most before after (Err firsts.Memory) = AnswersOn visits text before after (Err errors.Memory)
+
+-- The same answer where the trail is gone.
+abbrev pub AnswersFirst : Visits → (Datum → List ℕ) → ℕ → Result Unit FirstError → Type 0
+AnswersFirst visits text most (Ok _) = Answers visits text (Ok tt)
+AnswersFirst visits text most (Err (firsts.All report)) = (length report ≤ most) × Answers visits text (Err (errors.Report report))
+AnswersFirst visits text most (Err (firsts.First report)) = (t : Tree) × visits.trees t × AreFirst most (flat text [] t) report
+AnswersFirst visits text most (Err firsts.Memory) = Answers visits text (Err errors.Memory)
+
+-- Whether the value has no fault: no tree has one, or some tree does; or there is a reason to run out of memory.
+abbrev pub Decides : Visits → Result Bool AllocError → Type 0
+Decides visits (Ok true) = NoneBears visits.trees
+Decides visits (Ok false) = (t : Tree) × visits.trees t × IsTrue (bears t)
+Decides visits (Err _) = MayRefuse visits.trees visits.allocates 0

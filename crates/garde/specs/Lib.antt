@@ -6,6 +6,7 @@ pub mod Visits
 pub mod Nest
 pub mod Answers
 pub mod ValidateError
+pub mod FirstError
 pub mod Select
 pub mod Reading
 pub mod Author

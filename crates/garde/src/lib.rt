@@ -3,8 +3,10 @@
 
 mod containers;
 pub mod fields;
+mod first_error;
 mod into_valid_error;
 pub mod laws;
+mod no_text;
 pub mod recursive;
 pub mod samples;
 mod unvalidated;
@@ -13,6 +15,7 @@ mod valid_under;
 pub mod validate;
 mod validate_error;
 
+pub use first_error::FirstError;
 pub use garde_i18n as i18n;
 pub use garde_i18n::{CodeI18n, DefaultI18n, I18n, with_i18n};
 pub use garde_report::{

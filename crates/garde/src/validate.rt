@@ -1,10 +1,13 @@
 //! The walk of a value.
-ghost use Rattle.std.specs.Prelude.{◌≡◌, length, IsOk, OnOk};
+ghost use Rattle.std.specs.Prelude.{◌≡◌, IfOk, IsOk, IsTrue, Ok, OnOk, length, true};
 ghost use Rattle.garde_i18n.specs.DefaultText.{default_text};
 ghost use Rattle.garde_report.specs.Trace.{new_trace};
 ghost use Rattle.garde.specs.Answers.{Headline, Answers, AnswersOn, NeedsNoMemory};
+ghost use Rattle.garde.specs.Answers.{AnswersFirst, AnswersFirstOn, Decides};
 ghost use Rattle.garde.specs.Visits.{Visits, Visited, Known};
 
+pub use crate::first_error::FirstError;
+use crate::no_text::NoText;
 pub use crate::unvalidated::{IntoValidError, Unvalidated};
 pub use crate::valid::Valid;
 pub use crate::valid_under::ValidUnder;
@@ -117,6 +120,83 @@ pub trait Validate {
                 }
             }
             Err(_) => Err(ValidateError::Memory),
+        }
+    }
+
+    /// Validates under a context, with the texts of a handler, and reports at most so many faults.
+    ///
+    /// When it returns Ok, the value has no fault. `FirstError::All` has every fault of a value that
+    /// has 1 to `most` of them. `FirstError::First` has the first `most` faults of a value that has
+    /// more: none where `most` is 0. The walk ends after one fault more than `most`, so this is the
+    /// call for input that may hold any number of them. `FirstError::Memory` is returned for the
+    /// same reasons as `ValidateError::Memory`.
+    final fn validate_first<H: I18n>(
+        &self,
+        alloc: Global,
+        ctx: &Self::Context,
+        most: usize,
+        h: &H,
+    ) -> Result<(), FirstError>
+        ensures answer { AnswersFirst (visits self.now ctx.now) (H.text h.now) most result }
+        ensures sure { NeedsNoMemory (visits self.now ctx.now) 0 → IsOk result }
+        ensures known { OnOk result (Known (visits self.now ctx.now)) }
+    {
+        let mut trail = Trail::new(alloc);
+        self.validate_first_on(alloc, ctx, most, &mut trail, h)
+    }
+
+    /// Validates a value that stands where the trail leads, under a context, with the texts of a
+    /// handler, and reports at most so many faults.
+    ///
+    /// It returns what `validate_first` returns, with paths that begin with the components of the
+    /// trail. The trail keeps its components and its limit. The walk ends at the second fault after
+    /// the first `most`, of which no path is made, if every fault is put by `Trail::put`, as all
+    /// rules and checks of the library do. A `validate_into` that appends to the report itself is
+    /// walked on until it puts one; the result is the same.
+    final fn validate_first_on<'a, H: I18n>(
+        &'a self,
+        alloc: Global,
+        ctx: &Self::Context,
+        most: usize,
+        trail: &mut Trail<'a>,
+        h: &H,
+    ) -> Result<(), FirstError>
+        ensures on { AnswersFirstOn (visits self.now ctx.now) (H.text h.now) most
+            trail.old trail.new result }
+        ensures sure { NeedsNoMemory (visits self.now ctx.now) (length trail.old.components)
+            → IsOk result }
+        ensures known { OnOk result (Known (visits self.now ctx.now)) }
+    {
+        let mut report = Report::new(alloc);
+        let before = trail.limit(most.saturating_add(1));
+        let walked = self.validate_into(alloc, ctx, trail, &mut report, h);
+        trail.limit(before);
+        if report.len() > most {
+            report.truncate(most);
+            return Err(FirstError::First(report));
+        }
+        match walked {
+            Ok(()) if report.is_empty() => Ok(()),
+            Ok(()) => Err(FirstError::All(report)),
+            Err(_) => Err(FirstError::Memory),
+        }
+    }
+
+    /// Whether the value has no fault under a context.
+    ///
+    /// The walk ends at the second fault, and no rule of the library makes a text. `AllocError` is
+    /// returned for the same reasons as `ValidateError::Memory`: so of a value with a fault it may
+    /// be returned too, since the first fault goes into a report.
+    final fn is_valid(&self, alloc: Global, ctx: &Self::Context) -> Result<bool, AllocError>
+        ensures answer { Decides (visits self.now ctx.now) result }
+        ensures sure { NeedsNoMemory (visits self.now ctx.now) 0 → result ≡ Ok true }
+        ensures known { IfOk result (λ yes. IsTrue yes → Known (visits self.now ctx.now)) }
+    {
+        match self.validate_first(alloc, ctx, 0, &NoText) {
+            Ok(()) => Ok(true),
+            Err(FirstError::All(_)) => Ok(false),
+            Err(FirstError::First(_)) => Ok(false),
+            Err(FirstError::Memory) => Err(AllocError),
         }
     }
 }

@@ -4,6 +4,7 @@ mod contact;
 mod containers;
 mod couple;
 mod documents;
+mod first;
 mod handed_on;
 mod handlers;
 mod item;

@@ -3,7 +3,7 @@ use super::owned;
 use crate::tests::OrEnd;
 use example_types::ledger::{Ledger, Pairs};
 use example_types::names::Names;
-use garde::{DefaultI18n, Trail, Validate, ValidateError};
+use garde::{DefaultI18n, FirstError, Trail, Validate, ValidateError};
 use std::alloc::Global;
 use std::process::Abort;
 
@@ -21,14 +21,39 @@ fn told<V: Validate<Context = ()>>(rt: &impl Abort, alloc: Global, value: &V) ->
     }
 }
 
-/// Whether this is reported for a value, with its nodes.
+/// Whether at most so many faults are the first lines of this text, which ends with the nodes.
+fn is_told_first<V: Validate<Context = ()>>(
+    rt: &impl Abort,
+    alloc: Global,
+    value: &V,
+    most: usize,
+    text: &str,
+) -> bool {
+    let lines = text.lines().count();
+    match value.validate_first(alloc, &(), most, &DefaultI18n) {
+        Ok(()) => lines == 1,
+        Err(FirstError::All(report)) => {
+            let told = report.to_string(alloc).or_end(rt);
+            report.len() <= most && lines == report.len() + 1 && text.starts_with(told.as_str())
+        }
+        Err(FirstError::First(report)) => {
+            let told = report.to_string(alloc).or_end(rt);
+            report.len() == most && lines > most + 1 && text.starts_with(told.as_str())
+        }
+        Err(FirstError::Memory) => false,
+    }
+}
+
+/// Whether this is reported for a value, with its nodes, and its first fault alone where that is
+/// asked for.
 pub fn is_told<V: Validate<Context = ()>>(
     rt: &impl Abort,
     alloc: Global,
     value: &V,
     text: &str,
 ) -> bool {
-    told(rt, alloc, value).as_str() == text
+    let first = is_told_first(rt, alloc, value, 1, text);
+    first && told(rt, alloc, value).as_str() == text
 }
 
 /// Puts a name at the end of a list, where there is one.

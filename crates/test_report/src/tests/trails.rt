@@ -111,6 +111,31 @@ fn put_appends_a_fault_and_nothing_else(rt: HostRuntime) {
     assert!(rt; puts_a_fault(&rt, rt.alloc()));
 }
 
+/// Whether a report of two faults, cut to one of them, is full for the trail that puts the next,
+/// which makes no path, and is not full once the limit of before is set again.
+fn is_full_at_its_limit(rt: &impl Abort, alloc: Global) -> bool {
+    let mut report = Report::new(alloc);
+    let mut trail = Trail::new(alloc);
+    put_weak(rt, &mut trail, alloc, &mut report);
+    put_weak(rt, &mut trail, alloc, &mut report);
+    report.truncate(1);
+    let unlimited = trail.limit(1);
+    trail.push(Component::key("a")).or_end(rt);
+    let weak = Error::new(alloc, "weak").or_end(rt);
+    let is_refused = trail.put(&mut report, Err(RuleError::Fault(weak))).is_err();
+    let is_passed = trail.put(&mut report, Ok(())).is_ok() && trail.nodes() == 0;
+    let was = trail.limit(unlimited);
+    put_weak(rt, &mut trail, alloc, &mut report);
+    report.truncate(9);
+    let is_two = printed(rt, alloc, &report).as_str() == "weak\na: weak\n";
+    is_refused && is_passed && was == 1 && unlimited == usize::MAX && is_two
+}
+
+#[test]
+fn put_refuses_a_fault_for_a_full_report(rt: HostRuntime) {
+    assert!(rt; is_full_at_its_limit(&rt, rt.alloc()));
+}
+
 /// Whether the path of a way of so many components has as many, and as many nodes.
 fn has_all_its_nodes(rt: &impl Abort, alloc: Global, size: usize) -> bool {
     let mut trail = Trail::new(alloc);

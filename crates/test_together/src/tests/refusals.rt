@@ -21,6 +21,7 @@ enum Scenario {
     Compile,
     OnUsers,
     Nest,
+    First,
     Typed,
 }
 
@@ -39,13 +40,14 @@ impl Calls for Scenario {
             Scenario::Compile => rules::compile(alloc, memory),
             Scenario::OnUsers => walks::on_users(alloc, memory),
             Scenario::Nest => walks::nest(alloc, memory),
+            Scenario::First => walks::first(alloc, memory),
             Scenario::Typed => walks::typed(alloc, memory),
         }
     }
 }
 
 /// All scenarios.
-static ALL: [(&str, Scenario); 13] = [
+static ALL: [(&str, Scenario); 14] = [
     ("append", Scenario::Append),
     ("join", Scenario::Join),
     ("iter", Scenario::Iter),
@@ -58,6 +60,7 @@ static ALL: [(&str, Scenario); 13] = [
     ("compile", Scenario::Compile),
     ("on users", Scenario::OnUsers),
     ("nest", Scenario::Nest),
+    ("first", Scenario::First),
     ("typed", Scenario::Typed),
 ];
 
@@ -138,6 +141,11 @@ fn walk_on_users(rt: HostRuntime) -> Result<(), Fail> {
 #[test]
 fn nest_of_twelve(rt: HostRuntime) -> Result<(), Fail> {
     once(rt.alloc(), Scenario::Nest)
+}
+
+#[test]
+fn the_first_fault(rt: HostRuntime) -> Result<(), Fail> {
+    once(rt.alloc(), Scenario::First)
 }
 
 #[test]

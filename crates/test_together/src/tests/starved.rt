@@ -44,16 +44,18 @@ fn users(alloc: Global) -> Result<Vec<Option<User>>, AllocError> {
     }
 }
 
-// What a walk on a new trail comes to, while each allocation fails.
+// What a walk on a new trail comes to, while each allocation fails. Whether the value is valid is
+// answered alike.
 fn starved<V: Validate<Context = ()>>(alloc: Global, value: &V) -> Result<Met, AllocError> {
     let mut memory = Scarce::taken(alloc)?;
     let mut trail = Trail::new(alloc);
     memory.begin();
     let answer = value.validate_on(alloc, &(), &mut trail, &DefaultI18n);
+    let valid = value.is_valid(alloc, &());
     memory.end();
     Ok(match answer {
-        Ok(()) => Met::Ample,
-        Err(ValidateError::Memory) => Met::Want,
+        Ok(()) => Met::Ample.when(valid == Ok(true)),
+        Err(ValidateError::Memory) => Met::Want.when(valid == Err(AllocError)),
         Err(ValidateError::Report(_)) => Met::Wrong,
     })
 }

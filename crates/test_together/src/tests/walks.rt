@@ -4,7 +4,7 @@ use super::reports::{has, report_of};
 use super::told::{reads, shows, told};
 use super::user::User;
 use garde::{
-    Component, DefaultI18n, I18n, IntoValidError, Report, Trail, Unvalidated, Validate,
+    Component, DefaultI18n, FirstError, I18n, IntoValidError, Report, Trail, Unvalidated, Validate,
     ValidateError,
 };
 use std::alloc::{AllocError, Global};
@@ -125,6 +125,25 @@ pub fn nest(alloc: Global, memory: &mut Scarce) -> Result<Met, AllocError> {
         }
         Err(ValidateError::Memory) => Ok(Met::Want.when(stands)),
         Ok(()) => Ok(Met::Wrong),
+    }
+}
+
+/// The first fault of two.
+pub fn first(alloc: Global, memory: &mut Scarce) -> Result<Met, AllocError> {
+    let users = one(alloc, user(alloc, "é")?)?;
+    let mut trail = Trail::new(alloc);
+    trail.push(Component::key("users"))?;
+    memory.begin();
+    let answer = users.validate_first_on(alloc, &(), 1, &mut trail, &DefaultI18n);
+    memory.end();
+    let stands = trail.depth() == 1;
+    match answer {
+        Err(FirstError::First(report)) => {
+            let told = reads(alloc, &report, "users[0].username: not ascii\n")?;
+            Ok(Met::Ample.when(stands && told && trail.nodes() == 3))
+        }
+        Err(FirstError::Memory) => Ok(Met::Want.when(stands)),
+        _ => Ok(Met::Wrong),
     }
 }
 

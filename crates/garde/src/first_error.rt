@@ -1,0 +1,32 @@
+//! The error of validation that reports at most so many faults.
+ghost use Rattle.std.specs.Prelude.{Some};
+ghost use Rattle.garde.specs.FirstError.{first_error_text};
+
+use garde_report::Report;
+use std::fmt;
+
+/// Why a value is not valid, with at most so many of its faults, or that memory ran out.
+#[derive(Debug, Drop)]
+pub enum FirstError {
+    /// All the faults, in the order of the walk. They are no more than were asked for.
+    All(Report),
+    /// The first faults, as many as were asked for. There are more.
+    First(Report),
+    /// Out of memory. The faults found so far are dropped.
+    Memory,
+}
+
+/// Prints the report, after the first faults also the line `there are more`, or `out of memory`.
+impl fmt::Display for FirstError {
+    ghost output = { λ error. Some (first_error_text error) };
+
+    fn fmt<W: fmt::Write>(&self, f: &mut fmt::Formatter<W>) -> fmt::Result {
+        match self {
+            FirstError::All(report) => write!(f, "{report}"),
+            FirstError::First(report) => writeln!(f, "{report}there are more"),
+            FirstError::Memory => f.write_str("out of memory"),
+        }
+    }
+}
+
+impl std::error::Error for FirstError {}
