@@ -4,12 +4,14 @@ mod Walks
 mod Refusals
 mod SelectLemmas
 mod Read
+mod InParts
 pub mod Visiting
 pub mod Calls
 pub mod Nesting
 pub mod Known
 pub mod Author
 pub mod Quiet
+pub mod Among
 mod Rest
 pub mod Stated
 mod Answering

@@ -1,6 +1,10 @@
 -- Lemmas on what is left of the items that an iterator gives.
-use Rattle.std.proofs.Common.{◌≡◌, ◌+◌, List, [], ◌∷◌, ◌++◌, length, drop, Option, Some, None, refl, sym, ◌∙◌, add-one, drop-cons, arith, length-append}
+use Rattle.std.proofs.Common.{◌≡◌, ℕ, suc, ◌+◌, ◌≤◌, ◌<◌, ap, List, [], ◌∷◌, ◌++◌, length, drop, Option, Some, None, refl, sym, ◌∙◌, add-one, drop-cons, arith, length-append}
+use Rattle.std.specs.List.{enumerate_from}
+use Rattle.std.specs.Prelude.{slice_index_or}
 use Rattle.std.proofs.lemmas.List.{drop_all}
+use Rattle.std.proofs.Math.Seq as seq
+use Rattle.std.proofs.lemmas.List.FromFn.{length-enumerate_from, get_or-enumerate_from}
 use Rattle.std.specs.Iterator.{Yields}
 use Rattle.std.proofs.lemmas.Iterator.{YieldsList}
 use Rattle.std.proofs.lemmas.Iterator.Consumers.{YieldsList-turn, YieldsList-end}
@@ -16,3 +20,13 @@ module _ {S A B : Type 0} {steps : S → Option A → S → Type 0} {v : A → B
   -- at the end none is left
   pub none_left : (passed : List A) (t : S) → Yields steps s passed t → (u : S) → steps t None u → drop (length passed) all ≡ []
   none_left passed t along u step = drop_all (length passed) all (omega (arith, (YieldsList-end road passed t along None u refl step).1))
+
+-- of items that are numbered from the first index on, the one with this number is the first of those that are left
+pub numbered_left : {A : Type 0} (first : ℕ) (xs : List A) (k : ℕ) {x : A} → x ≡ slice_index_or xs k x → k < length xs → drop k (enumerate_from first xs) ≡ (first + k, x) ∷ drop (k + 1) (enumerate_from first xs)
+numbered_left first xs k {x} is within =
+    let each : k < length (enumerate_from first xs) = omega (arith, within, length-enumerate_from first xs) in
+    rw (add-one k) (seq.drop-cons (enumerate_from first xs) k (first, x) each ∙ ap (λ e. e ∷ drop (suc k) (enumerate_from first xs)) (get_or-enumerate_from first xs k (first, x) within ∙ ap (λ y. (first + k, y)) (sym is)))
+
+-- at the end none is left
+pub none_numbered_left : {A : Type 0} (first : ℕ) (xs : List A) (k : ℕ) → length xs ≤ k → drop k (enumerate_from first xs) ≡ []
+none_numbered_left first xs k end = drop_all k (enumerate_from first xs) (omega (arith, length-enumerate_from first xs, end))

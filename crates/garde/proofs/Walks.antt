@@ -209,7 +209,7 @@ pub record WalkedUpTo {K A : Type 0} (part : K → Part) (trees : A → Tree →
   pub told : Walked (TreesEach part trees done) text before after old new
 
 -- the trees of some items and of more
-each_append : {K A : Type 0} (part : K → Part) (trees : A → Tree → Type 0) (done rest : List (K × A)) (t : Tree) → TreesBoth (TreesEach part trees done) (TreesEach part trees rest) t → TreesEach part trees (done ++ rest) t
+pub each_append : {K A : Type 0} (part : K → Part) (trees : A → Tree → Type 0) (done rest : List (K × A)) (t : Tree) → TreesBoth (TreesEach part trees done) (TreesEach part trees rest) t → TreesEach part trees (done ++ rest) t
 each_append part trees [] rest t (a, b, va, vb, is) = subst (TreesEach part trees rest) (sym (is ∙ ap (λ s. s then b) va)) vb
 each_append part trees (d ∷ done) rest t (a, b, (a0, a1, va0, va1, ais), vb, is) =
     (a0, a1 then b, va0, each_append part trees done rest (a1 then b) (a1, b, va1, vb, refl), is ∙ ap (λ s. s then b) ais ∙ then_assoc a0 a1 b)

@@ -9,6 +9,8 @@ pub mod ValidateError
 pub mod FirstError
 pub mod Select
 pub mod Reading
+pub mod Parts
+pub mod Redaction
 pub mod Author
 pub mod Words
 pub mod Validated

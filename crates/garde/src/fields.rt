@@ -26,7 +26,7 @@ mod tuples;
 
 pub use check::{Check, Dive, Is, IsInMemory, check_under};
 pub use condition::When;
-pub use each::Each;
+pub use each::{Each, check_part};
 pub use field::{Field, Fields, Item, Transparent};
 pub use garde_rules::Rule;
 pub use garde_rules::values::{

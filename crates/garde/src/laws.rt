@@ -1,8 +1,11 @@
 //! Laws of visit trees. Each function does nothing, and its contract is a law for all values.
 ghost use Rattle.garde.specs.Nest.{NestLaw};
+ghost use Rattle.garde.specs.Parts.{ItemsInParts, ReadInParts};
 ghost use Rattle.garde.specs.Reading.{ReadsUnder, ReadsByHandler};
+ghost use Rattle.garde.specs.Redaction.{FoundByArguments, SaysNoMore};
 ghost use Rattle.garde.specs.Select.{SelectGivesPart};
 
+use crate::fields::Check;
 use crate::recursive::Recursive;
 
 /// What `select` keeps of the report of a tree are the messages of that part of the tree which
@@ -29,4 +32,22 @@ pub fn read_by_handler()
 /// left out.
 pub fn nested_values<T: Recursive>()
     ensures { NestLaw T.nest }
+{}
+
+/// A list may be checked in parts, by one process or by many. The trees of the whole list are those
+/// of the parts one after another, each part with its indexes moved by the number of items before
+/// it. So the report of the whole is the reports of the parts one after another, with the indexes
+/// moved, and the path nodes add up.
+pub fn items_in_parts<'a, T, C: Check<'a, T>>()
+    ensures trees { (check : C) → ItemsInParts (λ x. (C.visits check x).trees) }
+    ensures reading { ReadInParts }
+{}
+
+/// What a rule of the library finds is one of a few faults, which the arguments of the rule give:
+/// the value only decides which of them, or none. So a message holds no part of the value. Messages
+/// of user-defined rules say what their authors write. Paths are not meant: the component of a
+/// value in a map is its key.
+pub fn messages_hide_values()
+    ensures found { FoundByArguments }
+    ensures messages { SaysNoMore }
 {}

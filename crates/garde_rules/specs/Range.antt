@@ -2,8 +2,8 @@
 use Rattle.std.specs.Prelude.{ℕ, ℤ, List, int_lt, Result, Ok, Err, Option, Some, None, if◌then◌else◌}
 use Rattle.garde_i18n.specs.Datum.{range_lower, range_greater}
 use Rattle.garde_lengths.specs.Applies.{Fault, rule}
-use Rattle.garde_lengths.specs.declared.bounds.OutOfBounds.{OutOfBounds}
-use Rattle.garde_lengths.specs.declared.bounds.OutOfBounds.TheVariants.{Lower, Upper}
+pub use Rattle.garde_lengths.specs.declared.bounds.OutOfBounds.{OutOfBounds}
+pub use Rattle.garde_lengths.specs.declared.bounds.OutOfBounds.TheVariants.{Lower, Upper}
 
 -- what holding a number with a sign against its bounds gives: the lower bound is asked first
 abbrev pub int_bounds_answer : ℤ → ℤ → ℤ → Result (Unit {0}) OutOfBounds

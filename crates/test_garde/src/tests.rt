@@ -12,6 +12,7 @@ mod laws;
 mod long;
 mod many;
 mod names;
+mod parts;
 mod profile;
 mod promises;
 mod signup;

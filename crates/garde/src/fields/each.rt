@@ -3,12 +3,14 @@ ghost use Rattle.garde.specs.Visits.{each_of_option};
 
 mod loops;
 mod maps;
+mod part;
 mod sequences;
 mod sets;
 
 use super::check::{Check, check_under};
 use garde_i18n::I18n;
 use garde_report::{Component, Report, Trail};
+pub use part::check_part;
 use std::alloc::{AllocError, Global};
 
 /// The check of each item of a value in turn: the items of a sequence, a set or a heap under their
