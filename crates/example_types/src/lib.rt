@@ -1,6 +1,7 @@
 //! Types as a user of `garde` writes them, who lists that crate and no other.
 #![tactic(auto)]
 
+pub mod contact;
 pub mod data;
 pub mod german;
 pub mod ledger;

@@ -7,7 +7,7 @@ ghost use Rattle.std.specs.List.{All};
 ghost use Rattle.std.specs.BTreeMap.{btree_map_len};
 ghost use Rattle.std.specs.BTreeSet.{btree_set_len};
 ghost use Rattle.garde.specs.Author.{Fault, key_part, unit_count, grapheme_count};
-ghost use Rattle.garde.specs.Fields.{Known, Any, Option, Some, None, Ok, codes, string_bytes, byte_count, char_count, ◌and◌};
+ghost use Rattle.garde.specs.Fields.{Known, Any, AreApart, Bool, Option, Some, None, Ok, codes, string_bytes, byte_count, char_count, ◌and◌};
 ghost use Rattle.garde.specs.Fields as words;
 ghost use Rattle.garde.specs.Tree.{Tree};
 ghost use Rattle.garde.specs.Words.{is_ascii_text, is_alphanumeric_text, is_ip_text, has_part, has_prefix, has_suffix, matches_source, url_answer};
@@ -36,9 +36,11 @@ pub fn conditions<A: Validate>(condition: bool, a: &A, c: &A::Context)
         ↔ (IsTrue condition → Known (A.visits a.now c.now)) }
 {}
 
-/// Of an option: that it has a value, and what is asked of that one.
-pub fn options<A: Validate>(value: &Option<A>, c: &A::Context)
+/// Of an option: that it has a value, always or under a condition, and what is asked of that one.
+pub fn options<A: Validate>(value: &Option<A>, c: &A::Context, condition: bool)
     ensures required { Known (words.required value.now) ↔ IsSome value.now }
+    ensures required_if { Known (words.required_if condition value.now)
+        ↔ (IsTrue condition → IsSome value.now) }
     ensures optional { Known (words.optional (λ x. A.visits x c.now) value.now)
         ↔ IfSome value.now (λ x. Known (A.visits x c.now)) }
     ensures each_of_option { Known (words.each_of_option (λ x. A.visits x c.now) value.now)
@@ -85,6 +87,12 @@ pub fn values<A: Validate>(
         ↔ All (λ e. Known (A.visits e.1 c.now)) hashed.now.entries }
 {}
 
+/// Of a list whose items differ: no two of them are the same.
+pub fn apart<T>(list: &Vec<T>)
+    ensures unique { (same : T → T → Bool) → Known (words.unique "message" same list.now)
+        ↔ AreApart same list.now.items }
+{}
+
 /// Of the rules of a text.
 pub fn texts(text: &String, other: &String)
     ensures ascii { Known (words.ascii text.now) ↔ IsTrue (is_ascii_text (string_bytes text.now)) }
@@ -117,9 +125,10 @@ pub fn numbers(n: u32, min: u32, max: u32, i: i32, low: i32, high: i32)
     ensures signed_least { Known (words.i32_min low i) ↔ (low ≤ℤ i) }
 {}
 
-/// Of a user-defined rule, and of your own message.
+/// Of a user-defined rule, of your own message, and of a value that repeats another.
 pub fn own(holds: bool)
     ensures asks { Known (words.asks "message" holds) ↔ IsTrue holds }
+    ensures matches { Known (words.matches "other" holds) ↔ IsTrue holds }
     ensures with_message { (fault : Option Fault) → Known (words.with_message "message" fault) ↔ (fault ≡ None) }
     ensures own_unless { (text : List ℕ) → Known (words.found (words.own_unless text holds)) ↔ IsTrue holds }
 {}

@@ -4,3 +4,4 @@ pub use Rattle.garde.proofs.Calls.{visited_calls, visited_option_calls, visited_
 pub use Rattle.garde.proofs.Nesting.{smaller_in, visited_level, visited_within}
 pub use Rattle.garde.proofs.Known.{known_of, none_bears_of, known_alone, known_level, known_within}
 pub use Rattle.garde.proofs.Stated.{as_stated, part, ◌also◌}
+pub use Rattle.garde.proofs.FirstItems.{apart_of, unique_of}

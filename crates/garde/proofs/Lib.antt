@@ -13,6 +13,7 @@ pub mod Author
 pub mod Quiet
 pub mod Among
 mod Rest
+pub mod FirstItems
 pub mod Stated
 mod Answering
 mod Firsts

@@ -4,6 +4,7 @@ pub use Rattle.garde.specs.Visits.{Visits, Visited, item, each_of_option}
 unfoldable pub use Rattle.garde.specs.Visits.{Known, none, only, found, may_allocate, ◌and◌, under, items, entries, items_in_any_order, entries_in_any_order, optional, when}
 unfoldable pub use Rattle.garde.specs.Nest.{recursive_visits, child_visits}
 pub use Rattle.garde.specs.Nest.{in_map, in_vec, nest_visits}
+pub use Rattle.garde.specs.Firsts.{unique, AreApart}
 pub use Rattle.garde_report.specs.Part.{key_part, index_part, signed_index_part, part_of}
 pub use Rattle.garde_rules.specs.{Fault, rule, own, byte_count, char_count, unit_count, grapheme_count}
 pub use Rattle.garde_rules.specs.Inner.{component_items}

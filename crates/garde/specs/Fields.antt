@@ -1,26 +1,28 @@
 -- The words by which the author of a type states the visits of its fields, each field handed to its rule as it is. A name, a
 -- pattern or a message is written as "text". The words of `Author` say the same of bytes and of lists.
 use Prim.Native.String.{String as Literal}
-pub use Rattle.std.specs.Prelude.{codes, string_bytes, vec_len, ◌≡◌, ◌==◌, Result, Ok, Err, nat_eq, nat_lt, nat_le, ◌||◌, ◌&&◌, not, true, false, Bool, pos, Some, None, Option, if◌then◌else◌}
+pub use Rattle.std.specs.Prelude.{codes, string_bytes, vec_len, ◌≡◌, ◌==◌, Result, Ok, Err, nat_eq, nat_lt, nat_le, ◌||◌, ◌&&◌, not, true, false, Bool, pos, Some, None, Option, is_some, if◌then◌else◌}
+pub use Rattle.std.specs.Option.{option_eq}
 pub use Rattle.garde.specs.Operators.{both, either, choose, product, quotient, remainder, Equals, IsAtMost}
 pub use Rattle.garde.specs.Finds.{message_unless, own_unless}
-pub use Rattle.garde.specs.Author.{Visits, item, each_of_option, none, found, may_allocate, ◌and◌, under, items, entries, items_in_any_order, entries_in_any_order, optional, when, own, Any, V4, V6, in_map, in_vec, nest_visits}
+pub use Rattle.garde.specs.Author.{Visits, item, each_of_option, none, found, may_allocate, ◌and◌, under, items, entries, items_in_any_order, entries_in_any_order, optional, when, own, Any, V4, V6, in_map, in_vec, nest_visits, AreApart}
 unfoldable pub use Rattle.garde.specs.Visits.{Known}
 pub use Rattle.garde_rules.specs.{byte_count, char_count}
 pub use Rattle.garde_rules.specs.{is_ipv4_text, is_ipv6_text}
-use Rattle.std.specs.Prelude.{ℕ, ℤ, neg_ℤ, List, String, Vec}
+use Rattle.std.specs.Prelude.{ℕ, ℤ, neg_ℤ, List, String, Vec, string_eq, bytes_eq}
 use Rattle.std.specs.Borrow.{Bor}
-use Rattle.std.specs.BTreeMap.{BTreeMap}
-use Rattle.std.specs.BTreeSet.{BTreeSet}
+use Rattle.std.specs.BTreeMap.{BTreeMap, btree_map_len}
+use Rattle.std.specs.BTreeSet.{BTreeSet, btree_set_len}
 use Rattle.std.specs.HashMap.{HashMap}
 use Rattle.std.specs.HashSet.{HashSet}
 use Rattle.garde_i18n.specs.declared.reasons.IpKind.{IpKind}
-use Rattle.garde_report.specs.Part.{Part, key_part, index_part, signed_index_part}
+use Rattle.garde_report.specs.Part.{key_part, index_part, signed_index_part}
 use Rattle.garde_i18n.specs.declared.reasons.InvalidCreditCard.{InvalidCreditCard}
 use Rattle.garde_i18n.specs.declared.reasons.InvalidPhoneNumber.{InvalidPhoneNumber}
 use Rattle.garde_rules.specs.Reasons.{card_fault, phone_fault}
 use Rattle.garde_rules.specs.{Fault}
 use Rattle.garde.specs.Finds as finds
+use Rattle.garde.specs.Firsts as firsts
 
 -- a field, by its name
 abbrev pub field : Literal → Visits → Visits
@@ -67,6 +69,10 @@ each check v = items check v.items
 abbrev pub each_of_set : {A : Type 0} → (A → Visits) → BTreeSet A → Visits
 each_of_set check v = items check v.keys
 
+-- no two items of a `Vec` are the same by this comparison; each that is the same as one before it is a fault, under its index
+abbrev pub unique : {A Z : Type 0} → Literal → (A → A → Bool) → Vec A Z → Visits
+unique message same v = firsts.unique (codes message) same v.items
+
 -- each value of a `BTreeMap`, under the key that is a text, or under the index that is a number without a sign, or with one
 abbrev pub each_value : {A Z : Type 0} → (A → Visits) → BTreeMap (String Z) A → Visits
 each_value check v = entries (λ key. key_part (string_bytes key)) check v.entries
@@ -101,6 +107,28 @@ ip kind s = found (finds.ip kind s)
 -- a text equals that of the field of this name, which stands last
 abbrev pub matches_text : {Z : Type 0} → Literal → String Z → String Z → Visits
 matches_text name s other = found (finds.matches_text name s other)
+
+-- a value matches that of the field of this name, by a condition that says so: `text_eq` of two texts, `nat_eq` of two numbers,
+-- `option_eq text_eq` of two options of texts
+abbrev pub matches : Literal → Bool → Visits
+matches name equal = found (finds.matches name equal)
+
+-- the conditions that two texts are the same, and that a text is just this one
+abbrev pub text_eq : {Z : Type 0} → String Z → String Z → Bool
+text_eq s other = string_eq s other
+
+abbrev pub text_is : {Z : Type 0} → Literal → String Z → Bool
+text_is text s = bytes_eq (string_bytes s) (codes text)
+
+-- how many items a `Vec` has, and a `BTreeSet`; how many pairs a `BTreeMap` has
+abbrev pub list_len : {A Z : Type 0} → Vec A Z → ℕ
+list_len v = vec_len v
+
+abbrev pub set_len : {A : Type 0} → BTreeSet A → ℕ
+set_len v = btree_set_len v
+
+abbrev pub map_len : {K A : Type 0} → BTreeMap K A → ℕ
+map_len v = btree_map_len v
 
 -- the conditions that a text is an address of version 4, and of version 6
 abbrev pub is_ipv4 : {Z : Type 0} → String Z → Bool
@@ -315,3 +343,7 @@ isize_max max n = found (finds.isize_max max n)
 -- an option has a value
 abbrev pub required : {A : Type 0} → Option A → Visits
 required v = found (finds.required v)
+
+-- the same, where this condition holds
+abbrev pub required_if : {A : Type 0} → Bool → Option A → Visits
+required_if condition v = found (finds.required_if condition v)

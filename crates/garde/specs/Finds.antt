@@ -1,6 +1,6 @@
 -- What the rules find in a field, which is handed to them as it is. A pattern, a name or a message is written as "text".
 use Prim.Native.String.{String as Literal}
-use Rattle.std.specs.Prelude.{ℕ, ℤ, List, pos, negsuc, ◌-◌, ◌^◌, Bool, true, false, Option, Some, None, is_some, option_map, String, string_bytes, string_eq, Vec, vec_len, codes}
+use Rattle.std.specs.Prelude.{ℕ, ℤ, List, pos, negsuc, ◌-◌, ◌^◌, Bool, not, ◌||◌, if◌then◌else◌, Option, Some, None, is_some, option_map, String, string_bytes, string_eq, Vec, vec_len, codes}
 use Rattle.std.specs.BTreeMap.{BTreeMap, btree_map_len}
 use Rattle.std.specs.BTreeSet.{BTreeSet, btree_set_len}
 use Rattle.std.specs.HashMap.{HashMap, hash_map_len}
@@ -34,10 +34,10 @@ signed min max n = range_fault (signed_decimal min) (signed_decimal max) (int_bo
 
 -- what a user-defined rule finds where its condition fails: this message, or this text, which the rule holds
 abbrev pub message_unless : Literal → Bool → Option Fault
-message_unless message holds = elim holds as (λ _. Option Fault) [ true ↦ None | false ↦ Some (own (codes message)) ]
+message_unless message holds = if holds then None else Some (own (codes message))
 
 abbrev pub own_unless : List ℕ → Bool → Option Fault
-own_unless text holds = elim holds as (λ _. Option Fault) [ true ↦ None | false ↦ Some (own text) ]
+own_unless text holds = if holds then None else Some (own text)
 
 -- what a rule finds, with this message in place of the handler's
 abbrev pub with_message : Literal → Option Fault → Option Fault
@@ -287,3 +287,11 @@ isize_max max n = signed (negsuc (2 ^ 63 - 1)) max n
 -- an option has a value
 abbrev pub required : {A : Type 0} → Option A → Option Fault
 required v = unless (is_some v) datum.not_set
+
+-- an option has a value, where this condition holds
+abbrev pub required_if : {A : Type 0} → Bool → Option A → Option Fault
+required_if condition v = unless (not condition || is_some v) datum.not_set
+
+-- a value matches that of the field of this name, where this says whether it does
+abbrev pub matches : Literal → Bool → Option Fault
+matches name equal = unless equal (datum.matches (codes name))

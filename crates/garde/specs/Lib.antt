@@ -16,6 +16,7 @@ pub mod Words
 pub mod Validated
 pub mod Operators
 pub mod Finds
+pub mod Firsts
 pub mod Fields
 pub mod Handlers
 pub mod Cards

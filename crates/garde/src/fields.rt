@@ -13,17 +13,21 @@
 //!     .visit(alloc, trail, report, h)
 //! ```
 //!
-//! and states `visits` by the words of `garde.specs.Fields` in the same shape. A field that is
+//! and states `visits` by the combinators of `garde.specs.Fields` in the same shape. A field that is
 //! forgotten does not compile. Such an implementation needs no proof file.
 
+mod asks;
 mod bounds;
 mod check;
 mod condition;
 mod each;
 mod field;
 mod if_some;
+mod required_if;
 mod tuples;
+mod unique;
 
+pub use asks::Asks;
 pub use check::{Check, Dive, Is, IsInMemory, check_under};
 pub use condition::When;
 pub use each::{Each, check_part};
@@ -35,3 +39,5 @@ pub use garde_rules::values::{
     WithMessage,
 };
 pub use if_some::IfSome;
+pub use required_if::RequiredIf;
+pub use unique::{Equal, Same, Unique};

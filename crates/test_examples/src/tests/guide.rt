@@ -1,6 +1,7 @@
 //! The whole reports of the guide's types.
 use super::{is_told, owned, text, told};
 use crate::tests::OrEnd;
+use example_types::contact::{Contact, Link};
 use example_types::order::Order;
 use example_types::payment::{CardText, Payment, PhoneText};
 use example_types::profile::Profile;
@@ -184,4 +185,49 @@ fn numbers_of_cards_and_phones(rt: HostRuntime) {
     let text =
         "card: not a valid credit card number: invalid length\nphone: not a valid phone number: the number is too long\n";
     assert!(rt; is_told_of_a_payment(&rt, rt.alloc(), "4111", "+420 123 456 789", text));
+}
+
+/// A link of this title.
+fn link(rt: &impl Abort, alloc: Global, title: &str) -> Link {
+    let address = text(rt, alloc, "https://example.org/");
+    Link {
+        title: text(rt, alloc, title),
+        address,
+    }
+}
+
+#[test]
+fn rules_over_several_fields(rt: HostRuntime) {
+    let alloc = rt.alloc();
+    let rows = [
+        (
+            ("person", None),
+            (Some("a@b.c"), Some("a@b.c"), None),
+            "c",
+            "",
+        ),
+        (("person", None), (None, None, Some("1")), "c", ""),
+        (
+            ("business", None),
+            (None, Some("a@b.c"), None),
+            "a",
+            "business: not set\nemail: give an email or a phone\nagain: does not match email field\nlinks[2]: there is a link of this title\n",
+        ),
+    ];
+    for ((kind, business), (email, again, phone), last, told) in rows {
+        let titles = [
+            link(&rt, alloc, "a"),
+            link(&rt, alloc, "b"),
+            link(&rt, alloc, last),
+        ];
+        let contact = Contact {
+            kind: text(&rt, alloc, kind),
+            business: owned(&rt, alloc, business),
+            email: owned(&rt, alloc, email),
+            again: owned(&rt, alloc, again),
+            phone: owned(&rt, alloc, phone),
+            links: Vec::from_array(alloc, titles).or_end(&rt),
+        };
+        assert!(rt; is_told(&rt, alloc, &contact, told));
+    }
 }

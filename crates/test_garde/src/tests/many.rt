@@ -1,6 +1,6 @@
-//! Tuples of fields and of checks.
+//! Tuples of fields and of checks, checks of a condition, and lists whose items differ.
 use crate::tests::OrEnd;
-use garde::fields::{Ascii, Each, Field, Fields, Is, Length};
+use garde::fields::{Ascii, Asks, Each, Equal, Field, Fields, Is, Length, RequiredIf, Unique};
 use garde::{DefaultI18n, Report, Trail};
 use std::alloc::Global;
 use std::process::Abort;
@@ -70,4 +70,67 @@ fn each_check_of_a_tuple(rt: HostRuntime) {
     let text =
         "texts[0]: not ascii\ntexts[0]: length is lower than 3\ntexts[0]: length is greater than 1\ntexts[0]: not ascii\n";
     assert!(rt; is_told_of_checks(&rt, rt.alloc(), text));
+}
+
+/// Whether this is reported for letters that have to differ.
+fn is_told_of_letters(rt: &impl Abort, alloc: Global, letters: &str, text: &str) -> bool {
+    let letters = Vec::from_slice(alloc, letters.as_bytes()).or_end(rt);
+    let apart = Unique("this letter stands before, and more than once", Equal);
+    is_told(rt, alloc, &Field("letters", &letters, apart), text)
+}
+
+#[test]
+fn items_that_are_there_before(rt: HostRuntime) {
+    let rows = [
+        ("", ""),
+        ("abcdefghijklm", ""),
+        (
+            "abcdefghijklma",
+            "letters[13]: this letter stands before, and more than once\n",
+        ),
+        (
+            "abcabbd",
+            "letters[3]: this letter stands before, and more than once\nletters[4]: this letter stands before, and more than once\nletters[5]: this letter stands before, and more than once\n",
+        ),
+    ];
+    for (letters, told) in rows {
+        assert!(rt;
+            is_told_of_letters(&rt, rt.alloc(), letters, told),
+            "{letters}"
+        );
+    }
+}
+
+/// Whether this is reported for a number that may be missing, under a condition.
+fn is_told_under(
+    rt: &impl Abort,
+    alloc: Global,
+    number: Option<u32>,
+    condition: bool,
+    text: &str,
+) -> bool {
+    let given = Asks("the condition of this field does not hold", condition);
+    let checks = (Is(RequiredIf(condition)), Is(given));
+    is_told(rt, alloc, &Field("number", &number, checks), text)
+}
+
+#[test]
+fn conditions_on_other_fields(rt: HostRuntime) {
+    let rows = [
+        (Some(1), true, ""),
+        (None, true, "number: not set\n"),
+        (
+            Some(1),
+            false,
+            "number: the condition of this field does not hold\n",
+        ),
+        (
+            None,
+            false,
+            "number: the condition of this field does not hold\n",
+        ),
+    ];
+    for (number, condition, told) in rows {
+        assert!(rt; is_told_under(&rt, rt.alloc(), number, condition, told));
+    }
 }

@@ -1,0 +1,83 @@
+//! Rules over several fields: one of two is given, one is required under a condition, one repeats another, and no two
+//! items of a list are the same.
+ghost use Rattle.garde.specs.Fields.{◌and◌, asks, either, field, is_some, items_max, matches, option_eq, required_if, text_eq, text_is, unique};
+
+use garde::fields::{Asks, Field, Fields, Is, Matches, RequiredIf, Same, Unique};
+use garde::{I18n, Report, Trail, Validate, length};
+use std::alloc::{AllocError, Global};
+
+/// A link, with the title that it is shown under.
+#[derive(Debug, Drop)]
+pub struct Link {
+    pub title: String,
+    pub address: String,
+}
+
+/// That two links have the same title.
+#[derive(Clone, Copy, Debug)]
+pub struct Title;
+
+impl Same<Link> for Title {
+    ghost same = { λ _ one other. text_eq one.title other.title };
+
+    fn are_same(&self, one: &Link, other: &Link) -> bool {
+        one.title == other.title
+    }
+}
+
+/// How someone is reached: by an email, which is given twice, or by phone. A business has a name.
+#[derive(Debug, Drop)]
+pub struct Contact {
+    pub kind: String,
+    pub business: Option<String>,
+    pub email: Option<String>,
+    pub again: Option<String>,
+    pub phone: Option<String>,
+    pub links: Vec<Link>,
+}
+
+impl Validate for Contact {
+    type Context = ();
+
+    ghost visits = { λ v _.
+        field "business" (required_if (text_is "business" v.kind) v.business)
+        and field "email" (asks "give an email or a phone" (either (is_some v.email) (is_some v.phone)))
+        and field "again" (matches "email" (option_eq text_eq v.again v.email))
+        and field "links" (items_max 9 v.links
+        and unique "there is a link of this title" (λ one other. text_eq one.title other.title) v.links) };
+
+    fn validate_into<'a, H: I18n>(
+        &'a self,
+        alloc: Global,
+        _ctx: &(),
+        trail: &mut Trail<'a>,
+        report: &mut Report,
+        h: &H,
+    ) -> Result<(), AllocError> {
+        let Self {
+            kind,
+            business,
+            email,
+            again,
+            phone,
+            links,
+        } = self;
+        let named = RequiredIf(kind.as_str() == "business");
+        let reached = Asks(
+            "give an email or a phone",
+            email.is_some() || phone.is_some(),
+        );
+        let same = Matches {
+            field: "email",
+            other: email,
+        };
+        let apart = Unique("there is a link of this title", Title);
+        (
+            Field("business", business, Is(named)),
+            Field("email", email, Is(reached)),
+            Field("again", again, Is(same)),
+            Field("links", links, (Is(length!(max = 9)), apart)),
+        )
+            .visit(alloc, trail, report, h)
+    }
+}
