@@ -16,3 +16,4 @@ mod sizes;
 mod texts;
 mod tuples;
 mod unions;
+mod unneeded;

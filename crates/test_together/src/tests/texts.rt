@@ -1,4 +1,4 @@
-//! The default handler's texts where memory runs out.
+//! The default handler's texts, handed on by a reference, where memory runs out.
 
 use super::asked::{Asked, Row, said};
 use garde::DefaultI18n;
@@ -39,7 +39,7 @@ pub fn texts(alloc: Global, memory: &mut Scarce) -> Result<Met, AllocError> {
     let mut met = Met::Ample;
     for (asked, wanted) in &TEXTS {
         memory.begin();
-        let answer = said(alloc, &DefaultI18n, *asked);
+        let answer = said(alloc, &&DefaultI18n, *asked);
         memory.end();
         met = met.and(match &answer {
             Ok(told) if told.as_str() == *wanted => Met::Ample,

@@ -1,12 +1,16 @@
 //! Calls that need no memory, and one that does, while each request for memory fails.
 
 use super::asked::{Asked, Row, said};
+use super::paths::keys;
 use super::rules::regex;
+use garde::i18n::InvalidPhoneNumber;
 use garde::rules::Rule;
 use garde::rules::pattern::regex::Searcher;
 use garde::rules::values::{Length, WithMessage};
 use garde::{DefaultI18n, RuleError};
+use garde_problem::{Escaped, JsonPointer};
 use std::alloc::{AllocError, Global};
+use std::fmt::Write;
 use std::test::Fail;
 use test_memory::Scarce;
 
@@ -44,10 +48,14 @@ fn a_searcher_searches_without_memory(rt: HostRuntime) -> Result<(), Fail> {
 }
 
 /// The texts that the default handler has without memory.
-static STORED: [Row; 3] = [
+static STORED: [Row; 4] = [
     (Asked::Ascii, "not ascii"),
     (Asked::Alphanumeric, "not alphanumeric"),
     (Asked::Required, "not set"),
+    (
+        Asked::Phone(InvalidPhoneNumber::Invalid),
+        "not a valid phone number",
+    ),
 ];
 
 // Whether a reference to the handler hands on each of these texts.
@@ -88,5 +96,26 @@ fn message_needs_the_handler(alloc: Global) -> Result<bool, AllocError> {
 #[test]
 fn a_message_is_out_of_memory_where_the_handler_is(rt: HostRuntime) -> Result<(), Fail> {
     assert!(rt; message_needs_the_handler(rt.alloc())?);
+    Ok(())
+}
+
+/// What a path of eight keys prints as a pointer, and escaped.
+const PRINTED: &str = "/a~1\n/b/b/b/b/b/b/b a/\\n.b.b.b.b.b.b.b";
+
+// Whether it prints both with no memory but the room of a text that was made before.
+fn prints_without_memory(alloc: Global) -> Result<bool, AllocError> {
+    let path = keys(alloc, &["a/\n", "b", "b", "b", "b", "b", "b", "b"])?;
+    let mut out = String::with_capacity(alloc, 64)?;
+    let mut memory = Scarce::taken(alloc)?;
+    memory.begin();
+    let (pointer, escaped) = (JsonPointer(alloc, &path), Escaped(alloc, &path));
+    let printed = write!(out, "{pointer} {escaped}");
+    memory.end();
+    Ok(printed.is_ok() && out.as_str() == PRINTED)
+}
+
+#[test]
+fn a_path_of_eight_components_prints_without_memory(rt: HostRuntime) -> Result<(), Fail> {
+    assert!(rt; prints_without_memory(rt.alloc())?);
     Ok(())
 }

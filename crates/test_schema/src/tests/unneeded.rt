@@ -1,0 +1,43 @@
+//! Texts of faults of form that need no memory, while each request for memory fails.
+
+use garde::DefaultI18n;
+use garde_schema::{FormFault, FormI18n, Integer, Wanted};
+use garde_tape::Kind;
+use std::alloc::{AllocError, Global};
+use std::test::Fail;
+use test_memory::Scarce;
+
+/// A fault of each kind, and the text that the default handler has of it.
+static STORED: [(FormFault, &str); 6] = [
+    (FormFault::Wrong(Wanted::List, Kind::Null), "not a list"),
+    (FormFault::OutOfRange(Integer::U8), "out of range: 0 to 255"),
+    (FormFault::Missing, "missing"),
+    (FormFault::Repeated, "repeated"),
+    (FormFault::Unknown, "not known here"),
+    (FormFault::NotOneOf, "not one of the known values"),
+];
+
+// Whether a handler gives each of these texts.
+fn gives_each<H: FormI18n>(alloc: Global, h: &H) -> bool {
+    let mut all = true;
+    for (fault, wanted) in &STORED {
+        let text = h.form_fault(alloc, *fault);
+        all = all && matches!(&text, Ok(text) if text.as_str() == *wanted);
+    }
+    all
+}
+
+// Whether a reference to the default handler hands them on without memory.
+fn hands_on_without_memory(alloc: Global) -> Result<bool, AllocError> {
+    let mut memory = Scarce::taken(alloc)?;
+    memory.begin();
+    let answer = gives_each(alloc, &&DefaultI18n);
+    memory.end();
+    Ok(answer)
+}
+
+#[test]
+fn a_reference_to_a_handler_copies_no_text_of_a_form(rt: HostRuntime) -> Result<(), Fail> {
+    assert!(rt; hands_on_without_memory(rt.alloc())?);
+    Ok(())
+}
