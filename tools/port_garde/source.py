@@ -307,7 +307,9 @@ def read_vis(tokens):
         return ""
     if not tokens.opens("("):
         return "pub "
-    return f"pub({' '.join(it.text for it in tokens.group().tokens[:-1])}) "
+    inside = tokens.group()
+    path = "in " if inside.takes("in") else ""
+    return f"pub({path}{''.join(it.text for it in inside.tokens[inside.at:-1])}) "
 
 
 def pass_to_end(tokens):

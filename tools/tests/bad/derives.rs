@@ -21,4 +21,6 @@ pub struct Other {
     pub name: String, //~ `Default` of a field of the type `String`, which is made with an allocator here: take the derive out, and write a function that makes the value
     #[garde(skip)]
     pub note: Option<String>,
+    #[garde(skip)]
+    pub marks: Vec<u8>, //~ `Default` of a field of the type `Vec`, which is made with an allocator here: take the derive out, and write a function that makes the value
 }

@@ -16,6 +16,18 @@ pub struct Bad {
     #[garde(dive)]
     #[serde(flatten)]
     pub part: Part,
+    #[garde(skip)]
+    #[serde(flatten)]
+    pub message: Message,
+    #[garde(skip)]
+    #[serde(flatten)] //~ `flatten` of serde of what is neither a struct with named fields nor an enum with an inner tag
+    pub letter: Letter,
+}
+
+#[derive(Deserialize)]
+#[serde(tag = "kind", content = "value")]
+pub enum Letter {
+    Text(String),
 }
 
 #[derive(Deserialize, Validate)]

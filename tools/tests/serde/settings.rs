@@ -34,11 +34,19 @@ pub struct Listener {
     #[garde(range(max = 9))]
     #[serde(default = "crate::settings::few", skip_serializing_if = "is_few")]
     pub tries: u8,
+    #[garde(skip)]
+    #[serde(default = "Default::default")]
+    pub notes: Vec<String>,
+    #[garde(range(min = -128))]
+    #[serde(default = "offset")]
+    pub offset: i8,
     #[garde(dive)]
     pub limits: Limits,
 }
 
 const fn port() -> u16 { 8_080 }
+
+fn offset() -> i8 { -1 }
 
 fn few() -> u8 {
     Limits::default().workers as u8
