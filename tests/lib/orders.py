@@ -28,6 +28,15 @@ CZECH = {
 }
 
 
+CODES = {
+    "text": ("wrong_form", "wanted", "found"), "whole": ("wrong_form", "wanted", "found"), "list": ("wrong_form", "wanted", "found"),
+    "object": ("wrong_form", "wanted", "found"), "range": ("out_of_range", "of"), "missing": ("member_missing",),
+    "repeated": ("member_repeated",), "unknown": ("member_unknown",), "short": ("length_lower_than", "min"),
+    "long": ("length_greater_than", "max"), "low": ("range_lower_than", "min"), "high": ("range_greater_than", "max"),
+    "prefix": ("prefix_missing", "pattern"),
+}
+
+
 class Request(typing.NamedTuple):
     """A request, and the words that the program is started with."""
     body: bytes = b""
@@ -42,6 +51,14 @@ def pointer(keys):
     return "".join("/" + str(key).replace("~", "~0").replace("/", "~1") for key in keys)
 
 
+def kind(value):
+    """What a value is, as codes name it."""
+    if value is None or isinstance(value, bool):
+        return "Null" if value is None else "Boolean"
+    kinds = {Number: "Number", str: "Text", Object: "Object", list: "List"}
+    return next(name for of, name in kinds.items() if isinstance(value, of))
+
+
 class Reading:
     """A walk over an order that gathers its faults."""
 
@@ -49,8 +66,15 @@ class Reading:
         self.texts = texts
         self.faults = []
 
-    def put(self, path, fault, *argument):
-        self.faults.append({"pointer": pointer(path), "detail": self.texts[fault].format(*argument)})
+    def put(self, path, fault, *arguments):
+        code, *names = CODES[fault]
+        params = dict(zip(names, map(str, arguments), strict=True))
+        detail = self.texts[fault].format(*arguments)
+        self.faults.append({"pointer": pointer(path), "detail": detail, "code": code, "params": params})
+
+    def other(self, path, fault, value):
+        """A value of another kind than the one that is wanted."""
+        self.put(path, fault, fault.capitalize(), kind(value))
 
     def length(self, value, path, least, most):
         if len(value) < least:
@@ -60,20 +84,20 @@ class Reading:
 
     def customer(self, value, path):
         if isinstance(value, Number) or not isinstance(value, str):
-            return self.put(path, "text")
+            return self.other(path, "text", value)
         return self.length(value, path, 1, 80)
 
     def code(self, value, path):
         if isinstance(value, Number) or not isinstance(value, str):
-            self.put(path, "text")
+            self.other(path, "text", value)
         elif not value.startswith("P"):
             self.put(path, "prefix", "P")
 
     def count(self, value, path):
         if not (isinstance(value, Number) and re.fullmatch(r"0|-?[1-9][0-9]*", value)):
-            self.put(path, "whole")
+            self.other(path, "whole", value)
         elif not 0 <= int(value) < 2**32:
-            self.put(path, "range")
+            self.put(path, "range", "u32")
         elif int(value) < 1:
             self.put(path, "low", 1)
         elif int(value) > 99:
@@ -81,7 +105,7 @@ class Reading:
 
     def lines(self, value, path):
         if isinstance(value, Object) or not isinstance(value, list):
-            return self.put(path, "list")
+            return self.other(path, "list", value)
         self.length(value, path, 1, 50)
         for index, line in enumerate(value):
             self.members(line, (*path, index), {"code": self.code, "count": self.count})
@@ -89,7 +113,7 @@ class Reading:
     def members(self, value, path, known):
         """Reads each of the known members, and then tells of those that are not known."""
         if not isinstance(value, Object):
-            return self.put(path, "object")
+            return self.other(path, "object", value)
         for name, read in known.items():
             there = [member for key, member in value if key == name]
             if len(there) == 1:

@@ -7,7 +7,8 @@ use Rattle.json.specs.Tree.{json_tokens, members_tokens}
 use Rattle.json.specs.Written.{Written, Writes}
 use Rattle.garde_report.specs.Report.{Entry}
 use Rattle.garde_problem.specs.declared.problem.Problem.{Problem}
-use Rattle.garde_problem.specs.Problem.{AreWritten, member_if, optional_tokens, faults_json, problem_json}
+use Rattle.garde_problem.specs.Coded.{Parts}
+use Rattle.garde_problem.specs.Problem.{AreWritten, member_if, optional_tokens, faults_json, parts_members, parts_tokens, problem_json}
 
 -- a call that wrote one token
 pub one_token : {E : Type 0} (r : Result (Unit {0}) E) (old new : Written) (t : Token) → IsOk r → Writes r old new t → AreWritten (t ∷ []) old new
@@ -49,3 +50,7 @@ problem_tokens p entries =
     ∙ ap front (optional (codes "detail") p.detail instance)
     ∙ ap (λ (rest : List Token). Token.begin_object ∷ rest)
     (optional (codes "type") p.type_uri (member (codes "title") (string p.title.now) (member (codes "status") (number (decimal p.status)) detail)))
+
+-- the members of a message, and the end of their object
+pub closed_parts : (m : Parts) → parts_tokens m ++ Token.end_object ∷ [] ≡ members_tokens (parts_members m)
+closed_parts m = refl

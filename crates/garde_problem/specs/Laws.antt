@@ -1,9 +1,10 @@
 -- Laws of what reports print.
-use Rattle.std.specs.Prelude.{◌≡◌, ◌==◌, ◌||◌, ℕ, List, length, Some}
+use Rattle.std.specs.Prelude.{◌≡◌, ◌==◌, ◌||◌, ℕ, false, List, ◌∷◌, length, Some, All}
 use Rattle.std.specs.List.{count_by}
 use Rattle.std.specs.Str.{IsUtf8, NonePass, chars}
 use Rattle.garde_report.specs.Part.{Part}
 use Rattle.garde_report.specs.Report.{Entry}
+use Rattle.garde_problem.specs.Coded.{Param, Parts, is_mark, coded_text, custom, message_parts}
 use Rattle.garde_problem.specs.Pointer.{path_pointer, part_texts, pointer_texts}
 use Rattle.garde_problem.specs.Escaped.{is_acting, escaped_text, escaped_report_text}
 
@@ -30,3 +31,20 @@ EscapedTextsAreShown = (text : List ℕ) → IsUtf8 text → NonePass is_acting 
 -- a text in which no character acts, and none is a backslash, is not changed
 abbrev pub ShownTextsStay : Type 0
 ShownTextsStay = (text : List ℕ) → IsUtf8 text → NonePass (λ c. is_acting c || (c == 92)) (chars text) → escaped_text text ≡ text
+
+-- a text without U+001F
+abbrev pub IsUnmarked : List ℕ → Type 0
+IsUnmarked text = All (λ b. is_mark b ≡ false) text
+
+-- no text of a message has U+001F
+abbrev pub AreUnmarked : Parts → Type 0
+AreUnmarked m =
+    IsUnmarked m.code × IsUnmarked m.detail × All (λ (p : Param). IsUnmarked p.0 × IsUnmarked p.1) m.params
+
+-- a message with a code is parted into what it was made of
+abbrev pub CodedMessagesAreRead : Type 0
+CodedMessagesAreRead = (m : Parts) → AreUnmarked m → message_parts (coded_text m) ≡ m
+
+-- a message that does not begin with U+001F has no code of its own, whatever it holds
+abbrev pub OtherMessagesAreCustom : Type 0
+OtherMessagesAreCustom = (b : ℕ) (bs : List ℕ) → is_mark b ≡ false → message_parts (b ∷ bs) ≡ custom (b ∷ bs)

@@ -1,3 +1,5 @@
+pub mod Coded
+pub mod CodedText
 pub mod Escaped
 pub mod Laws
 pub mod Pointer

@@ -8,6 +8,7 @@ use Rattle.json.specs.Token.{Token}
 use Rattle.json.specs.Tree.{json_tokens}
 use Rattle.json.specs.Written.{Written}
 use Rattle.garde_report.specs.Report.{Entry}
+use Rattle.garde_problem.specs.Coded.{Param, Parts, message_parts}
 use Rattle.garde_problem.specs.Pointer.{path_pointer}
 use Rattle.garde_problem.specs.declared.problem.Problem.{Problem}
 
@@ -16,9 +17,21 @@ abbrev pub member_if : List ℕ → Option (Bor (List ℕ)) → Members → Memb
 member_if name None others = others
 member_if name (Some text) others = member name (string text.now) others
 
--- a fault: the pointer to the place, and the message
+-- parameters as members with their texts
+abbrev pub params_members : List Param → Members
+params_members [] = no_members
+params_members (p ∷ ps) = member p.0 (string p.1) (params_members ps)
+
+-- what a message has: the sentence, the code and the parameters
+abbrev pub parts_members : Parts → Members
+parts_members m =
+    member (codes "detail") (string m.detail)
+    (member (codes "code") (string m.code)
+    (member (codes "params") (object (params_members m.params)) no_members))
+
+-- a fault: the pointer to the place, and what its message has
 abbrev pub fault_json : Entry → Json
-fault_json e = object (member (codes "pointer") (string (path_pointer e.0)) (member (codes "detail") (string e.1) no_members))
+fault_json e = object (member (codes "pointer") (string (path_pointer e.0)) (parts_members (message_parts e.1)))
 
 -- the faults in order
 abbrev pub faults_json : List Entry → Items
@@ -39,6 +52,12 @@ problem_json p entries = object (
 abbrev pub optional_tokens : List ℕ → Option (Bor (List ℕ)) → List Token
 optional_tokens name None = []
 optional_tokens name (Some text) = Token.key name ∷ Token.string text.now ∷ []
+
+-- the tokens of the members of a message
+abbrev pub parts_tokens : Parts → List Token
+parts_tokens m =
+    Token.key (codes "detail") ∷ Token.string m.detail ∷ Token.key (codes "code") ∷ Token.string m.code
+    ∷ Token.key (codes "params") ∷ json_tokens (object (params_members m.params))
 
 -- the compact text of a JSON value
 abbrev pub json_text : Json → List ℕ

@@ -1,4 +1,5 @@
 //! Laws of what reports print. Each function does nothing, and its contract is a law for all values.
+ghost use Rattle.garde_problem.specs.Laws.{CodedMessagesAreRead, OtherMessagesAreCustom};
 ghost use Rattle.garde_problem.specs.Laws.{EscapedTextsAreShown, FaultsAreLines};
 ghost use Rattle.garde_problem.specs.Laws.{PointersAreRead, PointersDiffer, ShownTextsStay};
 
@@ -28,4 +29,16 @@ pub fn escaped_texts_are_shown()
 /// A text in which no character acts, and none is a backslash, is the same when it is escaped.
 pub fn shown_texts_stay()
     ensures { ShownTextsStay }
+{}
+
+/// A message with a code is parted into the code, the sentence and the parameters of which it was
+/// made, where none of them has the character U+001F.
+pub fn coded_messages_are_read()
+    ensures { CodedMessagesAreRead }
+{}
+
+/// A message that does not begin with U+001F has the code `custom` and no parameters, and is itself
+/// the sentence, whatever else it holds. So a text of a hostile body in it forges no code.
+pub fn other_messages_are_custom()
+    ensures { OtherMessagesAreCustom }
 {}

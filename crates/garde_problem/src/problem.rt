@@ -1,12 +1,14 @@
 //! The problem details of a report, as JSON text.
 ghost use Rattle.std.specs.Prelude.{◌≡◌, [], ◌∷◌, IfOk, OnOk, codes, string_bytes};
-ghost use Rattle.json.specs.Json.{array};
+ghost use Rattle.json.specs.Json.{array, object};
 ghost use Rattle.json.specs.Token.{key, string};
 ghost use Rattle.json.specs.Tree.{json_tokens};
+ghost use Rattle.garde_problem.specs.Coded.{params_in, seen};
 ghost use Rattle.garde_problem.specs.Pointer.{path_pointer};
 ghost use Rattle.garde_problem.specs.Problem.{AreWritten, fault_json, faults_json, json_text};
-ghost use Rattle.garde_problem.specs.Problem.{optional_tokens, problem_json};
+ghost use Rattle.garde_problem.specs.Problem.{optional_tokens, params_members, parts_tokens, problem_json};
 
+use crate::coded::{Coded, Params};
 use crate::pointer::JsonPointer;
 use garde_report::{Error, Path, Report};
 use json::Writer;
@@ -30,9 +32,10 @@ pub struct Problem<'a> {
 }
 
 /// The compact text of the problem details of a report, for a body of the media type
-/// `application/problem+json`. The member `errors` is an array of the faults in order: each is an
-/// object of the `pointer` to its place, which is a JSON Pointer, and of its message as `detail`.
-/// No tree is made.
+/// `application/problem+json`. The member `errors` is an array of the faults in order. Each is an
+/// object with the `pointer` to its place, which is a JSON Pointer, and with what `Coded::of` gives of
+/// its message: the sentence as `detail`, the `code`, and `params`, an object of texts. No tree is
+/// made.
 pub fn problem_to_json_text(
     alloc: Global,
     report: &Report,
@@ -95,7 +98,32 @@ fn write_fault(
 {
     out.begin_object()?;
     write_pointer(alloc, path, out)?;
-    write_member("detail", error.message(), out)?;
+    write_message(&Coded::of(error.message()), out)?;
+    out.end_object()?;
+    Ok(())
+}
+
+// Writes the members of a message.
+fn write_message(message: &Coded<'_>, out: &mut Writer) -> Result<(), AllocError>
+    ensures { OnOk result (AreWritten (parts_tokens (seen message.now)) out.old out.new) }
+{
+    write_member("detail", message.detail, out)?;
+    write_member("code", message.code, out)?;
+    out.key("params")?;
+    write_params(message.params, out)?;
+    Ok(())
+}
+
+// Writes parameters as an object of texts.
+fn write_params(mut params: Params<'_>, out: &mut Writer) -> Result<(), AllocError>
+    ensures { OnOk result (AreWritten
+        (json_tokens (object (params_members (params_in params.entry.text.now))))
+        out.old out.new) }
+{
+    out.begin_object()?;
+    while let Some((name, value)) = params.next() {
+        write_member(name, value, out)?;
+    }
     out.end_object()?;
     Ok(())
 }

@@ -11,7 +11,7 @@ use garde_tape::Kind;
 use std::alloc::{AllocError, Global};
 use std::borrow::CowStr;
 
-fn name_of_wanted(wanted: Wanted) -> &'static str
+pub(crate) fn name_of_wanted(wanted: Wanted) -> &'static str
     ensures { result.now ≡ wanted_code wanted }
 {
     match wanted {
@@ -24,7 +24,7 @@ fn name_of_wanted(wanted: Wanted) -> &'static str
     }
 }
 
-fn name_of_kind(kind: Kind) -> &'static str
+pub(crate) fn name_of_kind(kind: Kind) -> &'static str
     ensures { result.now ≡ kind_code kind }
 {
     match kind {
@@ -37,7 +37,7 @@ fn name_of_kind(kind: Kind) -> &'static str
     }
 }
 
-fn name_of_integer(integer: Integer) -> &'static str
+pub(crate) fn name_of_integer(integer: Integer) -> &'static str
     ensures { result.now ≡ integer_code integer }
 {
     match integer {

@@ -35,6 +35,7 @@ mod text_ref;
 mod tuples;
 mod variants;
 mod whole;
+mod with_codes;
 mod with_default;
 
 pub use built::{Build, Built};

@@ -1,7 +1,9 @@
 -- What is answered to a request.
 use Rattle.std.specs.Prelude.{ℕ, List, [], ◌∷◌, codes}
 use Rattle.garde.specs.Handlers.{Datum, default_text}
+use Rattle.garde_problem.specs.CodedText.{datum_message}
 use Rattle.garde_schema.specs.Forms.{FormTexts}
+use Rattle.garde_schema.specs.FormCode.{form_message}
 use Rattle.garde_schema.specs.FormText.{default_form_text}
 use Rattle.http.specs.declared.request.Parts.{Parts}
 use Rattle.http_server.specs.declared.response.Response.{Response}
@@ -14,14 +16,14 @@ use Rattle.use_http.specs.CzechText.{czech_text, czech_form_text}
 use Rattle.use_http.specs.Judged.{Judges}
 use Rattle.use_http.specs.Request.{IsLanguage, IsRoute}
 
--- the texts of what rules find, and of the faults of form, in a language
+-- the messages of what rules find, and of the faults of form: codes beside sentences in a language
 abbrev pub rule_texts : Language → Datum → List ℕ
-rule_texts English datum = default_text datum
-rule_texts Czech datum = czech_text datum
+rule_texts English datum = datum_message (λ d. default_text d) datum
+rule_texts Czech datum = datum_message (λ d. czech_text d) datum
 
 abbrev pub form_texts : Language → FormTexts
-form_texts English fault = default_form_text fault
-form_texts Czech fault = czech_form_text fault
+form_texts English fault = form_message (λ f. default_form_text f) fault
+form_texts Czech fault = form_message (λ f. czech_form_text f) fault
 
 -- the response tells the result of reading the body of an order, in the language that the request asks for
 abbrev pub IsJudged : Parts → List ℕ → Response → Type 0

@@ -11,6 +11,7 @@ use crate::czech::Czech;
 use crate::request::{Language, Route, language_of, route_of};
 use bytes::Bytes;
 use garde::DefaultI18n;
+use garde_problem::WithCodes;
 use garde_schema::Scratch;
 use http::{HeaderValue, Request, StatusCode, header};
 use http_server::{Response, Service};
@@ -47,8 +48,8 @@ fn judge_in(
 {
     let mut scratch = Scratch::new(alloc);
     match language {
-        Language::English => judge(alloc, body, &mut scratch, &DefaultI18n, response),
-        Language::Czech => judge(alloc, body, &mut scratch, &Czech, response),
+        Language::English => judge(alloc, body, &mut scratch, &WithCodes(DefaultI18n), response),
+        Language::Czech => judge(alloc, body, &mut scratch, &WithCodes(Czech), response),
     }
 }
 

@@ -1,7 +1,9 @@
 //! Pointers, escaped reports and problem details, beside texts written by hand.
 
 use crate::samples::{OrEnd, path_of, printed, report_of};
-use garde_problem::{Escaped, JsonPointer, Problem, laws, problem_to_json_text};
+use garde_problem::{
+    Coded, Escaped, JsonPointer, Problem, coded_message, laws, problem_to_json_text,
+};
 use garde_report::{Kind, Report};
 use std::alloc::Global;
 use std::process::Abort;
@@ -26,6 +28,12 @@ const PLAIN: (Components<'_>, &str) = (
         (Kind::Key, "stra\u{df}e"),
     ],
     "lower than 1",
+);
+
+/// A fault with a code.
+const CODED: (Components<'_>, &str) = (
+    &[(Kind::Key, "count")],
+    "\u{1f}too_many\u{1f}more than \"9\"\u{1f}max\u{1f}9\u{1f}a\nb\u{1f}\u{1f}",
 );
 
 /// A fault at the root.
@@ -176,7 +184,7 @@ fn problem_details_of_reports(rt: HostRuntime) {
         instance: Some("/orders/7"),
     };
     let faults: [(Components<'_>, &str); 3] = [HOSTILE, PLAIN, ROOT];
-    let rows: [(&Problem<'_>, &[(Components<'_>, &str)], &str); 3] = [
+    let rows: [(&Problem<'_>, &[(Components<'_>, &str)], &str); 4] = [
         (
             &short,
             &[],
@@ -185,17 +193,81 @@ fn problem_details_of_reports(rt: HostRuntime) {
         (
             &short,
             &faults,
-            "{\"title\":\"the body has faults\",\"status\":422,\"errors\":[{\"pointer\":\"/a\\nb: forged/0/\\u001b[2J\\u0000\",\"detail\":\"\\t\u{202e}\\\\\u{7f}\u{85}\u{2028}\\r\u{2069}\u{61c}\u{200f}\"},{\"pointer\":\"/1//stra\u{df}e\",\"detail\":\"lower than 1\"},{\"pointer\":\"\",\"detail\":\"\\u0001\"}]}",
+            "{\"title\":\"the body has faults\",\"status\":422,\"errors\":[{\"pointer\":\"/a\\nb: forged/0/\\u001b[2J\\u0000\",\"detail\":\"\\t\u{202e}\\\\\u{7f}\u{85}\u{2028}\\r\u{2069}\u{61c}\u{200f}\",\"code\":\"custom\",\"params\":{}},{\"pointer\":\"/1//stra\u{df}e\",\"detail\":\"lower than 1\",\"code\":\"custom\",\"params\":{}},{\"pointer\":\"\",\"detail\":\"\\u0001\",\"code\":\"custom\",\"params\":{}}]}",
         ),
         (
             &long,
             &[PLAIN],
-            "{\"type\":\"https://example.org/faults\",\"title\":\"\\\"quoted\\\"\",\"status\":65535,\"detail\":\"2 faults\",\"instance\":\"/orders/7\",\"errors\":[{\"pointer\":\"/1//stra\u{df}e\",\"detail\":\"lower than 1\"}]}",
+            "{\"type\":\"https://example.org/faults\",\"title\":\"\\\"quoted\\\"\",\"status\":65535,\"detail\":\"2 faults\",\"instance\":\"/orders/7\",\"errors\":[{\"pointer\":\"/1//stra\u{df}e\",\"detail\":\"lower than 1\",\"code\":\"custom\",\"params\":{}}]}",
+        ),
+        (
+            &short,
+            &[CODED],
+            r#"{"title":"the body has faults","status":422,"errors":[{"pointer":"/count","detail":"more than \"9\"","code":"too_many","params":{"max":"9","a\nb":""}}]}"#,
         ),
     ];
     for (problem, faults, text) in rows {
         let report = report_of(&rt, rt.alloc(), faults);
         assert!(rt; details(&rt, rt.alloc(), &report, problem, text));
+    }
+}
+
+// The parts of a message, with a `|` behind each.
+fn parted(rt: &impl Abort, alloc: Global, message: &str) -> String {
+    let coded = Coded::of(message);
+    let mut params = coded.params;
+    let mut text = format!(in alloc; "{}|{}|", coded.code, coded.detail).or_end(rt);
+    while let Some((name, value)) = params.next() {
+        let more = format!(in alloc; "{name}|{value}|").or_end(rt);
+        text.push_str(more.as_str()).or_end(rt);
+    }
+    text
+}
+
+#[test]
+fn messages_are_parted(rt: HostRuntime) {
+    let rows = [
+        ("", "custom||"),
+        ("a\u{1f}b\u{1f}c\u{1f}", "custom|a\u{1f}b\u{1f}c\u{1f}|"),
+        ("\u{1f}", "custom|\u{1f}|"),
+        ("\u{1f}a", "custom|\u{1f}a|"),
+        ("\u{1f}a\u{1f}", "a||"),
+        ("\u{1f}a\u{1f}b", "a|b|"),
+        ("\u{1f}a\u{1f}b\u{1f}", "a|b|"),
+        ("\u{1f}a\u{1f}b\u{1f}c", "a|b|"),
+        ("\u{1f}a\u{1f}b\u{1f}c\u{1f}d", "a|b|c|d|"),
+        (CODED.1, "too_many|more than \"9\"|max|9|a\nb||"),
+        (PLAIN.1, "custom|lower than 1|"),
+    ];
+    for (message, parts) in rows {
+        assert!(rt; parted(&rt, rt.alloc(), message).as_str() == parts);
+    }
+}
+
+// Whether a message with this code is this text.
+fn is_coded(
+    rt: &impl Abort,
+    alloc: Global,
+    texts: (&str, &str),
+    params: &[(&str, &str)],
+    text: &str,
+) -> bool {
+    coded_message(alloc, texts.0, texts.1, params)
+        .or_end(rt)
+        .as_str()
+        == text
+}
+
+#[test]
+fn messages_with_codes(rt: HostRuntime) {
+    let many: &[(&str, &str)] = &[("max", "9"), ("a\nb", "")];
+    let rows: [((&str, &str), &[(&str, &str)], &str); 3] = [
+        (("", ""), &[], "\u{1f}\u{1f}\u{1f}"),
+        (("odd", "not even"), &[], "\u{1f}odd\u{1f}not even\u{1f}"),
+        (("too_many", "more than \"9\""), many, CODED.1),
+    ];
+    for (texts, params, text) in rows {
+        assert!(rt; is_coded(&rt, rt.alloc(), texts, params, text));
     }
 }
 
@@ -206,4 +278,6 @@ fn the_laws_of_problems_are_called(_rt: HostRuntime) {
     laws::faults_are_lines();
     laws::escaped_texts_are_shown();
     laws::shown_texts_stay();
+    laws::coded_messages_are_read();
+    laws::other_messages_are_custom();
 }

@@ -3,6 +3,7 @@ mod codes;
 mod czech;
 mod reasons;
 mod scope;
+mod with_codes;
 
 use crate::tests::OrEnd;
 use garde_i18n::{DefaultI18n, I18n, InvalidCreditCard, InvalidPhoneNumber, InvalidUrl, IpKind};
