@@ -7,10 +7,11 @@ mod czech;
 mod order;
 mod request;
 mod service;
+mod wire;
 
-use crate::service::Orders;
+use crate::wire::answer_all;
 use anyhow::{Context, Result, bail};
-use http_server::{Config, Connection, Reason, State, serve};
+use http_server::{Config, Reason, State};
 use std::hash::RandomState;
 use std::io::BufWriter;
 use std::process::ExitCode;
@@ -38,16 +39,9 @@ fn run(rt: &HostRuntime) -> Result<ExitCode> {
         max_body_len: longest_body(rt)?,
         ..Config::default()
     };
-    let mut connection = Connection::new(alloc, RandomState::new(rt)?, config);
-    let mut input = rt.stdin();
+    let keys = RandomState::new(rt)?;
     let mut output = BufWriter::new(alloc, io::writer(rt))?;
-    serve(
-        &mut connection,
-        &mut Orders { alloc },
-        &mut input,
-        &mut output,
-    )?;
-    match connection.state() {
+    match answer_all(alloc, keys, config, &mut rt.stdin(), &mut output)? {
         State::Closing(Reason::Asked | Reason::EndOfInput) => Ok(ExitCode::SUCCESS),
         State::Closing(Reason::Refused(_)) => Ok(ExitCode::FAILURE),
         _ => bail!("out of memory"),
