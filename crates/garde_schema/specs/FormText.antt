@@ -17,6 +17,7 @@ wanted_text wants.Boolean = codes "not true or false"
 wanted_text wants.Null = codes "not null"
 wanted_text wants.List = codes "not a list"
 wanted_text wants.Object = codes "not an object"
+wanted_text wants.OneMember = codes "not an object with one member"
 
 -- that a whole number is not one of those of this type, which are named, in English
 abbrev pub range_text : Integer → List ℕ
@@ -48,6 +49,7 @@ wanted_code wants.Boolean = codes "Boolean"
 wanted_code wants.Null = codes "Null"
 wanted_code wants.List = codes "List"
 wanted_code wants.Object = codes "Object"
+wanted_code wants.OneMember = codes "OneMember"
 
 -- the name of what was found
 abbrev pub kind_code : Kind → List ℕ

@@ -4,6 +4,7 @@ pub mod FormText
 pub mod Forms
 pub mod Members
 pub mod Nulls
+pub mod OneMember
 pub mod OneOf
 pub mod Variants
 pub mod Whole

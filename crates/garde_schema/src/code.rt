@@ -21,6 +21,7 @@ pub(crate) fn name_of_wanted(wanted: Wanted) -> &'static str
         Wanted::Null => "Null",
         Wanted::List => "List",
         Wanted::Object => "Object",
+        Wanted::OneMember => "OneMember",
     }
 }
 

@@ -33,6 +33,7 @@ impl FormI18n for DefaultI18n {
             Wanted::Null => "not null",
             Wanted::List => "not a list",
             Wanted::Object => "not an object",
+            Wanted::OneMember => "not an object with one member",
         }))
     }
 

@@ -42,6 +42,8 @@ pub enum Wanted {
     List,
     /// An object.
     Object,
+    /// An object with one member.
+    OneMember,
 }
 
 /// What is wrong with the form of a value. Of what was found it has the kind, never the value.

@@ -22,6 +22,7 @@ wanted_text wanted.Boolean = codes "boolean"
 wanted_text wanted.Null = codes "null"
 wanted_text wanted.List = codes "list"
 wanted_text wanted.Object = codes "object"
+wanted_text wanted.OneMember = codes "object with one member"
 
 abbrev pub fault_text : FormFault → List ℕ
 fault_text (faults.Wrong w k) = kind_text k ++ (codes " in place of " ++ wanted_text w)

@@ -10,6 +10,7 @@ mod maps;
 mod members;
 mod nulls;
 mod numbers;
+mod only_members;
 mod reports;
 mod signup;
 mod sizes;

@@ -141,6 +141,10 @@ fn gives_each_fault_of_form_its_text(rt: HostRuntime) -> Result<(), Fail> {
             FormFault::Wrong(Wanted::Whole, Kind::List),
             "list in place of whole number",
         ),
+        (
+            FormFault::Wrong(Wanted::OneMember, Kind::Object),
+            "object in place of object with one member",
+        ),
         (FormFault::OutOfRange(Integer::U8), "out of range"),
         (FormFault::Missing, "missing"),
         (FormFault::Repeated, "repeated"),

@@ -36,6 +36,7 @@ fn wanted_text(wanted: Wanted) -> &'static str
         Wanted::Null => "null",
         Wanted::List => "list",
         Wanted::Object => "object",
+        Wanted::OneMember => "object with one member",
     }
 }
 
