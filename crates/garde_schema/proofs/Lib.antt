@@ -5,4 +5,5 @@ mod Unions
 mod RulesOnValue
 mod Lists
 mod Maps
+mod Wide
 mod Making

@@ -8,6 +8,7 @@ pub mod OneMember
 pub mod OneOf
 pub mod Variants
 pub mod Whole
+pub mod Wide
 pub mod RulesOnValue
 pub mod Flat
 pub mod Lists

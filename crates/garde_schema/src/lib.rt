@@ -71,5 +71,5 @@ pub use tagged::Tagged;
 pub use text::Text;
 pub use text_ref::TextRef;
 pub use variants::{Variant, Variants};
-pub use whole::{I8, I16, I32, I64, Isize, U8, U16, U32, U64, Usize, Whole, WholeType};
+pub use whole::{I8, I16, I32, I64, I128, Isize, U8, U16, U32, U64, U128, Usize, Whole, WholeType};
 pub use with_default::WithDefault;

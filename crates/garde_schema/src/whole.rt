@@ -8,6 +8,7 @@ ghost use Rattle.garde_schema.specs.Whole.{whole_fault};
 
 mod signed;
 mod unsigned;
+mod wide;
 
 use crate::fault::{FormFault, Integer, Wanted};
 use crate::form::Form;
@@ -19,6 +20,7 @@ use garde_tape::Tree;
 pub use signed::{I8, I16, I32, I64, Isize};
 use std::alloc::{AllocError, Global};
 pub use unsigned::{U8, U16, U32, U64, Usize};
+pub use wide::{I128, U128};
 
 /// A type of whole numbers.
 pub trait WholeType {

@@ -18,3 +18,4 @@ mod texts;
 mod tuples;
 mod unions;
 mod unneeded;
+mod wide_numbers;
