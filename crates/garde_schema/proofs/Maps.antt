@@ -1,5 +1,5 @@
 -- Lemmas on the reading of members of any names.
-use Rattle.std.proofs.Common.{◌≡◌, ℕ, Bool, true, false, List, [], ◌∷◌, length, Option, Some, None, Result, Ok, Err, refl, ap, sym, subst, ◌∙◌}
+use Rattle.std.proofs.Common.{◌≡◌, ℕ, Bool, true, false, List, [], ◌∷◌, length, Option, Some, None, Result, Ok, Err, refl, ap, sym, subst, ◌∙◌, arith}
 use Rattle.std.proofs.lemmas.Bool.{false≢true}
 use Rattle.std.proofs.lemmas.List.Elements.{All-nil, All-cons, All-head, All-tail}
 use Rattle.std.specs.BTreeSet.{BTreeSet, IsEmpty}
@@ -9,7 +9,7 @@ use Rattle.std.specs.Cmp.Lexicographic.{slice_cmp}
 use Rattle.std.specs.List.{All, list_any}
 use Rattle.std.specs.Ordering.{nat_cmp, is_eq}
 use Rattle.std.proofs.lemmas.Map.Text.{is_eq-slice_cmp}
-use Rattle.std.specs.Prelude.{IfOk, cond, option_map, option_and_then}
+use Rattle.std.specs.Prelude.{IfOk, IfSome, cond, option_map, option_and_then}
 use Rattle.std.specs.Result.{IsErr, IsOk}
 use Rattle.garde_i18n.specs.Datum.{Datum}
 use Rattle.garde_report.specs.Part.{Part, key_part}
@@ -24,7 +24,7 @@ use Rattle.garde_schema.specs.Forms.{FormTexts, forget, formed, refused, Sound}
 use Rattle.garde_schema.specs.Lists.{all_values, with_first, with_last}
 use Rattle.garde_schema.specs.Maps.{has_name, with_name, when_new, first_of_names, members_first, each_entry, entry_value}
 use Rattle.garde_schema.proofs.Lemmas.{refused_is_fault, told_as}
-use Rattle.garde_schema.proofs.Lists.{sound_first, refused_memory, more_memory, item_kept, item_refused, entry_then, entry_stop, entry_none}
+use Rattle.garde_schema.proofs.Lists.{values_length, sound_first, refused_memory, more_memory, item_kept, item_refused, entry_then, entry_stop, entry_none}
 
 -- ---- names
 
@@ -61,6 +61,14 @@ value_repeated value values name came j is = sym (ap (λ b. with_last values (en
 
 pub value_new : {A : Type 0} (value : Json → Option A) (values : Option (List (List ℕ × A))) (name : List ℕ) (came : Bool) (j : Json) → came ≡ false → with_last values (option_map (λ v. (name, v)) (value j)) ≡ with_last values (entry_value value (name, when_new came j))
 value_new value values name came j is = ap (λ b. with_last values (entry_value value (name, when_new b j))) (sym is)
+
+length_of_names : (came : List ℕ → Bool) (ms : List (List ℕ × Json)) → length (first_of_names came ms) ≡ length ms
+length_of_names came [] = refl
+length_of_names came (m ∷ ms) = let rest = length_of_names (with_name m.0 came) ms in omega (arith, rest)
+
+-- each member has its value
+pub entries_length : {A : Type 0} (value : Json → Option A) (ms : List (List ℕ × Json)) → IfSome (all_values (entry_value value) (members_first ms)) (λ out. length out ≡ length ms)
+entries_length value ms = subst (λ n. IfSome (all_values (entry_value value) (members_first ms)) (λ out. length out ≡ n)) (length_of_names (λ name. false) ms) (values_length (entry_value value) (members_first ms))
 
 -- ---- what is known
 

@@ -1,13 +1,14 @@
-//! How many items a list has.
+//! How many items a list has, or members an object.
 ghost use Rattle.std.specs.Prelude.{◌≡◌, length, IfSome};
 ghost use Rattle.garde_schema.specs.Lists.{list_of};
+ghost use Rattle.garde_schema.specs.Maps.{map_of};
 
 use garde::rules::length::HasSimpleLength;
 use garde_tape::Tree;
 use std::marker::Model;
 
-/// How many items a list has, which the rules of a list ask. A contract sees the number. It is the
-/// simple length, so `length!` asks it.
+/// How many items a list has, or members an object, which the rules of a list or of a map ask. A
+/// contract sees the number. It is the simple length, so `length!` asks it.
 #[derive(Clone, Copy, Debug)]
 pub struct Count(usize);
 
@@ -28,6 +29,16 @@ impl Count {
     {
         match tree.items() {
             Some(items) => Count(items.count()),
+            None => Count(0),
+        }
+    }
+
+    // How many members an object has, those whose name is repeated among them.
+    pub(crate) fn of_members(tree: &Tree<'_, '_>) -> Count
+        ensures { IfSome (map_of tree.now) (λ members. result ≡ length members) }
+    {
+        match tree.members() {
+            Some(members) => Count(members.count()),
             None => Count(0),
         }
     }

@@ -102,7 +102,7 @@ fn read_entry<'t, 'a, F: Form<'a>, H: I18n + FormI18n>(
 
 // Reads the values of the members, each under its name. After one of another form the others are
 // read for their faults.
-fn read_entries<'t, 'a, F: Form<'a>, H: I18n + FormI18n>(
+pub(crate) fn read_entries<'t, 'a, F: Form<'a>, H: I18n + FormI18n>(
     alloc: Global,
     form: &F,
     members: TreeMembers<'t, 'a>,

@@ -2,7 +2,9 @@
 
 use garde::fields::{Ascii, Is};
 use garde::{DefaultI18n, length};
-use garde_schema::{Entries, Flag, List, Map, Member, Object, Text, TextRef, U8, U16, Whole, read};
+use garde_schema::{
+    Entries, Flag, List, Map, MapUnder, Member, Object, Text, TextRef, U8, U16, Whole, read,
+};
 use garde_tape::{Scratch, Tree, parse};
 use std::alloc::Global;
 use std::fmt::Write;
@@ -57,6 +59,41 @@ fn tells_each_wrong_value_under_its_name(rt: HostRuntime) -> Result<(), Fail> {
     ];
     for (body, expected) in bodies {
         let told = labels(rt.alloc(), body)?;
+        assert_eq!(rt; told.as_str(), expected, "{body}");
+    }
+    Ok(())
+}
+
+// What is told of an object of one or two labels.
+fn few_labels(alloc: Global, body: &str) -> Result<String, Fail> {
+    let form = MapUnder(Is(length!(min = 1, max = 2)), Text(Is(Ascii)));
+    let mut scratch = Scratch::new(alloc);
+    let tape = parse(alloc, body, &mut scratch)?;
+    match read(alloc, &form, &Tree::root(&tape), &DefaultI18n) {
+        Ok(labels) => pairs_of(alloc, &labels),
+        Err(error) => Ok(format!(in alloc; "{error}")?),
+    }
+}
+
+#[test]
+fn asks_how_many_members_there_are_before_their_values(rt: HostRuntime) -> Result<(), Fail> {
+    let bodies = [
+        ("{\"b\":\"x\",\"a\":\"\"}", "2 \"b\"=x \"a\"="),
+        ("{}", "length is lower than 1\n"),
+        (
+            "{\"a\":1,\"b\":\"\u{e9}\",\"c\":\"x\"}",
+            "length is greater than 2\na: not a text\nb: not ascii\n",
+        ),
+        ("{\"a\":\"x\",\"a\":1}", "a: repeated\n"),
+        (
+            "{\"a\":\"x\",\"a\":1,\"a\":2}",
+            "length is greater than 2\na: repeated\na: repeated\n",
+        ),
+        ("[\"x\"]", "not an object\n"),
+        ("null", "not an object\n"),
+    ];
+    for (body, expected) in bodies {
+        let told = few_labels(rt.alloc(), body)?;
         assert_eq!(rt; told.as_str(), expected, "{body}");
     }
     Ok(())
