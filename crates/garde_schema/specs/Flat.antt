@@ -64,3 +64,28 @@ flat12 v = (v.0, v.1, v.2, v.3.0, v.3.1, v.3.2, v.3.3, v.3.4, v.3.5, v.3.6, v.3.
 
 abbrev pub all12 : {A B C D E F G I J K L M : Type 0} → Option A → Option B → Option C → Option D → Option E → Option F → Option G → Option I → Option J → Option K → Option L → Option M → Option (A × B × C × D × E × F × G × I × J × K × L × M)
 all12 a b c d e f g i j k l m = option_map flat12 (all4 a b c (all9 d e f g i j k l m))
+
+-- a tuple of more than twelve is a pair of the first and of the others in turn
+abbrev pub flat13 : {A B C D E F G I J K L M N : Type 0} → A × B × C × (D × E × F × G × I × J × K × L × M × N) → A × (B × (C × (D × (E × (F × (G × (I × (J × (K × (L × (M × (N × Unit {0}))))))))))))
+flat13 v = (v.0, (v.1, (v.2, (v.3.0, (v.3.1, (v.3.2, (v.3.3, (v.3.4, (v.3.5, (v.3.6, (v.3.7, (v.3.8, (v.3.9, tt)))))))))))))
+
+abbrev pub all13 : {A B C D E F G I J K L M N : Type 0} → Option A → Option B → Option C → Option D → Option E → Option F → Option G → Option I → Option J → Option K → Option L → Option M → Option N → Option (A × (B × (C × (D × (E × (F × (G × (I × (J × (K × (L × (M × (N × Unit {0})))))))))))))
+all13 a b c d e f g i j k l m n = option_map flat13 (all4 a b c (all10 d e f g i j k l m n))
+
+abbrev pub flat14 : {A B C D E F G I J K L M N O : Type 0} → A × B × C × (D × E × F × G × I × J × K × L × M × N × O) → A × (B × (C × (D × (E × (F × (G × (I × (J × (K × (L × (M × (N × (O × Unit {0})))))))))))))
+flat14 v = (v.0, (v.1, (v.2, (v.3.0, (v.3.1, (v.3.2, (v.3.3, (v.3.4, (v.3.5, (v.3.6, (v.3.7, (v.3.8, (v.3.9, (v.3.10, tt))))))))))))))
+
+abbrev pub all14 : {A B C D E F G I J K L M N O : Type 0} → Option A → Option B → Option C → Option D → Option E → Option F → Option G → Option I → Option J → Option K → Option L → Option M → Option N → Option O → Option (A × (B × (C × (D × (E × (F × (G × (I × (J × (K × (L × (M × (N × (O × Unit {0}))))))))))))))
+all14 a b c d e f g i j k l m n o = option_map flat14 (all4 a b c (all11 d e f g i j k l m n o))
+
+abbrev pub flat15 : {A B C D E F G I J K L M N O P : Type 0} → A × B × C × (D × E × F × G × I × J × K × L × M × N × O × P) → A × (B × (C × (D × (E × (F × (G × (I × (J × (K × (L × (M × (N × (O × (P × Unit {0}))))))))))))))
+flat15 v = (v.0, (v.1, (v.2, (v.3.0, (v.3.1, (v.3.2, (v.3.3, (v.3.4, (v.3.5, (v.3.6, (v.3.7, (v.3.8, (v.3.9, (v.3.10, (v.3.11, tt)))))))))))))))
+
+abbrev pub all15 : {A B C D E F G I J K L M N O P : Type 0} → Option A → Option B → Option C → Option D → Option E → Option F → Option G → Option I → Option J → Option K → Option L → Option M → Option N → Option O → Option P → Option (A × (B × (C × (D × (E × (F × (G × (I × (J × (K × (L × (M × (N × (O × (P × Unit {0})))))))))))))))
+all15 a b c d e f g i j k l m n o p = option_map flat15 (all4 a b c (all12 d e f g i j k l m n o p))
+
+abbrev pub flat16 : {A B C D E F G I J K L M N O P Q : Type 0} → A × B × C × D × (E × F × G × I × J × K × L × M × N × O × P × Q) → A × (B × (C × (D × (E × (F × (G × (I × (J × (K × (L × (M × (N × (O × (P × (Q × Unit {0})))))))))))))))
+flat16 v = (v.0, (v.1, (v.2, (v.3, (v.4.0, (v.4.1, (v.4.2, (v.4.3, (v.4.4, (v.4.5, (v.4.6, (v.4.7, (v.4.8, (v.4.9, (v.4.10, (v.4.11, tt))))))))))))))))
+
+abbrev pub all16 : {A B C D E F G I J K L M N O P Q : Type 0} → Option A → Option B → Option C → Option D → Option E → Option F → Option G → Option I → Option J → Option K → Option L → Option M → Option N → Option O → Option P → Option Q → Option (A × (B × (C × (D × (E × (F × (G × (I × (J × (K × (L × (M × (N × (O × (P × (Q × Unit {0}))))))))))))))))
+all16 a b c d e f g i j k l m n o p q = option_map flat16 (all5 a b c d (all12 e f g i j k l m n o p q))

@@ -1,4 +1,4 @@
-//! Tuples of members, of one to twelve.
+//! Tuples of members, of one to sixteen.
 ghost use Rattle.std.specs.Prelude.{◌≡◌, ◌||◌};
 ghost use Rattle.garde.specs.Visits.{◌and◌};
 ghost use Rattle.garde_schema.specs.Flat.{all1};
@@ -12,7 +12,10 @@ macro_rules! nested {
 }
 
 mod flat;
+mod flat_long;
 mod long;
+mod longer;
+mod longest;
 mod middle;
 mod short;
 

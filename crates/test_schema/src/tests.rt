@@ -6,6 +6,7 @@ mod enums;
 mod forms;
 mod json;
 mod lists;
+mod long_tuples;
 mod maps;
 mod members;
 mod nulls;
