@@ -15,14 +15,16 @@ use crate::variants::Variants;
 use garde::{I18n, Report, Trail};
 use garde_tape::Tree;
 use std::alloc::{AllocError, Global};
+use std::marker::PhantomData;
 
 /// An object with one member, whose name says which of the variants it is, for instance
-/// `OneMember((Member("card", card), Member("cash", cash)))`, which reads `{"card": ..}`.
+/// `OneMember((Member("card", card), Member("cash", cash)), PhantomData)`, which reads
+/// `{"card": ..}`. `PhantomData` names how long the tape is borrowed.
 ///
 /// A name of no variant is a fault under it, and its value is not looked at. An object with no member
 /// or with several is a fault, as is a value that is no object. The value is that of the variant.
 #[derive(Clone, Copy, Debug)]
-pub struct OneMember<V>(pub V);
+pub struct OneMember<'a, V>(pub V, pub PhantomData<&'a str>);
 
 // The name of the only member, or what is wrong with a tree that has none or several.
 fn name_in<'a>(tree: &Tree<'_, 'a>) -> Result<&'a str, FormFault>
@@ -39,7 +41,7 @@ fn name_in<'a>(tree: &Tree<'_, 'a>) -> Result<&'a str, FormFault>
     }
 }
 
-impl<'a, V: Variants<'a>> Form<'a> for OneMember<V> {
+impl<'a, V: Variants<'a>> Form<'a> for OneMember<'a, V> {
     type Out = V::Out;
 
     ghost visits = { λ form texts j. formed (texts (only_fault j))

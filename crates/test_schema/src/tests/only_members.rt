@@ -9,6 +9,7 @@ use garde_schema::{
 use garde_tape::{Scratch, Tree, parse};
 use std::alloc::Global;
 use std::fmt::Write;
+use std::marker::PhantomData;
 use std::test::Fail;
 
 // What is told of a payment: by card, with a number and a year, in cash, of which there is the sum
@@ -17,7 +18,10 @@ fn payment<H: I18n + FormI18n>(alloc: Global, body: &str, h: &H) -> Result<Strin
     let year = Whole(U8, Is(range!(min = 24, max = 30)));
     let card = Object(Closed((Member("number", Text(())), Optional("year", year))));
     let cash = Member("cash", Whole(U64, ()));
-    let form = OneMember((Member("card", card), (cash, Member("", Flag))));
+    let form = OneMember(
+        (Member("card", card), (cash, Member("", Flag))),
+        PhantomData,
+    );
     let mut scratch = Scratch::new(alloc);
     let tape = parse(alloc, body, &mut scratch)?;
     match read(alloc, &form, &Tree::root(&tape), h) {
@@ -124,16 +128,17 @@ fn tells_of_what_is_no_object_with_one_known_member(rt: HostRuntime) -> Result<(
     Ok(())
 }
 
+// This form, in an object with one member of this name.
+macro_rules! one_deep {
+    ($name:expr, $form:expr) => {
+        OneMember(Member($name, $form), PhantomData)
+    };
+}
+
 // This form, four objects with one member deep.
 macro_rules! four_deep {
     ($form:expr) => {
-        OneMember(Member(
-            "a",
-            OneMember(Member(
-                "b",
-                OneMember(Member("c", OneMember(Member("d", $form)))),
-            )),
-        ))
+        one_deep!("a", one_deep!("b", one_deep!("c", one_deep!("d", $form))))
     };
 }
 
