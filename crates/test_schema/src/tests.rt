@@ -16,7 +16,34 @@ mod reports;
 mod signup;
 mod sizes;
 mod texts;
+mod told;
 mod tuples;
 mod unions;
 mod unneeded;
 mod wide_numbers;
+
+use std::process::Abort;
+
+/// The value, where a test asks nothing of its being missing.
+trait OrEnd<T> {
+    /// The value, or the end of the test.
+    fn or_end(self, rt: &impl Abort) -> T;
+}
+
+impl<T: Drop, E: Drop> OrEnd<T> for Result<T, E> {
+    fn or_end(self, rt: &impl Abort) -> T {
+        match self {
+            Ok(value) => value,
+            Err(_) => rt.abort(),
+        }
+    }
+}
+
+impl<T: Drop> OrEnd<T> for Option<T> {
+    fn or_end(self, rt: &impl Abort) -> T {
+        match self {
+            Some(value) => value,
+            None => rt.abort(),
+        }
+    }
+}

@@ -2,21 +2,41 @@
 ghost use Rattle.std.specs.Prelude.{nat_le, refl};
 ghost use Rattle.garde.specs.Fields.{message_unless};
 
+use super::told::{Case as Form, compare, told};
 use garde::fields::{Ascii, Is, Prefix, Rule};
-use garde::{DefaultI18n, I18n, RuleError, range};
+use garde::{I18n, RuleError, range};
 use garde_schema::{
-    Build, Built, Checked, Closed, Items, List, Member, Object, Text, TextRef, U32, Under, Whole,
-    read,
+    Build, Built, Checked, Closed, FormI18n, List, Member, Object, Text, TextRef, U32, Under, Whole,
 };
-use garde_tape::{Scratch, Tree, parse};
-use std::alloc::Global;
+use garde_tape::Tree;
+use std::alloc::{AllocError, Global};
 use std::borrow::CowStr;
-use std::fmt::Write;
 use std::marker::PhantomData;
-use std::test::Fail;
+
+/// The forms of this module.
+#[derive(Clone, Copy)]
+pub enum Case {
+    Lines,
+    Span,
+    Ends,
+}
+
+/// What is told of a tree of this form.
+pub fn told_by<H: I18n + FormI18n>(
+    alloc: Global,
+    tree: &Tree<'_, '_>,
+    case: Case,
+    h: &H,
+) -> Result<String, AllocError> {
+    match case {
+        Case::Lines => lines(alloc, tree, h),
+        Case::Span => span(alloc, tree, h),
+        Case::Ends => ends(alloc, tree, h),
+    }
+}
 
 // So many pieces of an article, each at so many cents.
-#[derive(Drop)]
+#[derive(Debug, Drop)]
 struct Line<'a> {
     code: TextRef<'a>,
     count: u32,
@@ -44,56 +64,37 @@ impl<'a> Build for MakeLine<'a> {
     }
 }
 
-// The lines, each with its code, its count and its cents.
-fn text_of(alloc: Global, lines: &Items<Line<'_>>) -> Result<String, Fail> {
-    let mut out = format!(in alloc; "{}", lines.len())?;
-    for line in lines.as_slice() {
-        write!(out, " {} {} {}", line.code.text(), line.count, line.cents)?;
-    }
-    Ok(out)
-}
-
-// What is told of a tree of lines.
-fn told_of_lines<'a>(alloc: Global, tree: &Tree<'_, 'a>) -> Result<String, Fail> {
-    let form = List(Built(
-        Object(Closed((
-            Member("code", Text(Is(Prefix("P")))),
-            Member("count", Whole(U32, Is(range!(min = 1, max = 99)))),
-            Member("cents", Whole(U32, Is(range!(max = 9999)))),
-        ))),
-        MakeLine(PhantomData),
-    ));
-    match read(alloc, &form, tree, &DefaultI18n) {
-        Ok(lines) => text_of(alloc, &lines),
-        Err(error) => Ok(format!(in alloc; "{error}")?),
-    }
-}
-
-// What is told of a list of lines.
-fn told(alloc: Global, body: &str) -> Result<String, Fail> {
-    let mut scratch = Scratch::new(alloc);
-    let tape = parse(alloc, body, &mut scratch)?;
-    told_of_lines(alloc, &Tree::root(&tape))
+fn lines<H: I18n + FormI18n>(
+    alloc: Global,
+    tree: &Tree<'_, '_>,
+    h: &H,
+) -> Result<String, AllocError> {
+    let line = Object(Closed((
+        Member("code", Text(Is(Prefix("P")))),
+        Member("count", Whole(U32, Is(range!(min = 1, max = 99)))),
+        Member("cents", Whole(U32, Is(range!(max = 9999)))),
+    )));
+    told(alloc, tree, &List(Built(line, MakeLine(PhantomData))), h)
 }
 
 #[test]
-fn makes_values_of_a_user_defined_type(rt: HostRuntime) -> Result<(), Fail> {
-    let bodies = [
-        ("[]", "0"),
-        (
-            "[{\"code\":\"P1\",\"count\":2,\"cents\":250},{\"cents\":0,\"count\":99,\"code\":\"P\"}]",
-            "2 P1 2 250 P 99 0",
-        ),
-        (
-            "[{\"code\":\"Q\",\"count\":0,\"cents\":10000},7,{\"code\":\"P\",\"count\":1}]",
-            "[0].code: value does not begin with \"P\"\n[0].count: lower than 1\n[0].cents: greater than 9999\n[1]: not an object\n[2].cents: missing\n",
-        ),
-    ];
-    for (body, expected) in bodies {
-        let told = told(rt.alloc(), body)?;
-        assert_eq!(rt; told.as_str(), expected, "{body}");
-    }
-    Ok(())
+fn makes_values_of_a_user_defined_type(rt: HostRuntime) {
+    compare(
+        &rt,
+        rt.alloc(),
+        Form::Checked(Case::Lines),
+        &[
+            ("[]", "Items([])"),
+            (
+                "[{\"code\":\"P1\",\"count\":2,\"cents\":250},{\"cents\":0,\"count\":99,\"code\":\"P\"}]",
+                "Items([Line { code: TextRef(\"P1\"), count: 2, cents: 250 }, Line { code: TextRef(\"P\"), count: 99, cents: 0 }])",
+            ),
+            (
+                "[{\"code\":\"Q\",\"count\":0,\"cents\":10000},7,{\"code\":\"P\",\"count\":1}]",
+                "[0].code: value does not begin with \"P\"\n[0].count: lower than 1\n[0].cents: greater than 9999\n[1]: not an object\n[2].cents: missing\n",
+            ),
+        ],
+    );
 }
 
 // The rule that the first number is at most the second.
@@ -112,71 +113,74 @@ impl Rule<(u32, u32)> for InOrder {
     }
 }
 
-// What is told of a span and its name. The rule over both ends stands under the last of them.
-fn told_of_span(alloc: Global, body: &str) -> Result<String, Fail> {
+// A span and its name. The rule over both ends stands under the last of them.
+fn span<H: I18n + FormI18n>(
+    alloc: Global,
+    tree: &Tree<'_, '_>,
+    h: &H,
+) -> Result<String, AllocError> {
     let ends = (
         Member("from", Whole(U32, Is(range!(max = 100)))),
         Member("to", Whole(U32, ())),
     );
     let span = Checked(ends, Under("to", Is(InOrder)));
     let form = Object(Closed((span, Member("name", Text(Is(Ascii))))));
-    let mut scratch = Scratch::new(alloc);
-    let tape = parse(alloc, body, &mut scratch)?;
-    match read(alloc, &form, &Tree::root(&tape), &DefaultI18n) {
-        Ok(((from, to), name)) => Ok(format!(in alloc; "{from} {to} {}", name.text())?),
-        Err(error) => Ok(format!(in alloc; "{error}")?),
-    }
+    told(alloc, tree, &form, h)
 }
 
 #[test]
-fn asks_a_rule_over_two_members(rt: HostRuntime) -> Result<(), Fail> {
-    let bodies = [
-        ("{\"from\":1,\"to\":2,\"name\":\"a\"}", "1 2 a"),
-        ("{\"from\":2,\"to\":2,\"name\":\"a\"}", "2 2 a"),
-        ("{\"from\":3,\"to\":2,\"name\":\"a\"}", "to: not in order\n"),
-        (
-            "{\"from\":300,\"to\":2,\"name\":\"\u{e9}\"}",
-            "from: greater than 100\nto: not in order\nname: not ascii\n",
-        ),
-        (
-            "{\"from\":3,\"to\":\"2\",\"name\":1}",
-            "to: not a whole number\nname: not a text\n",
-        ),
-        (
-            "{\"from\":3,\"name\":\"a\",\"z\":1}",
-            "to: missing\nz: not known here\n",
-        ),
-    ];
-    for (body, expected) in bodies {
-        let told = told_of_span(rt.alloc(), body)?;
-        assert_eq!(rt; told.as_str(), expected, "{body}");
-    }
-    Ok(())
+fn asks_a_rule_over_two_members(rt: HostRuntime) {
+    compare(
+        &rt,
+        rt.alloc(),
+        Form::Checked(Case::Span),
+        &[
+            (
+                "{\"from\":1,\"to\":2,\"name\":\"a\"}",
+                "((1, 2), TextRef(\"a\"))",
+            ),
+            (
+                "{\"from\":2,\"to\":2,\"name\":\"a\"}",
+                "((2, 2), TextRef(\"a\"))",
+            ),
+            ("{\"from\":3,\"to\":2,\"name\":\"a\"}", "to: not in order\n"),
+            (
+                "{\"from\":300,\"to\":2,\"name\":\"\u{e9}\"}",
+                "from: greater than 100\nto: not in order\nname: not ascii\n",
+            ),
+            (
+                "{\"from\":3,\"to\":\"2\",\"name\":1}",
+                "to: not a whole number\nname: not a text\n",
+            ),
+            (
+                "{\"from\":3,\"name\":\"a\",\"z\":1}",
+                "to: missing\nz: not known here\n",
+            ),
+        ],
+    );
 }
 
-// What is told of both ends, by a rule on the object itself.
-fn told_of_ends(alloc: Global, body: &str) -> Result<String, Fail> {
+// Both ends, by a rule on the object itself.
+fn ends<H: I18n + FormI18n>(
+    alloc: Global,
+    tree: &Tree<'_, '_>,
+    h: &H,
+) -> Result<String, AllocError> {
     let ends = Object((Member("from", Whole(U32, ())), Member("to", Whole(U32, ()))));
-    let form = Checked(ends, Is(InOrder));
-    let mut scratch = Scratch::new(alloc);
-    let tape = parse(alloc, body, &mut scratch)?;
-    match read(alloc, &form, &Tree::root(&tape), &DefaultI18n) {
-        Ok((from, to)) => Ok(format!(in alloc; "{from} {to}")?),
-        Err(error) => Ok(format!(in alloc; "{error}")?),
-    }
+    told(alloc, tree, &Checked(ends, Is(InOrder)), h)
 }
 
 #[test]
-fn asks_a_rule_of_the_whole_object(rt: HostRuntime) -> Result<(), Fail> {
-    let bodies = [
-        ("{\"from\":1,\"to\":2}", "1 2"),
-        ("{\"from\":2,\"to\":1}", "not in order\n"),
-        ("{\"from\":2}", "to: missing\n"),
-        ("[2,1]", "not an object\n"),
-    ];
-    for (body, expected) in bodies {
-        let told = told_of_ends(rt.alloc(), body)?;
-        assert_eq!(rt; told.as_str(), expected, "{body}");
-    }
-    Ok(())
+fn asks_a_rule_of_the_whole_object(rt: HostRuntime) {
+    compare(
+        &rt,
+        rt.alloc(),
+        Form::Checked(Case::Ends),
+        &[
+            ("{\"from\":1,\"to\":2}", "(1, 2)"),
+            ("{\"from\":2,\"to\":1}", "not in order\n"),
+            ("{\"from\":2}", "to: missing\n"),
+            ("[2,1]", "not an object\n"),
+        ],
+    );
 }

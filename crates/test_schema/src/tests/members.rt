@@ -1,58 +1,62 @@
 //! Members by their names.
 
+use super::OrEnd;
 use garde_tape::{Found, Scratch, Tree, parse};
 use std::alloc::Global;
-use std::test::Fail;
 
-fn find(alloc: Global, text: &str, name: &str) -> Result<&'static str, Fail> {
-    let mut scratch = Scratch::new(alloc);
-    let tape = parse(alloc, text, &mut scratch)?;
-    match Tree::root(&tape).find(name) {
-        Found::Missing => Ok("missing"),
-        Found::Once(value) => Ok(if value.as_str() == Some("it") {
-            "it"
-        } else {
-            "another"
-        }),
-        Found::Repeated => Ok("repeated"),
+fn seen(value: &Tree<'_, '_>) -> &'static str {
+    if value.as_str() == Some("it") {
+        "it"
+    } else {
+        "another"
     }
 }
 
-fn get(alloc: Global, text: &str, name: &str) -> Result<&'static str, Fail> {
-    let mut scratch = Scratch::new(alloc);
-    let tape = parse(alloc, text, &mut scratch)?;
-    match Tree::root(&tape).get(name) {
-        None => Ok("missing"),
-        Some(value) => Ok(if value.as_str() == Some("it") {
-            "it"
-        } else {
-            "another"
-        }),
+fn found(tree: &Tree<'_, '_>, name: &str) -> &'static str {
+    match tree.find(name) {
+        Found::Missing => "missing",
+        Found::Once(value) => seen(&value),
+        Found::Repeated => "repeated",
     }
 }
+
+fn got(tree: &Tree<'_, '_>, name: &str) -> &'static str {
+    match tree.get(name) {
+        None => "missing",
+        Some(value) => seen(&value),
+    }
+}
+
+// What is found under a name, and the last value there.
+fn looked_up(alloc: Global, text: &str, name: &str) -> Option<(&'static str, &'static str)> {
+    let mut scratch = Scratch::new(alloc);
+    let tape = parse(alloc, text, &mut scratch).ok()?;
+    let tree = Tree::root(&tape);
+    Some((found(&tree, name), got(&tree, name)))
+}
+
+const NAMES: &[(&str, &str, &str, &str)] = &[
+    ("{}", "a", "missing", "missing"),
+    ("{\"a\":\"it\"}", "a", "it", "it"),
+    ("{\"b\":1,\"a\":\"it\",\"c\":{\"a\":2}}", "a", "it", "it"),
+    ("{\"b\":1,\"ab\":2,\"\":3}", "a", "missing", "missing"),
+    ("{\"a\":1,\"b\":2,\"a\":\"it\"}", "a", "repeated", "it"),
+    (
+        "{\"a\":1,\"\\u0061\":\"it\",\"a\":2}",
+        "a",
+        "repeated",
+        "another",
+    ),
+    ("{\"\":\"it\",\"a\":1}", "", "it", "it"),
+    ("[{\"a\":1}]", "a", "missing", "missing"),
+    ("\"a\"", "a", "missing", "missing"),
+    ("null", "", "missing", "missing"),
+];
 
 #[test]
-fn finds_a_member_by_its_name(rt: HostRuntime) -> Result<(), Fail> {
-    let cases = [
-        ("{}", "a", "missing", "missing"),
-        ("{\"a\":\"it\"}", "a", "it", "it"),
-        ("{\"b\":1,\"a\":\"it\",\"c\":{\"a\":2}}", "a", "it", "it"),
-        ("{\"b\":1,\"ab\":2,\"\":3}", "a", "missing", "missing"),
-        ("{\"a\":1,\"b\":2,\"a\":\"it\"}", "a", "repeated", "it"),
-        (
-            "{\"a\":1,\"\\u0061\":\"it\",\"a\":2}",
-            "a",
-            "repeated",
-            "another",
-        ),
-        ("{\"\":\"it\",\"a\":1}", "", "it", "it"),
-        ("[{\"a\":1}]", "a", "missing", "missing"),
-        ("\"a\"", "a", "missing", "missing"),
-        ("null", "", "missing", "missing"),
-    ];
-    for (text, name, found, got) in cases {
-        assert_eq!(rt; find(rt.alloc(), text, name)?, found, "{text}");
-        assert_eq!(rt; get(rt.alloc(), text, name)?, got, "{text}");
+fn finds_a_member_by_its_name(rt: HostRuntime) {
+    for (text, name, found, got) in NAMES {
+        let seen = looked_up(rt.alloc(), text, name).or_end(&rt);
+        assert_eq!(rt; seen, (*found, *got), "{text}");
     }
-    Ok(())
 }

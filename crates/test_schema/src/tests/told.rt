@@ -1,0 +1,113 @@
+//! What is told of a body by a form: its value, as it prints for debugging, or its whole report.
+
+use super::{
+    OrEnd, checked, enums, forms, json, lists, maps, nulls, only_members, reports, signup, tuples,
+    unions, wide_numbers,
+};
+use garde::{CodeI18n, DefaultI18n, I18n};
+use garde_schema::{Form, FormI18n, read};
+use garde_tape::{Scratch, Tree, parse_bytes};
+use std::alloc::{AllocError, Global};
+use std::fmt::Debug;
+use std::process::Abort;
+
+/// The forms of these tests, by the module that has them.
+#[derive(Clone, Copy)]
+pub enum Case {
+    Checked(checked::Case),
+    Enums,
+    Forms,
+    Json,
+    Lists(lists::Case),
+    Maps(maps::Case),
+    Nulls(nulls::Case),
+    OnlyMembers(only_members::Case),
+    Reports,
+    Signup,
+    /// So many members.
+    Tuples(usize),
+    Unions,
+    /// Of 128 bits, without a sign or with one.
+    Wide(bool),
+}
+
+/// What is told of a tree of this form.
+pub fn told<'a, F: Form<'a>, H: I18n + FormI18n>(
+    alloc: Global,
+    tree: &Tree<'_, 'a>,
+    form: &F,
+    h: &H,
+) -> Result<String, AllocError>
+where
+    F::Out: Debug,
+{
+    match read(alloc, form, tree, h) {
+        Ok(out) => format!(in alloc; "{out:?}"),
+        Err(error) => format!(in alloc; "{error}"),
+    }
+}
+
+fn told_by<H: I18n + FormI18n>(
+    alloc: Global,
+    tree: &Tree<'_, '_>,
+    case: Case,
+    h: &H,
+) -> Result<String, AllocError> {
+    match case {
+        Case::Checked(case) => checked::told_by(alloc, tree, case, h),
+        Case::Enums => enums::order(alloc, tree, h),
+        Case::Forms => forms::person(alloc, tree, h),
+        Case::Json => json::person(alloc, tree, h),
+        Case::Lists(case) => lists::told_by(alloc, tree, case, h),
+        Case::Maps(case) => maps::told_by(alloc, tree, case, h),
+        Case::Nulls(case) => nulls::told_by(alloc, tree, case, h),
+        Case::OnlyMembers(case) => only_members::told_by(alloc, tree, case, h),
+        Case::Reports => reports::signup(alloc, tree, h),
+        Case::Signup => signup::signup(alloc, tree, h),
+        Case::Tuples(size) => tuples::told_by(alloc, tree, size, h),
+        Case::Unions => unions::payment(alloc, tree, h),
+        Case::Wide(signed) => wide_numbers::number(alloc, tree, signed, h),
+    }
+}
+
+/// What is told of bytes, or where they stop to be JSON.
+pub fn told_of<H: I18n + FormI18n>(
+    alloc: Global,
+    case: Case,
+    bytes: &[u8],
+    h: &H,
+) -> Result<String, AllocError> {
+    let mut scratch = Scratch::new(alloc);
+    match parse_bytes(alloc, bytes, &mut scratch) {
+        Ok(tape) => told_by(alloc, &Tree::root(&tape), case, h),
+        Err(error) => format!(in alloc; "{error}"),
+    }
+}
+
+/// Asks that this is told of bytes.
+pub fn check<H: I18n + FormI18n>(
+    rt: &impl Abort,
+    alloc: Global,
+    case: Case,
+    bytes: &[u8],
+    h: &H,
+    expected: &str,
+) {
+    let told = told_of(alloc, case, bytes, h).or_end(rt);
+    assert_eq!(rt; told.as_str(), expected);
+}
+
+/// Asks that this is told of each body, in English.
+pub fn compare(rt: &impl Abort, alloc: Global, case: Case, rows: &[(&str, &str)]) {
+    for (body, expected) in rows {
+        check(rt, alloc, case, body.as_bytes(), &DefaultI18n, expected);
+    }
+}
+
+/// Asks that this is told of each body, in English and as codes.
+pub fn compare_codes(rt: &impl Abort, alloc: Global, case: Case, rows: &[(&str, &str, &str)]) {
+    for (body, english, codes) in rows {
+        check(rt, alloc, case, body.as_bytes(), &DefaultI18n, english);
+        check(rt, alloc, case, body.as_bytes(), &CodeI18n, codes);
+    }
+}
