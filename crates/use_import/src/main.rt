@@ -1,9 +1,13 @@
-//! Reads a stock list in CSV on standard input, a row at a time, and prints the faults of each row:
-//! all of them, or as many at most as its first word says.
+//! Reads a stock list in CSV on standard input, or a part of one, a row at a time, and prints the
+//! faults of each row: all of them, or as many at most as a word says.
 #![tactic(auto)]
 
+mod input;
+mod options;
 mod row;
 
+use crate::input::Input;
+use crate::options::Options;
 use crate::row::{COLUMNS, Row};
 use anyhow::{Result, anyhow};
 use csv::{ErrorKind, Reader, StringRecord, StringRecordsIntoIter};
@@ -12,17 +16,6 @@ use std::alloc::Global;
 use std::io::{BufWriter, Read, Write};
 use std::process::ExitCode;
 use std::{env, io};
-
-/// How many faults are to be printed at most.
-fn most(word: Option<String>) -> Result<usize> {
-    let Some(word) = word else {
-        return Ok(usize::MAX);
-    };
-    match word.as_str().parse() {
-        Ok(number) if number > 0 => Ok(number),
-        _ => Err(anyhow!("the word must be a number from 1")),
-    }
-}
 
 /// Whether a header row has the columns of a list.
 fn has_columns(header: &StringRecord) -> bool {
@@ -73,11 +66,14 @@ fn check<W: Write>(
 fn import<R: Read + Drop, W: Write>(
     alloc: Global,
     rows: StringRecordsIntoIter<R>,
-    most: usize,
+    options: &Options,
     out: &mut W,
 ) -> Result<bool> {
-    let mut left = most;
-    for (index, record) in rows.enumerate() {
+    let mut left = options.most;
+    for (place, record) in rows.enumerate() {
+        let Some(index) = options.first_row.checked_add(place) else {
+            return Err(anyhow!("a row has no number"));
+        };
         let told = match record {
             Ok(record) => check(alloc, index, &Row::of(alloc, &record)?, left, out)?,
             Err(error) => {
@@ -93,7 +89,7 @@ fn import<R: Read + Drop, W: Write>(
             break;
         }
     }
-    Ok(left == most)
+    Ok(left == options.most)
 }
 
 /// The rows of a list, whose header row has been read.
@@ -109,9 +105,11 @@ fn rows<R: Read + Drop>(alloc: Global, list: R) -> Result<StringRecordsIntoIter<
 
 /// Whether each row of the list on standard input is valid.
 fn run(rt: &HostRuntime) -> Result<bool> {
-    let most = most(env::args(rt)?.nth(1))?;
+    let words: Vec<String> = env::args(rt)?.skip(1).collect(rt.alloc())?;
+    let options = Options::of(&words)?;
+    let list = Input::new(options.has_header, rt.stdin());
     let mut out = BufWriter::new(rt.alloc(), io::writer(rt))?;
-    let valid = import(rt.alloc(), rows(rt.alloc(), rt.stdin())?, most, &mut out)?;
+    let valid = import(rt.alloc(), rows(rt.alloc(), list)?, &options, &mut out)?;
     out.flush()?;
     Ok(valid)
 }
