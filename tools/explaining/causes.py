@@ -19,8 +19,7 @@ def of_pair(place, coded, pair):
     if re.search(r"\bof_option\b", stated) and re.search(r"\bIfSome\b", code):
         yield "`of_option` in `visits` is a rule of the whole option; `IfSome(..)` is `optional`"
     yield from of_conditions(place, lets, code)
-    if place.is_bounded and re.match(r"\.\s*visit\s*\(", body.call):
-        yield "a type with parameters or lifetimes calls `visit_of(self, ..)` in place of `visit(..)`"
+    yield from of_call(place, body)
 
 
 def code_of(coded, pair):
@@ -28,6 +27,12 @@ def code_of(coded, pair):
     lets = {**dict(coded.body.lets()), **coded.bodies[pair.at].lets()}
     code = " ".join(it.piece.blank for it in pair.coded)
     return lets, code + " " + " ".join(lets[name].blank for name in lets if re.search(rf"\b{name}\b", code))
+
+
+def of_call(place, body):
+    """A call that does not say how long the fields of a type with parameters live."""
+    if place.is_bounded and re.match(r"\.\s*visit\s*\(", body.call):
+        yield "a type with parameters or lifetimes calls `visit_of(self, ..)` in place of `visit(..)`"
 
 
 def of_constructors(coded, pair):
@@ -47,10 +52,11 @@ def of_conditions(place, lets, code):
                 yield f"the condition calls `{name}`, which has no `ensures`: write what it returns"
 
 
-def of_whole(stated, coded, pairs):
+def of_whole(place, stated, coded, pairs):
     """The causes that a type has the look of whose parts all agree."""
     for pair in pairs:
         yield from of_constructors(coded, pair)
+    yield from dict.fromkeys(it for body in coded.bodies for it in of_call(place, body))
     for case, other in zip_cases(stated, coded):
         if case.shape != other.shape:
             where = f" of the variant `{case.variant}`" if case.variant else ""

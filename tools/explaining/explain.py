@@ -173,7 +173,7 @@ def whole(it, check):
     if verdicts(check([path], {place.file: place.plain.text})).get(known) == PROVED:
         return Answer(0, [f"{place.name()}: the prover accepts it"])
     agrees = f"{place.file}:{place.visits_line}: each part of `{place.type_name}` agrees, and the prover does not accept the whole"
-    found = [f"  it may be this: {text} ({causes.PAGE})" for text in causes.of_whole(it.stated, it.coded, it.pairs)]
+    found = [f"  it may be this: {text} ({causes.PAGE})" for text in causes.of_whole(place, it.stated, it.coded, it.pairs)]
     answers = it.answers()
     if not found and answers and verdicts(check([path], dict([answers]))).get(known) == PROVED:
         return Answer(1, [f"{agrees} by its own search. It accepts this file, {answers[0]}:", *answers[1].splitlines()])

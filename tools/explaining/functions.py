@@ -3,6 +3,8 @@ So the prover says of each pair by itself whether both sides agree."""
 from .place import TRAIT
 
 WORDS = "garde_words"
+# what checks nothing, as the code of a variant has it, so that the prover needs no steps of its own for it
+NOTHING = "garde::fields::Fields::visit(&(), alloc, trail, report, h),"
 USE = f"ghost use Rattle.garde.specs.Author as {WORDS};"
 DECLARED = f"""
 trait TRAIT {{
@@ -86,7 +88,7 @@ class Functions:
         statements, last = self.checks(pair, self.coded.bodies[pair.at])
         wanted = outer.wanted(*statements, last, self.coded.matched)
         arms = [
-            f"{case.pattern} => {braced(statements, last) if at == pair.at else 'Ok(()),'}" for at, case in enumerate(self.coded.cases)
+            f"{case.pattern} => {braced(statements, last) if at == pair.at else NOTHING}" for at, case in enumerate(self.coded.cases)
         ]
         return braced([it.text for it in wanted], f"{self.coded.matched} {' '.join(arms)} }}")
 
