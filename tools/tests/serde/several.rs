@@ -1,5 +1,5 @@
-//! Bounds in a part of the context, parts that some modules see, a pattern with escapes, and a tuple
-//! of eight fields.
+//! Bounds in a part of the context, parts that some modules see, two patterns of a field, one of them
+//! with escapes, a tuple of eight fields, and fields of a variant named as words of the statements.
 use garde::Validate;
 use serde::Deserialize;
 
@@ -26,7 +26,7 @@ pub struct Note {
 /// A word.
 #[derive(Deserialize, Validate)]
 pub struct Word {
-    #[garde(pattern("^[a-z\\.\'\"]+$"))]
+    #[garde(pattern("^[a-z\\.\'\"]+$"), pattern("[.]$"))]
     pub text: String,
 }
 
@@ -42,3 +42,17 @@ pub struct Row(
     #[garde(range(max = 7))] pub u8,
     #[garde(range(max = 8))] pub u8,
 );
+
+/// What happened.
+#[derive(Default, Deserialize, Validate)]
+pub enum Change {
+    #[default]
+    Nothing,
+    Put {
+        #[garde(ascii)]
+        item: String,
+        #[garde(range(max = 9))]
+        field: u8,
+    },
+    Take(#[garde(range(max = 8))] u8),
+}
