@@ -100,7 +100,7 @@ class Checks:
             self.uses.bytes = True
             self.uses.words |= {"entries_in_any_order"} | ({"string_bytes"} if key == "String" else set())
             return seen.part(kind.args[1]), f"entries_in_any_order ({HASH_KEYS[key]})", f"{seen.name}.entries"
-        raise Refusal(rule.line, f"`{rule.name}` of the type `{self.writer.type_text(kind)}`, whose items the port does not know")
+        raise Refusal(rule.line, f"`{rule.name}` of the type `{self.writer.type_text(kind, True)}`, whose items the port does not know")
 
     def dive(self, rule, seen, adapter):
         """A value that validates itself, or a collection of such."""
@@ -116,7 +116,7 @@ class Checks:
         while (is_path(kind, "Box", "Rc") and len(kind.args) == 1) or kind.kind == "ref":
             name, kind = name + (".now" if kind.kind == "ref" else ".value"), kind.args[0]
         if kind.kind != "path" or kind.name in (*SIMPLE, *HELD, "BTreeMap", "HashMap"):
-            raise Refusal(rule.line, f"`dive` into the type `{self.writer.type_text(kind)}`")
+            raise Refusal(rule.line, f"`dive` into the type `{self.writer.type_text(kind, True)}`")
         self.writer.dives_into(kind.name, rule)
         owner = kind.name if kind.name in self.scope.params else f"⟦<{self.writer.type_text(kind)} as Validate>⟧"
         return call(self.field("Dive"), lent), f"{owner}.visits {name} {context}"
@@ -170,7 +170,7 @@ class Checks:
         if rule.name == "matches":
             return (*self.matches(rule, seen), False)
         if not is_text(seen.type):
-            raise Refusal(rule.line, f"`{rule.name}` of the type `{self.writer.type_text(seen.type)}`, which is no text")
+            raise Refusal(rule.line, f"`{rule.name}` of the type `{self.writer.type_text(seen.type, True)}`, which is no text")
         if rule.name == "pattern":
             return (*self.pattern(rule, seen), True)
         if rule.name in IPS:
@@ -250,7 +250,7 @@ class Checks:
             listed = ".now"
         if rule.mode != "simple" or listed is None:
             mode = "" if rule.mode == "simple" else f" in `{rule.mode}`"
-            told = f"the length{mode} of the type `{self.writer.type_text(kind)}`"
+            told = f"the length{mode} of the type `{self.writer.type_text(kind, True)}`"
             raise Refusal(rule.line, f"{told}, which the port does not know")
         self.uses.prelude.add("length")
         return f"(length {seen.name}{listed})"
@@ -260,7 +260,7 @@ class Checks:
         kind = seen.type.name
         if not is_path(seen.type, *UNSIGNED, *SIGNED):
             floats = " of floating-point numbers" if kind in ("f32", "f64") else ""
-            told = f"`range` of the type `{self.writer.type_text(seen.type)}`"
+            told = f"`range` of the type `{self.writer.type_text(seen.type, True)}`"
             raise Refusal(rule.line, f"{told}: there are no bounds{floats} here")
         signed = kind in SIGNED
         self.refuse_bounds(rule, kind, signed)
