@@ -1,0 +1,5 @@
+pub mod Row
+pub mod Line
+pub mod Import
+pub mod Run
+pub mod Memory

@@ -1,0 +1,90 @@
+-- How far an import came.
+use Rattle.std.specs.Prelude.{◌≡◌, ◌==◌, ℕ, ◌+◌, ◌%◌, ◌&&◌, Bool, true, false, not, List, [], ◌∷◌, length, map, Option, Some, None, if◌then◌else◌}
+use Rattle.std.specs.List.{list_any}
+use Rattle.garde.specs.Words.{Entry}
+use Rattle.example_import.specs.Line.{Line}
+use Rattle.example_import.specs.Import.{Turn, Imports, Takes}
+use Rattle.example_import.specs.declared.item.Item.{Item}
+use Rattle.example_import.specs.declared.run.Progress.{Progress}
+use Rattle.example_import.specs.declared.run.Run.{Run}
+use Rattle.example_import.specs.declared.run.Batch.{Batch}
+use Rattle.example_import.specs.declared.run.Batch.TheVariants.{Items, All}
+
+-- what was stored is kept after so many items
+abbrev pub is_full : Batch → ℕ → Bool
+is_full (Items most) items = not (most == 0) && (items % most == 0)
+is_full All items = false
+
+abbrev pub is_all : Batch → Bool
+is_all (Items most) = false
+is_all All = true
+
+abbrev pub new_run : Run
+new_run = record { stored = 0; faulty = false; kept = record { items = 0; stored = 0 } }
+
+-- an item with a fault, or one whose row was stored
+abbrev pub counted : Bool → Run → Run
+counted true run = record { stored = run.stored; faulty = true; kept = run.kept }
+counted false run = record { stored = run.stored + 1; faulty = run.faulty; kept = run.kept }
+
+-- after so many items all that was stored is kept
+abbrev pub committed : ℕ → Run → Run
+committed items run = record { stored = run.stored; faulty = run.faulty; kept = record { items = items; stored = run.stored } }
+
+abbrev pub has_fault : Turn → Bool
+has_fault turn = not (length turn.1 == 0)
+
+-- each step leads from one state to the next
+abbrev pub Chain : {S A : Type 0} → (S → A → S → Type 0) → S → List A → S → Type 0
+Chain R s [] t = t ≡ s
+Chain {S = S} R s (a ∷ more) t = (mid : S) × R s a mid × Chain R mid more t
+
+module _ {L O : Type 0} (gives : L → Option Item → L → Type 0) (tells : O → List Entry → O → Type 0) where
+  -- one item is read and taken under this index, and its report is told
+  pub record Goes (index : ℕ) (list end : L) (out last : O) (old new : List Line) (faulty : Bool) : Type 0 where
+    pub item : Item
+    pub report : List Entry
+    pub given : gives list (Some item) end
+    pub told : tells out report last
+    pub takes : Takes index old item report new
+    pub is_faulty : faulty ≡ has_fault (item, report)
+
+  -- the items are read one after the other from the first on, and their reports are told one after the other
+  pub record Reads (list end : L) (out last : O) (turns : List Turn) : Type 0 where
+    pub given : Chain (λ s item. gives s (Some item)) list (map (λ (turn : Turn). turn.0) turns) end
+    pub told : Chain tells out (map (λ (turn : Turn). turn.1) turns) last
+
+  -- what is kept is what the first items of the list made of the table: so many items, and so many rows more. Where all or nothing
+  -- is to be kept, they are none.
+  pub record KeepsFront (batch : Batch) (before : List Line) (list : L) (out : O) (kept : List Line) (progress : Progress) : Type 0 where
+    pub turns : List Turn
+    pub end : L
+    pub last : O
+    pub read : Reads list end out last turns
+    pub made : Imports 0 before turns kept
+    pub items : progress.items ≡ length turns
+    pub stored : length kept ≡ length before + progress.stored
+    pub whole : is_all batch ≡ true → turns ≡ []
+
+  -- an import between two items
+  pub record Ran (batch : Batch) (before : List Line) (list end : L) (out last : O) (lines kept : List Line) (index : ℕ) (run : Run) : Type 0 where
+    pub turns : List Turn
+    pub read : Reads list end out last turns
+    pub made : Imports 0 before turns lines
+    pub items : index ≡ length turns
+    pub stored : length lines ≡ length before + run.stored
+    pub faulty : run.faulty ≡ list_any has_fault turns
+    pub keeps : KeepsFront batch before list out kept run.kept
+
+  -- An import that ended: each item of the list was taken, from the first to the last, and each report told. The table keeps what
+  -- they made of it; where all or nothing is to be kept, and one has a fault, it is as before.
+  pub record Ended (batch : Batch) (before : List Line) (list end : L) (out last : O) (kept : List Line) (progress : Progress) : Type 0 where
+    pub turns : List Turn
+    pub left : L
+    pub after : List Line
+    pub read : Reads list left out last turns
+    pub over : gives left None end
+    pub made : Imports 0 before turns after
+    pub keeps : kept ≡ (if is_all batch && list_any has_fault turns then before else after)
+    pub items : progress.items ≡ length turns
+    pub stored : length kept ≡ length before + progress.stored

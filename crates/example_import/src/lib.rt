@@ -1,0 +1,9 @@
+//! The import of a list of rows into a table that takes valid rows alone.
+#![tactic(auto)]
+
+pub mod item;
+pub mod memory;
+pub mod row;
+pub mod run;
+pub mod store;
+mod taking;
