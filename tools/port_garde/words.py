@@ -202,12 +202,21 @@ class Checks:
         other = self.scope.places.get(rule.text)
         if other is None:
             raise Refusal(rule.line, f"`matches` of the field `{rule.text}`, which is not there")
-        if not (is_path(seen.type, "String") and (is_path(other.type, "String") or other.type.kind == "unread")):
-            kinds = " and ".join(dict.fromkeys(f"`{self.writer.type_text(it, True)}`" for it in (seen.type, other.type)))
-            raise Refusal(rule.line, f"`matches` of {kinds}: it is written of two `String`s, so compare others by a rule of your own, by `custom`")
         self.scope.bound.add(rule.text)
         fields = (("field", Word(f'"{rule.text}"')), ("other", Word(other.binding)))
-        return Literal(self.field("Matches"), fields), f'{self.word("matches_text")} "{rule.text}" {seen.name} {other.name}'
+        return Literal(self.field("Matches"), fields), self.equal(rule, seen, other)
+
+    def equal(self, rule, seen, other):
+        """How it is stated that a value equals that of another field: two texts, two options of texts, or two numbers."""
+        kinds = [self.writer.type_text(it, True) for it in (seen.type, other.type)]
+        if kinds[0] == "String" and kinds[1] in ("String", "_"):
+            return f'{self.word("matches_text")} "{rule.text}" {seen.name} {other.name}'
+        same = {"Option<String>": "option_eq text_eq", **dict.fromkeys(UNSIGNED, "nat_eq")}.get(kinds[0])
+        if same is None or kinds[1] not in (kinds[0], "_"):
+            told = " and ".join(f"`{it}`" for it in dict.fromkeys(kinds))
+            raise Refusal(rule.line, f"`matches` of {told}: it is written of two texts, options of texts or numbers without a sign, each of one type, so compare others by a rule of your own, by `custom`")
+        self.uses.words |= {"matches", *same.split()}
+        return f'matches "{rule.text}" ({same} {seen.name} {other.name})'
 
     def pattern(self, rule, seen):
         """The rule that a compiled pattern of the context matches."""

@@ -11,6 +11,7 @@ pub mod guest;
 pub mod label;
 pub mod own;
 pub mod page;
+pub mod pair;
 pub mod place;
 pub mod reading;
 pub mod shop;

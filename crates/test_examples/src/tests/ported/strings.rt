@@ -3,6 +3,7 @@ use super::{next, tells, texts};
 use example_ported::account::Account;
 use example_ported::draft::Draft;
 use example_ported::label::Label;
+use example_ported::pair::Pair;
 use example_ported::place::Place;
 use std::alloc::Global;
 use std::borrow::CowStr;
@@ -14,6 +15,7 @@ enum Of {
     Account,
     Draft,
     Label,
+    Pair,
     Place,
 }
 
@@ -44,6 +46,12 @@ const ROWS: &[(Of, &[&str], &str)] = &[
         Of::Label,
         &["é", "cde", "x", "_", "marks"],
         "name: not ascii\nalso[1]: value does not begin with \"b\"\nalso[1]: length is greater than 2\ncode: does not contain \"-\"\ncode: length is lower than 2\ntext: not alphanumeric\nmark: not short\n",
+    ),
+    (Of::Pair, &["a@b.org", "a@b.org"], ""),
+    (
+        Of::Pair,
+        &["a@b.org"],
+        "mail_again: does not match mail field\npin_again: does not match pin field\n",
     ),
     (
         Of::Place,
@@ -90,6 +98,23 @@ fn draft(rt: &impl Abort, alloc: Global, from: &[&str]) -> Draft {
     }
 }
 
+/// A pair, in which nothing is given a second time where there is one text.
+fn pair(rt: &impl Abort, alloc: Global, from: &[&str]) -> Pair {
+    let mut all = texts(rt, alloc, from);
+    let mail = next(alloc, &mut all);
+    let (mail_again, pin_again) = if from.len() < 2 {
+        (None, 1001)
+    } else {
+        (Some(next(alloc, &mut all)), 1000)
+    };
+    Pair {
+        mail: Some(mail),
+        mail_again,
+        pin: 1000,
+        pin_again,
+    }
+}
+
 fn place(rt: &impl Abort, alloc: Global, from: &[&str]) -> Place {
     let mut all = texts(rt, alloc, from);
     Place {
@@ -127,6 +152,7 @@ fn is_told(rt: &impl Abort, alloc: Global, of: Of, from: &[&str], text: &str) ->
         Of::Account => tells(rt, alloc, &account(rt, alloc, from), &(), text),
         Of::Draft => tells(rt, alloc, &draft(rt, alloc, from), &(), text),
         Of::Label => label_tells(rt, alloc, from, text),
+        Of::Pair => tells(rt, alloc, &pair(rt, alloc, from), &(), text),
         Of::Place => tells(rt, alloc, &place(rt, alloc, from), &(), text),
     }
 }

@@ -1,0 +1,62 @@
+//! Fields that are given twice: texts that may be missing, and numbers.
+ghost use Rattle.garde.specs.Fields.{◌and◌, field, length_max, matches, nat_eq, option_eq, optional, range_between, text_eq};
+
+use garde::fields::{Field, Fields, IfSome, Is, Matches};
+use garde::{I18n, Report, Trail, Validate, length, range};
+use std::alloc::{AllocError, Global};
+
+/// Who changes an account.
+#[derive(Debug, Drop)]
+pub struct Pair {
+    pub mail: Option<String>,
+    pub mail_again: Option<String>,
+    pub pin: u32,
+    pub pin_again: u32,
+}
+
+impl Validate for Pair {
+    type Context = ();
+
+    ghost visits = { λ v _.
+        field "mail" (optional (λ x. length_max 80 x) v.mail)
+        and field "mail_again" (matches "mail" (option_eq text_eq v.mail_again v.mail))
+        and field "pin" (range_between 1000 9999 v.pin)
+        and field "pin_again" (matches "pin" (nat_eq v.pin_again v.pin)) };
+
+    fn validate_into<'a, H: I18n>(
+        &'a self,
+        alloc: Global,
+        _ctx: &(),
+        trail: &mut Trail<'a>,
+        report: &mut Report,
+        h: &H,
+    ) -> Result<(), AllocError> {
+        let Self {
+            mail,
+            mail_again,
+            pin,
+            pin_again,
+        } = self;
+        (
+            Field("mail", mail, IfSome(Is(length!(max = 80)))),
+            Field(
+                "mail_again",
+                mail_again,
+                Is(Matches {
+                    field: "mail",
+                    other: mail,
+                }),
+            ),
+            Field("pin", pin, Is(range!(min = 1000, max = 9999))),
+            Field(
+                "pin_again",
+                pin_again,
+                Is(Matches {
+                    field: "pin",
+                    other: pin,
+                }),
+            ),
+        )
+            .visit(alloc, trail, report, h)
+    }
+}
