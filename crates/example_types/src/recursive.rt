@@ -3,4 +3,5 @@ pub mod comment;
 pub mod expr;
 pub mod folder;
 pub mod menu;
+pub mod question;
 pub mod tree;

@@ -5,6 +5,7 @@ use example_types::recursive::comment::Comment;
 use example_types::recursive::expr::Expr;
 use example_types::recursive::folder::Folder;
 use example_types::recursive::menu::Menu;
+use example_types::recursive::question::{Entry, Kind};
 use example_types::recursive::tree::Tree;
 use garde::laws::nested_values;
 use std::alloc::Global;
@@ -70,6 +71,47 @@ fn folders_at_each_level(rt: HostRuntime) {
     let text =
         "name: length is greater than 9\nfolders[0].folders[0].name: length is lower than 1\nfolders[2].name: length is lower than 1\nnodes: 8";
     assert!(rt; is_told_of_folders(&rt, rt.alloc(), text));
+}
+
+fn entry(rt: &impl Abort, alloc: Global, kind: Kind, text: &str, entries: Vec<Entry>) -> Entry {
+    let text = String::from_str(alloc, text).or_end(rt);
+    Entry {
+        kind,
+        text,
+        entries,
+    }
+}
+
+/// Whether this is reported for a question without a text, whose one answer is this, and from which
+/// a question without a text follows.
+fn is_told_of_an_answer(rt: &impl Abort, alloc: Global, answer: &str, text: &str) -> bool {
+    let last = entry(rt, alloc, Kind::Question, "", Vec::new(alloc));
+    let given = entry(
+        rt,
+        alloc,
+        Kind::Answer,
+        answer,
+        vec![in alloc; last].or_end(rt),
+    );
+    let first = entry(
+        rt,
+        alloc,
+        Kind::Question,
+        "",
+        vec![in alloc; given].or_end(rt),
+    );
+    is_told(rt, alloc, &first, text)
+}
+
+#[test]
+fn questions_and_answers(rt: HostRuntime) {
+    let text =
+        "text: length is lower than 1\nentries[0].text: length is greater than 40\nentries[0].entries[0].text: length is lower than 1\nnodes: 7";
+    let answer = "an answer that is longer than forty signs";
+    assert!(rt; is_told_of_an_answer(&rt, rt.alloc(), answer, text));
+    let text =
+        "text: length is lower than 1\nentries[0].entries[0].text: length is lower than 1\nnodes: 6";
+    assert!(rt; is_told_of_an_answer(&rt, rt.alloc(), "", text));
 }
 
 /// A thousand folders, each in the next, and in the last of them one that has no name.
