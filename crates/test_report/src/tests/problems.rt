@@ -212,16 +212,19 @@ fn problem_details_of_reports(rt: HostRuntime) {
     }
 }
 
-// The parts of a message, with a `|` behind each.
+// The parts of a message, with a `|` behind each. It has fewer than eight parameters.
 fn parted(rt: &impl Abort, alloc: Global, message: &str) -> String {
     let coded = Coded::of(message);
     let mut params = coded.params;
     let mut text = format!(in alloc; "{}|{}|", coded.code, coded.detail).or_end(rt);
-    while let Some((name, value)) = params.next() {
+    for _ in 0..8 {
+        let Some((name, value)) = params.next() else {
+            return text;
+        };
         let more = format!(in alloc; "{name}|{value}|").or_end(rt);
         text.push_str(more.as_str()).or_end(rt);
     }
-    text
+    rt.abort()
 }
 
 #[test]
