@@ -13,7 +13,7 @@ def of_pair(place, coded, pair):
     lets, code = code_of(coded, pair)
     yield from of_constructors(coded, pair)
     if "==" in stated:
-        yield "`==` of `Prelude` in `visits`: write `nat_eq` of numbers, and of texts what your rule states"
+        yield "`==` of `Prelude` in `visits`: write `nat_eq` of numbers, and `text_eq` or `text_is` of texts"
     if re.search(r"\boptional\b", stated) and not re.search(r"\bIfSome\b", code):
         yield "`optional` in `visits` is `IfSome(..)` in the code; a rule of the whole option is `of_option`"
     if re.search(r"\bof_option\b", stated) and re.search(r"\bIfSome\b", code):
