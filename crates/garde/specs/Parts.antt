@@ -33,9 +33,22 @@ AreMoved n (e ∷ es) moved =
     (index : ℕ) × (path : List Part) × (rest : List Entry)
     × (e.0 ≡ index_part index ∷ path) × (moved ≡ (index_part (n + index) ∷ path, e.1) ∷ rest) × AreMoved n es rest
 
+-- A tree of a list by a tree of its first n items and one of the others, as a list of their own: its report is the first report, and
+-- then the second with each index moved by n. Nodes add up, and there is a fault where one of the two has one.
+pub record IsJoined (n : ℕ) (first second whole : Tree) : Type 0 where
+  pub report : (text : Datum → List ℕ) →
+      (moved : List Entry) × AreMoved n (flat text [] second) moved × (flat text [] whole ≡ flat text [] first ++ moved)
+  pub nodes_of : nodes whole ≡ nodes first + nodes second
+  pub bears_of : bears whole ≡ (bears first || bears second)
+
 -- How the trees of a whole list are made of those of its parts. The trees of an item may be several.
 pub record ItemsInParts {A : Type 0} (trees : A → Tree → Type 0) : Type 0 where
-  -- of two parts: each tree of the whole is a tree of the first and then one of the second, and the reverse
+  -- each tree of the whole is joined of a tree of each of two parts, and each two such trees are joined to one of the whole
+  pub cut : (xs ys : List A) (t : Tree) → TreesItems trees (xs ++ ys) t
+      → (a b : Tree) × TreesItems trees xs a × TreesItems trees ys b × IsJoined (length xs) a b t
+  pub joined : (xs ys : List A) (a b : Tree) → TreesItems trees xs a → TreesItems trees ys b
+      → (t : Tree) × TreesItems trees (xs ++ ys) t × IsJoined (length xs) a b t
+  -- the same with the second part under its indexes in the whole: a tree of the first and then one of the second
   pub two : (xs ys : List A) (t : Tree) →
       TreesItems trees (xs ++ ys) t ↔ TreesBoth (TreesItems trees xs) (TreesItemsFrom (length xs) trees ys) t
   -- of any number of parts
