@@ -12,7 +12,6 @@ use Rattle.garde.specs.Words.{Fault, bounds_answer, length_fault, index_part, ke
 use Rattle.garde_check.specs.declared.body.Address.{Address}
 use Rattle.garde_check.specs.declared.body.Body.{Body}
 use Rattle.garde_check.specs.declared.form.Form.{Form}
-use Rattle.garde_check.specs.declared.form.Form.TheVariants.{Json}
 use Rattle.garde_check.specs.declared.outcome.Outcome.{Outcome}
 use Rattle.garde_check.specs.declared.user.User.{User}
 use Rattle.garde_check.specs.Body.{tag_visits, address_visits, body_visits, content, tag_tree, address_tree, addresses_tree, body_tree}
@@ -104,6 +103,6 @@ body_one body =
     (under_one (key_part (codes "addresses")) (addresses_one body.addresses.entries))))
 
 -- what is found of a body is what is reported of the bytes that spell it
-pub body_reported : (body : Body) (bytes output : List ℕ) (outcome : Outcome) → Spells bytes (content body) → Finds (body_visits body) Json outcome output → BodyReports bytes outcome output
-body_reported body bytes output outcome spells (t, visited, is) =
-    (content body, the_only_body bytes (content body) spells, subst (λ s. IsOutput Json s outcome output) ((body_one body).same t visited) is)
+pub body_reported : (form : Form) (body : Body) (bytes output : List ℕ) (outcome : Outcome) → Spells bytes (content body) → Finds (body_visits body) form outcome output → BodyReports form bytes outcome output
+body_reported form body bytes output outcome spells (t, visited, is) =
+    (content body, the_only_body bytes (content body) spells, subst (λ s. IsOutput form s outcome output) ((body_one body).same t visited) is)

@@ -1,5 +1,9 @@
 -- The words of a command, the status of an answer and the line of an error.
-use Rattle.std.specs.Prelude.{ℕ, List, [], ◌∷◌, ◌++◌, Result, Ok, Err, codes}
+use Rattle.std.specs.Prelude.{◌≡◌, ◌≢◌, ◌<◌, ◌^◌, ℕ, List, [], ◌∷◌, ◌++◌, Option, Some, None, Result, Ok, Err, codes}
+use Rattle.std.specs.Str.Parse.{IsNumeral, digits_value, without_leading_plus}
+use Rattle.garde_check.specs.declared.form.Form.TheVariants as form
+use Rattle.garde_check.specs.declared.mode.Task.{Task}
+use Rattle.garde_check.specs.declared.mode.Task.TheVariants as task
 use Rattle.garde_check.specs.declared.mode.Command.{Command}
 use Rattle.garde_check.specs.declared.mode.Command.TheVariants.{Text, Nodes, Json, Body}
 use Rattle.garde_check.specs.declared.outcome.Outcome.{Outcome}
@@ -13,6 +17,25 @@ words_of Text = []
 words_of Nodes = codes "--nodes" ∷ []
 words_of Json = codes "--json" ∷ []
 words_of Body = codes "json" ∷ []
+
+-- the text is this number, which fits a `usize`, in decimal digits; a plus may stand first
+abbrev pub IsNumber : List ℕ → ℕ → Type 0
+IsNumber text n =
+    let digits = without_leading_plus text in
+    (IsNumeral 10 digits × (digits_value 10 digits < 2 ^ 64)) × (n ≡ digits_value 10 digits)
+
+-- the words ask for a command, of which all faults are written or at most so many; these have no number of nodes
+abbrev pub AskFor : List (List ℕ) → Command → Option ℕ → Type 0
+AskFor words command None = words ≡ words_of command
+AskFor words command (Some most) =
+    (text : List ℕ) × IsNumber text most × (words ≡ codes "--most" ∷ text ∷ words_of command) × (command ≢ Nodes)
+
+-- what is run for a command, where at most so many faults are written
+abbrev pub first_task_of : Command → ℕ → Task
+first_task_of Text most = task.Lines (form.FirstText most)
+first_task_of Nodes most = task.Lines (form.FirstText most)
+first_task_of Json most = task.Lines (form.FirstJson most)
+first_task_of Body most = task.Body (form.FirstJson most)
 
 -- 0 where no fault was found, 1 where one was, 2 for every error
 abbrev pub status_of : Result Outcome RunError → ℕ

@@ -15,11 +15,11 @@ mod transfer;
 mod user;
 mod words;
 
-use crate::mode::Command;
+use crate::mode::{Command, first_task};
 use crate::outcome::RunError;
-use crate::running::{run, run_body, run_json};
+use crate::running::{run, run_body, run_json, run_task};
 use crate::transfer::Plain;
-use crate::words::{command, fault_line, status};
+use crate::words::{fault_line, request, status};
 use std::alloc::AllocError;
 use std::env;
 use std::io::ErrorKind;
@@ -27,7 +27,7 @@ use std::process::ExitCode;
 
 // What the words after the program's name ask for, or `None` where they are wrong. A word that is
 // not UTF-8 asks for nothing.
-fn command_of(rt: &HostRuntime) -> Result<Option<Command>, AllocError> {
+fn request_of(rt: &HostRuntime) -> Result<Option<(Command, Option<usize>)>, AllocError> {
     let mut all = match env::args(rt) {
         Ok(all) => all,
         Err(error) if error.kind() == ErrorKind::OutOfMemory => return Err(AllocError),
@@ -35,7 +35,7 @@ fn command_of(rt: &HostRuntime) -> Result<Option<Command>, AllocError> {
     };
     let _program = all.next();
     let words = all.collect::<Vec<String>>(rt.alloc())?;
-    Ok(command(&words))
+    Ok(request(&words))
 }
 
 // Says in a line why nothing was run, and gives the exit status of that.
@@ -45,18 +45,22 @@ fn refused(rt: &HostRuntime, line: &str) -> ExitCode {
 }
 
 fn main(rt: HostRuntime) -> ExitCode {
-    let command = match command_of(&rt) {
-        Ok(Some(command)) => command,
+    let (command, most) = match request_of(&rt) {
+        Ok(Some(asked)) => asked,
         Ok(None) => return refused(&rt, "garde_check: wrong arguments"),
         Err(AllocError) => return refused(&rt, fault_line(&RunError::Memory)),
     };
     let mut reader = Plain::new(rt.stdin());
     let mut writer = Plain::new(rt.stdout());
-    let answer = match command {
-        Command::Text => run(rt.alloc(), &mut reader, &mut writer, false),
-        Command::Nodes => run(rt.alloc(), &mut reader, &mut writer, true),
-        Command::Json => run_json(rt.alloc(), &mut reader, &mut writer),
-        Command::Body => run_body(rt.alloc(), &mut reader, &mut writer),
+    let answer = match (command, most) {
+        (command, Some(most)) => {
+            let task = first_task(command, most);
+            run_task(rt.alloc(), &mut reader, &mut writer, task)
+        }
+        (Command::Text, None) => run(rt.alloc(), &mut reader, &mut writer, false),
+        (Command::Nodes, None) => run(rt.alloc(), &mut reader, &mut writer, true),
+        (Command::Json, None) => run_json(rt.alloc(), &mut reader, &mut writer),
+        (Command::Body, None) => run_body(rt.alloc(), &mut reader, &mut writer),
     };
     if let Err(error) = &answer {
         let line = fault_line(error);

@@ -1,4 +1,6 @@
 //! What the program may be asked to do.
+ghost use Rattle.std.specs.Prelude.{◌≡◌};
+ghost use Rattle.garde_check.specs.Words.{first_task_of};
 
 use crate::form::Form;
 
@@ -20,6 +22,17 @@ pub enum Command {
 pub enum Task {
     /// Each line is a user or none.
     Lines(Form),
-    /// The whole input is the body of a request. The report is written as JSON.
-    Body,
+    /// The whole input is the body of a request.
+    Body(Form),
+}
+
+/// What is run for a command, where at most so many faults are written. No number of path nodes is.
+pub fn first_task(command: Command, most: usize) -> Task
+    ensures { result ≡ first_task_of command most }
+{
+    match command {
+        Command::Text | Command::Nodes => Task::Lines(Form::FirstText(most)),
+        Command::Json => Task::Lines(Form::FirstJson(most)),
+        Command::Body => Task::Body(Form::FirstJson(most)),
+    }
 }

@@ -1,9 +1,9 @@
 //! What is written for an input.
-ghost use Rattle.std.specs.Prelude.{◌≡◌, ℕ, List, [], IfOk, IfErr, Err, string_bytes};
+ghost use Rattle.std.specs.Prelude.{◌≡◌, ℕ, List, [], IfOk, IfErr, Err, None, Some, string_bytes};
 ghost use Rattle.std.specs.Str.{IsUtf8};
 ghost use Rattle.garde_check.specs.Body.{content};
 ghost use Rattle.garde_check.specs.Request.{Spells, SpellsNothing};
-ghost use Rattle.garde_check.specs.Tasks.{Finds, Reports, BodyReports, Never, OutputFails};
+ghost use Rattle.garde_check.specs.Tasks.{Finds, FindsFirst, Reports, BodyReports, Never, OutputFails};
 ghost use Rattle.garde_check.specs.Users.{IsCut};
 
 use crate::body::Body;
@@ -12,7 +12,7 @@ use crate::lines::Lines;
 use crate::outcome::{Outcome, RunError};
 use crate::user::User;
 use garde::json::JsonRefused;
-use garde::{DefaultI18n, Report, Trail, Validate, ValidateError};
+use garde::{DefaultI18n, FirstError, Report, Trail, Validate, ValidateError};
 use serde_json::Value;
 use std::alloc::{AllocError, Global};
 
@@ -28,6 +28,86 @@ pub struct Output {
     pub users: Vec<Option<User>>,
 }
 
+// What a validation found: the faults that are written, whether there are more, and the nodes that
+// were made.
+#[derive(Drop)]
+struct Found {
+    outcome: Outcome,
+    report: Report,
+    has_more: bool,
+    nodes: usize,
+}
+
+// Finds all faults of a value.
+fn find_all<T: Validate>(alloc: Global, value: &T, ctx: &T::Context) -> Result<Found, AllocError>
+    ensures { IfOk result (λ found. FindsFirst (T.visits value.now ctx.now) None
+        found.outcome found.report found.has_more found.nodes) }
+{
+    let mut trail = Trail::new(alloc);
+    let answer = value.validate_on(alloc, ctx, &mut trail, &DefaultI18n);
+    let (outcome, report) = match answer {
+        Ok(()) => (Outcome::Valid, Report::new(alloc)),
+        Err(ValidateError::Report(report)) => (Outcome::Faults, report),
+        Err(ValidateError::Memory) => return Err(AllocError),
+    };
+    let nodes = trail.nodes();
+    Ok(Found {
+        outcome,
+        report,
+        has_more: false,
+        nodes,
+    })
+}
+
+// Finds at most so many faults of a value.
+fn find_first<T: Validate>(
+    alloc: Global,
+    value: &T,
+    ctx: &T::Context,
+    most: usize,
+) -> Result<Found, AllocError>
+    ensures { IfOk result (λ found. FindsFirst (T.visits value.now ctx.now) (Some most)
+        found.outcome found.report found.has_more found.nodes) }
+{
+    match value.validate_first(alloc, ctx, most, &DefaultI18n) {
+        Ok(()) => Ok(Found {
+            outcome: Outcome::Valid,
+            report: Report::new(alloc),
+            has_more: false,
+            nodes: 0,
+        }),
+        Err(FirstError::All(report)) => Ok(Found {
+            outcome: Outcome::Faults,
+            report,
+            has_more: false,
+            nodes: 0,
+        }),
+        Err(FirstError::First(report)) => Ok(Found {
+            outcome: Outcome::Faults,
+            report,
+            has_more: true,
+            nodes: 0,
+        }),
+        Err(FirstError::Memory) => Err(AllocError),
+    }
+}
+
+// Finds the faults of a value, all of them or at most so many.
+fn find<T: Validate>(
+    alloc: Global,
+    value: &T,
+    ctx: &T::Context,
+    most: Option<usize>,
+) -> Result<Found, AllocError>
+    ensures { IfOk result (λ found. FindsFirst (T.visits value.now ctx.now) most
+        found.outcome found.report found.has_more found.nodes) }
+{
+    match most {
+        None => find_all(alloc, value, ctx),
+        Some(most) => find_first(alloc, value, ctx, most),
+    }
+}
+
 // Validates a value, and makes the output in this form.
 fn validate<T: Validate>(
     alloc: Global,
@@ -38,17 +118,11 @@ fn validate<T: Validate>(
     ensures { IfOk result (λ output.
         Finds (T.visits value.now ctx.now) form output.outcome (string_bytes output.text)) }
 {
-    let mut trail = Trail::new(alloc);
-    let answer = value.validate_on(alloc, ctx, &mut trail, &DefaultI18n);
-    let (outcome, report) = match answer {
-        Ok(()) => (Outcome::Valid, Report::new(alloc)),
-        Err(ValidateError::Report(report)) => (Outcome::Faults, report),
-        Err(ValidateError::Memory) => return Err(AllocError),
-    };
-    let text = write_report(alloc, &report, trail.nodes(), form)?;
+    let found = find(alloc, value, ctx, form.most())?;
+    let text = write_report(alloc, &found.report, found.nodes, found.has_more, form)?;
     let users = Vec::new(alloc);
     Ok(Output {
-        outcome,
+        outcome: found.outcome,
         text,
         users,
     })
@@ -81,16 +155,16 @@ fn body_of(alloc: Global, input: &str) -> Result<Body, JsonRefused>
 }
 
 /// Makes the whole output for the bytes of a body.
-pub fn body_output(alloc: Global, bytes: Vec<u8>) -> Result<Output, RunError>
+pub fn body_output(alloc: Global, bytes: Vec<u8>, form: Form) -> Result<Output, RunError>
     ensures ok { IfOk result (λ output. IsUtf8 bytes.items
-        × BodyReports bytes.items output.outcome (string_bytes output.text)) }
+        × BodyReports form bytes.items output.outcome (string_bytes output.text)) }
     ensures err { IfErr result (OutputFails SpellsNothing bytes.items) }
 {
     let Ok(input) = str::from_utf8(bytes.as_slice()) else {
         return Err(RunError::NotUtf8);
     };
     match body_of(alloc, input) {
-        Ok(body) => Ok(validate(alloc, &body, &(), Form::Json)?),
+        Ok(body) => Ok(validate(alloc, &body, &(), form)?),
         Err(JsonRefused::Form) => Err(RunError::BadBody),
         Err(JsonRefused::Memory) => Err(RunError::Memory),
     }

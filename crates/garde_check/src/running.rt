@@ -72,7 +72,7 @@ fn take_output<S: Source>(alloc: Global, reader: &mut S, task: Task) -> Result<O
 {
     match task {
         Task::Lines(form) => lines_output(alloc, take_lines(alloc, reader)?, form),
-        Task::Body => body_output(alloc, take_all(alloc, reader)?),
+        Task::Body(form) => body_output(alloc, take_all(alloc, reader)?, form),
     }
 }
 
@@ -94,8 +94,10 @@ fn give_all<W: Sink>(writer: &mut W, bytes: &[u8]) -> Result<(), Failed>
     Ok(())
 }
 
-// A run that does this.
-fn run_task<S: Source, W: Sink>(
+/// Reads the reader to its end as the task says, and writes the report in its form: of `FirstText`
+/// and `FirstJson` no more faults are held at a time than one more than are written. Of errors it
+/// leaves what `run` and `run_body` leave.
+pub fn run_task<S: Source, W: Sink>(
     alloc: Global,
     reader: &mut S,
     writer: &mut W,
@@ -163,9 +165,9 @@ pub fn run_body<S: Source, W: Sink>(
 ) -> Result<Outcome, RunError>
     requires fresh_reader { S.has_failed reader.old ≡ false }
     requires fresh_writer { W.has_failed writer.old ≡ false }
-    ensures { Leaves BodyReports SpellsNothing
+    ensures { Leaves (BodyReports Form.Json) SpellsNothing
         (device S.remaining S.has_failed reader.old reader.new)
         (device W.contents W.has_failed writer.old writer.new) result }
 {
-    run_task(alloc, reader, writer, Task::Body)
+    run_task(alloc, reader, writer, Task::Body(Form::Json))
 }

@@ -1,7 +1,9 @@
 //! Runs over memory: what is written, and how each run ends.
 
+mod asked;
 mod body;
 mod devices;
+mod first;
 mod forms;
 mod json;
 mod once;
@@ -12,7 +14,7 @@ use crate::mode::Command;
 use crate::outcome::{Outcome, RunError};
 use crate::transfer::Failed;
 use crate::user::User;
-use crate::words::{command, fault_line, status};
+use crate::words::{fault_line, status};
 use garde::{Component, DefaultI18n, Trail, Validate, ValidateError};
 use runs::{Row, given, gives, is_ran, ran_by_bytes, reads_failed, refuses, rooms_filled};
 use std::alloc::Global;
@@ -203,49 +205,6 @@ fn tells_how_a_run_ended(rt: HostRuntime) {
     );
     assert_eq!(rt; errors_told(&rt, rt.alloc()), ERRORS.len());
     assert!(rt; failure_is_told(&rt, rt.alloc(), "the device failed"));
-}
-
-fn words_of(rt: &impl Abort, alloc: Global, words: &[&str]) -> Vec<String> {
-    let mut list = Vec::new(alloc);
-    for word in words {
-        list.push(String::from_str(alloc, word).or_end(rt))
-            .or_end(rt);
-    }
-    list
-}
-
-static WORDS: [(&[&str], Option<Command>); 10] = [
-    (&[], Some(Command::Text)),
-    (&["--nodes"], Some(Command::Nodes)),
-    (&["--json"], Some(Command::Json)),
-    (&["json"], Some(Command::Body)),
-    (&["--json", "--nodes"], None),
-    (&["json", "json"], None),
-    (&[""], None),
-    (&["--node"], None),
-    (&["--nodes", "--nodes"], None),
-    (&["", "--nodes"], None),
-];
-
-// Whether the words ask for this.
-fn asks(rt: &impl Abort, alloc: Global, words: &[&str], want: Option<Command>) -> bool {
-    let list = words_of(rt, alloc, words);
-    command(&list) == want
-}
-
-// How many of the rows hold before the first that does not.
-fn words_asked(rt: &impl Abort, alloc: Global) -> usize {
-    for (place, (words, want)) in WORDS.iter().enumerate() {
-        if !asks(rt, alloc, words, *want) {
-            return place;
-        }
-    }
-    WORDS.len()
-}
-
-#[test]
-fn refuses_words_that_ask_for_nothing(rt: HostRuntime) {
-    assert_eq!(rt; words_asked(&rt, rt.alloc()), WORDS.len());
 }
 
 // Whether a run whose reader gives all lines a byte at a time writes the report.

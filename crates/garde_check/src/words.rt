@@ -1,13 +1,13 @@
 //! What the words of the command line ask for, and how the end of a run is reported.
-ghost use Rattle.std.specs.Prelude.{◌≡◌, ◌≢◌, IfSome, IfNone, map, string_bytes};
+ghost use Rattle.std.specs.Prelude.{◌≡◌, ◌≢◌, ℕ, IfSome, IfNone, Option, map, string_bytes};
 ghost use Rattle.garde_check.specs.declared.mode.Command.{Command};
-ghost use Rattle.garde_check.specs.Words.{words_of, status_of, line_of};
+ghost use Rattle.garde_check.specs.Words.{words_of, AskFor, IsNumber, status_of, line_of};
 
 use crate::mode::Command;
 use crate::outcome::{Outcome, RunError};
 
-/// What the words after the program's name ask for, or `None` where they are wrong.
-pub fn command(words: &[String]) -> Option<Command>
+// What words without a number of faults ask for, or `None` where they are wrong.
+fn command(words: &[String]) -> Option<Command>
     ensures some { IfSome result (λ c. map string_bytes words.now ≡ words_of c) }
     ensures none { IfNone result ((c : Command) → map string_bytes words.now ≢ words_of c) }
 {
@@ -20,6 +20,46 @@ pub fn command(words: &[String]) -> Option<Command>
             _ => None,
         },
         _ => None,
+    }
+}
+
+// The number that a text is, or `None` where it is none.
+fn number(text: &str) -> Option<usize>
+    ensures some { IfSome result (λ n. IsNumber text.now n) }
+    ensures none { IfNone result ((n : ℕ) → IsNumber text.now n → ⊥) }
+{
+    match text.parse() {
+        Ok(n) => Some(n),
+        Err(_) => None,
+    }
+}
+
+// What the words after a number of faults ask for, or `None` where they are wrong.
+fn first_command(words: &[String]) -> Option<Command>
+    ensures some { IfSome result (λ c.
+        (map string_bytes words.now ≡ words_of c) × (c ≢ Command.Nodes)) }
+    ensures none { IfNone result ((c : Command)
+        → c ≢ Command.Nodes → map string_bytes words.now ≢ words_of c) }
+{
+    match command(words) {
+        Some(Command::Nodes) => None,
+        asked => asked,
+    }
+}
+
+/// What the words after the program's name ask for, and how many faults are written at most where
+/// they begin with `--most` and a number. `None` where they are wrong.
+pub fn request(words: &[String]) -> Option<(Command, Option<usize>)>
+    ensures some { IfSome result (λ asked. AskFor (map string_bytes words.now) asked.0 asked.1) }
+    ensures none { IfNone result ((c : Command) (most : Option ℕ)
+        → AskFor (map string_bytes words.now) c most → ⊥) }
+{
+    match words {
+        [option, text, rest @ ..] if option.as_str() == "--most" => {
+            let most = number(text.as_str())?;
+            Some((first_command(rest)?, Some(most)))
+        }
+        _ => Some((command(words)?, None)),
     }
 }
 

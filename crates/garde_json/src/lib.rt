@@ -6,4 +6,4 @@
 
 mod text;
 
-pub use text::report_to_json_text;
+pub use text::{first_to_json_text, report_to_json_text};

@@ -11,7 +11,7 @@ use crate::options::Options;
 use crate::row::{COLUMNS, Row};
 use anyhow::{Result, anyhow};
 use csv::{ErrorKind, Reader, StringRecord, StringRecordsIntoIter};
-use garde::{Component, DefaultI18n, Report, Trail, Validate, ValidateError};
+use garde::{Component, DefaultI18n, FirstError, Report, Trail, Validate};
 use std::alloc::Global;
 use std::io::{BufWriter, Read, Write};
 use std::process::ExitCode;
@@ -36,12 +36,10 @@ fn reason(error: &csv::Error) -> Option<&'static str> {
     }
 }
 
-/// Prints at most so many faults of a report, and returns how many it printed.
-fn tell<W: Write>(report: &Report, most: usize, out: &mut W) -> io::Result<usize> {
-    for (path, error) in report.iter().take(most) {
-        writeln!(out, "{path}: {error}")?;
-    }
-    Ok(report.len().min(most))
+/// Prints the faults of a report, and returns how many there are.
+fn print_all<W: Write>(report: &Report, out: &mut W) -> io::Result<usize> {
+    write!(out, "{report}")?;
+    Ok(report.len())
 }
 
 /// Prints at most so many faults of a row, and returns how many it printed.
@@ -54,10 +52,10 @@ fn check<W: Write>(
 ) -> Result<usize> {
     let mut trail = Trail::new(alloc);
     trail.push(Component::index(index))?;
-    match row.validate_on(alloc, &(), &mut trail, &DefaultI18n) {
+    match row.validate_first_on(alloc, &(), most, &mut trail, &DefaultI18n) {
         Ok(()) => Ok(0),
-        Err(ValidateError::Report(report)) => Ok(tell(&report, most, out)?),
-        Err(ValidateError::Memory) => Err(anyhow!("out of memory")),
+        Err(FirstError::All(report) | FirstError::First(report)) => Ok(print_all(&report, out)?),
+        Err(FirstError::Memory) => Err(anyhow!("out of memory")),
     }
 }
 

@@ -1,14 +1,14 @@
 use Rattle.std.proofs.Common.{◌≡◌, ◌++◌, [], ◌∙◌, ap}
 use Rattle.json.specs.Print.{print}
 use Rattle.serde_json.proofs.Texts.{print-outline}
-use Rattle.garde_report.specs.Json.{report_json}
+use Rattle.garde_json.specs.First.{told_json}
 use Rattle.garde_json.specs.Tokens.{tree_tokens}
-use Rattle.garde_json.proofs.text.report_to_json_text.Goals as goal
+use Rattle.garde_json.proofs.text.to_text.Goals as goal
 
 -- the tokens that were written print the text of the tree
 pub returns : goal.returns
 returns c =
-    let tree = report_json c.args.report.now in
+    let tree = told_json c.args.has_more c.args.report.now in
     let out = c.write_report.new.out in
     let written = c.in_ok-write_report.ensures {u = tt} in
     let before : out.before ≡ [] = written.before ∙ c.new-out.ensures.before ∙ c.new.ensures.items in

@@ -1,0 +1,6 @@
+use Rattle.garde_check.proofs.FirstFaults.{written}
+use Rattle.garde_check.proofs.output.validate.Goals as goal
+
+pub returns : goal.returns
+returns g c =
+    written (g.T.Validate.visits c.args.value.now c.args.ctx.now) c.args.form _ _ _ _ _ _ c.most.ensures c.in_ok-found.ensures c.in_ok-text.ensures
