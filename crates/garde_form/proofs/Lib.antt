@@ -1,0 +1,3 @@
+mod Lemmas
+mod Numerals
+mod Tokens

@@ -1,0 +1,40 @@
+-- What texts write.
+use Rattle.std.specs.Prelude.{ℕ, ℤ, pos, negsuc, ◌-◌, ◌^◌, ◌==◌, ◌&&◌, Bool, true, false, List, [], ◌∷◌, length, nat_lt, Option, Some, None, if◌then◌else◌}
+use Rattle.std.specs.Char.{digit_value}
+use Rattle.std.specs.Str.Parse.{digits_value, signed_digits_value, without_leading_plus, without_leading_sign}
+use Rattle.garde_schema.specs.Whole.{between, up_to}
+use Rattle.garde_schema.specs.declared.fault.FormFault.{FormFault}
+use Rattle.garde_schema.specs.declared.fault.FormFault.TheVariants.{Wrong, OutOfRange}
+use Rattle.garde_schema.specs.declared.fault.Wanted.TheVariants as wanted
+use Rattle.garde_schema.specs.declared.fault.Integer.{Integer}
+use Rattle.garde_tape.specs.declared.kind.Kind.TheVariants as kinds
+
+-- whether there is a text, and it is empty
+abbrev pub is_empty : Option (List ℕ) → Bool
+is_empty (Some text) = length text == 0
+is_empty None = false
+
+-- whether each byte is a decimal digit
+unfoldable pub all_digits : List ℕ → Bool
+all_digits [] = true
+all_digits (c ∷ cs) = nat_lt (digit_value c) 10 && all_digits cs
+
+-- whether there is one decimal digit or more, and nothing else
+abbrev pub is_numeral : List ℕ → Bool
+is_numeral text = nat_lt 0 (length text) && all_digits text
+
+-- whether a text is a whole number of any size, perhaps behind a plus or a minus
+abbrev pub is_whole : List ℕ → Bool
+is_whole text = is_numeral (without_leading_sign text)
+
+-- the number of at most 64 bits without a sign that a text writes, perhaps behind a plus
+abbrev pub unsigned_text : List ℕ → Option ℕ
+unsigned_text text = if is_numeral (without_leading_plus text) then up_to (2 ^ 64 - 1) (Some (digits_value 10 (without_leading_plus text))) else None
+
+-- the number of at most 64 bits with its sign that a text writes, perhaps behind a plus or a minus
+abbrev pub signed_text : List ℕ → Option ℤ
+signed_text text = if is_whole text then between (negsuc (2 ^ 63 - 1)) (pos (2 ^ 63 - 1)) (Some (signed_digits_value 10 text)) else None
+
+-- what is wrong with a text that is no number of this type
+abbrev pub text_fault : Integer → List ℕ → FormFault
+text_fault integer text = if is_whole text then OutOfRange integer else Wrong wanted.Whole kinds.Text

@@ -1,0 +1,15 @@
+//! Inputs that are no JSON, read by the forms of `garde_schema`: texts that are parsed, and the
+//! fields of a web form.
+#![tactic(auto)]
+
+mod numbers;
+mod or_empty;
+mod parse;
+mod parsed;
+mod put;
+mod web_form;
+
+pub use or_empty::OrEmpty;
+pub use parse::Parse;
+pub use parsed::Parsed;
+pub use web_form::form_to_json;
