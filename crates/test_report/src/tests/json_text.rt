@@ -24,8 +24,10 @@ fn says_more(rt: &impl Abort, alloc: Global, report: &Report, text: &str) -> boo
     let written = first_to_json_text(alloc, report).or_end(rt);
     let whole = text.strip_suffix("}").unwrap_or(text);
     let tree = Value::from_str(alloc, written.as_str()).or_end(rt);
-    written.as_str().strip_prefix(whole) == Some(",\"more\":true}")
-        && report_from_json(alloc, &tree).err() == Some(JsonRefused::Form)
+    let Some(more) = written.as_str().strip_prefix(whole) else {
+        return false;
+    };
+    more == ",\"more\":true}" && report_from_json(alloc, &tree).err() == Some(JsonRefused::Form)
 }
 
 #[test]
