@@ -61,3 +61,8 @@ EitherKeeps one other (Right b) = other b
 abbrev pub either_names : {A B C : Type 0} → (A → C) → (B → C) → Either A B → C
 either_names one other (Left a) = one a
 either_names one other (Right b) = other b
+
+-- the first of two for a text, and else the second
+abbrev pub text_side : Option (List ℕ) → Either (Unit {0}) (Unit {0})
+text_side (Some text) = Left tt
+text_side None = Right tt

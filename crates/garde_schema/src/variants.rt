@@ -153,7 +153,7 @@ impl<'a, F: Form<'a>> Variants<'a> for Member<'a, F> {
 
 // The value of the first of two variants.
 #[inline(always)]
-fn left<A: Drop, B: Drop>(
+pub(crate) fn left<A: Drop, B: Drop>(
     read: Result<Option<A>, AllocError>,
 ) -> Result<Option<Either<A, B>>, AllocError>
     ensures answer { forget result ≡ forget read }
@@ -169,7 +169,7 @@ fn left<A: Drop, B: Drop>(
 
 // The value of the second.
 #[inline(always)]
-fn right<A: Drop, B: Drop>(
+pub(crate) fn right<A: Drop, B: Drop>(
     read: Result<Option<B>, AllocError>,
 ) -> Result<Option<Either<A, B>>, AllocError>
     ensures answer { forget result ≡ forget read }

@@ -25,7 +25,7 @@ pub enum Case {
     Deep,
 }
 
-/// What is told of a tree of this form.
+/// The value of a tree of this form, as text, or its report.
 pub fn told_by<H: I18n + FormI18n>(
     alloc: Global,
     tree: &Tree<'_, '_>,
@@ -174,8 +174,8 @@ fn reads_three_hundred_items_in_order(rt: HostRuntime) {
     let numbers = numbers(rt.alloc(), body.as_str()).or_end(&rt);
     assert_eq!(rt; numbers.len(), 300);
     assert!(rt; !numbers.is_empty());
-    let numbers = numbers.into_vec();
-    for (i, number) in numbers.iter().enumerate() {
+    assert_eq!(rt; numbers.as_slice().last().copied(), Some(299));
+    for (i, number) in numbers.into_vec().iter().enumerate() {
         assert_eq!(rt; usize::from(*number), i);
     }
 }

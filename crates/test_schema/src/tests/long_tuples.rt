@@ -2,69 +2,110 @@
 //! faults in the first, the last and some members between.
 
 use super::tuples::compare_sizes;
-use garde::fields::Is;
-use garde::{I18n, range};
-use garde_schema::{Closed, FormI18n, Member, Object, U8, Whole, read};
+use garde::I18n;
+use garde_schema::{Closed, FormI18n, Members, Object, read};
 use garde_tape::Tree;
 use std::alloc::{AllocError, Global};
-use std::fmt::Write;
+use std::fmt::Debug;
 
-// What is told of a tree whose members are numbers up to 20 under these names, and no other.
-macro_rules! told_of {
-    ($alloc:expr, $tree:expr, $h:expr; $($name:literal $number:ident)+) => {
-        match read(
-            $alloc,
-            &Object(Closed(($(Member($name, Whole(U8, Is(range!(max = 20)))),)+))),
-            $tree,
-            $h,
-        ) {
-            Ok(($($number,)+)) => {
-                let numbers = [$($number),+];
-                Ok(format!(in $alloc; "{numbers:?}")?)
-            }
-            Err(error) => Ok(format!(in $alloc; "{error}")?),
+/// What thirteen members read as.
+pub fn thirteen<'a, M: Members<'a> + Copy, H: I18n + FormI18n>(
+    alloc: Global,
+    tree: &Tree<'_, 'a>,
+    members: &[M; 16],
+    h: &H,
+) -> Result<String, AllocError>
+where
+    M::Out: Debug,
+{
+    let [a, b, c, d, e, f, g, i, j, k, l, m, n, ..] = *members;
+    match read(
+        alloc,
+        &Object(Closed((a, b, c, d, e, f, g, i, j, k, l, m, n))),
+        tree,
+        h,
+    ) {
+        Ok((a, b, c, d, e, f, g, i, j, k, l, m, n)) => {
+            let values = ((a, b, c, d, e, f, g, i), (j, k, l, m, n));
+            format!(in alloc; "{values:?}")
         }
-    };
+        Err(error) => format!(in alloc; "{error}"),
+    }
 }
 
-/// What is told of thirteen.
-pub fn thirteen<H: I18n + FormI18n>(
+/// What fourteen members read as.
+pub fn fourteen<'a, M: Members<'a> + Copy, H: I18n + FormI18n>(
     alloc: Global,
-    tree: &Tree<'_, '_>,
+    tree: &Tree<'_, 'a>,
+    members: &[M; 16],
     h: &H,
-) -> Result<String, AllocError> {
-    told_of!(alloc, tree, h; "a" a "b" b "c" c "d" d "e" e "f" f "g" g "h" h "i" i "j" j "k" k "l" l
-        "m" m)
+) -> Result<String, AllocError>
+where
+    M::Out: Debug,
+{
+    let [a, b, c, d, e, f, g, i, j, k, l, m, n, o, ..] = *members;
+    match read(
+        alloc,
+        &Object(Closed((a, b, c, d, e, f, g, i, j, k, l, m, n, o))),
+        tree,
+        h,
+    ) {
+        Ok((a, b, c, d, e, f, g, i, j, k, l, m, n, o)) => {
+            let values = ((a, b, c, d, e, f, g, i), (j, k, l, m, n, o));
+            format!(in alloc; "{values:?}")
+        }
+        Err(error) => format!(in alloc; "{error}"),
+    }
 }
 
-/// What is told of fourteen.
-pub fn fourteen<H: I18n + FormI18n>(
+/// What fifteen members read as.
+pub fn fifteen<'a, M: Members<'a> + Copy, H: I18n + FormI18n>(
     alloc: Global,
-    tree: &Tree<'_, '_>,
+    tree: &Tree<'_, 'a>,
+    members: &[M; 16],
     h: &H,
-) -> Result<String, AllocError> {
-    told_of!(alloc, tree, h; "a" a "b" b "c" c "d" d "e" e "f" f "g" g "h" h "i" i "j" j "k" k "l" l
-        "m" m "n" n)
+) -> Result<String, AllocError>
+where
+    M::Out: Debug,
+{
+    let [a, b, c, d, e, f, g, i, j, k, l, m, n, o, p, ..] = *members;
+    match read(
+        alloc,
+        &Object(Closed((a, b, c, d, e, f, g, i, j, k, l, m, n, o, p))),
+        tree,
+        h,
+    ) {
+        Ok((a, b, c, d, e, f, g, i, j, k, l, m, n, o, p)) => {
+            let values = ((a, b, c, d, e, f, g, i), (j, k, l, m, n, o, p));
+            format!(in alloc; "{values:?}")
+        }
+        Err(error) => format!(in alloc; "{error}"),
+    }
 }
 
-/// What is told of fifteen.
-pub fn fifteen<H: I18n + FormI18n>(
+/// What sixteen members read as.
+pub fn sixteen<'a, M: Members<'a> + Copy, H: I18n + FormI18n>(
     alloc: Global,
-    tree: &Tree<'_, '_>,
+    tree: &Tree<'_, 'a>,
+    members: &[M; 16],
     h: &H,
-) -> Result<String, AllocError> {
-    told_of!(alloc, tree, h; "a" a "b" b "c" c "d" d "e" e "f" f "g" g "h" h "i" i "j" j "k" k "l" l
-        "m" m "n" n "o" o)
-}
-
-/// What is told of sixteen.
-pub fn sixteen<H: I18n + FormI18n>(
-    alloc: Global,
-    tree: &Tree<'_, '_>,
-    h: &H,
-) -> Result<String, AllocError> {
-    told_of!(alloc, tree, h; "a" a "b" b "c" c "d" d "e" e "f" f "g" g "h" h "i" i "j" j "k" k "l" l
-        "m" m "n" n "o" o "p" p)
+) -> Result<String, AllocError>
+where
+    M::Out: Debug,
+{
+    let [a, b, c, d, e, f, g, i, j, k, l, m, n, o, p, q] = *members;
+    match read(
+        alloc,
+        &Object(Closed((a, b, c, d, e, f, g, i, j, k, l, m, n, o, p, q))),
+        tree,
+        h,
+    ) {
+        Ok((a, b, c, d, e, f, g, i, j, k, l, m, n, o, p, q)) => {
+            let values = ((a, b, c, d, e, f, g, i), (j, k, l, m, n, o, p, q));
+            format!(in alloc; "{values:?}")
+        }
+        Err(error) => format!(in alloc; "{error}"),
+    }
 }
 
 #[test]
@@ -76,7 +117,7 @@ fn reads_tuples_of_up_to_sixteen_members(rt: HostRuntime) {
             (
                 13,
                 "{\"m\":13,\"l\":12,\"k\":11,\"j\":10,\"i\":9,\"h\":8,\"g\":7,\"f\":6,\"e\":5,\"d\":4,\"c\":3,\"b\":2,\"a\":1}",
-                "[1, 2, 3, 4, 5, 6, 7, 8, 9, 10, 11, 12, 13]",
+                "((1, 2, 3, 4, 5, 6, 7, 8), (9, 10, 11, 12, 13))",
             ),
             (
                 13,
@@ -86,7 +127,7 @@ fn reads_tuples_of_up_to_sixteen_members(rt: HostRuntime) {
             (
                 14,
                 "{\"n\":14,\"m\":13,\"l\":12,\"k\":11,\"j\":10,\"i\":9,\"h\":8,\"g\":7,\"f\":6,\"e\":5,\"d\":4,\"c\":3,\"b\":2,\"a\":1}",
-                "[1, 2, 3, 4, 5, 6, 7, 8, 9, 10, 11, 12, 13, 14]",
+                "((1, 2, 3, 4, 5, 6, 7, 8), (9, 10, 11, 12, 13, 14))",
             ),
             (
                 14,
@@ -96,7 +137,7 @@ fn reads_tuples_of_up_to_sixteen_members(rt: HostRuntime) {
             (
                 15,
                 "{\"o\":15,\"n\":14,\"m\":13,\"l\":12,\"k\":11,\"j\":10,\"i\":9,\"h\":8,\"g\":7,\"f\":6,\"e\":5,\"d\":4,\"c\":3,\"b\":2,\"a\":1}",
-                "[1, 2, 3, 4, 5, 6, 7, 8, 9, 10, 11, 12, 13, 14, 15]",
+                "((1, 2, 3, 4, 5, 6, 7, 8), (9, 10, 11, 12, 13, 14, 15))",
             ),
             (
                 15,
@@ -106,7 +147,7 @@ fn reads_tuples_of_up_to_sixteen_members(rt: HostRuntime) {
             (
                 16,
                 "{\"p\":16,\"o\":15,\"n\":14,\"m\":13,\"l\":12,\"k\":11,\"j\":10,\"i\":9,\"h\":8,\"g\":7,\"f\":6,\"e\":5,\"d\":4,\"c\":3,\"b\":2,\"a\":1}",
-                "[1, 2, 3, 4, 5, 6, 7, 8, 9, 10, 11, 12, 13, 14, 15, 16]",
+                "((1, 2, 3, 4, 5, 6, 7, 8), (9, 10, 11, 12, 13, 14, 15, 16))",
             ),
             (
                 16,

@@ -18,7 +18,7 @@ pub enum Case {
     Nested,
 }
 
-/// What is told of a tree of this form.
+/// The value of a tree of this form, as text, or its report.
 pub fn told_by<H: I18n + FormI18n>(
     alloc: Global,
     tree: &Tree<'_, '_>,

@@ -4,7 +4,8 @@ use super::told::{Case as Form, compare, compare_codes, told};
 use garde::fields::Is;
 use garde::{I18n, range};
 use garde_schema::{
-    Closed, Flag, FormI18n, List, Member, Object, OneMember, Optional, Text, U8, U64, Whole,
+    Closed, Flag, FormI18n, List, Member, Object, OneMember, OneOf, Optional, Text, TextOr, U8,
+    U64, Whole,
 };
 use garde_tape::Tree;
 use std::alloc::{AllocError, Global};
@@ -15,9 +16,10 @@ use std::marker::PhantomData;
 pub enum Case {
     Payment,
     Deep,
+    Mixed,
 }
 
-/// What is told of a tree of this form.
+/// The value of a tree of this form, as text, or its report.
 pub fn told_by<H: I18n + FormI18n>(
     alloc: Global,
     tree: &Tree<'_, '_>,
@@ -27,6 +29,7 @@ pub fn told_by<H: I18n + FormI18n>(
     match case {
         Case::Payment => payment(alloc, tree, h),
         Case::Deep => deep(alloc, tree, h),
+        Case::Mixed => mixed(alloc, tree, h),
     }
 }
 
@@ -179,6 +182,75 @@ fn reads_unions_that_are_eight_deep(rt: HostRuntime) {
             (
                 "[{\"a\":{\"b\":{\"c\":{\"d\":{\"a\":{\"b\":{\"c\":{\"d\":[1,true,256]}}}}}}}},{\"a\":{\"b\":{\"c\":{\"d\":{\"a\":{\"b\":{\"c\":{}}}}}}}},{\"a\":{\"e\":1}}]",
                 "[0].a.b.c.d.a.b.c.d[1]: not a whole number\n[0].a.b.c.d.a.b.c.d[2]: out of range: 0 to 255\n[1].a.b.c.d.a.b.c: not an object with one member\n[2].a.e: not known here\n",
+            ),
+        ],
+    );
+}
+
+// A payment as serde has it by default: in cash or by a transfer, of which nothing more is known, or by
+// a card.
+fn mixed<H: I18n + FormI18n>(
+    alloc: Global,
+    tree: &Tree<'_, '_>,
+    h: &H,
+) -> Result<String, AllocError> {
+    let plain = OneOf(&[("cash", 0_u8), ("transfer", 1)]);
+    let card = Object(Closed(Member("number", Text(()))));
+    let form = TextOr(plain, OneMember(Member("card", card), PhantomData));
+    told(alloc, tree, &form, h)
+}
+
+#[test]
+fn reads_variants_with_fields_and_without(rt: HostRuntime) {
+    compare(
+        &rt,
+        rt.alloc(),
+        Form::OnlyMembers(Case::Mixed),
+        &[
+            ("\"cash\"", "Left(0)"),
+            ("\"transfer\"", "Left(1)"),
+            ("{\"card\":{\"number\":\"49\"}}", "Right(TextRef(\"49\"))"),
+        ],
+    );
+}
+
+#[test]
+fn tells_of_what_is_no_variant_with_fields_or_without(rt: HostRuntime) {
+    compare_codes(
+        &rt,
+        rt.alloc(),
+        Form::OnlyMembers(Case::Mixed),
+        &[
+            (
+                "\"card\"",
+                "not one of the known values\n",
+                "value_unknown\n",
+            ),
+            ("\"\"", "not one of the known values\n", "value_unknown\n"),
+            (
+                "{\"card\":{}}",
+                "card.number: missing\n",
+                "card.number: member_missing\n",
+            ),
+            (
+                "{\"cash\":null}",
+                "cash: not known here\n",
+                "cash: member_unknown\n",
+            ),
+            (
+                "{}",
+                "not an object with one member\n",
+                "wrong_form wanted=OneMember found=Object\n",
+            ),
+            (
+                "[\"cash\"]",
+                "not an object\n",
+                "wrong_form wanted=Object found=List\n",
+            ),
+            (
+                "null",
+                "not an object\n",
+                "wrong_form wanted=Object found=Null\n",
             ),
         ],
     );

@@ -1,4 +1,4 @@
-//! What is told of a body by a form: its value, as it prints for debugging, or its whole report.
+//! What a body reads as by a form: its value, as it prints for debugging, or its whole report.
 
 use super::{
     OrEnd, checked, enums, forms, json, lists, maps, nulls, only_members, reports, signup, tuples,
@@ -31,7 +31,7 @@ pub enum Case {
     Wide(bool),
 }
 
-/// What is told of a tree of this form.
+/// The value of a tree of this form, as text, or its report.
 pub fn told<'a, F: Form<'a>, H: I18n + FormI18n>(
     alloc: Global,
     tree: &Tree<'_, 'a>,
@@ -70,7 +70,7 @@ fn told_by<H: I18n + FormI18n>(
     }
 }
 
-/// What is told of bytes, or where they stop to be JSON.
+/// The same of bytes, or where they stop to be JSON.
 pub fn told_of<H: I18n + FormI18n>(
     alloc: Global,
     case: Case,
@@ -84,7 +84,7 @@ pub fn told_of<H: I18n + FormI18n>(
     }
 }
 
-/// Asks that this is told of bytes.
+/// Asks that bytes read as this.
 pub fn check<H: I18n + FormI18n>(
     rt: &impl Abort,
     alloc: Global,
@@ -97,14 +97,14 @@ pub fn check<H: I18n + FormI18n>(
     assert_eq!(rt; told.as_str(), expected);
 }
 
-/// Asks that this is told of each body, in English.
+/// Asks that each body reads as this, in English.
 pub fn compare(rt: &impl Abort, alloc: Global, case: Case, rows: &[(&str, &str)]) {
     for (body, expected) in rows {
         check(rt, alloc, case, body.as_bytes(), &DefaultI18n, expected);
     }
 }
 
-/// Asks that this is told of each body, in English and as codes.
+/// Asks that each body reads as this, in English and as codes.
 pub fn compare_codes(rt: &impl Abort, alloc: Global, case: Case, rows: &[(&str, &str, &str)]) {
     for (body, english, codes) in rows {
         check(rt, alloc, case, body.as_bytes(), &DefaultI18n, english);

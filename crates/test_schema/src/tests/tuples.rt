@@ -5,66 +5,111 @@ use super::long_tuples::{fifteen, fourteen, sixteen, thirteen};
 use super::told::{Case, check, told};
 use garde::fields::Is;
 use garde::{DefaultI18n, I18n, range};
-use garde_schema::{Closed, FormI18n, Member, Object, U8, Whole};
+use garde_schema::{Closed, FormI18n, Member, Members, Object, U8, Whole};
 use garde_tape::Tree;
 use std::alloc::{AllocError, Global};
+use std::fmt::Debug;
 use std::process::Abort;
 
-// A number up to 20 under each of these names, and no other member.
+// What is told of a tree with the first one to six of these members and no other.
+fn few<'a, M: Members<'a> + Copy, H: I18n + FormI18n>(
+    alloc: Global,
+    tree: &Tree<'_, 'a>,
+    size: usize,
+    members: &[M; 16],
+    h: &H,
+) -> Result<String, AllocError>
+where
+    M::Out: Debug,
+{
+    let [a, b, c, d, e, f, ..] = *members;
+    match size {
+        1 => told(alloc, tree, &Object(Closed((a,))), h),
+        2 => told(alloc, tree, &Object(Closed((a, b))), h),
+        3 => told(alloc, tree, &Object(Closed((a, b, c))), h),
+        4 => told(alloc, tree, &Object(Closed((a, b, c, d))), h),
+        5 => told(alloc, tree, &Object(Closed((a, b, c, d, e))), h),
+        _ => told(alloc, tree, &Object(Closed((a, b, c, d, e, f))), h),
+    }
+}
+
+// The same of the first seven to twelve.
+fn many<'a, M: Members<'a> + Copy, H: I18n + FormI18n>(
+    alloc: Global,
+    tree: &Tree<'_, 'a>,
+    size: usize,
+    members: &[M; 16],
+    h: &H,
+) -> Result<String, AllocError>
+where
+    M::Out: Debug,
+{
+    let [a, b, c, d, e, f, g, i, j, k, l, m, ..] = *members;
+    match size {
+        7 => told(alloc, tree, &Object(Closed((a, b, c, d, e, f, g))), h),
+        8 => told(alloc, tree, &Object(Closed((a, b, c, d, e, f, g, i))), h),
+        9 => told(alloc, tree, &Object(Closed((a, b, c, d, e, f, g, i, j))), h),
+        10 => told(
+            alloc,
+            tree,
+            &Object(Closed((a, b, c, d, e, f, g, i, j, k))),
+            h,
+        ),
+        11 => told(
+            alloc,
+            tree,
+            &Object(Closed((a, b, c, d, e, f, g, i, j, k, l))),
+            h,
+        ),
+        _ => told(
+            alloc,
+            tree,
+            &Object(Closed((a, b, c, d, e, f, g, i, j, k, l, m))),
+            h,
+        ),
+    }
+}
+
+// The same of so many.
+fn told_of_members<'a, M: Members<'a> + Copy, H: I18n + FormI18n>(
+    alloc: Global,
+    tree: &Tree<'_, 'a>,
+    size: usize,
+    members: &[M; 16],
+    h: &H,
+) -> Result<String, AllocError>
+where
+    M::Out: Debug,
+{
+    match size {
+        0..=6 => few(alloc, tree, size, members, h),
+        7..=12 => many(alloc, tree, size, members, h),
+        13 => thirteen(alloc, tree, members, h),
+        14 => fourteen(alloc, tree, members, h),
+        15 => fifteen(alloc, tree, members, h),
+        _ => sixteen(alloc, tree, members, h),
+    }
+}
+
+// A number up to 20 under each of these names.
 macro_rules! numbers {
     ($($name:literal)+) => {
-        &Object(Closed(($(Member($name, Whole(U8, Is(range!(max = 20)))),)+)))
+        [$(Member($name, Whole(U8, Is(range!(max = 20))))),+]
     };
 }
 
-/// What is told of a tree with so many members.
+/// What a tree with so many numbers, and no other member, reads as.
 pub fn told_by<H: I18n + FormI18n>(
     alloc: Global,
     tree: &Tree<'_, '_>,
     size: usize,
     h: &H,
 ) -> Result<String, AllocError> {
-    match size {
-        1 => told(alloc, tree, numbers!("a"), h),
-        2 => told(alloc, tree, numbers!("a" "b"), h),
-        3 => told(alloc, tree, numbers!("a" "b" "c"), h),
-        4 => told(alloc, tree, numbers!("a" "b" "c" "d"), h),
-        5 => told(alloc, tree, numbers!("a" "b" "c" "d" "e"), h),
-        6 => told(alloc, tree, numbers!("a" "b" "c" "d" "e" "f"), h),
-        7 => told(alloc, tree, numbers!("a" "b" "c" "d" "e" "f" "g"), h),
-        8 => told(alloc, tree, numbers!("a" "b" "c" "d" "e" "f" "g" "h"), h),
-        9 => told(
-            alloc,
-            tree,
-            numbers!("a" "b" "c" "d" "e" "f" "g" "h" "i"),
-            h,
-        ),
-        10 => told(
-            alloc,
-            tree,
-            numbers!("a" "b" "c" "d" "e" "f" "g" "h" "i" "j"),
-            h,
-        ),
-        11 => told(
-            alloc,
-            tree,
-            numbers!("a" "b" "c" "d" "e" "f" "g" "h" "i" "j" "k"),
-            h,
-        ),
-        12 => told(
-            alloc,
-            tree,
-            numbers!("a" "b" "c" "d" "e" "f" "g" "h" "i" "j" "k" "l"),
-            h,
-        ),
-        13 => thirteen(alloc, tree, h),
-        14 => fourteen(alloc, tree, h),
-        15 => fifteen(alloc, tree, h),
-        _ => sixteen(alloc, tree, h),
-    }
+    let members = numbers!("a" "b" "c" "d" "e" "f" "g" "h" "i" "j" "k" "l" "m" "n" "o" "p");
+    told_of_members(alloc, tree, size, &members, h)
 }
 
-/// Asks that this is told of each body with so many members.
+/// Asks that each body with so many members reads as this.
 pub fn compare_sizes(rt: &impl Abort, alloc: Global, rows: &[(usize, &str, &str)]) {
     for (size, body, expected) in rows {
         let case = Case::Tuples(*size);
