@@ -36,8 +36,8 @@ AreExchanges Fits config (suc n) stream text rest =
     (first : List ℕ) × (after : List ℕ) × (later : List ℕ) × (text ≡ first ++ later)
     × IsExchange Fits config stream first after × AreExchanges Fits config n after later rest
 
--- What follows them: one more exchange, which closes the connection; or perhaps `100 Continue`, and then nothing or a refusal of the
--- server's own, with a status that no exchange has.
+-- What follows them: one more exchange, which closes the connection; or perhaps `100 Continue`, and then nothing, or a refusal of
+-- `http_server`'s own, whose status is 400, 413, 414, 431, 500 or 501.
 abbrev pub IsLast : (Wire.Request → Wire.Response → Type 0) → Config → List ℕ → List ℕ → Type 0
 IsLast Fits config stream text =
     ((after : List ℕ) × IsExchange Fits config stream text after)

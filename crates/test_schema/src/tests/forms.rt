@@ -8,6 +8,7 @@ use super::texts::Texts;
 use super::told::{Case, check, told, told_of};
 use garde::fields::{Is, Rule};
 use garde::{DefaultI18n, I18n, RuleError};
+use garde_problem::WithCodes;
 use garde_schema::{
     Any, Closed, Flag, FormFault, FormI18n, Integer, Member, Null, Object, Optional, Text, TextRef,
     Wanted,
@@ -125,28 +126,55 @@ fn tells_each_of_many_unknown_members(rt: HostRuntime) {
     assert!(rt; told.ends_with("k9998: unknown\nk9999: unknown\n"));
 }
 
-const FAULTS: &[(FormFault, &str)] = &[
+// A fault of form, its text, and its text with a code.
+const FAULTS: &[(FormFault, &str, &str)] = &[
     (
         FormFault::Wrong(Wanted::Whole, Kind::List),
         "list in place of whole number",
+        "\u{1f}wrong_form\u{1f}list in place of whole number\u{1f}wanted\u{1f}Whole\u{1f}found\u{1f}List\u{1f}",
     ),
     (
         FormFault::Wrong(Wanted::OneMember, Kind::Object),
         "object in place of object with one member",
+        "\u{1f}wrong_form\u{1f}object in place of object with one member\u{1f}wanted\u{1f}OneMember\u{1f}found\u{1f}Object\u{1f}",
     ),
-    (FormFault::OutOfRange(Integer::U8), "out of range"),
-    (FormFault::Missing, "missing"),
-    (FormFault::Repeated, "repeated"),
-    (FormFault::Unknown, "unknown"),
-    (FormFault::NotOneOf, "not one of these"),
+    (
+        FormFault::OutOfRange(Integer::U8),
+        "out of range",
+        "\u{1f}out_of_range\u{1f}out of range\u{1f}of\u{1f}u8\u{1f}",
+    ),
+    (
+        FormFault::Missing,
+        "missing",
+        "\u{1f}member_missing\u{1f}missing\u{1f}",
+    ),
+    (
+        FormFault::Repeated,
+        "repeated",
+        "\u{1f}member_repeated\u{1f}repeated\u{1f}",
+    ),
+    (
+        FormFault::Unknown,
+        "unknown",
+        "\u{1f}member_unknown\u{1f}unknown\u{1f}",
+    ),
+    (
+        FormFault::NotOneOf,
+        "not one of these",
+        "\u{1f}value_unknown\u{1f}not one of these\u{1f}",
+    ),
 ];
 
 #[test]
 fn gives_each_fault_of_form_its_text(rt: HostRuntime) {
-    for (fault, expected) in FAULTS {
+    for (fault, expected, with_code) in FAULTS {
         let text = Texts(DefaultI18n)
             .form_fault(rt.alloc(), *fault)
             .or_end(&rt);
         assert_eq!(rt; text.as_str(), *expected);
+        let coded = WithCodes(Texts(DefaultI18n))
+            .form_fault(rt.alloc(), *fault)
+            .or_end(&rt);
+        assert_eq!(rt; coded.as_str(), *with_code);
     }
 }
