@@ -1,0 +1,5 @@
+pub mod Failing
+pub mod Doing
+pub mod Finding
+pub mod Order
+pub mod Holding

@@ -1,0 +1,92 @@
+//! The table as one that takes valid rows alone.
+ghost use Rattle.std.specs.Prelude.{◌≡◌, false, [], IfOk, IsTrue};
+ghost use Rattle.sqlite.specs.Held.{state};
+ghost use mathlib.Core.HLevel.{Π_prop};
+ghost use Rattle.example_table.specs.Props.{Holds-prop};
+ghost use Rattle.example_table.specs.Stock.{Holds, IsUp, no_schema};
+
+use crate::statements;
+use example_import::row::Row;
+use example_import::store::Store;
+use garde::Valid;
+use sqlite::{Alter, Connection, Error};
+
+/// The table `stock` of a database.
+#[derive(Drop)]
+pub struct Stock<S: Alter> {
+    pub conn: Connection<S>,
+    /// It was made here, and not found.
+    pub is_made: bool,
+    ghost holds: { IsTrue is_made → Holds (state S.Store conn) } by { Π_prop (λ _. Holds-prop (state S.Store conn)) },
+}
+
+impl<S: Alter + Drop> Stock<S> {
+    /// The table, made in a database that has none.
+    pub fn make(mut conn: Connection<S>) -> Result<Stock<S>, Error>
+        requires empty { (state S.Store conn).now.schema ≡ no_schema }
+        requires outside { conn.in_transaction ≡ false }
+        ensures made { IfOk result (λ stock. IsTrue stock.is_made) }
+        ensures empty { IfOk result (λ stock. IsUp (state S.Store stock.conn)
+            → ((state S.Store stock.conn).now.trees 0 ≡ []) × ((state S.Store stock.conn).committed.trees 0 ≡ [])) }
+    {
+        statements::create(&mut conn)?;
+        Ok(Stock {
+            conn,
+            is_made: true,
+        })
+    }
+
+    /// The table that stands in a database. No clause says what it has.
+    pub fn found(conn: Connection<S>) -> Stock<S>
+        ensures { (result.is_made ≡ false) × (result.conn ≡ conn) }
+    {
+        Stock {
+            conn,
+            is_made: false,
+        }
+    }
+}
+
+impl<S: Alter + Drop> Store for Stock<S> {
+    ghost use Rattle.sqlite.specs.Held.{state};
+    ghost use Rattle.std.specs.Prelude.{IsTrue};
+    ghost use Rattle.example_table.specs.Stock.{IsUp, lines_in};
+
+    type Error = Error;
+
+    ghost lines = { λ t. lines_in ((state S.Store t.conn).now.trees 0) };
+
+    ghost kept = { λ t. lines_in ((state S.Store t.conn).committed.trees 0) };
+
+    ghost has_begun = { λ t. (state S.Store t.conn).in_transaction };
+
+    ghost is_sound = { λ t. IsTrue t.is_made × IsUp (state S.Store t.conn) };
+
+    fn has_code(&mut self, code: &str) -> Result<bool, Error> {
+        match statements::find(&mut self.conn, code) {
+            Ok(found) => Ok(found),
+            Err(error) => Err(error),
+        }
+    }
+
+    fn insert(&mut self, row: &Valid<Row>) -> Result<(), Error> {
+        match statements::put(&mut self.conn, row) {
+            Ok(_) => Ok(()),
+            Err(error) => Err(error),
+        }
+    }
+
+    fn begin(&mut self) -> Result<(), Error> {
+        match statements::begin(&mut self.conn) {
+            Ok(_) => Ok(()),
+            Err(error) => Err(error),
+        }
+    }
+
+    fn commit(&mut self) -> Result<(), Error> {
+        match statements::commit(&mut self.conn) {
+            Ok(_) => Ok(()),
+            Err(error) => Err(error),
+        }
+    }
+}

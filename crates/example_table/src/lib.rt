@@ -1,0 +1,5 @@
+//! The table of a stock list in a SQLite database, as a table that takes valid rows alone.
+#![tactic(auto)]
+
+pub mod database;
+mod statements;
