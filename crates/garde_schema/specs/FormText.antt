@@ -18,6 +18,16 @@ wanted_text wants.Null = codes "not null"
 wanted_text wants.List = codes "not a list"
 wanted_text wants.Object = codes "not an object"
 wanted_text wants.OneMember = codes "not an object with one member"
+wanted_text wants.Character = codes "not a character"
+wanted_text wants.Date = codes "not a date"
+wanted_text wants.Time = codes "not a time"
+wanted_text wants.DateTime = codes "not a date and time"
+wanted_text wants.Timestamp = codes "not a timestamp"
+wanted_text wants.Ipv4 = codes "not an IPv4 address"
+wanted_text wants.Ipv6 = codes "not an IPv6 address"
+wanted_text wants.Uuid = codes "not a UUID"
+wanted_text wants.Version = codes "not a version"
+wanted_text wants.Url = codes "not a URL"
 
 -- that a whole number is not one of those of this type, which are named, in English
 abbrev pub range_text : Integer → List ℕ
@@ -50,6 +60,16 @@ wanted_code wants.Null = codes "Null"
 wanted_code wants.List = codes "List"
 wanted_code wants.Object = codes "Object"
 wanted_code wants.OneMember = codes "OneMember"
+wanted_code wants.Character = codes "Character"
+wanted_code wants.Date = codes "Date"
+wanted_code wants.Time = codes "Time"
+wanted_code wants.DateTime = codes "DateTime"
+wanted_code wants.Timestamp = codes "Timestamp"
+wanted_code wants.Ipv4 = codes "Ipv4"
+wanted_code wants.Ipv6 = codes "Ipv6"
+wanted_code wants.Uuid = codes "Uuid"
+wanted_code wants.Version = codes "Version"
+wanted_code wants.Url = codes "Url"
 
 -- the name of what was found
 abbrev pub kind_code : Kind → List ℕ

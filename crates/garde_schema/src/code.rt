@@ -22,6 +22,16 @@ pub(crate) fn name_of_wanted(wanted: Wanted) -> &'static str
         Wanted::List => "List",
         Wanted::Object => "Object",
         Wanted::OneMember => "OneMember",
+        Wanted::Character => "Character",
+        Wanted::Date => "Date",
+        Wanted::Time => "Time",
+        Wanted::DateTime => "DateTime",
+        Wanted::Timestamp => "Timestamp",
+        Wanted::Ipv4 => "Ipv4",
+        Wanted::Ipv6 => "Ipv6",
+        Wanted::Uuid => "Uuid",
+        Wanted::Version => "Version",
+        Wanted::Url => "Url",
     }
 }
 

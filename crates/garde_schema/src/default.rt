@@ -34,6 +34,16 @@ impl FormI18n for DefaultI18n {
             Wanted::List => "not a list",
             Wanted::Object => "not an object",
             Wanted::OneMember => "not an object with one member",
+            Wanted::Character => "not a character",
+            Wanted::Date => "not a date",
+            Wanted::Time => "not a time",
+            Wanted::DateTime => "not a date and time",
+            Wanted::Timestamp => "not a timestamp",
+            Wanted::Ipv4 => "not an IPv4 address",
+            Wanted::Ipv6 => "not an IPv6 address",
+            Wanted::Uuid => "not a UUID",
+            Wanted::Version => "not a version",
+            Wanted::Url => "not a URL",
         }))
     }
 

@@ -44,6 +44,26 @@ pub enum Wanted {
     Object,
     /// An object with one member.
     OneMember,
+    /// A text of one character.
+    Character,
+    /// A text that writes a date.
+    Date,
+    /// A text that writes a time of day.
+    Time,
+    /// A text that writes a date and a time of day.
+    DateTime,
+    /// A text that writes a moment: a date, a time of day and an offset from UTC.
+    Timestamp,
+    /// A text that writes an IPv4 address.
+    Ipv4,
+    /// A text that writes an IPv6 address.
+    Ipv6,
+    /// A text that writes a UUID.
+    Uuid,
+    /// A text that writes a version.
+    Version,
+    /// A text that writes a URL.
+    Url,
 }
 
 /// What is wrong with the form of a value. Of what was found it has the kind, never the value.

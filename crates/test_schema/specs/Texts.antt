@@ -23,6 +23,16 @@ wanted_text wanted.Null = codes "null"
 wanted_text wanted.List = codes "list"
 wanted_text wanted.Object = codes "object"
 wanted_text wanted.OneMember = codes "object with one member"
+wanted_text wanted.Character = codes "character"
+wanted_text wanted.Date = codes "date"
+wanted_text wanted.Time = codes "time"
+wanted_text wanted.DateTime = codes "date and time"
+wanted_text wanted.Timestamp = codes "timestamp"
+wanted_text wanted.Ipv4 = codes "IPv4 address"
+wanted_text wanted.Ipv6 = codes "IPv6 address"
+wanted_text wanted.Uuid = codes "UUID"
+wanted_text wanted.Version = codes "version"
+wanted_text wanted.Url = codes "URL"
 
 abbrev pub fault_text : FormFault → List ℕ
 fault_text (faults.Wrong w k) = kind_text k ++ (codes " in place of " ++ wanted_text w)

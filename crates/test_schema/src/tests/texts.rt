@@ -37,6 +37,16 @@ fn wanted_text(wanted: Wanted) -> &'static str
         Wanted::List => "list",
         Wanted::Object => "object",
         Wanted::OneMember => "object with one member",
+        Wanted::Character => "character",
+        Wanted::Date => "date",
+        Wanted::Time => "time",
+        Wanted::DateTime => "date and time",
+        Wanted::Timestamp => "timestamp",
+        Wanted::Ipv4 => "IPv4 address",
+        Wanted::Ipv6 => "IPv6 address",
+        Wanted::Uuid => "UUID",
+        Wanted::Version => "version",
+        Wanted::Url => "URL",
     }
 }
 
