@@ -20,7 +20,7 @@ class Edit:
 
     def __init__(self, file, crate):
         self.title, self.crate, self.function, self.expects = file.stem, crate, "", OPEN
-        self.is_alone, self.fault, self.spans, self.places = False, "", [], set()
+        self.is_alone, self.is_seldom, self.fault, self.spans, self.places = False, False, "", [], set()
         # the goals whose answers are left out, since they do not fit what the edit makes of the function
         self.unanswered = set()
         for path, text in self.read(file.read_text(encoding="utf-8").splitlines()).items():
@@ -37,6 +37,8 @@ class Edit:
                 self.function = f"{self.crate}::{text.strip()}"
             elif key == "alone":
                 self.is_alone = True
+            elif key == "seldom":
+                self.is_seldom = True
             elif key == "expects":
                 self.expects = text
             elif key == "file":

@@ -28,11 +28,12 @@ def reason(edit, found, lines):
 
 
 def batch_of(edits):
-    """As many of the edits as one check can judge, some of them as bodies of functions of their own."""
+    """As many of the edits as one check can judge, as bodies of functions of their own where that can be: the function that an
+    edit is of is then proved as it stands, and so has a verdict what calls it."""
     taken = []
     for it in edits:
-        fit = it if it.stands_apart(taken) else beside(it, len(taken))
-        if fit and fit.stands_apart(taken):
+        fit = beside(it, len(taken)) or it
+        if fit.stands_apart(taken):
             taken.append(fit)
     return taken
 
@@ -62,11 +63,13 @@ def rounds(crate, edits, room):
 def tried(crate, folder, room):
     """Tries the edits of a folder on a crate. Prints those that fail, and a line. Gives how many there are, and how many fail."""
     start = time.monotonic()
-    edits = edits_of_crates.of(crate, folder)
+    every = edits_of_crates.of(crate, folder)
+    edits = [it for it in every if room.with_seldom or not it.is_seldom]
     came, number = rounds(crate, [it for it in edits if not it.fault], room)
     came.update({it.title: f"NO LONGER APPLIES: {it.fault}" for it in edits if it.fault})
     wrong = [f"{crate}/{it.title}: {came[it.title]} ({it.function})" for it in edits if not came[it.title].startswith(it.expects)]
     of = "" if folder.parent.name == crate else " planted"
-    said = f"{crate}{of}: {len(edits) - len(wrong)} of {len(edits)} as they should be, {number} checks, {time.monotonic() - start:.0f} s"
+    left = f", {len(every) - len(edits)} seldom ones left out" if len(edits) < len(every) else ""
+    said = f"{crate}{of}: {len(edits) - len(wrong)} of {len(edits)} as they should be, {number} checks, {time.monotonic() - start:.0f} s{left}"
     print("\n".join([*wrong, said]), flush=True)
     return len(edits), len(wrong)

@@ -37,8 +37,9 @@ class Room:
 
     LOOK, IDLE, MEMORY = 5, 3, 3_000_000
 
-    def __init__(self, jobs, folders, is_beside):
+    def __init__(self, jobs, folders, is_beside, with_seldom):
         self.jobs, self.left, self.waiting, self.is_beside = jobs, set(folders), {}, is_beside
+        self.with_seldom = with_seldom
         self.open, self.running, self.changed = 1 if is_beside else jobs, 0, threading.Condition()
 
     def widen(self):
