@@ -1,0 +1,7 @@
+mod Options
+mod AddressLaws
+mod Parts
+mod DateLaw
+mod TimeLaw
+mod DateTimeLaw
+mod TimestampLaw

@@ -1,0 +1,5 @@
+use Rattle.garde_parsed.proofs.DateLaw.{date_law}
+use Rattle.garde_parsed.proofs.laws.dates.Goals as goal
+
+pub returns : goal.returns
+returns c = date_law

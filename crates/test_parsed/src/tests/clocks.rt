@@ -1,0 +1,98 @@
+//! Times of day, and timestamps: the value of each text, or the whole report.
+
+use super::texts::quoted;
+use garde::DefaultI18n;
+use garde_form::Parsed;
+use garde_parsed::{Time, Timestamp};
+use garde_schema::{Scratch, read_json};
+use std::alloc::Global;
+use std::test::Fail;
+
+// What is told of a text as a time of day.
+fn time(alloc: Global, text: &str) -> Result<String, Fail> {
+    let json = quoted(alloc, text)?;
+    let mut scratch = Scratch::new(alloc);
+    let form = Parsed(Time, ());
+    match read_json(alloc, json.as_bytes(), &mut scratch, &form, &DefaultI18n) {
+        Ok(time) => Ok(format!(in alloc; "{time}")?),
+        Err(error) => Ok(format!(in alloc; "{error}")?),
+    }
+}
+
+// `partial-time` of RFC 3339, section 5.6; the other forms of ISO 8601 that `jiff` reads; and texts
+// that are none, one of which is as well a month and a day.
+#[test]
+fn reads_times_of_day(rt: HostRuntime) -> Result<(), Fail> {
+    let wrong = "not a time\n";
+    let rows = [
+        ("23:20:50.52", "23:20:50.52"),
+        ("00:00:00", "00:00:00"),
+        ("23:59:59.999999999", "23:59:59.999999999"),
+        ("23:59:60", "23:59:59"),
+        ("23:20", "23:20:00"),
+        ("t23:20", "23:20:00"),
+        ("T1130", "11:30:00"),
+        ("1985-04-12T23:20:50", "23:20:50"),
+        ("23:20:50+01:00", "23:20:50"),
+        ("1130", wrong),
+        ("24:00:00", wrong),
+        ("23:60", wrong),
+        ("23:20:61", wrong),
+        ("2:15", wrong),
+        ("23:20:50.1234567890", wrong),
+        ("23:20:50Z", wrong),
+        ("23.20", wrong),
+        ("11:20 pm", wrong),
+        ("1985-04-12", wrong),
+        ("", wrong),
+    ];
+    for (text, expected) in rows {
+        let told = time(rt.alloc(), text)?;
+        assert_eq!(rt; told.as_str(), expected, "{text}");
+    }
+    Ok(())
+}
+
+// What is told of a text as a timestamp.
+fn timestamp(alloc: Global, text: &str) -> Result<String, Fail> {
+    let json = quoted(alloc, text)?;
+    let mut scratch = Scratch::new(alloc);
+    let form = Parsed(Timestamp, ());
+    match read_json(alloc, json.as_bytes(), &mut scratch, &form, &DefaultI18n) {
+        Ok(moment) => Ok(format!(in alloc; "{moment}")?),
+        Err(error) => Ok(format!(in alloc; "{error}")?),
+    }
+}
+
+// The five texts of RFC 3339, section 5.8, each with the moment that this section names (a leap
+// second is the second before); and texts that are none.
+#[test]
+fn reads_timestamps(rt: HostRuntime) -> Result<(), Fail> {
+    let wrong = "not a timestamp\n";
+    let rows = [
+        ("1985-04-12T23:20:50.52Z", "1985-04-12T23:20:50.52Z"),
+        ("1996-12-19T16:39:57-08:00", "1996-12-20T00:39:57Z"),
+        ("1990-12-31T23:59:60Z", "1990-12-31T23:59:59Z"),
+        ("1990-12-31T15:59:60-08:00", "1990-12-31T23:59:59Z"),
+        ("1937-01-01T12:00:27.87+00:20", "1937-01-01T11:40:27.87Z"),
+        ("1985-04-12t23:20:50.52z", "1985-04-12T23:20:50.52Z"),
+        ("1985-04-12 23:20:50Z", "1985-04-12T23:20:50Z"),
+        ("1970-01-01T00:00:00-00:00", "1970-01-01T00:00:00Z"),
+        ("1985-04-12T23:20:50.52", wrong),
+        ("1985-04-12", wrong),
+        ("1985-04-12Z", wrong),
+        ("23:20:50Z", wrong),
+        ("1985-02-29T00:00:00Z", wrong),
+        ("1985-04-12T24:00:00Z", wrong),
+        ("1985-04-12T23:20:50+1:00", wrong),
+        ("1985-04-12T23:20:50+01:60", wrong),
+        ("482196050", wrong),
+        ("Fri, 12 Apr 1985 23:20:50 GMT", wrong),
+        ("", wrong),
+    ];
+    for (text, expected) in rows {
+        let told = timestamp(rt.alloc(), text)?;
+        assert_eq!(rt; told.as_str(), expected, "{text}");
+    }
+    Ok(())
+}
