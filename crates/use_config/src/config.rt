@@ -1,89 +1,68 @@
-//! The whole configuration, and what is known of a valid one.
-ghost use Rattle.garde.specs.Fields.{◌and◌, Equals, each_value, field, map_between, quotient, u32_min};
+//! The whole configuration, and its form.
+ghost use Rattle.std.specs.Prelude.{IfOk};
+ghost use Rattle.garde.specs.Author.{Known, unsigned_in};
 
-use crate::logging::Logging;
-use crate::server::Server;
-use garde::fields::{Dive, Each, Field, Fields, Is};
+use crate::limit::{InOrder, Limit, MakeLimit};
+use crate::logging::{FileForDebug, LEVELS, Logging, MakeLogging};
+use crate::server::{IsHost, MakeServer, MakeTls, Server};
+use garde::fields::{Is, Suffix};
 use garde::rules::pattern::regex::Regex;
-use garde::{I18n, Report, Trail, Valid, Validate, length, range};
-use serde::Deserialize;
-use std::alloc::{AllocError, Global};
-use std::collections::BTreeMap;
-
-/// What a resource may take.
-#[derive(Clone, Copy, Deserialize)]
-#[serde(deny_unknown_fields)]
-pub struct Limit {
-    pub min: u32,
-    /// Not less than `min`.
-    pub max: u32,
-}
-
-impl Validate for Limit {
-    type Context = ();
-
-    ghost visits = { λ v _. field "max" (u32_min v.min v.max) };
-
-    fn validate_into<'a, H: I18n>(
-        &'a self,
-        alloc: Global,
-        _ctx: &(),
-        trail: &mut Trail<'a>,
-        report: &mut Report,
-        h: &H,
-    ) -> Result<(), AllocError> {
-        let Self { min, max } = self;
-        Field("max", max, Is(range!(min = *min))).visit(alloc, trail, report, h)
-    }
-}
+use garde::{I18n, length, range};
+use garde_schema::{
+    Built, Checked, Closed, Entries, FormI18n, MapUnder, Member, Nullish, Object, OneOf, ReadError,
+    Scratch, Text, U16, U32, Under, Whole, read_json,
+};
+use std::alloc::Global;
+use std::marker::PhantomData;
 
 /// The configuration of a service, with limits by the names of resources.
-#[derive(Drop, Deserialize)]
-#[serde(deny_unknown_fields)]
-pub struct Config {
-    pub server: Server,
-    pub logging: Logging,
-    pub limits: BTreeMap<String, Limit>,
+#[derive(Drop)]
+pub struct Config<'t> {
+    pub server: Server<'t>,
+    pub logging: Logging<'t>,
+    pub limits: Entries<'t, Limit>,
 }
 
-impl Validate for Config {
-    /// What the name of a host is like.
-    type Context = Regex;
-
-    ghost visits = { λ v names.
-        field "server" (⟦<Server as Validate>⟧.visits v.server names)
-        and field "logging" (⟦<Logging as Validate>⟧.visits v.logging tt)
-        and field "limits" (map_between 1 100 v.limits
-        and each_value (λ limit. ⟦<Limit as Validate>⟧.visits limit tt) v.limits) };
-
-    fn validate_into<'a, H: I18n>(
-        &'a self,
-        alloc: Global,
-        ctx: &Regex,
-        trail: &mut Trail<'a>,
-        report: &mut Report,
-        h: &H,
-    ) -> Result<(), AllocError> {
-        let Self {
+/// Reads a configuration in JSON, or reports every fault of its form and of its rules. It has a
+/// worker.
+#[tactic(auto, unfolding(garde::specs::Fields::Known))]
+pub fn read_config<'a, H: I18n + FormI18n>(
+    alloc: Global,
+    bytes: &'a [u8],
+    scratch: &'a mut Scratch,
+    names: &Regex,
+    h: &H,
+) -> Result<Config<'a>, ReadError>
+    ensures { IfOk result (λ config. Known (unsigned_in 1 64 config.server.workers)) }
+{
+    let pem = Is(Suffix(".pem"));
+    let tls = Object(Closed((Member("certificate", Text(pem)), Member("key", Text(pem)))));
+    let server = Object(Closed((
+        Member("host", Text(IsHost(names))),
+        Member("port", Whole(U16, Is(range!(min = 1)))),
+        Member("workers", Whole(U16, Is(range!(min = 1, max = 64)))),
+        Member("connections", Whole(U16, ())),
+        Nullish("tls", Built(tls, MakeTls(PhantomData))),
+    )));
+    let logging = (
+        Member("level", OneOf(&LEVELS)),
+        Nullish("file", Text(Is(length!(min = 1, max = 255)))),
+    );
+    let logging = Object(Closed(Checked(logging, Under("file", FileForDebug))));
+    let limit = (Member("min", Whole(U32, ())), Member("max", Whole(U32, ())));
+    let limit = Object(Closed(Checked(limit, Under("max", InOrder))));
+    let limits = MapUnder(Is(length!(min = 1, max = 100)), Built(limit, MakeLimit));
+    let form = Object(Closed((
+        Member("server", Built(server, MakeServer(PhantomData))),
+        Member("logging", Built(logging, MakeLogging(PhantomData))),
+        Member("limits", limits),
+    )));
+    match read_json(alloc, bytes, scratch, &form, h) {
+        Ok((server, logging, limits)) => Ok(Config {
             server,
             logging,
             limits,
-        } = self;
-        let few = Is(length!(min = 1, max = 100));
-        (
-            Field("server", server, Dive(ctx)),
-            Field("logging", logging, Dive(&())),
-            Field("limits", limits, (few, Each(Dive(&())))),
-        )
-            .visit(alloc, trail, report, h)
+        }),
+        Err(error) => Err(error),
     }
-}
-
-/// How many connections each worker takes. A valid configuration has a worker, so nothing is
-/// tested.
-#[tactic(auto, unfolding(garde::specs::Fields::Known))]
-pub fn share(config: &Valid<Config>) -> u16
-    ensures { Equals result (quotient config.now.server.connections config.now.server.workers) }
-{
-    config.server.connections / config.server.workers
 }

@@ -1,47 +1,75 @@
 //! What is logged, and where.
-ghost use Rattle.garde.specs.Fields.{◌and◌, Bool, true, false, field, length_between, optional, required, when};
+ghost use Rattle.std.specs.Prelude.{Bool, true, false, refl};
+ghost use Rattle.garde.specs.Author.{required, when};
 ghost use Rattle.use_config.specs.declared.logging.Level.TheVariants.{Debug};
 
-use garde::fields::{Field, Fields, IfSome, Is, Required, When};
-use garde::{I18n, Report, Trail, Validate, length};
-use serde::Deserialize;
+use garde::fields::{Is, Required, When};
+use garde::{I18n, Report, Trail};
+use garde_schema::{Build, Rules, TextRef};
 use std::alloc::{AllocError, Global};
+use std::marker::PhantomData;
 
 /// How much is logged.
-#[derive(Clone, Copy, Deserialize)]
-#[serde(rename_all = "lowercase")]
+#[derive(Clone, Copy)]
 pub enum Level {
     Error,
     Info,
     Debug,
 }
 
-/// A log. At the level `debug` it wants a file.
-#[derive(Drop, Deserialize)]
-#[serde(deny_unknown_fields)]
-pub struct Logging {
+/// The names of the levels.
+pub const LEVELS: [(&str, Level); 3] = [
+    ("error", Level::Error),
+    ("info", Level::Info),
+    ("debug", Level::Debug),
+];
+
+/// A log. At the level `debug` it has a file.
+#[derive(Drop)]
+pub struct Logging<'t> {
     pub level: Level,
-    pub file: Option<String>,
+    pub file: Option<TextRef<'t>>,
 }
 
-impl Validate for Logging {
-    type Context = ();
+/// Makes it of its members.
+#[derive(Drop)]
+pub struct MakeLogging<'t>(pub PhantomData<&'t str>);
 
-    ghost visits = { λ v _. field "file" (
-        when (elim v.level as (λ _. Bool) [ Debug ↦ true | _ ↦ false ]) (required v.file)
-        and optional (λ name. length_between 1 255 name) v.file) };
+impl<'t> Build for MakeLogging<'t> {
+    type Parts = (Level, Option<TextRef<'t>>);
 
-    fn validate_into<'a, H: I18n>(
-        &'a self,
+    type Made = Logging<'t>;
+
+    ghost builds = { λ _ parts. record { level = parts.0; file = parts.1 } };
+
+    ghost parts_of = { λ _ logging. (logging.level, logging.file) };
+
+    ghost kept = { λ _ _. refl };
+
+    fn build(&self, parts: (Level, Option<TextRef<'t>>)) -> Logging<'t> {
+        let (level, file) = parts;
+        Logging { level, file }
+    }
+}
+
+/// The rule that at the level `debug` there is a file.
+#[derive(Clone, Copy)]
+pub struct FileForDebug;
+
+impl<A> Rules<(Level, Option<A>)> for FileForDebug {
+    ghost asks = { λ _ v.
+        when (elim v.0 as (λ _. Bool) [ Debug ↦ true | _ ↦ false ]) (required v.1) };
+
+    fn ask<'a, H: I18n>(
+        &self,
         alloc: Global,
-        _ctx: &(),
+        value: &(Level, Option<A>),
         trail: &mut Trail<'a>,
         report: &mut Report,
         h: &H,
     ) -> Result<(), AllocError> {
-        let Self { level, file } = self;
+        let (level, file) = value;
         let wanted = When(matches!(level, Level::Debug), Is(Required));
-        let named = IfSome(Is(length!(min = 1, max = 255)));
-        Field("file", file, (wanted, named)).visit(alloc, trail, report, h)
+        wanted.ask(alloc, file, trail, report, h)
     }
 }

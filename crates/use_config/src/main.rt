@@ -1,17 +1,22 @@
-//! Checks the configuration of a service: reads it from standard input, in TOML or in JSON, and
-//! prints each fault at its path.
+//! Checks the configuration of a service: reads it from standard input, in TOML or in JSON, by one
+//! form, and prints each fault of form and of the rules at its path.
 #![tactic(auto)]
 
+ghost use Rattle.garde.specs.Author.{Known, unsigned_in};
+
 mod config;
+mod limit;
 mod logging;
 mod server;
 
-use crate::config::{Config, share};
-use crate::server::NAME;
+use crate::config::{Config, read_config};
+use crate::server::{NAME, share};
 use anyhow::{Context, Error, Result, bail};
+use garde::DefaultI18n;
 use garde::rules::pattern::regex::Regex;
-use garde::{IntoValidError, Unvalidated, Valid};
 use garde_problem::Escaped;
+use garde_schema::{ReadError, Scratch};
+use garde_toml::toml_to_json;
 use std::alloc::Global;
 use std::fmt::Write;
 use std::io::read_to_string;
@@ -34,43 +39,52 @@ fn asks_for_json(rt: &HostRuntime) -> Result<bool> {
     }
 }
 
-/// The configuration that a text spells, not validated yet.
-fn read(alloc: Global, text: &str, json: bool) -> Result<Config> {
-    if json {
-        return Ok(serde_json::from_str(alloc, text)?);
-    }
-    match toml::from_str(alloc, text) {
-        Ok(config) => Ok(config),
+/// A configuration in TOML as JSON.
+fn to_json(alloc: Global, text: &str) -> Result<String> {
+    match toml_to_json(alloc, text) {
+        Ok(json) => Ok(json),
         Err(error) => {
-            let told = format!(in alloc; "{error}")?;
-            bail!("{}", told.as_str().trim_end())
+            let message = format!(in alloc; "{error}")?;
+            bail!("{}", message.as_str().trim_end())
         }
     }
 }
 
 /// Prints what a valid configuration asks for.
-fn show(rt: &HostRuntime, config: &Valid<Config>) -> Result<ExitCode> {
+fn show(rt: &HostRuntime, config: &Config<'_>) -> Result<ExitCode>
+    requires { Known (unsigned_in 1 64 config.now.server.workers) }
+{
     let server = &config.server;
-    let (host, port, workers) = (&server.host, server.port, server.workers);
-    let most = share(config);
+    let (host, port, workers) = (server.host.text(), server.port, server.workers);
+    let most = share(server);
     println!(rt; "{host}, port {port}: {workers} workers, {most} connections each")?;
     Ok(ExitCode::SUCCESS)
+}
+
+/// Reads a configuration in JSON, and prints what it asks for or each fault.
+fn judge(rt: &HostRuntime, text: &str) -> Result<ExitCode> {
+    let alloc = rt.alloc();
+    let names = Regex::new(alloc, NAME)?;
+    let mut scratch = Scratch::new(alloc);
+    match read_config(alloc, text.as_bytes(), &mut scratch, &names, &DefaultI18n) {
+        Ok(config) => show(rt, &config),
+        Err(ReadError::Report(report)) => {
+            print!(rt; "{}", Escaped(alloc, &report))?;
+            Ok(ExitCode::FAILURE)
+        }
+        Err(error) => Err(error.into()),
+    }
 }
 
 fn run(rt: &HostRuntime) -> Result<ExitCode> {
     let alloc = rt.alloc();
     let json = asks_for_json(rt)?;
     let text = read_to_string(alloc, rt.stdin()).context("the configuration is not read")?;
-    let config = read(alloc, text.as_str(), json)?;
-    let names = Regex::new(alloc, NAME)?;
-    match Unvalidated::new(config).validate_with(alloc, &names) {
-        Ok(config) => show(rt, &config),
-        Err(IntoValidError::Report(report)) => {
-            print!(rt; "{}", Escaped(alloc, &report))?;
-            Ok(ExitCode::FAILURE)
-        }
-        Err(IntoValidError::Memory(_)) => bail!("out of memory"),
+    if json {
+        return judge(rt, text.as_str());
     }
+    let text = to_json(alloc, text.as_str())?;
+    judge(rt, text.as_str())
 }
 
 /// A message in one line. A name in it may come from anyone, so what is not shown is escaped, and a

@@ -1,99 +1,126 @@
 //! Where the service listens, and how much it takes.
-ghost use Rattle.garde.specs.Fields.{◌and◌, Equals, either, field, is_ipv4, is_ipv4_text, is_ipv6, is_ipv6_text, not, optional, pattern, range_between, suffix, u16_min, when};
+ghost use Rattle.std.specs.Prelude.{◌≡◌, ◌||◌, ◌/◌, not, refl};
+ghost use Rattle.garde.specs.Author.{Known, pattern, unsigned_in, when};
+ghost use Rattle.garde.specs.Fields.{is_ipv4_text, is_ipv6_text};
 
-use garde::fields::{Dive, Field, Fields, IfSome, Is, IsInMemory, Pattern, Suffix, When};
+use garde::fields::{IsInMemory, Pattern, When};
 use garde::rules::ip::{is_ipv4, is_ipv6};
 use garde::rules::pattern::regex::Regex;
-use garde::{I18n, Report, Trail, Validate, range};
-use serde::Deserialize;
+use garde::{I18n, Report, Trail};
+use garde_schema::{Build, Rules, TextRef};
 use std::alloc::{AllocError, Global};
+use std::marker::PhantomData;
 
 /// What the name of a host is like.
 pub const NAME: &str = "^[a-z0-9-]+([.][a-z0-9-]+)*$";
 
 /// The files of an encrypted connection.
-#[derive(Drop, Deserialize)]
-#[serde(deny_unknown_fields)]
-pub struct Tls {
-    pub certificate: String,
-    pub key: String,
+#[derive(Drop)]
+pub struct Tls<'t> {
+    pub certificate: TextRef<'t>,
+    pub key: TextRef<'t>,
 }
 
-impl Validate for Tls {
-    type Context = ();
+/// Makes it of its members.
+#[derive(Drop)]
+pub struct MakeTls<'t>(pub PhantomData<&'t str>);
 
-    ghost visits = { λ v _.
-        field "certificate" (suffix ".pem" v.certificate)
-        and field "key" (suffix ".pem" v.key) };
+impl<'t> Build for MakeTls<'t> {
+    type Parts = (TextRef<'t>, TextRef<'t>);
 
-    fn validate_into<'a, H: I18n>(
-        &'a self,
-        alloc: Global,
-        _ctx: &(),
-        trail: &mut Trail<'a>,
-        report: &mut Report,
-        h: &H,
-    ) -> Result<(), AllocError> {
-        let Self { certificate, key } = self;
-        (
-            Field("certificate", certificate, Is(Suffix(".pem"))),
-            Field("key", key, Is(Suffix(".pem"))),
-        )
-            .visit(alloc, trail, report, h)
+    type Made = Tls<'t>;
+
+    ghost builds = { λ _ parts. record { certificate = parts.0; key = parts.1 } };
+
+    ghost parts_of = { λ _ tls. (tls.certificate, tls.key) };
+
+    ghost kept = { λ _ _. refl };
+
+    fn build(&self, parts: (TextRef<'t>, TextRef<'t>)) -> Tls<'t> {
+        let (certificate, key) = parts;
+        Tls { certificate, key }
     }
 }
 
 /// The place of a service: a host by its name or its address, and a port.
-#[derive(Drop, Deserialize)]
-#[serde(deny_unknown_fields)]
-pub struct Server {
-    pub host: String,
+#[derive(Drop)]
+pub struct Server<'t> {
+    pub host: TextRef<'t>,
     pub port: u16,
     pub workers: u16,
     /// How many connections the workers take together.
     pub connections: u16,
-    pub tls: Option<Tls>,
+    pub tls: Option<Tls<'t>>,
+}
+
+/// Makes it of its members.
+#[derive(Drop)]
+pub struct MakeServer<'t>(pub PhantomData<&'t str>);
+
+impl<'t> Build for MakeServer<'t> {
+    type Parts = (TextRef<'t>, u16, u16, u16, Option<Tls<'t>>);
+
+    type Made = Server<'t>;
+
+    ghost builds = { λ _ parts. record {
+      host = parts.0;
+      port = parts.1;
+      workers = parts.2;
+      connections = parts.3;
+      tls = parts.4;
+    } };
+
+    ghost parts_of = { λ _ server.
+        (server.host, server.port, server.workers, server.connections, server.tls) };
+
+    ghost kept = { λ _ _. refl };
+
+    fn build(&self, parts: (TextRef<'t>, u16, u16, u16, Option<Tls<'t>>)) -> Server<'t> {
+        let (host, port, workers, connections, tls) = parts;
+        Server {
+            host,
+            port,
+            workers,
+            connections,
+            tls,
+        }
+    }
 }
 
 /// Whether a host is an address.
 fn is_address(host: &str) -> bool
-    ensures { Equals result (either (is_ipv4_text host.now) (is_ipv6_text host.now)) }
+    ensures { result ≡ is_ipv4_text host.now || is_ipv6_text host.now }
 {
     is_ipv4(host) || is_ipv6(host)
 }
 
-impl Validate for Server {
-    /// What the name of a host is like.
-    type Context = Regex;
+/// The rule that a host is an address, or else a name that the pattern matches.
+#[derive(Clone, Copy)]
+pub struct IsHost<'r>(pub &'r Regex);
 
-    ghost visits = { λ v names.
-        field "host" (when (not (either (is_ipv4 v.host) (is_ipv6 v.host))) (pattern names v.host))
-        and field "port" (u16_min 1 v.port)
-        and field "workers" (range_between 1 64 v.workers)
-        and field "tls" (optional (λ tls. ⟦<Tls as Validate>⟧.visits tls tt) v.tls) };
+impl<'t> Rules<TextRef<'t>> for IsHost<'_> {
+    ghost asks = { λ rule host.
+        when (not (is_ipv4_text host || is_ipv6_text host)) (pattern rule.0.now host) };
 
-    fn validate_into<'a, H: I18n>(
-        &'a self,
+    fn ask<'a, H: I18n>(
+        &self,
         alloc: Global,
-        ctx: &Regex,
+        value: &TextRef<'t>,
         trail: &mut Trail<'a>,
         report: &mut Report,
         h: &H,
     ) -> Result<(), AllocError> {
-        let Self {
-            host,
-            port,
-            workers,
-            connections: _,
-            tls,
-        } = self;
-        let named = !is_address(host.as_str());
-        (
-            Field("host", host, When(named, IsInMemory(Pattern(ctx)))),
-            Field("port", port, Is(range!(min = 1))),
-            Field("workers", workers, Is(range!(min = 1, max = 64))),
-            Field("tls", tls, IfSome(Dive(&()))),
-        )
-            .visit(alloc, trail, report, h)
+        let named = When(!is_address(value.text()), IsInMemory(Pattern(self.0)));
+        named.ask(alloc, value, trail, report, h)
     }
+}
+
+/// How many connections each worker takes. A server that was read has a worker, so nothing is
+/// tested.
+#[tactic(auto, unfolding(garde::specs::Fields::Known))]
+pub fn share(server: &Server<'_>) -> u16
+    requires { Known (unsigned_in 1 64 server.now.workers) }
+    ensures { result ≡ server.now.connections / server.now.workers }
+{
+    server.connections / server.workers
 }

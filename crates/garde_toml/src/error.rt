@@ -1,0 +1,54 @@
+//! Why a text is not turned into JSON.
+ghost use Rattle.std.specs.Prelude.{◌≡◌};
+ghost use Rattle.garde_toml.specs.Answers.{IsToldAs};
+
+use std::alloc::AllocError;
+use std::fmt;
+use toml::de::Error;
+
+/// Why a text is not turned into JSON.
+#[derive(Debug, Drop)]
+pub enum TomlError {
+    /// The text is no TOML. Prints the line, the column and the reason.
+    Parse(Error),
+    /// The tables and arrays nest deeper than the 128 that a reader of JSON takes.
+    TooDeep,
+    /// Out of memory.
+    Memory,
+}
+
+/// Out of memory is `TomlError::Memory`.
+impl From<Error> for TomlError {
+    ghost from_gives = { IsToldAs };
+
+    fn from(error: Error) -> TomlError {
+        if error.is_memory() {
+            TomlError::Memory
+        } else {
+            TomlError::Parse(error)
+        }
+    }
+}
+
+impl From<AllocError> for TomlError {
+    ghost use Rattle.garde_toml.specs.declared.error.TomlError.TheVariants.{Memory};
+
+    ghost from_gives = { λ _ told. told ≡ Memory };
+
+    fn from(_: AllocError) -> TomlError {
+        TomlError::Memory
+    }
+}
+
+/// Prints why the text is no TOML and where, in two lines, or why it is not turned into JSON.
+impl fmt::Display for TomlError {
+    fn fmt<W: fmt::Write>(&self, f: &mut fmt::Formatter<W>) -> fmt::Result {
+        match self {
+            TomlError::Parse(error) => write!(f, "{error}"),
+            TomlError::TooDeep => f.write_str("tables and arrays nest deeper than 128"),
+            TomlError::Memory => f.write_str("out of memory"),
+        }
+    }
+}
+
+impl std::error::Error for TomlError {}

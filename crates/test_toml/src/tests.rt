@@ -1,0 +1,4 @@
+//! Tests by what they are of.
+
+mod documents;
+mod rejected;

@@ -1,0 +1,57 @@
+//! What a resource may take.
+ghost use Rattle.std.specs.Prelude.{refl};
+ghost use Rattle.garde.specs.Author.{unsigned_in};
+
+use garde::fields::Is;
+use garde::{I18n, Report, Trail, range};
+use garde_schema::{Build, Rules};
+use std::alloc::{AllocError, Global};
+
+/// What a resource may take.
+#[derive(Clone, Copy)]
+pub struct Limit {
+    pub min: u32,
+    /// Not less than `min`.
+    pub max: u32,
+}
+
+/// Makes it of its members.
+#[derive(Clone, Copy)]
+pub struct MakeLimit;
+
+impl Build for MakeLimit {
+    type Parts = (u32, u32);
+
+    type Made = Limit;
+
+    ghost builds = { λ _ parts. record { min = parts.0; max = parts.1 } };
+
+    ghost parts_of = { λ _ limit. (limit.min, limit.max) };
+
+    ghost kept = { λ _ _. refl };
+
+    fn build(&self, parts: (u32, u32)) -> Limit {
+        let (min, max) = parts;
+        Limit { min, max }
+    }
+}
+
+/// The rule that the second number is not less than the first.
+#[derive(Clone, Copy)]
+pub struct InOrder;
+
+impl Rules<(u32, u32)> for InOrder {
+    ghost asks = { λ _ v. unsigned_in v.0 4294967295 v.1 };
+
+    fn ask<'a, H: I18n>(
+        &self,
+        alloc: Global,
+        value: &(u32, u32),
+        trail: &mut Trail<'a>,
+        report: &mut Report,
+        h: &H,
+    ) -> Result<(), AllocError> {
+        let (min, max) = value;
+        Is(range!(min = *min)).ask(alloc, max, trail, report, h)
+    }
+}
