@@ -9,7 +9,7 @@ from lib import prover
 from lib.edits import OPEN
 from lib.verdicts import PROVED, verdicts
 
-from . import causes, said
+from . import answers, causes, said
 from .coded import read_coded
 from .functions import Functions
 from .pairs import pairs_of
@@ -57,9 +57,21 @@ class Type:
         odd = dict.fromkeys(it for it in [*left, *right] if (left.count(it), right.count(it)) != (1, 1))
         return [f"{self.place.file}:{self.place.visits_line}: variant `{it}`: the command does not find it once in `visits` and once in the code" for it in odd]
 
-    def opened(self, lines):
+    def verdicts(self, lines, check):
+        """What a check of the functions of the parts says of each. Where the search gave up, the prover is asked once more under the
+        files that it asks for: a part that it then accepts is proved."""
+        known = verdicts(lines)
+        files = answers.files(self.place.crate, lines)
+        paths = [it for it in self.functions.paths() if known.get(f"{self.place.crate}::{it}") == OPEN]
+        paths = [it for it in paths if f"proofs/{it.replace('::', '/')}/Answers.antt" in files]
+        if paths:
+            again = verdicts(check(paths, {self.place.file: self.functions.text(), **files}))
+            known.update({name: it for name, it in again.items() if it == PROVED})
+        return known
+
+    def opened(self, lines, known):
         """The lines of the parts that differ by what a check of their functions prints, and those that it does not judge."""
-        found, known, unjudged, said_of = [], verdicts(lines), [], self.said_of_pairs(lines)
+        found, unjudged, said_of = [], [], self.said_of_pairs(lines)
         for pair, path in zip(self.pairs, self.functions.paths()):
             verdict = known.get(f"{self.place.crate}::{path}", "no verdict")
             if verdict == OPEN:
@@ -108,7 +120,7 @@ class Room:
 
     def __init__(self, place, jobs, kept=None):
         self.place, self.jobs, self.root = place, jobs, place.folder.parent.parent
-        self.kept = kept
+        self.kept, self.given = kept, set()
 
     def __enter__(self):
         self.folder = tempfile.TemporaryDirectory(prefix="why-")
@@ -132,6 +144,9 @@ class Room:
 
     def check(self, functions, files):
         """The lines that a check of some functions prints, with these texts in place of the crate's own."""
+        for name in self.given - files.keys():
+            pathlib.Path(self.at, name).unlink()
+        self.given = {it for it in files if not pathlib.Path(self.place.folder, it).is_file()}
         for name, text in files.items():
             file = self.at / name
             file.parent.mkdir(parents=True, exist_ok=True)
@@ -145,7 +160,7 @@ def explain(it, check):
     place, lines = it.place, [*it.unread(), *it.differing()]
     if it.pairs:
         printed = check(it.functions.paths(), {place.file: it.functions.text()})
-        opened, unjudged = it.opened(printed)
+        opened, unjudged = it.opened(printed, it.verdicts(printed, check))
         if len(unjudged) == len(it.pairs):
             is_own, errors = it.errors(printed)
             why = "the crate does not compile, or `visits` cannot be read" if is_own else "the parts do not compile by themselves"
@@ -169,12 +184,13 @@ def imports(errors):
 def whole(it, check):
     """What to say of a type whose parts all agree."""
     place, path = it.place, it.place.function()
-    known = f"{place.crate}::{path}"
-    if verdicts(check([path], {place.file: place.plain.text})).get(known) == PROVED:
+    known, printed = f"{place.crate}::{path}", check([path], {place.file: place.plain.text})
+    if verdicts(printed).get(known) == PROVED:
         return Answer(0, [f"{place.name()}: the prover accepts it"])
     agrees = f"{place.file}:{place.visits_line}: each part of `{place.type_name}` agrees, and the prover does not accept the whole"
     found = [f"  it may be this: {text} ({causes.PAGE})" for text in causes.of_whole(place, it.stated, it.coded, it.pairs)]
-    answers = it.answers()
-    if not found and answers and verdicts(check([path], dict([answers]))).get(known) == PROVED:
-        return Answer(1, [f"{agrees} by its own search. It accepts this file, {answers[0]}:", *answers[1].splitlines()])
+    tried = [*answers.files(place.crate, printed).items(), *filter(None, [it.answers()])] if not found else []
+    for file, text in tried:
+        if verdicts(check([path], {place.file: place.plain.text, file: text})).get(known) == PROVED:
+            return Answer(1, [f"{agrees} by its own search. It accepts this file, {file}:", *text.splitlines()])
     return Answer(1 if found else 2, [agrees, *(found or ["  the command cannot tell why"])])

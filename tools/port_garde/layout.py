@@ -1,4 +1,5 @@
 """Rust code as a tree, and its layout, which is that of `rt fmt`."""
+import re
 from dataclasses import dataclass
 
 WIDTH, USE_WIDTH, USE_ROW = 100, 98, 99
@@ -39,6 +40,24 @@ class Lent:
 
 
 @dataclass(frozen=True)
+class Rows:
+    """A reference to an array."""
+
+    parts: tuple
+    width: int = CALL
+    head: str = "&["
+
+
+@dataclass(frozen=True)
+class Angles:
+    """A type with its arguments."""
+
+    head: str
+    parts: tuple
+    width: int = WIDTH
+
+
+@dataclass(frozen=True)
 class Method:
     """A call of a method."""
 
@@ -61,6 +80,10 @@ def flat(tree):
         return f"{flat(tree.receiver)}.{tree.name}({commas(tree.parts)})"
     if isinstance(tree, Literal):
         return f"{tree.head} {{ {fields_of(tree)} }}"
+    if isinstance(tree, Rows):
+        return f"&[{commas(tree.parts)}]"
+    if isinstance(tree, Angles):
+        return f"{tree.head}<{commas(tree.parts)}>"
     return f"{tree.head}({commas(tree.parts)})"
 
 
@@ -98,6 +121,11 @@ def lay(tree, column, indent, after=0):
     if isinstance(tree, Literal):
         lines = [lay_field(name, value, indent + 4) for name, value in tree.fields]
         return block(f"{tree.head} {{", lines, "}", indent)
+    if isinstance(tree, Angles):
+        rows = ",\n".join(f"{' ' * (indent + 4)}{lay(it, indent + 4, indent + 4, 1)}" for it in tree.parts)
+        return f"{tree.head}<\n{rows},\n{' ' * indent}>"
+    if isinstance(tree, Rows):
+        return block("&[", [lay(it, indent + 4, indent + 4, 1) for it in tree.parts], "]", indent)
     if len(tree.parts) == 1 and not isinstance(tree.parts[0], Word) and tree.head:
         inside = lay(tree.parts[0], column + len(tree.head) + 1, indent, after + 1)
         return f"{tree.head}({inside})"
@@ -143,7 +171,7 @@ def arm(pattern, tree, indent):
 
 def use_line(path, names):
     """A `use` line, or lines."""
-    names = sorted(names)
+    names = sorted(names, key=lambda it: [int(part) if part.isdigit() else part for part in re.split(r"(\d+)", it)])
     if len(names) == 1:
         return f"use {path}::{names[0]};"
     line = f"use {path}::{{{', '.join(names)}}};"

@@ -23,6 +23,7 @@ class Uses:
     others: set = field(default_factory=set)
     bytes: bool = False
     cow: bool = False
+    sides: bool = False
     rules: dict = field(default_factory=dict)
 
 
@@ -57,9 +58,9 @@ def is_option(kind):
 
 
 def is_text(kind):
-    """Whether a type is a text: `String`, `&str` or `Cow<str>`."""
+    """Whether a type is a text: `String`, `&str`, `Cow<str>`, or a text that a form reads."""
     borrowed = kind.kind == "ref" and is_path(kind.args[0], "str")
-    return is_path(kind, "String") or borrowed or (is_path(kind, "Cow") and any(is_path(it, "str") for it in kind.args[1:]))
+    return is_path(kind, "String", "TextRef") or borrowed or (is_path(kind, "Cow") and any(is_path(it, "str") for it in kind.args[1:]))
 
 
 class Scope:

@@ -76,6 +76,19 @@ def lost_of_serde(text, item, declaration):
         yield item.line, f"what the port wrote does not hold {', '.join(lost)} of this type: this is a fault of the port"
 
 
+def lost_of_names(text, items, written):
+    """The names in quotes of attributes of serde that the forms do not hold, each with its line."""
+    stated = "\n".join(written)
+    for item in items:
+        plain, whole = blank(text[item.start : item.end]), blank(text[item.start : item.end], keep=True)
+        for found in re.finditer(r"#\s*\[\s*serde\s*\(", plain):
+            shown = whole[found.end() : group_end(plain, found.end())]
+            for name in re.findall(r'\b(?:rename|deserialize|tag|content|alias)\s*=\s*"([^"]*)"', shown):
+                if f'"{name}"' not in stated and item.kind + item.variants[0].shape != "structtuple":
+                    line = text.count("\n", 0, item.start + found.start()) + 1
+                    yield line, f"what the port wrote does not hold the name `{name}` of this line: this is a fault of the port"
+
+
 def attributes_of(text, item):
     """The `garde` attributes of a type, each with its line, without closures and the paths of functions."""
     whole = blank(text[item.start : item.end], keep=True)

@@ -15,6 +15,7 @@ COUNTED = {"Vec": "items", "BTreeMap": "map", "BTreeSet": "set", "HashMap": "has
 HELD = {
     "Vec": ("each", ""), "BTreeSet": ("each_of_set", ""), "HashSet": ("items_in_any_order", ".keys"),
     "VecDeque": ("items", ".items"), "LinkedList": ("items", ""), "[;]": ("items", ""), "Option": ("each_of_option", ""),
+    "Items": ("items", ""),
 }
 MAPS = {("BTreeMap", "String"): "each_value", ("BTreeMap", "usize"): "each_numbered"}
 HASH_KEYS = {"String": "λ key. bytes.key_part (string_bytes key)", "usize": "λ key. bytes.index_part key"}
@@ -100,6 +101,8 @@ class Checks:
             self.uses.bytes = True
             self.uses.words |= {"entries_in_any_order"} | ({"string_bytes"} if key == "String" else set())
             return seen.part(kind.args[1]), f"entries_in_any_order ({HASH_KEYS[key]})", f"{seen.name}.entries"
+        if self.writer.borrowed and kind.name == "Entries":
+            return seen.part(Type("unread", "", rule.line)), "items", seen.name
         raise Refusal(rule.line, f"`{rule.name}` of the type `{self.writer.type_text(kind, True)}`, whose items the port does not know")
 
     def dive(self, rule, seen, adapter):
@@ -194,6 +197,8 @@ class Checks:
     def bytes_of(self, seen):
         if seen.type.kind == "ref":
             return f"{seen.name}.now"
+        if is_path(seen.type, "TextRef"):
+            return seen.name
         self.uses.cow = True
         return f"(cow_str_bytes {seen.name})"
 
@@ -208,6 +213,8 @@ class Checks:
 
     def equal(self, rule, seen, other):
         """How it is stated that a value equals that of another field: two texts, two options of texts, or two numbers."""
+        if self.writer.borrowed:
+            return "none"
         kinds = [self.writer.type_text(it, True) for it in (seen.type, other.type)]
         if kinds[0] == "String" and kinds[1] in ("String", "_"):
             return f'{self.word("matches_text")} "{rule.text}" {seen.name} {other.name}'
@@ -254,7 +261,7 @@ class Checks:
             self.uses.bytes = self.uses.bytes or count.startswith("bytes.")
             self.uses.words |= {count} - {it for it in (count,) if it.startswith("bytes.")}
             return f"({count} {self.bytes_of(seen)})"
-        listed = {"VecDeque": ".items", "LinkedList": ""}.get(kind.name)
+        listed = {"VecDeque": ".items", "LinkedList": "", "Items": "", "Entries": ""}.get(kind.name)
         if kind.kind == "ref" and kind.args[0].kind == "slice":
             listed = ".now"
         if rule.mode != "simple" or listed is None:

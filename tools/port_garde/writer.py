@@ -1,18 +1,21 @@
 """The Rattle source with the implementations."""
 import re
 
+from .borrowed import Borrowed
 from .derives import SERDE, Derives, kept_derives, literal_function, named_function, options, serde_lines
 from .implementation import Implementation
 from .layout import CALL, VARIANT, WIDTH, use_line
 from .rules import Expression
+from .schema import Schema
 from .scope import Uses
-from .second import faults_of_values, lost_of_serde, passed_by
+from .second import faults_of_values, lost_of_names, lost_of_serde, passed_by
 from .source import all_rules, is_ported, read_type, type_names
 from .tokens import Refusal, Refusals, Tokens
 from .words import camel
 
 COLLECTIONS = ("BTreeMap", "BTreeSet", "BinaryHeap", "HashMap", "HashSet", "LinkedList", "VecDeque")
 IMPORTS = {name: f"std::collections::{name}" for name in COLLECTIONS}
+IMPORTS.update({name: f"garde_schema::{name}" for name in ("TextRef", "Items", "Entries")})
 IMPORTS.update({"Rc": "std::rc::Rc", "Regex": "garde::rules::pattern::regex::Regex"})
 # The crates whose names are imported as the output has them.
 WRITTEN = ("std", "core", "alloc", "garde", "regex", "serde", "serde_derive")
@@ -47,8 +50,9 @@ class Writer:
     """Writes what stands for a source. `module` is the path of what is written, `own` that of the rules of one's own, and
     `left_out` are the derives and attributes that are left out without a word."""
 
-    def __init__(self, source, module=None, own=None, left_out=()):
+    def __init__(self, source, module=None, own=None, left_out=(), schema=False):
         self.source, self.module, self.own = source, module, own
+        self.borrowed = Borrowed(source, left_out) if schema else None
         self.derives = Derives(source, left_out)
         self.uses = Uses()
         self.patterns, self.skeletons, self.closures, self.copied = {}, {}, {}, {}
@@ -58,7 +62,10 @@ class Writer:
 
     def text(self, rust):
         """The whole file for a Rust source, or all that cannot be ported of it."""
+        if self.borrowed:
+            self.borrowed.turn()
         items = [text for item in self.source.items for text in self.tried(item, rust)]
+        items += self.schema_texts(rust) if self.borrowed and not self.notes.faults else []
         self.refuse_names()
         for line, reason in passed_by(rust, self.notes):
             self.notes.refuse(line, reason)
@@ -71,7 +78,7 @@ class Writer:
         """The texts of an item. A refusal is noted, and the next item follows."""
         try:
             texts = self.item_texts(item)
-            if not self.notes.faults:
+            if not self.notes.faults and not self.borrowed:
                 for line, reason in lost_of_serde(rust, item, texts[0]):
                     self.notes.refuse(line, reason)
             if is_ported(item) and not self.notes.faults:
@@ -83,6 +90,13 @@ class Writer:
         except RecursionError:
             self.notes.refuse(item.line, f"`{item.name}` nests too deep")
         return []
+
+    def schema_texts(self, rust):
+        """The makers and the readers of the types, by their forms."""
+        texts = Schema(self).texts()
+        for line, reason in lost_of_names(rust, self.borrowed.items.values(), texts):
+            self.notes.refuse(line, reason)
+        return texts
 
     def item_texts(self, item):
         """The type, the patterns that it asks for, and its implementation."""
@@ -99,7 +113,7 @@ class Writer:
     def refuse_names(self):
         """Refuses types whose names are imported, and variants whose names stand for something else in a statement."""
         imported = GARDE | self.uses.fields | {path.rpartition("::")[2] for path in self.uses.others}
-        taken = self.uses.words | {"Some", "None", "Ok", "Err"}
+        taken = self.uses.words | {"Some", "None", "Ok", "Err"} | ({"Left", "Right"} if self.uses.sides else set())
         for item in self.source.items:
             if item.name in imported:
                 self.notes.refuse(item.line, f"the name `{item.name}` is one that the port imports")
@@ -111,7 +125,8 @@ class Writer:
 
     def stated_variants(self, item):
         """The variants that statements name."""
-        return item.variants if item.kind == "enum" and is_ported(item) else ()
+        made = self.borrowed and item.name in self.borrowed.items and any(it.fields for it in item.variants)
+        return item.variants if item.kind == "enum" and (is_ported(item) or made) else ()
 
     # Types.
 
@@ -332,6 +347,7 @@ class Writer:
         if uses.words:
             lines.append(f"ghost use Rattle.garde.specs.Fields.{{{', '.join(sorted(uses.words, key=word_order))}}};")
         lines += ["ghost use Rattle.garde.specs.Author as bytes;"] if uses.bytes else []
+        lines += ["ghost use Rattle.garde_schema.specs.declared.either.Either.TheVariants.{Left, Right};"] if uses.sides else []
         lines += [self.variants_use(it) for it in self.source.items if self.stated_variants(it)]
         return "\n".join(lines)
 

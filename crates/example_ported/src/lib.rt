@@ -2,6 +2,7 @@
 #![tactic(auto)]
 
 pub mod account;
+pub mod bill;
 pub mod coupon;
 pub mod depot;
 pub mod draft;
@@ -12,6 +13,7 @@ pub mod label;
 pub mod own;
 pub mod page;
 pub mod pair;
+pub mod parcel;
 pub mod place;
 pub mod reading;
 pub mod shop;

@@ -1,5 +1,6 @@
 //! What is reported for each type: all of its report, and nothing of a valid value.
 mod collections;
+mod forms;
 mod generics;
 mod numbers;
 mod parts;

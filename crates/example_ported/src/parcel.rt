@@ -1,0 +1,253 @@
+//! A parcel as it comes in a request, with the form that reads it.
+ghost use Rattle.std.specs.Prelude.{length, refl};
+ghost use Rattle.garde.specs.Fields.{◌and◌, byte_count, char_count, codes, count_between, count_max, field, items, optional, range_between, range_max, required, u32_min};
+ghost use Rattle.garde.specs.Author as bytes;
+
+use garde::fields::{Alphanumeric, Ascii, Dive, Each, Field, Fields, IfSome, Is, Prefix, Required};
+use garde::{I18n, Report, Trail, Valid, Validate, length, range};
+use garde_schema::{
+    Build, Built, Checked, Closed, Entries, Flag, FormI18n, Items, ListUnder, MapUnder, Member,
+    Nullish, Object, OneOf, ReadError, Scratch, Text, TextRef, U8, U16, U32, Under, Whole,
+    WithDefault, read_json,
+};
+use std::alloc::{AllocError, Global};
+use std::marker::PhantomData;
+
+/// How fast it goes.
+#[derive(Clone, Copy, Debug, Default, PartialEq)]
+pub enum Speed {
+    #[default]
+    NextDay,
+    Slow,
+}
+
+/// A thing in it.
+#[derive(Debug, Drop)]
+pub struct Thing<'t> {
+    pub name: TextRef<'t>,
+    pub pieces: u8,
+    pub fragile: bool,
+}
+
+impl<'t> Validate for Thing<'t> {
+    type Context = ();
+
+    ghost visits = { λ v _.
+        field "name" (bytes.ascii v.name and count_between 2 20 (byte_count v.name))
+        and field "pieces" (range_between 1 99 v.pieces) };
+
+    fn validate_into<'a, H: I18n>(
+        &'a self,
+        alloc: Global,
+        _ctx: &(),
+        trail: &mut Trail<'a>,
+        report: &mut Report,
+        h: &H,
+    ) -> Result<(), AllocError> {
+        let Self {
+            name,
+            pieces,
+            fragile: _,
+        } = self;
+        (
+            Field("name", name, (Is(Ascii), Is(length!(min = 2, max = 20)))),
+            Field("pieces", pieces, Is(range!(min = 1, max = 99))),
+        )
+            .visit_of(self, alloc, trail, report, h)
+    }
+}
+
+/// A parcel.
+#[derive(Debug, Drop)]
+pub struct Parcel<'t> {
+    pub number: u32,
+    pub sent_to: TextRef<'t>,
+    pub phone: Option<TextRef<'t>>,
+    pub weight: Option<u16>,
+    pub speed: Speed,
+    pub things: Items<Thing<'t>>,
+    pub marks: Items<TextRef<'t>>,
+    pub labels: Entries<'t, TextRef<'t>>,
+}
+
+impl<'t> Validate for Parcel<'t> {
+    type Context = ();
+
+    ghost visits = { λ v ctx.
+        field "number" (u32_min 1 v.number)
+        and field "sent_to" (count_between 1 80 (char_count v.sent_to))
+        and field "phone" (optional (λ x. bytes.prefix (codes "+") x and count_max 16 (byte_count x)) v.phone)
+        and field "weight" (required v.weight and optional (λ x. range_max 30000 x) v.weight)
+        and field "things" (count_between 1 50 (length v.things) and items (λ x. ⟦<Thing<'t> as Validate>⟧.visits x ctx) v.things)
+        and field "marks" (count_max 5 (length v.marks) and items (λ x. bytes.alphanumeric x) v.marks)
+        and field "labels" (count_max 3 (length v.labels)) };
+
+    fn validate_into<'a, H: I18n>(
+        &'a self,
+        alloc: Global,
+        ctx: &(),
+        trail: &mut Trail<'a>,
+        report: &mut Report,
+        h: &H,
+    ) -> Result<(), AllocError> {
+        let Self {
+            number,
+            sent_to,
+            phone,
+            weight,
+            speed: _,
+            things,
+            marks,
+            labels,
+        } = self;
+        (
+            Field("number", number, Is(range!(min = 1))),
+            Field("sent_to", sent_to, Is(length!(chars, min = 1, max = 80))),
+            Field(
+                "phone",
+                phone,
+                IfSome((Is(Prefix("+")), Is(length!(max = 16)))),
+            ),
+            Field(
+                "weight",
+                weight,
+                (Is(Required), IfSome(Is(range!(max = 30000)))),
+            ),
+            Field(
+                "things",
+                things,
+                (Is(length!(min = 1, max = 50)), Each(Dive(ctx))),
+            ),
+            Field(
+                "marks",
+                marks,
+                (Is(length!(max = 5)), Each(Is(Alphanumeric))),
+            ),
+            Field("labels", labels, Is(length!(max = 3))),
+        )
+            .visit_of(self, alloc, trail, report, h)
+    }
+}
+
+/// Makes a value of the type `Thing` of what its form reads.
+#[derive(Clone, Copy)]
+pub struct MakeThing<'t>(pub PhantomData<&'t str>);
+
+impl<'t> Build for MakeThing<'t> {
+    type Parts = (TextRef<'t>, u8, bool);
+
+    type Made = Thing<'t>;
+
+    ghost builds = { λ _ parts. record { name = parts.0; pieces = parts.1; fragile = parts.2 } };
+
+    ghost parts_of = { λ _ v. (v.name, v.pieces, v.fragile) };
+
+    ghost kept = { λ _ _. refl };
+
+    fn build(&self, parts: Self::Parts) -> Self::Made {
+        let (name, pieces, fragile) = parts;
+        Thing {
+            name,
+            pieces,
+            fragile,
+        }
+    }
+}
+
+/// Makes a value of the type `Parcel` of what its form reads.
+#[derive(Clone, Copy)]
+pub struct MakeParcel<'t>(pub PhantomData<&'t str>);
+
+impl<'t> Build for MakeParcel<'t> {
+    type Parts = (
+        u32,
+        TextRef<'t>,
+        Option<TextRef<'t>>,
+        Option<u16>,
+        Speed,
+        Items<Thing<'t>>,
+        Items<TextRef<'t>>,
+        Entries<'t, TextRef<'t>>,
+    );
+
+    type Made = Parcel<'t>;
+
+    ghost builds = { λ _ parts. record {
+      number = parts.0;
+      sent_to = parts.1;
+      phone = parts.2;
+      weight = parts.3;
+      speed = parts.4;
+      things = parts.5;
+      marks = parts.6;
+      labels = parts.7;
+    } };
+
+    ghost parts_of = { λ _ v.
+        (v.number, v.sent_to, v.phone, v.weight, v.speed, v.things, v.marks, v.labels) };
+
+    ghost kept = { λ _ _. refl };
+
+    fn build(&self, parts: Self::Parts) -> Self::Made {
+        let (number, sent_to, phone, weight, speed, things, marks, labels) = parts;
+        Parcel {
+            number,
+            sent_to,
+            phone,
+            weight,
+            speed,
+            things,
+            marks,
+            labels,
+        }
+    }
+}
+
+/// Reads a value of the type `Parcel` in JSON, or reports every fault of its form and of its rules.
+#[tactic(auto, unfolding(garde::specs::Fields::Known))]
+pub fn read_parcel<'a, H: I18n + FormI18n>(
+    alloc: Global,
+    bytes: &'a [u8],
+    scratch: &'a mut Scratch,
+    h: &H,
+) -> Result<Valid<Parcel<'a>>, ReadError> {
+    let speed_form = OneOf(&[
+        ("next_day", Speed::NextDay),
+        ("slow", Speed::Slow),
+        ("by_ship", Speed::Slow),
+    ]);
+    let thing_form = Built(
+        Object(Closed((
+            Member("name", Text((Is(Ascii), Is(length!(min = 2, max = 20))))),
+            WithDefault("pieces", Whole(U8, Is(range!(min = 1, max = 99))), 1),
+            WithDefault("fragile", Flag, false),
+        ))),
+        MakeThing(PhantomData),
+    );
+    let parcel_form = Built(
+        Object(Closed((
+            Member("number", Whole(U32, Is(range!(min = 1)))),
+            Member("sentTo", Text(Is(length!(chars, min = 1, max = 80)))),
+            Nullish("phone", Text((Is(Prefix("+")), Is(length!(max = 16))))),
+            Checked(
+                Nullish("grams", Whole(U16, Is(range!(max = 30000)))),
+                Under("grams", Is(Required)),
+            ),
+            WithDefault("speed", speed_form, Speed::NextDay),
+            Member(
+                "things",
+                ListUnder(Is(length!(min = 1, max = 50)), thing_form),
+            ),
+            Member(
+                "marks",
+                ListUnder(Is(length!(max = 5)), Text(Is(Alphanumeric))),
+            ),
+            Member("labels", MapUnder(Is(length!(max = 3)), Text(()))),
+        ))),
+        MakeParcel(PhantomData),
+    );
+    match read_json(alloc, bytes, scratch, &parcel_form, h) {
+        Ok(value) => Ok(Valid::known(value, &())),
+        Err(error) => Err(error),
+    }
+}

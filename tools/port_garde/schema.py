@@ -1,0 +1,196 @@
+"""The forms of `garde_schema` that read values of a source's types, the makers of these values, and the functions that read them."""
+from .borrowed import fields_of, is_map, is_named
+from .derives import options, type_names
+from .layout import Rows, Word, call, statement
+from .makers import Makers
+from .names import of_field, of_variant, others_of_variant
+from .scope import Scope, Seen, is_option, is_path, is_text
+from .source import is_ported
+from .words import Checks, together
+
+MOST = 16
+READ = """{docs}
+{tactic}{vis}fn read_{name}<'a, H: I18n + FormI18n>(
+    alloc: Global,
+    bytes: &'a [u8],
+    scratch: &'a mut Scratch,
+    h: &H,
+) -> Result<{kind}, ReadError> {{
+{forms}
+{read}
+}}"""
+VALID = """    match read_json(alloc, bytes, scratch, &{name}_form, h) {{
+        Ok(value) => Ok(Valid::known(value, &())),
+        Err(error) => Err(error),
+    }}"""
+
+
+def snake(name):
+    return "".join(f"_{it.lower()}" if it.isupper() and at else it.lower() for at, it in enumerate(name))
+
+
+class Schema:
+    """The forms of a source, whose types are `items` as the source has them, and `turned` as they are declared."""
+
+    def __init__(self, writer):
+        self.writer, self.borrowed, self.items = writer, writer.borrowed, writer.borrowed.items
+        self.turned = {it.name: it for it in writer.source.items}
+        self.makers = Makers(self)
+
+    def use(self, *names):
+        """Imports names of `garde_schema`, and gives the first one."""
+        self.writer.uses.others |= {f"garde_schema::{it}" for it in names}
+        return names[0]
+
+    def texts(self):
+        """The makers and the functions that read."""
+        made = [it for it in self.items.values() if not is_named(it)]
+        makers = [self.makers.text(self.turned[it.name]) for it in made]
+        return [*makers, *(self.reader(it) for it in made if not self.is_held(it))]
+
+    def is_held(self, item):
+        """Whether another type of the file holds values of this one."""
+        return any(item.name in type_names(it.type) for other in self.items.values() for it in fields_of(other))
+
+    def reader(self, item):
+        """The function that reads values of a type."""
+        self.use("read_json", "FormI18n", "ReadError", "Scratch")
+        self.writer.uses.others |= {"std::alloc::Global", "garde::I18n"}
+        name, made = snake(item.name), self.makers.type_name(self.turned[item.name])
+        made = made.replace("'t", "'a")
+        forms = "\n".join(statement(self.form_of_type(it), 4, f"let {snake(it.name)}_form = ", ";") for it in self.order(item))
+        docs = f"/// Reads a value of the type `{item.name}` in JSON, or reports every fault of its form"
+        docs += " and of its rules." if is_ported(item) else "."
+        if not is_ported(item):
+            read = f"    read_json(alloc, bytes, scratch, &{name}_form, h)"
+            return READ.format(docs=docs, tactic="", vis=item.vis, name=name, kind=made, forms=forms, read=read)
+        self.writer.uses.others.add("garde::Valid")
+        tactic = "#[tactic(auto, unfolding(garde::specs::Fields::Known))]\n"
+        read = VALID.format(name=name)
+        return READ.format(docs=docs, tactic=tactic, vis=item.vis, name=name, kind=f"Valid<{made}>", forms=forms, read=read)
+
+    def order(self, item):
+        """The types that a type holds, each behind those that it holds, and the type itself."""
+        return [self.items[name] for name in dict.fromkeys(self.names_before(item))]
+
+    def names_before(self, item):
+        held = [name for it in fields_of(item) for name in sorted(type_names(it.type)) if name in self.items]
+        return [*(found for name in held for found in self.names_before(self.items[name])), item.name]
+
+    # Forms.
+
+    def form_of_type(self, item):
+        """The form of a type, whose parts have their forms before it."""
+        self.writer.item = item
+        if is_named(item):
+            rows = [call("", f'"{name}"', f"{item.name}::{it.name}") for it in item.variants for name in self.names(it, item)]
+            return call(self.use("OneOf"), Rows(tuple(rows)))
+        form = self.of_enum(item) if item.kind == "enum" else self.of_struct(item)
+        return call(self.use("Built"), form, self.makers.value(self.turned[item.name]))
+
+    def names(self, variant, item):
+        return [of_variant(variant, item), *others_of_variant(variant)]
+
+    def of_struct(self, item):
+        variant = item.variants[0]
+        if variant.shape != "named":
+            return self.form(variant.fields[0].type, variant.fields[0].attributes.rules)
+        return self.object(variant, item)
+
+    def object(self, variant, item):
+        """An object with the members of a variant."""
+        return call(self.use("Object"), self.closed(self.members(variant, item), item))
+
+    def closed(self, members, item):
+        return call(self.use("Closed"), members) if "deny_unknown_fields" in options(item) else members
+
+    def members(self, variant, item):
+        return together([self.member(it, variant, item) for it in variant.fields], MOST)
+
+    def of_enum(self, item):
+        """A union: by its tag, or by the name of its only member."""
+        tag = options(item).get("tag")
+        variants = [self.variant(it, item, tag) for it in item.variants]
+        while len(variants) > 1:
+            variants = [*variants[:-2], call("", *variants[-2:])]
+        if tag:
+            return call(self.use("Tagged"), f'"{tag.value}"', self.closed(variants[0], item))
+        self.writer.uses.others.add("std::marker::PhantomData")
+        return call(self.use("OneMember"), variants[0], "PhantomData")
+
+    def variant(self, variant, item, tag):
+        """A variant of a union. One without members asks for the tag alone, which is there."""
+        name, content = f'"{of_variant(variant, item)}"', options(item).get("content")
+        if not tag or content:
+            inside = self.object(variant, item) if variant.shape == "named" else self.value(variant.fields[0])
+            if not tag:
+                return call(self.use("Member"), name, inside)
+            members = call(self.use("Member"), f'"{content.value}"', inside)
+        elif variant.fields:
+            members = self.members(variant, item)
+        else:
+            members = call(self.use("Member", "Any"), f'"{tag.value}"', "Any")
+        return call(self.use("Variant"), name, members)
+
+    def value(self, it):
+        return self.form(it.type, it.attributes.rules)
+
+    # Members.
+
+    def member(self, it, variant, item):
+        """A member of an object."""
+        self.writer.spot = it.name
+        name, kind, rules = f'"{of_field(it, variant, item)}"', it.type, it.attributes.rules
+        if is_option(kind):
+            asked = [rule for rule in rules if rule.name == "required"]
+            form = call(self.use("Nullish"), name, self.form(kind.args[0], [rule for rule in rules if rule.name != "required"]))
+            if not asked:
+                return form
+            self.writer.uses.fields |= {"Is", "Required"}
+            return call(self.use("Checked", "Under"), form, call("Under", name, call("Is", "Required")))
+        default = self.borrowed.default(it, item)
+        if default is None:
+            return call(self.use("Member"), name, self.form(kind, rules))
+        self.use(*(["TextRef"] if default.startswith("TextRef") else []), "WithDefault")
+        return call("WithDefault", name, self.form(kind, rules), default)
+
+    # Values.
+
+    def form(self, kind, rules):
+        """The form of a value under rules."""
+        if is_option(kind):
+            return call(self.use("Nullable"), self.form(kind.args[0], rules))
+        if is_path(kind, "Vec"):
+            return self.list(kind, rules)
+        if is_map(kind):
+            return self.map(kind, rules)
+        if kind.name in self.items:
+            return self.ruled(Word(f"{snake(kind.name)}_form"), kind, [it for it in rules if it.name != "dive"])
+        if is_text(kind):
+            return call(self.use("Text"), self.checks(kind, rules))
+        if is_path(kind, "bool"):
+            return self.ruled(Word(self.use("Flag")), kind, rules)
+        number = kind.name[:1].upper() + kind.name[1:]
+        return call(self.use("Whole", number), number, self.checks(kind, rules))
+
+    def list(self, kind, rules):
+        """A list: rules of how many items it has, and those of each item."""
+        of_list = [it for it in rules if it.name not in ("inner", "dive")]
+        of_items = [found for it in rules if it not in of_list for found in (it.rules if it.name == "inner" else [it])]
+        inside = self.form(kind.args[0], of_items)
+        return call(self.use("ListUnder"), self.checks(kind, of_list), inside) if of_list else call(self.use("List"), inside)
+
+    def map(self, kind, rules):
+        """A map: rules of how many members it has."""
+        inside = self.form(kind.args[1], [])
+        return call(self.use("MapUnder"), self.checks(kind, rules), inside) if rules else call(self.use("Map"), inside)
+
+    def ruled(self, form, kind, rules):
+        """A form that has no place for rules, under these."""
+        return call(self.use("Checked"), form, self.checks(kind, rules)) if rules else form
+
+    def checks(self, kind, rules):
+        """The rules of a value, as the code of the type has them."""
+        scope = Scope("ctx", {}, set(), True)
+        code, _ = Checks(scope, self.writer.uses, self.writer).of(list(rules), Seen(self.borrowed.type_of(kind), "v"))
+        return code

@@ -1,0 +1,65 @@
+//! Enums and types of which no form is written.
+//@ --schema
+use garde::Validate;
+use serde::Deserialize;
+
+#[derive(Deserialize, Validate)]
+#[serde(tag = "kind")]
+pub enum Fee {
+    Fixed(#[garde(range(max = 9))] u8), //~ the variant `Fixed` under `tag` without `content`: give it fields with names
+    Share(#[garde(skip)] u8, #[garde(skip)] u8), //~ the variant `Share`, which is a list in JSON //~ the variant `Share` under `tag` without `content`: give it fields with names
+    #[serde(other)] //~ `other` of serde, of which `--schema` writes no form
+    None, //~ the name `None` stands for something else in this file: give the enum a file of its own, or the variant another name
+}
+
+#[derive(Deserialize, Validate)]
+pub enum Place {
+    Site { #[garde(ascii)] host: String },
+    #[serde(skip)] //~ `skip` of serde, of which `--schema` writes no form
+    Nowhere, //~ the variant `Nowhere` without fields: a form reads it under `tag` without `content`
+}
+
+#[derive(Deserialize, Validate)]
+pub enum Only { //~ `Only`, an enum of one variant
+    One { #[garde(ascii)] host: String },
+}
+
+#[derive(Clone, Deserialize)]
+#[serde(tag = "speed")] //~ `tag` of serde at an enum without fields
+pub enum Speed { //~ `Speed` without `Clone` and `Copy` among its derives, which a form of names asks for
+    Slow,
+    Fast,
+}
+
+#[derive(Deserialize, Validate)]
+pub struct Pair(#[garde(skip)] u8, #[garde(skip)] u8); //~ `Pair`, which is a list or `null` in JSON: `--schema` reads structs with named fields, those of one value, and enums
+
+#[derive(Deserialize, Validate)]
+#[garde(context(Terms))] //~ a context: the form of `--schema` has none, so take the word out and write the form by hand
+pub struct Under {
+    #[garde(length(max = ctx.most))]
+    name: String,
+}
+
+#[derive(Deserialize, Validate)]
+pub struct Folder { //~ `Folder`, whose values hold values of its own type
+    #[garde(skip)]
+    folders: Vec<Folder>,
+}
+
+#[derive(Deserialize, Validate)]
+pub struct Of<T> { //~ the parameter `T` of `Of`, which no form has
+    #[garde(skip)]
+    value: T, //~ the type `T`, which no form of `--schema` reads
+}
+
+#[derive(Deserialize, Validate)]
+pub struct Words {
+    #[garde(range(max = 9))]
+    data: u8, //~ the field `data`, whose name is a word of the statements
+    #[garde(adapt(crate::own::tag_text), ascii)]
+    tag: u8, //~ `adapt`, of which `--schema` writes no form
+    #[garde(skip)]
+    #[serde(with = "crate::own")] //~ `with` of serde, of which `--schema` writes no form
+    own: u8,
+}
