@@ -3,6 +3,7 @@
 mod ample;
 mod errors;
 mod json;
+mod json_read;
 mod json_text;
 mod laws;
 mod lists;

@@ -1,6 +1,7 @@
 //! Written forms, and trees that are none.
 
 use crate::samples::{OrEnd, path_of, printed, report_of};
+use garde_json::report_from_json_text;
 use garde_report::json::{
     JsonRefused, path_from_json, path_to_json, report_from_json, report_to_json,
 };
@@ -21,13 +22,16 @@ const ONE: (Kind, &str) = (Kind::Index, "1");
 
 const TWO: (Kind, &str) = (Kind::Index, "2");
 
-// Whether a report is written as this text, and is read back from its tree.
+// Whether a report is written as this text, and is read back from its tree and from the text.
 fn is_there_and_back(rt: &impl Abort, alloc: Global, report: &Report, text: &str) -> bool {
     let tree = report_to_json(alloc, report).or_end(rt);
     let Ok(back) = report_from_json(alloc, &tree) else {
         return false;
     };
-    let is_same = back.iter().eq(report.iter());
+    let Ok(read) = report_from_json_text(alloc, text) else {
+        return false;
+    };
+    let is_same = back.iter().eq(report.iter()) && read.iter().eq(report.iter());
     is_same && tree.to_string(alloc).or_end(rt).as_str() == text
 }
 
@@ -41,19 +45,24 @@ fn is_path_there_and_back(rt: &impl Abort, alloc: Global, path: &Path, text: &st
     is_same && tree.to_string(alloc).or_end(rt).as_str() == text
 }
 
-// Whether the report that is read from the tree of a text prints these lines.
+// Whether the report that is read from a text, and from the tree of it, prints these lines.
 fn is_read(rt: &impl Abort, alloc: Global, text: &str, lines: &str) -> bool {
     let tree = Value::from_str(alloc, text).or_end(rt);
     let Ok(report) = report_from_json(alloc, &tree) else {
         return false;
     };
-    printed(rt, alloc, &report).as_str() == lines
+    let Ok(read) = report_from_json_text(alloc, text) else {
+        return false;
+    };
+    let read = printed(rt, alloc, &read);
+    printed(rt, alloc, &report).as_str() == lines && read.as_str() == lines
 }
 
-// Whether the tree of a text is rejected as a report for its form.
+// Whether a text, and the tree of it, are rejected as a report for their form.
 fn is_refused(rt: &impl Abort, alloc: Global, text: &str) -> bool {
     let tree = Value::from_str(alloc, text).or_end(rt);
-    matches!(&report_from_json(alloc, &tree), Err(JsonRefused::Form))
+    report_from_json(alloc, &tree).err() == Some(JsonRefused::Form)
+        && report_from_json_text(alloc, text).err() == Some(JsonRefused::Form)
 }
 
 // Whether the tree of a text is rejected as a path for its form.
@@ -130,6 +139,27 @@ fn any_text_stands_with_any_kind(rt: HostRuntime) {
         (
             r#"{"errors":[[[["index","b"],["key",""]],{"message":"x"}]]}"#,
             "[b].: x\n",
+        ),
+    ];
+    for (text, lines) in rows {
+        assert!(rt; is_read(&rt, rt.alloc(), text, lines), "at {text}");
+    }
+}
+
+#[test]
+fn escapes_and_blanks_are_read(rt: HostRuntime) {
+    let rows = [
+        (
+            r#"{"errors":[[[["key","a\"b\/\\"],["index","\u0037"]],{"message":"not ASCII: \u00e9\t."}]]}"#,
+            "a\"b/\\[7]: not ASCII: \u{e9}\t.\n",
+        ),
+        (
+            r#"{"\u0065rrors":[[[["k\u0065y","\u0000"]],{"mess\u0061ge":"\ud83d\ude00"}]]}"#,
+            "\0: \u{1f600}\n",
+        ),
+        (
+            " {\n\t\"errors\" : [ [ [ ] , { \"message\" : \" x \" } ] ] }\r\n",
+            " x \n",
         ),
     ];
     for (text, lines) in rows {
