@@ -1,3 +1,5 @@
+mod Characters
 mod Lemmas
+mod Lists
 mod Numerals
 mod Tokens

@@ -1,7 +1,7 @@
 -- What texts write.
-use Rattle.std.specs.Prelude.{ℕ, ℤ, pos, negsuc, ◌-◌, ◌^◌, ◌==◌, ◌&&◌, Bool, true, false, List, [], ◌∷◌, length, nat_lt, Option, Some, None, if◌then◌else◌}
+use Rattle.std.specs.Prelude.{ℕ, ℤ, pos, negsuc, ◌-◌, ◌^◌, ◌==◌, ◌&&◌, Bool, true, false, List, [], ◌∷◌, length, nat_lt, Option, Some, None, if◌then◌else◌, chars, bytes_eq}
 use Rattle.std.specs.Char.{digit_value}
-use Rattle.std.specs.Str.Parse.{digits_value, signed_digits_value, without_leading_plus, without_leading_sign}
+use Rattle.std.specs.Str.Parse.{true_text, false_text, digits_value, signed_digits_value, without_leading_plus, without_leading_sign}
 use Rattle.garde_schema.specs.Whole.{between, up_to}
 use Rattle.garde_schema.specs.declared.fault.FormFault.{FormFault}
 use Rattle.garde_schema.specs.declared.fault.FormFault.TheVariants.{Wrong, OutOfRange}
@@ -38,3 +38,17 @@ signed_text text = if is_whole text then between (negsuc (2 ^ 63 - 1)) (pos (2 ^
 -- what is wrong with a text that is no number of this type
 abbrev pub text_fault : Integer → List ℕ → FormFault
 text_fault integer text = if is_whole text then OutOfRange integer else Wrong wanted.Whole kinds.Text
+
+-- the value that a text names: `true` or `false`
+abbrev pub flag_text : List ℕ → Option Bool
+flag_text text = if bytes_eq text true_text then Some true else (if bytes_eq text false_text then Some false else None)
+
+-- the item of a list that has one
+abbrev pub sole : List ℕ → Option ℕ
+sole [] = None
+sole (c ∷ []) = Some c
+sole (c ∷ d ∷ cs) = None
+
+-- the character of a text that has one
+abbrev pub character_text : List ℕ → Option ℕ
+character_text text = sole (chars text)

@@ -2,6 +2,8 @@
 //! fields of a web form.
 #![tactic(auto)]
 
+mod character;
+mod flag;
 mod numbers;
 mod or_empty;
 mod parse;
@@ -9,7 +11,8 @@ mod parsed;
 mod put;
 mod web_form;
 
+pub use character::Character;
 pub use or_empty::OrEmpty;
 pub use parse::Parse;
 pub use parsed::Parsed;
-pub use web_form::form_to_json;
+pub use web_form::{form_to_json, form_to_json_with_lists};

@@ -1,14 +1,8 @@
-use Rattle.std.proofs.Common.{◌++◌, ap, ◌∙◌}
-use Rattle.json.specs.Json.{document}
-use Rattle.json.specs.Tree.{json_tokens}
-use Rattle.garde_form.specs.WebForm.{form_json}
-use Rattle.garde_form.proofs.Tokens.{read_back}
+use Rattle.std.proofs.Common.{◌≡◌, Some, subst}
+use Rattle.std.specs.Prelude.{IfOk, string_bytes}
+use Rattle.json.specs.Json.{Json, document}
+use Rattle.garde_form.proofs.Tokens.{without_lists}
 use Rattle.garde_form.proofs.web_form.form_to_json.Goals as goal
 
 pub returns : goal.returns
-returns c =
-    let written = c.in_ok-write_form.ensures in
-    ap (λ v. document v.items) c.in-Ok.ensures.ok
-    ∙ read_back c.args.body.now c.write_form.new.out.before c.into_inner.result.items c.write_form.new.out.tokens c.into_inner.ensures.items
-    (written.before ∙ c.new-out.ensures.before ∙ c.new.ensures.items)
-    (written.tokens ∙ ap (λ tokens. tokens ++ json_tokens (form_json c.args.body.now)) c.new-out.ensures.tokens)
+returns c = subst (λ (j : Json). IfOk c.form_to_json_with_lists.result (λ text. document (string_bytes text) ≡ Some j)) (without_lists c.args.body.now) c.form_to_json_with_lists.ensures

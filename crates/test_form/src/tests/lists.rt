@@ -1,0 +1,73 @@
+//! The fields of a web form as JSON, where those of some names are lists: the whole text of each
+//! body.
+
+use garde_form::form_to_json_with_lists;
+use std::alloc::Global;
+use std::test::Fail;
+
+#[test]
+fn writes_the_fields_of_a_listed_name_as_a_list(rt: HostRuntime) -> Result<(), Fail> {
+    let bodies: [(&[u8], &str); 10] = [
+        (b"", "{}"),
+        (b"a=1&b&a=2", "{\"a\":\"1\",\"b\":\"\",\"a\":\"2\"}"),
+        (b"tags=a", "{\"tags\":[\"a\"]}"),
+        (b"tags=b&tags=a&tags=b", "{\"tags\":[\"b\",\"a\",\"b\"]}"),
+        (
+            b"x=1&tags=a&x=2&tags=b&y=3",
+            "{\"x\":\"1\",\"tags\":[\"a\",\"b\"],\"x\":\"2\",\"y\":\"3\"}",
+        ),
+        (
+            b"ids=1&tags=a&ids=2&tags=b&ids=3",
+            "{\"ids\":[\"1\",\"2\",\"3\"],\"tags\":[\"a\",\"b\"]}",
+        ),
+        (b"tags=&tags&tags=+", "{\"tags\":[\"\",\"\",\" \"]}"),
+        (b"t%61gs=a&tags=%62%", "{\"tags\":[\"a\",\"b%\"]}"),
+        (
+            b"Tags=a&tag=b&tags[]=c&=d&tagss=e",
+            "{\"Tags\":\"a\",\"tag\":\"b\",\"tags[]\":\"c\",\"\":\"d\",\"tagss\":\"e\"}",
+        ),
+        (
+            b"tags=%FF&tags=%00\"",
+            "{\"tags\":[\"\u{fffd}\",\"\\u0000\\\"\"]}",
+        ),
+    ];
+    for (body, expected) in bodies {
+        let text = form_to_json_with_lists(rt.alloc(), body, &["ids", "tags", "tags"])?;
+        assert_eq!(rt; text.as_str(), expected, "{expected}");
+    }
+    Ok(())
+}
+
+// A body of ten thousand fields, of which each tenth is a number under `n`.
+fn fields(alloc: Global) -> Result<String, Fail> {
+    let mut body = String::new(alloc);
+    for number in 0..1_000 {
+        let piece = format!(in alloc; "n={number}&")?;
+        body.push_str(piece.as_str())?;
+        body.push_str("a=1&a=1&a=1&a=1&a=1&a=1&a=1&a=1&a=1&")?;
+    }
+    Ok(body)
+}
+
+// The object of these fields: the list of the numbers, and then nine thousand members.
+fn object(alloc: Global) -> Result<String, Fail> {
+    let mut text = String::from_str(alloc, "{\"n\":[\"0\"")?;
+    for number in 1..1_000 {
+        let piece = format!(in alloc; ",\"{number}\"")?;
+        text.push_str(piece.as_str())?;
+    }
+    text.push_str("]")?;
+    for _ in 0..9_000 {
+        text.push_str(",\"a\":\"1\"")?;
+    }
+    text.push_str("}")?;
+    Ok(text)
+}
+
+#[test]
+fn writes_a_list_of_a_thousand_among_ten_thousand_fields(rt: HostRuntime) -> Result<(), Fail> {
+    let (body, expected) = (fields(rt.alloc())?, object(rt.alloc())?);
+    let text = form_to_json_with_lists(rt.alloc(), body.as_bytes(), &["n"])?;
+    assert!(rt; text.as_str() == expected.as_str());
+    Ok(())
+}

@@ -1,0 +1,48 @@
+//! Texts that write `true` or `false`, or one character: what each parser makes of each.
+
+use garde_form::{Character, Parse};
+use garde_schema::Flag;
+use std::test::Fail;
+
+#[test]
+fn reads_true_and_false(rt: HostRuntime) -> Result<(), Fail> {
+    let texts = [
+        ("true", Some(true)),
+        ("false", Some(false)),
+        ("", None),
+        ("True", None),
+        ("TRUE", None),
+        (" true", None),
+        ("false ", None),
+        ("truefalse", None),
+        ("1", None),
+        ("on", None),
+        ("tru\u{435}", None),
+    ];
+    for (text, expected) in texts {
+        assert!(rt; Flag.parse(text) == expected, "{text}");
+    }
+    Ok(())
+}
+
+#[test]
+fn reads_one_character(rt: HostRuntime) -> Result<(), Fail> {
+    let texts = [
+        ("a", Some('a')),
+        (" ", Some(' ')),
+        ("\0", Some('\0')),
+        ("\u{7f}", Some('\u{7f}')),
+        ("\u{e9}", Some('\u{e9}')),
+        ("\u{20ac}", Some('\u{20ac}')),
+        ("\u{1d11e}", Some('\u{1d11e}')),
+        ("\u{10ffff}", Some('\u{10ffff}')),
+        ("", None),
+        ("ab", None),
+        ("e\u{301}", None),
+        ("\u{1d11e}\0", None),
+    ];
+    for (text, expected) in texts {
+        assert!(rt; Character.parse(text) == expected, "{text}");
+    }
+    Ok(())
+}
