@@ -3,6 +3,7 @@ import re
 
 PAGE = "docs/guide/rejected.md"
 CONSTRUCTOR = r"(?:Length|Range|ByteLength|CharLength|GraphemeLength|Utf16Length)::\w+\s*\("
+UNFIT = "items are checked by `Each(..)`, what an option holds by `IfSome(..)`, a value that validates itself by `Dive(..)`"
 HELD = r"\b(Each|IfSome|WithMessage)\s*\("
 
 

@@ -27,6 +27,10 @@ class Answer:
     lines: list = field(default_factory=list)
 
 
+# a check of fields that has no `visit` for the types of its values
+UNFIT = re.compile(r"the method `visit(?:_of)?` exists for .*, but its bounds are not met|the method call `\.visit(?:_of)?\(\)` on type ")
+
+
 class Type:
     """A type with both halves of its implementation, part by part."""
 
@@ -80,6 +84,12 @@ class Type:
             elif verdict != PROVED:
                 unjudged.append(said.unjudged(self.place, pair, said_of.get(pair, verdict)))
         return found, unjudged
+
+    def unfit(self, lines):
+        """The lines of the parts whose check is none of a value of its type, of a type that does not compile."""
+        pairs = [pair for pair, text in self.said_of_pairs(lines).items() if UNFIT.match(text) and pair.coded]
+        found = [said.unfit(self.place, self.coded, pair) for pair in pairs]
+        return found + [f"  it may be this: {causes.UNFIT} ({causes.PAGE})"] if found else []
 
     def said_of_pairs(self, lines):
         """The first error of the function of each pair, without its place there and without advice."""
@@ -161,6 +171,8 @@ def explain(it, check):
     if it.pairs:
         printed = check(it.functions.paths(), {place.file: it.functions.text()})
         opened, unjudged = it.opened(printed, it.verdicts(printed, check))
+        if len(unjudged) == len(it.pairs) and (unfit := it.unfit(printed)):
+            return Answer(1, [*lines, *unfit])
         if len(unjudged) == len(it.pairs):
             is_own, errors = it.errors(printed)
             why = "the crate does not compile, or `visits` cannot be read" if is_own else "the parts do not compile by themselves"

@@ -1,16 +1,19 @@
 """A function for each pair of parts: it checks what the code checks of these parts alone, under what `visits` states of them alone.
 So the prover says of each pair by itself whether both sides agree."""
+import re
+
 from .place import TRAIT
 
 WORDS = "garde_words"
+NAMED = re.compile(r"\bghost use Rattle\.garde\.specs\.Author as (\w+);")
 # what checks nothing, as the code of a variant has it, so that the prover needs no steps of its own for it
 NOTHING = "garde::fields::Fields::visit(&(), alloc, trail, report, h),"
 USE = f"ghost use Rattle.garde.specs.Author as {WORDS};"
-DECLARED = f"""
-trait TRAIT {{
+DECLARED = """
+trait TRAIT {
     type Context;
 
-    ghost visits: {{ Self → Self.Context → {WORDS}.Visits }};
+    ghost visits: { Self → Self.Context → WORDS.Visits };
 
     fn validate_into<'a, H: garde::I18n>(
         &'a self,
@@ -20,8 +23,8 @@ trait TRAIT {{
         report: &mut garde::Report,
         h: &H,
     ) -> Result<(), std::alloc::AllocError>
-        ensures {{ {WORDS}.Visited (visits self.now ctx.now) (H.text h.now) trail.old trail.new report.old report.new result }};
-}}
+        ensures { WORDS.Visited (visits self.now ctx.now) (H.text h.now) trail.old trail.new report.old report.new result };
+}
 """
 
 
@@ -30,7 +33,14 @@ class Functions:
 
     def __init__(self, place, stated, coded, pairs):
         self.place, self.stated, self.coded, self.pairs = place, stated, coded, pairs
+        # a file may bring in the words once, under one name
+        named = next(filter(None, (NAMED.match(it) for it in self.uses(place.plain.items.items))), None)
+        self.words, self.use = (named[1], "") if named else (WORDS, USE)
         self.texts = [self.implementation(number, pair) for number, pair in enumerate(pairs)]
+
+    def uses(self, items):
+        """The imports for statements among some items."""
+        return [self.place.plain.kept[it.head : it.end].strip() for it in items if it.kind == "ghost use"]
 
     def trait(self, number):
         return f"GardePart{number}"
@@ -43,7 +53,8 @@ class Functions:
         """The text of the file with the functions. The lines that it had stay where they are."""
         text, items = self.place.plain.text, self.place.plain.items.items
         first = next((it.head for it in items if it.kind in ("use", "ghost use")), self.place.block.start)
-        return f"{text[:first]}{USE} {text[first:]}\n{''.join(self.texts)}"
+        use = f"{self.use} " if self.use else ""
+        return f"{text[:first]}{use}{text[first:]}\n{''.join(self.texts)}"
 
     def pair_at(self, line):
         """The pair whose function stands at a line of that text, or None."""
@@ -62,21 +73,22 @@ class Functions:
         found = TRAIT.search(place.plain.blank, block.head)
         head = kept[block.head : found.start()] + trait + kept[found.end() : block.body]
         others = [it for it in block.members if it not in (place.visits, place.code)]
-        lines = [f"    {USE}"] if any(it.kind == "ghost use" for it in others) else []
+        uses = self.uses(others)
+        lines = [f"    {USE.replace(WORDS, self.words)}"] if uses and not any(map(NAMED.match, uses)) else []
         lines += [f"    {kept[it.head : it.end]}" for it in others]
         lines += [f"    ghost visits = {{ λ {self.stated.names}. {self.visits(pair)} }};"]
         before = items.attributes(place.code) if "#" in items.attributes(place.code) else ""
         lines += [f"    {before}{kept[place.code.head : place.code.body]}{self.body(pair)}"]
         body = "\n".join(lines)
-        return f"{DECLARED.replace('TRAIT', trait)}\n{head}{{\n{body}\n}}\n"
+        return f"{DECLARED.replace('TRAIT', trait).replace('WORDS', self.words)}\n{head}{{\n{body}\n}}\n"
 
     def visits(self, pair):
         """What is stated of a pair."""
-        said = " and ".join(it.piece.text for it in pair.stated) or f"{WORDS}.none"
+        said = " and ".join(it.piece.text for it in pair.stated) or f"{self.words}.none"
         if not self.stated.head:
             return said
         cases = [
-            f"| {case.pattern} ↦ {said if at == pair.stated_at else f'{WORDS}.none'}" for at, case in enumerate(self.stated.cases)
+            f"| {case.pattern} ↦ {said if at == pair.stated_at else f'{self.words}.none'}" for at, case in enumerate(self.stated.cases)
         ]
         return f"{self.stated.head} {' '.join(cases)} ]"
 

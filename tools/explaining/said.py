@@ -65,6 +65,12 @@ def opened(place, coded, pair):
     return line(place, first, f"{title(pair)}: `visits` asks `{asked(pair)}`, the code checks {checked(pair, coded)} (line {at})")
 
 
+def unfit(place, coded, pair):
+    """The line of a part whose check does not fit the type of its value."""
+    piece = pair.coded[0].piece
+    return line(place, piece, f"{title(pair)}: the check {checked(pair, coded)} does not fit the type of this field")
+
+
 def unjudged(place, pair, why):
     """The line of a part of which the prover does not say whether both sides agree."""
     return line(place, (pair.stated or pair.coded)[0].piece, f"{title(pair)}: nothing is known: {why}")

@@ -2,7 +2,7 @@
 borrow from the input; and what of them no form reads."""
 from dataclasses import replace
 
-from .derives import SERDE, literal_function, named_function, options, type_names
+from .derives import CASES, SERDE, literal_function, named_function, options, type_names
 from .scope import SIGNED, UNSIGNED, is_option, is_path, is_text
 from .source import Param, Type, all_rules, is_ported
 from .tokens import Refusal
@@ -91,8 +91,9 @@ class Borrowed:
     # What no form reads.
 
     def faults(self, item):
-        if item.kind == "struct" and item.variants[0].shape != "named" and len(item.variants[0].fields) != 1:
-            yield item.line, f"`{item.name}`, which is a list or `null` in JSON: `--schema` reads structs with named fields, those of one value, and enums"
+        if item.kind == "struct" and (not item.variants[0].fields or item.variants[0].shape != "named" and len(item.variants[0].fields) != 1):
+            told = f"`{item.name}`, which is a list or `null` in JSON, or has no fields"
+            yield item.line, f"{told}: `--schema` reads structs with named fields, those of one value, and enums"
         yield from ((item.line, f"the parameter `{it.name}` of `{item.name}`, which no form has") for it in item.params if it.kind != "lifetime")
         if item.attributes.context:
             yield item.attributes.context[0], "a context: the form of `--schema` has none, so take the word out and write the form by hand"
@@ -107,11 +108,15 @@ class Borrowed:
     def of_serde(self, item):
         """The attributes of serde that no form has."""
         parts = [(item, AT_TYPE)] + [(it, AT_VARIANT) for it in item.variants if item.kind == "enum"]
-        parts += [(it, AT_FIELD) for it in fields_of(item)]
+        parts += [(it, AT_FIELD if it.name else ("borrow",)) for it in fields_of(item)]
         for part, known in parts:
             for said in options(part).values():
                 if said.word not in known:
                     yield said.line, f"`{said.word}` of serde, of which `--schema` writes no form"
+                elif said.word.startswith("rename_all") and said.value not in CASES:
+                    yield said.line, f"`{said.word}` of serde without one case of names, as \"camelCase\""
+                elif said.word == "transparent" and len(fields_of(item)) != 1:
+                    yield said.line, f"`transparent` of serde at `{item.name}`, which has not just one field"
         if item.kind == "enum":
             yield from self.of_enum(item)
 
@@ -127,6 +132,8 @@ class Borrowed:
         if len(item.variants) < 2:
             yield item.line, f"`{item.name}`, an enum of one variant"
         for variant in item.variants:
+            if variant.shape == "named" and not variant.fields:
+                yield variant.line, f"the variant `{variant.name}` with brackets that hold no field: take them out"
             if variant.shape == "tuple" and len(variant.fields) != 1:
                 yield variant.line, f"the variant `{variant.name}`, which is a list in JSON"
             if variant.shape == "tuple" and "tag" in said and "content" not in said:
@@ -199,7 +206,7 @@ class Borrowed:
     def of_lists(self, kind, rules):
         """The rules of lists and maps that no form asks."""
         if is_option(kind):
-            yield from self.of_lists(kind.args[0], [it for it in rules if it.name != "required"])
+            yield from self.of_lists(kind.args[0], within_option(rules))
         elif is_path(kind, "Vec") or is_map(kind):
             inside = ("inner", "dive") if kind.name == "Vec" else ()
             for it in rules:
@@ -226,6 +233,11 @@ class Borrowed:
             if found is whole or (found and name not in seen and self.holds_itself(found, whole, (*seen, name))):
                 return True
         return False
+
+
+def within_option(rules):
+    """The rules of what an option holds."""
+    return [found for it in rules if it.name != "required" for found in (it.rules if it.name == "inner" else [it])]
 
 
 def is_map(kind):

@@ -1,5 +1,5 @@
 """The forms of `garde_schema` that read values of a source's types, the makers of these values, and the functions that read them."""
-from .borrowed import fields_of, is_map, is_named
+from .borrowed import fields_of, is_map, is_named, within_option
 from .derives import options, type_names
 from .layout import Rows, Word, call, statement
 from .makers import Makers
@@ -93,7 +93,7 @@ class Schema:
 
     def of_struct(self, item):
         variant = item.variants[0]
-        if variant.shape != "named":
+        if variant.shape != "named" or "transparent" in options(item):
             return self.form(variant.fields[0].type, variant.fields[0].attributes.rules)
         return self.object(variant, item)
 
@@ -143,7 +143,7 @@ class Schema:
         name, kind, rules = f'"{of_field(it, variant, item)}"', it.type, it.attributes.rules
         if is_option(kind):
             asked = [rule for rule in rules if rule.name == "required"]
-            form = call(self.use("Nullish"), name, self.form(kind.args[0], [rule for rule in rules if rule.name != "required"]))
+            form = call(self.use("Nullish"), name, self.form(kind.args[0], within_option(rules)))
             if not asked:
                 return form
             self.writer.uses.fields |= {"Is", "Required"}
@@ -159,7 +159,7 @@ class Schema:
     def form(self, kind, rules):
         """The form of a value under rules."""
         if is_option(kind):
-            return call(self.use("Nullable"), self.form(kind.args[0], rules))
+            return call(self.use("Nullable"), self.form(kind.args[0], within_option(rules)))
         if is_path(kind, "Vec"):
             return self.list(kind, rules)
         if is_map(kind):

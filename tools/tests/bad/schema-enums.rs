@@ -32,7 +32,7 @@ pub enum Speed { //~ `Speed` without `Clone` and `Copy` among its derives, which
 }
 
 #[derive(Deserialize, Validate)]
-pub struct Pair(#[garde(skip)] u8, #[garde(skip)] u8); //~ `Pair`, which is a list or `null` in JSON: `--schema` reads structs with named fields, those of one value, and enums
+pub struct Pair(#[garde(skip)] u8, #[garde(skip)] u8); //~ `Pair`, which is a list or `null` in JSON, or has no fields: `--schema` reads structs with named fields, those of one value, and enums
 
 #[derive(Deserialize, Validate)]
 #[garde(context(Terms))] //~ a context: the form of `--schema` has none, so take the word out and write the form by hand
@@ -62,4 +62,17 @@ pub struct Words {
     #[garde(skip)]
     #[serde(with = "crate::own")] //~ `with` of serde, of which `--schema` writes no form
     own: u8,
+}
+
+#[derive(Deserialize, Validate)]
+#[serde(rename_all(deserialize = "camelCase"))] //~ `rename_all` of serde without one case of names, as "camelCase"
+pub struct Cases(#[garde(skip)] #[serde(default)] u8); //~ `default` of serde, of which `--schema` writes no form
+
+#[derive(Deserialize, Validate)]
+#[serde(transparent)] //~ `transparent` of serde at `Both`, which has not just one field
+pub struct Both {
+    #[garde(skip)]
+    one: u8,
+    #[garde(skip)]
+    other: u8,
 }
