@@ -1,4 +1,5 @@
 pub mod Bytes
+pub mod FirstRead
 pub mod FormCode
 pub mod FormText
 pub mod Forms

@@ -10,6 +10,8 @@ mod default;
 mod duplicate;
 mod either;
 mod fault;
+mod first;
+mod first_read_error;
 mod form;
 mod from_bytes;
 mod handler;
@@ -48,6 +50,8 @@ pub use count::Count;
 pub use duplicate::Duplicate;
 pub use either::Either;
 pub use fault::{FormFault, Integer, Wanted};
+pub use first::{read_first, read_json_first};
+pub use first_read_error::FirstReadError;
 pub use form::{Form, Members};
 pub use from_bytes::read_json;
 pub use garde_tape::{

@@ -3,6 +3,7 @@
 mod bodies;
 mod checked;
 mod enums;
+mod first;
 mod forms;
 mod json;
 mod lists;

@@ -6,8 +6,8 @@ use crate::page::Page;
 use garde::fields::{Is, Prefix};
 use garde::{I18n, Valid, length, range};
 use garde_schema::{
-    Built, Checked, Closed, FormI18n, ListUnder, Member, Nullish, Object, OneOf, ReadError,
-    Scratch, Text, U32, Under, Whole, read_json,
+    Built, Checked, Closed, FirstReadError, FormI18n, ListUnder, Member, Nullish, Object, OneOf,
+    Scratch, Text, U32, Under, Whole, read_json_first,
 };
 use std::alloc::Global;
 use std::marker::PhantomData;
@@ -18,15 +18,16 @@ const DELIVERIES: [(&str, Delivery); 2] = [
     ("post", Delivery::Post),
 ];
 
-/// Reads a page of orders, or reports every fault of its form and of its rules. The form asks all
-/// that the rules of a page ask, so the page is valid with no second walk.
+/// Reads a page of orders, or reports the faults of its form and of its rules, so many at most. The
+/// form asks all that the rules of a page ask, so the page is valid with no second walk.
 #[tactic(auto, unfolding(garde::specs::Fields::Known))]
 pub fn read_orders<'a, H: I18n + FormI18n>(
     alloc: Global,
     bytes: &'a [u8],
     scratch: &'a mut Scratch,
+    most: usize,
     h: &H,
-) -> Result<Valid<Page<Order<'a>>>, ReadError> {
+) -> Result<Valid<Page<Order<'a>>>, FirstReadError> {
     let line = Built(
         Object(Closed((
             Member("code", Text(Is(Prefix("P")))),
@@ -52,7 +53,7 @@ pub fn read_orders<'a, H: I18n + FormI18n>(
         Member("number", Whole(U32, Is(range!(min = 1)))),
         Member("entries", ListUnder(Is(length!(max = 20)), order)),
     )));
-    match read_json(alloc, bytes, scratch, &page, h) {
+    match read_json_first(alloc, bytes, scratch, &page, most, h) {
         Ok((number, entries)) => Ok(Valid::known(Page { number, entries }, &())),
         Err(error) => Err(error),
     }

@@ -1,5 +1,6 @@
 //! Reads a page of orders in JSON on standard input. Where all of them are valid it confirms each
-//! of them, else it prints every fault of form and of the rules.
+//! of them, else it prints the faults of form and of the rules: all of them, or as many at most as a
+//! word says.
 #![tactic(auto)]
 
 mod form;
@@ -11,13 +12,13 @@ use crate::form::read_orders;
 use crate::line::cost;
 use crate::order::{Order, destination, first};
 use crate::page::Page;
-use anyhow::Result;
+use anyhow::{Result, anyhow};
 use garde::{DefaultI18n, Valid};
 use garde_problem::Escaped;
-use garde_schema::{ReadError, Scratch};
-use std::io;
+use garde_schema::{FirstReadError, Scratch};
 use std::io::Read;
 use std::process::ExitCode;
+use std::{env, io};
 
 /// Confirms an order by its customer, its first line, where it goes, and what each line costs. Texts
 /// of the order stand in quotes, with what is not shown escaped.
@@ -49,19 +50,37 @@ fn confirm_all(rt: &impl Print, page: Valid<Page<Order<'_>>>) -> io::Result<()> 
     Ok(())
 }
 
+/// How many faults are printed at most: all, or as many as the word says.
+fn most(words: &[String]) -> Result<usize> {
+    match words {
+        [] => Ok(usize::MAX),
+        [word] => match word.parse() {
+            Ok(number) if number > 0 => Ok(number),
+            _ => Err(anyhow!("the word must be a number from 1")),
+        },
+        _ => Err(anyhow!("there must be one word at most")),
+    }
+}
+
 /// Whether the page on standard input is valid.
 fn run(rt: &HostRuntime) -> Result<bool> {
     let alloc = rt.alloc();
+    let words: Vec<String> = env::args(rt)?.skip(1).collect(alloc)?;
+    let most = most(&words)?;
     let mut body = Vec::new(alloc);
     rt.stdin().read_to_end(&mut body)?;
     let mut scratch = Scratch::new(alloc);
-    match read_orders(alloc, body.as_slice(), &mut scratch, &DefaultI18n) {
+    match read_orders(alloc, body.as_slice(), &mut scratch, most, &DefaultI18n) {
         Ok(page) => {
             confirm_all(rt, page)?;
             Ok(true)
         }
-        Err(ReadError::Report(report)) => {
+        Err(FirstReadError::All(report)) => {
             print!(rt; "{}", Escaped(alloc, &report))?;
+            Ok(false)
+        }
+        Err(FirstReadError::First(report)) => {
+            println!(rt; "{}there are more", Escaped(alloc, &report))?;
             Ok(false)
         }
         Err(error) => Err(error.into()),

@@ -1,0 +1,85 @@
+//! Reads that report at most so many faults of form and of rules.
+
+use super::OrEnd;
+use garde::fields::Is;
+use garde::{DefaultI18n, length, range};
+use garde_schema::{
+    Closed, FirstReadError, List, Member, Object, Scratch, Text, U8, Whole, read_json_first,
+};
+use std::alloc::{AllocError, Global};
+use std::fmt::Write;
+
+// What the bytes are as a name and a list of ages, or at most so many of their faults.
+fn told(alloc: Global, bytes: &[u8], most: usize) -> Result<String, AllocError> {
+    let form = Object(Closed((
+        Member("name", Text(Is(length!(min = 2)))),
+        Member("ages", List(Whole(U8, Is(range!(min = 18))))),
+    )));
+    let mut scratch = Scratch::new(alloc);
+    match read_json_first(alloc, bytes, &mut scratch, &form, most, &DefaultI18n) {
+        Ok((name, ages)) => format!(in alloc; "{} {:?}", name.text(), ages.as_slice()),
+        Err(FirstReadError::All(report)) => format!(in alloc; "all\n{report}"),
+        Err(error) => format!(in alloc; "{error}"),
+    }
+}
+
+// A body of the name "a", two ages that are none, and an unknown member: four faults.
+const FOUR: &str = "{\"name\":\"a\",\"x\":0,\"ages\":[17,true,18]}";
+
+// A body, how many faults are wanted at most, and what is told.
+const READS: &[(&str, usize, &str)] = &[
+    ("{\"name\":\"Ada\",\"ages\":[18,19]}", 0, "Ada [18, 19]"),
+    ("{\"name\":\"Ada\",\"ages\":[]}", usize::MAX, "Ada []"),
+    (FOUR, 0, "there are more\n"),
+    (FOUR, 1, "name: length is lower than 2\nthere are more\n"),
+    (
+        FOUR,
+        3,
+        "name: length is lower than 2\nages[0]: lower than 18\nages[1]: not a whole number\nthere are more\n",
+    ),
+    (
+        FOUR,
+        4,
+        "all\nname: length is lower than 2\nages[0]: lower than 18\nages[1]: not a whole number\nx: not known here\n",
+    ),
+    (
+        FOUR,
+        5,
+        "all\nname: length is lower than 2\nages[0]: lower than 18\nages[1]: not a whole number\nx: not known here\n",
+    ),
+    (
+        FOUR,
+        usize::MAX,
+        "all\nname: length is lower than 2\nages[0]: lower than 18\nages[1]: not a whole number\nx: not known here\n",
+    ),
+    ("[]", 1, "all\nnot an object\n"),
+    ("{\"name\":Ada}", 1, "not JSON at line 1 column 9"),
+];
+
+#[test]
+fn tells_at_most_so_many_faults(rt: HostRuntime) {
+    for (body, most, expected) in READS {
+        let told = told(rt.alloc(), body.as_bytes(), *most).or_end(&rt);
+        assert_eq!(rt; told.as_str(), *expected);
+    }
+}
+
+// A body with a list of this many ages, each too low.
+fn crowd(alloc: Global, count: usize) -> Result<String, AllocError> {
+    let mut body = String::from_str(alloc, "{\"name\":\"Ada\",\"ages\":[0")?;
+    for _ in 1..count {
+        write!(body, ",0")?;
+    }
+    body.push_str("]}")?;
+    Ok(body)
+}
+
+#[test]
+fn tells_the_first_nine_of_many(rt: HostRuntime) {
+    let body = crowd(rt.alloc(), 10_000).or_end(&rt);
+    let told = told(rt.alloc(), body.as_str().as_bytes(), 9).or_end(&rt);
+    let told = told.as_str();
+    assert_eq!(rt; told.lines().count(), 10);
+    assert!(rt; told.starts_with("ages[0]: lower than 18\nages[1]: lower than 18\n"));
+    assert!(rt; told.ends_with("ages[8]: lower than 18\nthere are more\n"));
+}
