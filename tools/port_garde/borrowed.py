@@ -3,6 +3,7 @@ borrow from the input; and what of them no form reads."""
 from dataclasses import replace
 
 from .derives import CASES, SERDE, literal_function, named_function, options, type_names
+from .names import of_field, of_variant, others_of_variant
 from .scope import SIGNED, UNSIGNED, is_option, is_path, is_text
 from .source import Param, Type, all_rules, is_ported
 from .tokens import Refusal
@@ -117,8 +118,20 @@ class Borrowed:
                     yield said.line, f"`{said.word}` of serde without one case of names, as \"camelCase\""
                 elif said.word == "transparent" and len(fields_of(item)) != 1:
                     yield said.line, f"`transparent` of serde at `{item.name}`, which has not just one field"
+        yield from self.of_names(item)
         if item.kind == "enum":
             yield from self.of_enum(item)
+
+    def of_names(self, item):
+        """The members and the variants whose name is that of one before."""
+        rows = [[(it.line, [of_field(it, variant, item)]) for it in variant.fields if it.name] for variant in item.variants]
+        if item.kind == "enum":
+            rows.append([(it.line, [of_variant(it, item), *others_of_variant(it)]) for it in item.variants])
+        for row in rows:
+            known = set()
+            for line, names in row:
+                yield from ((line, f"the name `{it}`, which another one has in JSON") for it in names if it in known)
+                known.update(names)
 
     def of_enum(self, item):
         """What a form of an enum wants."""

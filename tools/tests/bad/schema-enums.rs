@@ -76,3 +76,21 @@ pub struct Both {
     #[garde(skip)]
     other: u8,
 }
+
+#[derive(Clone, Copy, Deserialize)]
+#[serde(rename_all = "lowercase")]
+pub enum Way {
+    Post,
+    #[serde(alias = "post")]
+    Mail, //~ the name `post`, which another one has in JSON
+}
+
+#[derive(Deserialize, Validate)]
+#[serde(rename_all = "camelCase")]
+pub struct Twice {
+    #[garde(skip)]
+    how_many: u8,
+    #[garde(skip)]
+    #[serde(rename = "howMany")]
+    count: u8, //~ the name `howMany`, which another one has in JSON
+}
