@@ -1,9 +1,10 @@
 //! A handler whose texts are Czech.
 ghost use Rattle.garde.specs.Fields.{Equals};
-ghost use Rattle.use_signup.specs.CzechText.{characters, czech_text};
+ghost use Rattle.use_signup.specs.CzechText.{characters, czech_form_text, czech_text};
 
 use garde::I18n;
 use garde::i18n::{InvalidCreditCard, InvalidPhoneNumber, InvalidUrl, IpKind};
+use garde_schema::{FormI18n, Integer, Kind, Wanted};
 use std::alloc::{AllocError, Global};
 use std::borrow::CowStr;
 
@@ -44,6 +45,20 @@ const NOT_ASCII: &str = "text má jiné znaky než ASCII";
 const NOT_ALPHANUMERIC: &str = "text má jiné znaky než písmena a číslice";
 
 const NOT_SET: &str = "hodnota chybí";
+
+const NOT_WHOLE: &str = "hodnota není celé číslo";
+
+const OTHER_FORM: &str = "hodnota má jiný tvar";
+
+const OUT_OF_RANGE: &str = "číslo je mimo rozsah";
+
+const MISSING: &str = "pole chybí";
+
+const REPEATED: &str = "pole se opakuje";
+
+const UNKNOWN: &str = "neznámé pole";
+
+const NOT_ONE_OF: &str = "neznámá hodnota";
 
 /// A handler whose texts are Czech. It names no reason.
 #[derive(Drop, Clone, Copy, Debug)]
@@ -155,5 +170,41 @@ impl I18n for Czech {
 
     fn required_not_set(&self, _alloc: Global) -> Result<CowStr<'static>, AllocError> {
         Ok(CowStr::Borrowed(NOT_SET))
+    }
+}
+
+impl FormI18n for Czech {
+    ghost form_text = { λ _ fault. czech_form_text fault };
+
+    fn wrong_form(
+        &self,
+        _alloc: Global,
+        wanted: Wanted,
+        _found: Kind,
+    ) -> Result<CowStr<'static>, AllocError> {
+        Ok(CowStr::Borrowed(match wanted {
+            Wanted::Whole => NOT_WHOLE,
+            _ => OTHER_FORM,
+        }))
+    }
+
+    fn out_of_range(&self, _alloc: Global, _of: Integer) -> Result<CowStr<'static>, AllocError> {
+        Ok(CowStr::Borrowed(OUT_OF_RANGE))
+    }
+
+    fn member_missing(&self, _alloc: Global) -> Result<CowStr<'static>, AllocError> {
+        Ok(CowStr::Borrowed(MISSING))
+    }
+
+    fn member_repeated(&self, _alloc: Global) -> Result<CowStr<'static>, AllocError> {
+        Ok(CowStr::Borrowed(REPEATED))
+    }
+
+    fn member_unknown(&self, _alloc: Global) -> Result<CowStr<'static>, AllocError> {
+        Ok(CowStr::Borrowed(UNKNOWN))
+    }
+
+    fn value_unknown(&self, _alloc: Global) -> Result<CowStr<'static>, AllocError> {
+        Ok(CowStr::Borrowed(NOT_ONE_OF))
     }
 }

@@ -3,18 +3,18 @@
 #![tactic(auto)]
 
 mod czech;
-mod form;
 mod sign_up;
 
 use crate::czech::Czech;
-use crate::sign_up::{SignUp, Words, age_of};
+use crate::sign_up::{LISTS, SignUp, Words, read_sign_up};
 use anyhow::{Context, Result, bail};
-use garde::i18n::DefaultI18n;
-use garde::{I18n, Valid, Validate, ValidateError};
-use std::alloc::Global;
-use std::env;
-use std::io::read_to_string;
+use garde::{DefaultI18n, I18n};
+use garde_form::form_to_json_with_lists;
+use garde_problem::Escaped;
+use garde_schema::{FormI18n, ReadError, Scratch};
+use std::io::Read;
 use std::process::ExitCode;
+use std::{env, io};
 
 const IN_ENGLISH: Words = Words {
     welcome: "welcome",
@@ -42,44 +42,53 @@ fn asks_for_czech(rt: &HostRuntime) -> Result<bool> {
     }
 }
 
-/// The form, valid, or what is wrong with it, in the texts of a handler.
-#[tactic(auto, unfolding(garde::specs::Fields::Known))]
-fn judge<H: I18n>(
-    alloc: Global,
-    form: SignUp,
-    words: &Words,
-    h: &H,
-) -> Result<Valid<SignUp>, ValidateError> {
-    match form.validate_with_i18n(alloc, words, h) {
-        Ok(()) => Ok(Valid::known(form, words)),
-        Err(refusal) => Err(refusal),
+/// Welcomes who signs up, and names the topics that were chosen. The name stands in quotes, with
+/// what is not shown escaped.
+fn welcome(rt: &impl Print, who: &SignUp<'_>, words: &Words) -> io::Result<()> {
+    let (welcome, name, age) = (words.welcome, who.name.text(), who.age);
+    println!(rt; "{welcome}, {name:?} ({age})")?;
+    if let Some(topics) = &who.topics {
+        for topic in topics.as_slice() {
+            println!(rt; "    {topic}")?;
+        }
     }
+    Ok(())
 }
 
 /// Prints the faults of a form, or welcomes who sent it.
-fn answer<H: I18n>(rt: &HostRuntime, form: SignUp, words: &Words, h: &H) -> Result<ExitCode> {
-    match judge(rt.alloc(), form, words, h) {
-        Ok(form) => {
-            let (welcome, name, age) = (words.welcome, &form.name, age_of(&form));
-            println!(rt; "{welcome}, {name:?} ({age})")?;
+fn answer<H: I18n + FormI18n>(
+    rt: &HostRuntime,
+    body: &[u8],
+    words: &Words,
+    h: &H,
+) -> Result<ExitCode> {
+    let alloc = rt.alloc();
+    let fields = form_to_json_with_lists(alloc, body, &LISTS)?;
+    let mut scratch = Scratch::new(alloc);
+    match read_sign_up(alloc, fields.as_bytes(), &mut scratch, words, h) {
+        Ok(who) => {
+            welcome(rt, &who, words)?;
             Ok(ExitCode::SUCCESS)
         }
-        Err(ValidateError::Report(report)) => {
-            print!(rt; "{report}")?;
+        Err(ReadError::Report(report)) => {
+            print!(rt; "{}", Escaped(alloc, &report))?;
             Ok(ExitCode::FAILURE)
         }
-        Err(ValidateError::Memory) => bail!("out of memory"),
+        Err(error) => Err(error.into()),
     }
 }
 
 fn run(rt: &HostRuntime) -> Result<ExitCode> {
     let czech = asks_for_czech(rt)?;
-    let body = read_to_string(rt.alloc(), rt.stdin()).context("the form is not read")?;
-    let form = form::read(rt.alloc(), body.as_str().trim_end())?;
+    let mut body = Vec::new(rt.alloc());
+    rt.stdin()
+        .read_to_end(&mut body)
+        .context("the form is not read")?;
+    let body = body.as_slice().trim_ascii_end();
     if czech {
-        answer(rt, form, &IN_CZECH, &Czech)
+        answer(rt, body, &IN_CZECH, &Czech)
     } else {
-        answer(rt, form, &IN_ENGLISH, &DefaultI18n)
+        answer(rt, body, &IN_ENGLISH, &DefaultI18n)
     }
 }
 

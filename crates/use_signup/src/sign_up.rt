@@ -1,8 +1,15 @@
-//! A form to sign up with: what is asked of each field, in one expression.
-ghost use Rattle.garde.specs.Fields.{◌and◌, Equals, Some, alphanumeric, chars_between, field, found, length_between, matches_text, optional, own_unless, prefix, range_between, required};
+//! Who signs up: the form of each field and its rules, in one expression.
+ghost use Rattle.std.specs.Prelude.{bytes_eq, is_some};
+ghost use Rattle.garde.specs.Author.{codes, matches};
+ghost use Rattle.garde.specs.Fields.{own_unless};
 
-use garde::fields::{Alphanumeric, Field, Fields, IfSome, Is, Matches, Prefix, Required, Rule};
-use garde::{I18n, Report, RuleError, Trail, Valid, Validate, length, range};
+use garde::fields::{Alphanumeric, Is, Matches, Prefix, Required, Rule};
+use garde::{I18n, Report, RuleError, Trail, length, range};
+use garde_form::{OrEmpty, Parsed};
+use garde_schema::{
+    Checked, Closed, FormI18n, Items, ListUnder, Member, Object, OneOf, Optional, ReadError, Rules,
+    Scratch, Text, TextRef, U8, Under, read_json,
+};
 use std::alloc::{AllocError, Global};
 use std::borrow::CowStr;
 
@@ -18,11 +25,16 @@ pub struct Words {
 #[derive(Clone, Copy, Debug)]
 pub struct Accepted(pub &'static str);
 
-impl Rule<bool> for Accepted {
-    ghost finds = { λ rule accepted. own_unless rule.0.now accepted };
+impl Rule<Option<bool>> for Accepted {
+    ghost finds = { λ rule accepted. own_unless rule.0.now (is_some accepted) };
 
-    fn find<H: I18n>(&self, alloc: Global, accepted: &bool, _h: &H) -> Result<(), RuleError> {
-        if *accepted {
+    fn find<H: I18n>(
+        &self,
+        alloc: Global,
+        accepted: &Option<bool>,
+        _h: &H,
+    ) -> Result<(), RuleError> {
+        if accepted.is_some() {
             Ok(())
         } else {
             Err(RuleError::of(alloc, Ok(CowStr::Borrowed(self.0))))
@@ -30,78 +42,80 @@ impl Rule<bool> for Accepted {
     }
 }
 
-/// Who wants to sign up.
-#[derive(Drop)]
-pub struct SignUp {
-    pub name: String,
-    pub username: String,
-    pub password: String,
-    pub password_again: String,
-    pub age: Option<u8>,
-    pub phone: Option<String>,
-    pub terms: bool,
-}
+/// The rule that the password is repeated as it is.
+#[derive(Clone, Copy, Debug)]
+pub struct Repeated;
 
-impl Validate for SignUp {
-    type Context = Words;
+impl<'t> Rules<(TextRef<'t>, TextRef<'t>)> for Repeated {
+    ghost asks = { λ _ v. matches (codes "password") (bytes_eq v.1 v.0) };
 
-    ghost visits = { λ v words.
-        field "name" (chars_between 1 40 v.name)
-        and field "username" (alphanumeric v.username and chars_between 3 25 v.username)
-        and field "password" (chars_between 12 128 v.password)
-        and field "password_again" (matches_text "password" v.password_again v.password)
-        and field "age" (required v.age and optional (λ age. range_between 18 120 age) v.age)
-        and field "phone" (optional (λ phone. prefix "+" phone and length_between 9 16 phone) v.phone)
-        and field "terms" (found (own_unless words.terms.now v.terms)) };
-
-    fn validate_into<'a, H: I18n>(
-        &'a self,
+    fn ask<'a, H: I18n>(
+        &self,
         alloc: Global,
-        ctx: &Words,
+        value: &(TextRef<'t>, TextRef<'t>),
         trail: &mut Trail<'a>,
         report: &mut Report,
         h: &H,
     ) -> Result<(), AllocError> {
-        let Self {
-            name,
-            username,
-            password,
-            password_again,
-            age,
-            phone,
-            terms,
-        } = self;
+        let (password, again) = value;
         let same = Matches {
             field: "password",
             other: password,
         };
-        let adult = IfSome(Is(range!(min = 18, max = 120)));
-        let called = IfSome((Is(Prefix("+")), Is(length!(min = 9, max = 16))));
-        (
-            Field("name", name, Is(length!(chars, min = 1, max = 40))),
-            Field(
-                "username",
-                username,
-                (Is(Alphanumeric), Is(length!(chars, min = 3, max = 25))),
-            ),
-            Field(
-                "password",
-                password,
-                Is(length!(chars, min = 12, max = 128)),
-            ),
-            Field("password_again", password_again, Is(same)),
-            Field("age", age, (Is(Required), adult)),
-            Field("phone", phone, called),
-            Field("terms", terms, Is(Accepted(ctx.terms))),
-        )
-            .visit(alloc, trail, report, h)
+        Is(same).ask(alloc, again, trail, report, h)
     }
 }
 
-/// How old someone is who may sign up. A valid form has an age, so nothing is tested.
+/// The fields that are sent once for each choice.
+pub const LISTS: [&str; 1] = ["topics"];
+
+/// The topics to choose from.
+const TOPICS: [(&str, &str); 2] = [("news", "news"), ("events", "events")];
+
+/// Who may sign up.
+#[derive(Drop)]
+pub struct SignUp<'t> {
+    pub name: TextRef<'t>,
+    pub age: u8,
+    pub topics: Option<Items<&'static str>>,
+}
+
+/// Reads who signs up, or reports every fault of the form and of the rules. A valid form has an
+/// age, so nothing is tested.
 #[tactic(auto, unfolding(garde::specs::Fields::Known))]
-pub fn age_of(form: &Valid<SignUp>) -> u8
-    ensures { Equals form.now.age (Some result) }
-{
-    form.age.unwrap()
+pub fn read_sign_up<'a, H: I18n + FormI18n>(
+    alloc: Global,
+    fields: &'a [u8],
+    scratch: &'a mut Scratch,
+    words: &Words,
+    h: &H,
+) -> Result<SignUp<'a>, ReadError> {
+    let adult = Parsed(U8, Is(range!(min = 18, max = 120)));
+    let called = Text((Is(Prefix("+")), Is(length!(min = 9, max = 16))));
+    let passwords = (
+        Member("password", Text(Is(length!(chars, min = 12, max = 128)))),
+        Member("password_again", Text(())),
+    );
+    let form = Object(Closed((
+        Member("name", Text(Is(length!(chars, min = 1, max = 40)))),
+        Member(
+            "username",
+            Text((Is(Alphanumeric), Is(length!(chars, min = 3, max = 25)))),
+        ),
+        Checked(passwords, Under("password_again", Repeated)),
+        Member("age", Checked(OrEmpty(adult), Is(Required))),
+        Optional("phone", OrEmpty(called)),
+        Optional("topics", ListUnder(Is(length!(max = 2)), OneOf(&TOPICS))),
+        Checked(
+            Optional("terms", OneOf(&[("on", true)])),
+            Under("terms", Is(Accepted(words.terms))),
+        ),
+    )));
+    match read_json(alloc, fields, scratch, &form, h) {
+        Ok((name, _, _, age, _, topics, _)) => {
+            let age = age.unwrap();
+            Ok(SignUp { name, age, topics })
+        }
+        Err(error) => Err(error),
+    }
 }
