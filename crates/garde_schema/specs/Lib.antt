@@ -3,6 +3,7 @@ pub mod FormCode
 pub mod FormText
 pub mod Forms
 pub mod Members
+pub mod Nested
 pub mod Nulls
 pub mod OneMember
 pub mod OneOf
@@ -13,3 +14,4 @@ pub mod RulesOnValue
 pub mod Flat
 pub mod Lists
 pub mod Maps
+pub mod formers

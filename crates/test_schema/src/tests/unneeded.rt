@@ -10,15 +10,33 @@ use test_memory::Scarce;
 /// A fault of each kind, and the text that the default handler has of it.
 static STORED: [(FormFault, &str); 16] = [
     (FormFault::Wrong(Wanted::List, Kind::Null), "not a list"),
-    (FormFault::Wrong(Wanted::Character, Kind::Text), "not a character"),
+    (
+        FormFault::Wrong(Wanted::Character, Kind::Text),
+        "not a character",
+    ),
     (FormFault::Wrong(Wanted::Date, Kind::Text), "not a date"),
     (FormFault::Wrong(Wanted::Time, Kind::Text), "not a time"),
-    (FormFault::Wrong(Wanted::DateTime, Kind::Text), "not a date and time"),
-    (FormFault::Wrong(Wanted::Timestamp, Kind::Text), "not a timestamp"),
-    (FormFault::Wrong(Wanted::Ipv4, Kind::Text), "not an IPv4 address"),
-    (FormFault::Wrong(Wanted::Ipv6, Kind::Text), "not an IPv6 address"),
+    (
+        FormFault::Wrong(Wanted::DateTime, Kind::Text),
+        "not a date and time",
+    ),
+    (
+        FormFault::Wrong(Wanted::Timestamp, Kind::Text),
+        "not a timestamp",
+    ),
+    (
+        FormFault::Wrong(Wanted::Ipv4, Kind::Text),
+        "not an IPv4 address",
+    ),
+    (
+        FormFault::Wrong(Wanted::Ipv6, Kind::Text),
+        "not an IPv6 address",
+    ),
     (FormFault::Wrong(Wanted::Uuid, Kind::Text), "not a UUID"),
-    (FormFault::Wrong(Wanted::Version, Kind::Text), "not a version"),
+    (
+        FormFault::Wrong(Wanted::Version, Kind::Text),
+        "not a version",
+    ),
     (FormFault::Wrong(Wanted::Url, Kind::Text), "not a URL"),
     (FormFault::OutOfRange(Integer::U8), "out of range: 0 to 255"),
     (FormFault::Missing, "missing"),
