@@ -7,3 +7,4 @@ mod Lists
 mod Maps
 mod Wide
 mod Making
+mod Recursion

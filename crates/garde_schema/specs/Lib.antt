@@ -4,6 +4,7 @@ pub mod FormCode
 pub mod FormText
 pub mod Forms
 pub mod Members
+pub mod Nested
 pub mod Nulls
 pub mod OneMember
 pub mod OneOf
@@ -14,3 +15,4 @@ pub mod RulesOnValue
 pub mod Flat
 pub mod Lists
 pub mod Maps
+pub mod formers

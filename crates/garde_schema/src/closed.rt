@@ -55,7 +55,7 @@ fn check_names<'t, 'a, M: Members<'a>, H: I18n + FormI18n>(
 }
 
 // Puts a fault under the name of each member of the object that is not named.
-fn check_members<'t, 'a, M: Members<'a>, H: I18n + FormI18n>(
+pub(crate) fn check_members<'t, 'a, M: Members<'a>, H: I18n + FormI18n>(
     alloc: Global,
     named: &M,
     object: &Tree<'t, 'a>,

@@ -16,8 +16,11 @@ pub struct Items<T>(Vec<T>);
 
 impl<T> Model for Items<T> {
     ghost use Rattle.std.specs.Prelude.{List};
+    ghost use Rattle.std.specs.Coded.{coded_list};
 
     ghost Value = { List T };
+
+    ghost coded = { coded_list T.code };
 
     ghost view = { λ items. items.0.items };
 }

@@ -10,6 +10,7 @@ mod lists;
 mod long_tuples;
 mod maps;
 mod members;
+mod nested;
 mod nulls;
 mod numbers;
 mod only_members;

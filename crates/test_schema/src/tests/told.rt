@@ -1,8 +1,8 @@
 //! What a body reads as by a form: its value, as it prints for debugging, or its whole report.
 
 use super::{
-    OrEnd, checked, enums, forms, json, lists, maps, nulls, only_members, reports, signup, tuples,
-    unions, wide_numbers,
+    OrEnd, checked, enums, forms, json, lists, maps, nested, nulls, only_members, reports, signup,
+    tuples, unions, wide_numbers,
 };
 use garde::{CodeI18n, DefaultI18n, I18n};
 use garde_schema::{Form, FormI18n, read};
@@ -20,6 +20,7 @@ pub enum Case {
     Json,
     Lists(lists::Case),
     Maps(maps::Case),
+    Nested(nested::Case),
     Nulls(nulls::Case),
     OnlyMembers(only_members::Case),
     Reports,
@@ -60,6 +61,7 @@ fn told_by<H: I18n + FormI18n>(
         Case::Json => json::person(alloc, tree, h),
         Case::Lists(case) => lists::told_by(alloc, tree, case, h),
         Case::Maps(case) => maps::told_by(alloc, tree, case, h),
+        Case::Nested(case) => nested::told_by(alloc, tree, case, h),
         Case::Nulls(case) => nulls::told_by(alloc, tree, case, h),
         Case::OnlyMembers(case) => only_members::told_by(alloc, tree, case, h),
         Case::Reports => reports::signup(alloc, tree, h),

@@ -1,0 +1,126 @@
+//! The walk over trees of a tape.
+ghost use Rattle.std.specs.Prelude.{◌≡◌, IfOk};
+ghost use Rattle.garde.specs.Visits.{Visited};
+ghost use Rattle.garde_schema.specs.Forms.{forget};
+ghost use Rattle.garde_schema.specs.Nested.{first_visits, last_visits, made_of, own_value};
+
+use super::level::{Begun, Level};
+use super::steps::{begin, check_rest, made};
+use super::{BuildNested, Nested};
+use crate::form::Members;
+use crate::handler::FormI18n;
+use crate::items::Items;
+use crate::put::with;
+use garde::{Component, I18n, Report, Trail};
+use garde_tape::{Tree, TreeItems};
+use std::alloc::{AllocError, Global};
+
+/// The form, whether it is closed, the handler, and the tree that the walk begins at.
+#[derive(Drop)]
+pub(super) struct Way<'t, 'r, 'f, 'h, 'a, M, B, H> {
+    pub(super) alloc: Global,
+    pub(super) form: &'f Nested<'a, M, B>,
+    pub(super) closed: bool,
+    pub(super) h: &'h H,
+    pub(super) tree: &'r Tree<'t, 'a>,
+}
+
+impl<'t, 'r, 'f, 'h, 'a: 't, B: BuildNested, M: Members<'a, Out = B::Own>, H: I18n + FormI18n> Level
+    for Way<'t, 'r, 'f, 'h, 'a, M, B, H> {
+    type Tree = Tree<'t, 'a>;
+
+    type Trees = TreeItems<'t, 'a>;
+
+    type Trail = Trail<'a>;
+
+    type Own = B::Own;
+
+    type Made = B::Made;
+
+    ghost json = { λ tree. tree };
+
+    ghost jsons = { λ items. items };
+
+    ghost trace = { λ trail. trail };
+
+    ghost text = { λ way. H.text way.h.now };
+
+    ghost name = { λ way. way.form.now.0.now };
+
+    ghost first = { λ way j. first_visits way.form.now.0.now
+        (M.visits way.form.now.1 (H.form_text way.h.now)) (H.form_text way.h.now) j };
+
+    ghost last = { λ way j. last_visits way.closed way.form.now.0.now
+        (M.names way.form.now.1) (H.form_text way.h.now) j };
+
+    ghost spells = { λ way j. own_value (M.value way.form.now.1) j };
+
+    ghost keeps = { λ way own. M.keeps way.form.now.1 own };
+
+    ghost builds = { λ way own values. B.builds way.form.now.2 own values };
+
+    ghost parts_of = { λ way made. B.parts_of way.form.now.2 made };
+
+    fn begin(
+        &self,
+        tree: &Tree<'t, 'a>,
+        trail: &mut Trail<'a>,
+        report: &mut Report,
+    ) -> Result<Begun<B::Own, TreeItems<'t, 'a>>, AllocError> {
+        begin(
+            self.alloc,
+            self.form.0,
+            &self.form.1,
+            tree,
+            trail,
+            report,
+            self.h,
+        )
+    }
+
+    fn enter(&self, trail: &mut Trail<'a>) -> Result<(), AllocError> {
+        trail.push(Component::key(self.form.0))
+    }
+
+    fn enter_item(&self, index: usize, trail: &mut Trail<'a>) -> Result<(), AllocError> {
+        trail.push(Component::index(index))
+    }
+
+    fn leave(&self, trail: &mut Trail<'a>) {
+        trail.pop();
+    }
+
+    fn next(&self, items: &mut TreeItems<'t, 'a>) -> Option<Tree<'t, 'a>> {
+        items.next()
+    }
+
+    fn finish(
+        &self,
+        tree: &Tree<'t, 'a>,
+        own: Option<B::Own>,
+        values: Option<Items<B::Made>>,
+        trail: &mut Trail<'a>,
+        report: &mut Report,
+    ) -> Result<Option<B::Made>, AllocError>
+        ensures answer { Visited (last_visits self.now.closed self.now.form.now.0.now
+            (M.names self.now.form.now.1) (H.form_text self.now.h.now) tree.now)
+            (H.text self.now.h.now) trail.old trail.new report.old report.new (forget result) }
+        ensures value { IfOk result (λ out.
+            out ≡ made_of (B.builds self.now.form.now.2) own values) }
+    {
+        let Nested(name, members, maker) = self.form;
+        let told = check_rest(
+            self.alloc,
+            self.closed,
+            name,
+            members,
+            tree,
+            trail,
+            report,
+            self.h,
+        );
+        with(told, made(maker, own, values))
+    }
+
+    ghost kept = { λ way own values. B.kept way.form.now.2 own values };
+}
