@@ -1,5 +1,5 @@
 -- What the lookup of a code finds.
-use Rattle.std.proofs.Common.{◌≡◌, ◌∙◌, sym, ap, subst, refl, ℕ, ◌==◌, pos, negsuc, List, [], ◌∷◌, ◌++◌, length, flat_map, codes, Bool, true, false, not, ◌&&◌, cond, None, Some, inl, inr, arith, bytes_eq, is_eq}
+use Rattle.std.proofs.Common.{◌≡◌, ◌∙◌, sym, ap, subst, refl, ℕ, ℤ, ◌==◌, pos, negsuc, List, [], ◌∷◌, ◌++◌, length, flat_map, codes, Bool, true, false, not, ◌&&◌, cond, None, Some, inl, inr, arith, bytes_eq, is_eq}
 use Rattle.std.proofs.lemmas.Bool.{true≢false}
 use Rattle.std.proofs.Math.Dec.{eqb-suc-zero}
 use Rattle.std.specs.Bool.{Decides}
@@ -128,10 +128,24 @@ finds old new code rows table h =
     let found : length a.staged ≡ length (flat_map (hits code) (old.now.trees 0)) = ap length a.grouped in
     subst (λ n. Tells code (lines_in (old.now.trees 0)) (not (n == 0))) (sym (shown ∙ kept ∙ staged ∙ found)) (scan code (old.now.trees 0))
 
-pub found_stays : (old new : State) (code : List ℕ) (rows : List Row) → HasTable old → Shown select_text (Text code ∷ []) old new rows → Stays old new
+-- a query that only reads changes nothing
+pub shown_stays : (sql : List ℕ) (params : Row) → IsPlain (understood stock_schema sql) → (old new : State) (rows : List Row) → HasTable old → Shown sql params old new rows → Stays old new
 unfolding Shown
-found_stays old new code rows table h =
-    let plain = subst IsPlain (ap (λ s. understood s select_text) (sym table.0) ∙ h.1.is) select_plain in
-    let full = timed (Text code ∷ []) h.0.formats h.1.now in
-    let it = subst (ShowsRows old new select_text h.0 full rows) plain.0 h.2 in
+shown_stays sql params is_plain old new rows table h =
+    let plain = subst IsPlain (ap (λ s. understood s sql) (sym table.0) ∙ h.1.is) is_plain in
+    let full = timed params h.0.formats h.1.now in
+    let it = subst (ShowsRows old new sql h.0 full rows) plain.0 h.2 in
     (it.3.0.now_is, it.3.0.committed_is, it.3.0.mode)
+
+pub found_stays : (old new : State) (code : List ℕ) (rows : List Row) → HasTable old → Shown select_text (Text code ∷ []) old new rows → Stays old new
+found_stays old new code rows table h = shown_stays select_text (Text code ∷ []) select_plain old new rows table h
+
+abbrev pub page_text : List ℕ
+page_text = codes "SELECT id, code, name, quantity, price, page FROM stock WHERE id > ?1 ORDER BY id LIMIT 1000"
+
+page_plain : IsPlain (understood stock_schema page_text)
+unfolding understood everything
+page_plain = (refl, refl)
+
+pub page_stays : (old new : State) (last : ℤ) (rows : List Row) → HasTable old → Shown page_text (Int last ∷ []) old new rows → Stays old new
+page_stays old new last rows table h = shown_stays page_text (Int last ∷ []) page_plain old new rows table h

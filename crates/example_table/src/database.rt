@@ -5,6 +5,7 @@ ghost use mathlib.Core.HLevel.{Π_prop};
 ghost use Rattle.example_table.specs.Props.{Holds-prop};
 ghost use Rattle.example_table.specs.Stock.{Holds, IsUp, no_schema};
 
+use crate::opening::OpenError;
 use crate::statements;
 use example_import::row::Row;
 use example_import::store::Store;
@@ -20,20 +21,36 @@ pub struct Stock<S: Alter> {
     ghost holds: { IsTrue is_made → Holds (state S.Store conn) } by { Π_prop (λ _. Holds-prop (state S.Store conn)) },
 }
 
+/// Whether a database has no table, and no transaction has begun.
+fn is_empty<S: Alter>(conn: &Connection<S>) -> bool
+    ensures schema { IsTrue result → (state S.Store conn.now).now.schema ≡ no_schema }
+    ensures outside { IsTrue result → conn.now.in_transaction ≡ false }
+{
+    let schema = conn.schema();
+    conn.is_autocommit()
+        && schema.tables.is_empty()
+        && schema.indexes.is_empty()
+        && schema.views.is_empty()
+}
+
 impl<S: Alter + Drop> Stock<S> {
-    /// The table, made in a database that has none.
-    pub fn make(mut conn: Connection<S>) -> Result<Stock<S>, Error>
-        requires empty { (state S.Store conn).now.schema ≡ no_schema }
-        requires outside { conn.in_transaction ≡ false }
+    /// The table, made in a database that has none. Where a database has one, or a transaction has
+    /// begun, the error is `OtherTable`, and nothing is made.
+    pub fn make(mut conn: Connection<S>) -> Result<Stock<S>, OpenError>
         ensures made { IfOk result (λ stock. IsTrue stock.is_made) }
         ensures empty { IfOk result (λ stock. IsUp (state S.Store stock.conn)
             → ((state S.Store stock.conn).now.trees 0 ≡ []) × ((state S.Store stock.conn).committed.trees 0 ≡ [])) }
     {
-        statements::create(&mut conn)?;
-        Ok(Stock {
-            conn,
-            is_made: true,
-        })
+        if !is_empty(&conn) {
+            return Err(OpenError::OtherTable);
+        }
+        match statements::create(&mut conn) {
+            Ok(_) => Ok(Stock {
+                conn,
+                is_made: true,
+            }),
+            Err(error) => Err(OpenError::Sqlite(error)),
+        }
     }
 
     /// The table that stands in a database. No clause says what it has.
@@ -43,6 +60,14 @@ impl<S: Alter + Drop> Stock<S> {
         Stock {
             conn,
             is_made: false,
+        }
+    }
+
+    /// The rows behind the one with this rowid, a thousand at most.
+    pub(crate) fn page(&mut self, last: i64) -> Result<Vec<sqlite::Row>, Error> {
+        match statements::page(&mut self.conn, last) {
+            Ok(rows) => Ok(rows),
+            Err(error) => Err(error),
         }
     }
 }

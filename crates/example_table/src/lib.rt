@@ -2,4 +2,6 @@
 #![tactic(auto)]
 
 pub mod database;
+pub mod opening;
+pub mod reading;
 mod statements;

@@ -81,6 +81,22 @@ pub(crate) fn put<S: Alter>(conn: &mut Connection<S>, row: &Valid<Row>) -> Resul
     )
 }
 
+/// The rows behind the one with this rowid, a thousand at most.
+pub(crate) fn page<S: Alter>(conn: &mut Connection<S>, last: i64) -> Result<Vec<sqlite::Row>, Error>
+    ensures up { IsUp (state S.Store conn.new) → IsUp (state S.Store conn.old) }
+    ensures ok { IsUp (state S.Store conn.new) → HasTable (state S.Store conn.old)
+        → OnOk result (Stays (state S.Store conn.old) (state S.Store conn.new)) }
+    ensures err { IsUp (state S.Store conn.new) → OnErr result (Fails (state S.Store conn.old) (state S.Store conn.new)) }
+{
+    match conn.query_all(
+        "SELECT id, code, name, quantity, price, page FROM stock WHERE id > ?1 ORDER BY id LIMIT 1000",
+        &[last.to_sql()],
+    ) {
+        Ok(rows) => Ok(rows),
+        Err(error) => Err(error),
+    }
+}
+
 /// Begins a transaction.
 pub(crate) fn begin<S: Alter>(conn: &mut Connection<S>) -> Result<usize, Error>
     ensures up { IsUp (state S.Store conn.new) → IsUp (state S.Store conn.old) }
@@ -103,6 +119,10 @@ pub(crate) fn commit<S: Alter>(conn: &mut Connection<S>) -> Result<usize, Error>
     conn.execute("COMMIT", &[])
 }
 
+/// The statement that makes the table. A database keeps its text.
+pub(crate) const CREATE: &str =
+    "CREATE TABLE stock (id INTEGER PRIMARY KEY, code TEXT NOT NULL UNIQUE, name TEXT NOT NULL, quantity INTEGER NOT NULL, price INTEGER NOT NULL, page TEXT) STRICT";
+
 /// Makes the table, in a database with no schema.
 pub(crate) fn create<S: Alter>(conn: &mut Connection<S>) -> Result<usize, Error>
     requires empty { (state S.Store conn.old).now.schema ≡ no_schema }
@@ -110,8 +130,5 @@ pub(crate) fn create<S: Alter>(conn: &mut Connection<S>) -> Result<usize, Error>
     ensures { IsUp (state S.Store conn.new) → OnOk result (HasTable (state S.Store conn.new)
         × ((state S.Store conn.new).now.trees 0 ≡ []) × ((state S.Store conn.new).committed.trees 0 ≡ [])) }
 {
-    conn.execute(
-        "CREATE TABLE stock (id INTEGER PRIMARY KEY, code TEXT NOT NULL UNIQUE, name TEXT NOT NULL, quantity INTEGER NOT NULL, price INTEGER NOT NULL, page TEXT) STRICT",
-        &[],
-    )
+    conn.execute(CREATE, &[])
 }
