@@ -10,52 +10,59 @@ use crate::input::Input;
 use crate::options::Options;
 use crate::row::{COLUMNS, Row};
 use anyhow::{Result, anyhow};
-use csv::{ErrorKind, Reader, StringRecord, StringRecordsIntoIter};
-use garde::{Component, DefaultI18n, FirstError, Report, Trail, Validate};
+use csv::{ErrorKind, Reader, ReaderBuilder, StringRecord};
+use garde::{DefaultI18n, Report};
+use garde_problem::Escaped;
+use garde_rows::{Columns, Names, RowScratch, read_columns};
+use garde_schema::ReadError;
 use std::alloc::Global;
 use std::io::{BufWriter, Read, Write};
 use std::process::ExitCode;
 use std::{env, io};
 
-/// Whether a header row has the columns of a list.
-fn has_columns(header: &StringRecord) -> bool {
-    for (place, column) in COLUMNS.iter().enumerate() {
-        if header.get(place) != Some(*column) {
-            return false;
+/// Prints at most so many faults of a report, and returns how many it printed.
+fn print_first<W: Write>(report: &Report, most: usize, out: &mut W) -> io::Result<usize> {
+    for (path, error) in report.iter().take(most) {
+        writeln!(out, "{path}: {error}")?;
+    }
+    Ok(report.len().min(most))
+}
+
+/// A list whose header row has been read, and what is kept from one row to the next.
+#[derive(Drop)]
+struct List<R> {
+    reader: Reader<R>,
+    columns: Columns,
+    cells: StringRecord,
+    scratch: RowScratch,
+}
+
+impl<R: Read + Drop> List<R> {
+    /// Reads the next row. The answer is whether it is UTF-8, or `None` behind the last row.
+    fn next(&mut self) -> Result<Option<bool>> {
+        match self.reader.read_record(&mut self.cells) {
+            Ok(true) => Ok(Some(true)),
+            Ok(false) => Ok(None),
+            Err(error) => match error.kind() {
+                ErrorKind::Utf8 { .. } => Ok(Some(false)),
+                _ => Err(anyhow!("{error}")),
+            },
         }
     }
-    header.len() == COLUMNS.len()
-}
 
-/// Why a record is no row, where the records behind it can be read.
-fn reason(error: &csv::Error) -> Option<&'static str> {
-    match error.kind() {
-        ErrorKind::UnequalLengths { .. } => Some("not as many fields as in the header"),
-        ErrorKind::Utf8 { .. } => Some("not UTF-8"),
-        _ => None,
-    }
-}
-
-/// Prints the faults of a report, and returns how many there are.
-fn print_all<W: Write>(report: &Report, out: &mut W) -> io::Result<usize> {
-    write!(out, "{report}")?;
-    Ok(report.len())
-}
-
-/// Prints at most so many faults of a row, and returns how many it printed.
-fn check<W: Write>(
-    alloc: Global,
-    index: usize,
-    row: &Row,
-    most: usize,
-    out: &mut W,
-) -> Result<usize> {
-    let mut trail = Trail::new(alloc);
-    trail.push(Component::index(index))?;
-    match row.validate_first_on(alloc, &(), most, &mut trail, &DefaultI18n) {
-        Ok(()) => Ok(0),
-        Err(FirstError::All(report) | FirstError::First(report)) => Ok(print_all(&report, out)?),
-        Err(FirstError::Memory) => Err(anyhow!("out of memory")),
+    /// Prints at most so many faults of the row that was read, and returns how many it printed.
+    fn check<W: Write>(
+        &mut self,
+        alloc: Global,
+        index: usize,
+        most: usize,
+        out: &mut W,
+    ) -> Result<usize> {
+        match Row::read(alloc, index, &self.columns, &self.cells, &mut self.scratch) {
+            Ok(_) => Ok(0),
+            Err(ReadError::Report(report)) => Ok(print_first(&report, most, out)?),
+            Err(error) => Err(error.into()),
+        }
     }
 }
 
@@ -63,24 +70,23 @@ fn check<W: Write>(
 /// none.
 fn import<R: Read + Drop, W: Write>(
     alloc: Global,
-    rows: StringRecordsIntoIter<R>,
+    list: &mut List<R>,
     options: &Options,
     out: &mut W,
 ) -> Result<bool> {
     let mut left = options.most;
-    for (place, record) in rows.enumerate() {
+    for place in 0..usize::MAX {
+        let Some(is_text) = list.next()? else {
+            break;
+        };
         let Some(index) = options.first_row.checked_add(place) else {
             return Err(anyhow!("a row has no number"));
         };
-        let told = match record {
-            Ok(record) => check(alloc, index, &Row::of(alloc, &record)?, left, out)?,
-            Err(error) => {
-                let Some(reason) = reason(&error) else {
-                    return Err(anyhow!("{error}"));
-                };
-                writeln!(out, "[{index}]: {reason}")?;
-                1
-            }
+        let told = if is_text {
+            list.check(alloc, index, left, out)?
+        } else {
+            writeln!(out, "[{index}]: not UTF-8")?;
+            1
         };
         left = left.saturating_sub(told);
         if left == 0 {
@@ -90,24 +96,41 @@ fn import<R: Read + Drop, W: Write>(
     Ok(left == options.most)
 }
 
-/// The rows of a list, whose header row has been read.
-fn rows<R: Read + Drop>(alloc: Global, list: R) -> Result<StringRecordsIntoIter<R>> {
-    let mut reader = Reader::from_reader(alloc, list);
-    match reader.headers() {
-        Ok(header) if has_columns(header) => {}
-        Ok(_) => return Err(anyhow!("the columns must be code, name, quantity, price, page")),
-        Err(error) => return Err(anyhow!("{error}")),
+/// The list of these bytes, whose header row has each of the columns and no other. It prints every
+/// fault of another header row.
+fn open<R: Read + Drop, W: Write>(alloc: Global, bytes: R, out: &mut W) -> Result<List<R>> {
+    let mut reader = ReaderBuilder::new()
+        .has_headers(false)
+        .flexible(true)
+        .from_reader(alloc, bytes);
+    let mut header = StringRecord::new(alloc);
+    if let Err(error) = reader.read_record(&mut header) {
+        return Err(anyhow!("{error}"));
     }
-    Ok(reader.into_records())
+    let mut scratch = RowScratch::new(alloc);
+    match read_columns(alloc, header, Names(&COLUMNS), &mut scratch, &DefaultI18n) {
+        Ok(columns) => Ok(List {
+            reader,
+            columns,
+            cells: StringRecord::new(alloc),
+            scratch,
+        }),
+        Err(ReadError::Report(report)) => {
+            write!(out, "{}", Escaped(alloc, &report))?;
+            Err(anyhow!("these are not the columns of a list"))
+        }
+        Err(error) => Err(error.into()),
+    }
 }
 
 /// Whether each row of the list on standard input is valid.
 fn run(rt: &HostRuntime) -> Result<bool> {
     let words: Vec<String> = env::args(rt)?.skip(1).collect(rt.alloc())?;
     let options = Options::of(&words)?;
-    let list = Input::new(options.has_header, rt.stdin());
+    let bytes = Input::new(options.has_header, rt.stdin());
     let mut out = BufWriter::new(rt.alloc(), io::writer(rt))?;
-    let valid = import(rt.alloc(), rows(rt.alloc(), list)?, &options, &mut out)?;
+    let mut list = open(rt.alloc(), bytes, &mut out)?;
+    let valid = import(rt.alloc(), &mut list, &options, &mut out)?;
     out.flush()?;
     Ok(valid)
 }

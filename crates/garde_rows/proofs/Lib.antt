@@ -1,0 +1,5 @@
+mod Cells
+mod Header
+mod Results
+mod Whole
+mod Texts

@@ -1,0 +1,15 @@
+//! Rows of a table in CSV, read by the forms of `garde_schema`.
+#![tactic(auto)]
+
+mod columns;
+mod names;
+mod put;
+mod row;
+mod row_form;
+mod row_text;
+mod scratch;
+
+pub use columns::{Columns, read_columns};
+pub use names::Names;
+pub use row::read_row;
+pub use scratch::RowScratch;

@@ -1,0 +1,4 @@
+//! Tests by what they are of.
+
+mod long;
+mod tables;

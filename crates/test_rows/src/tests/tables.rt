@@ -1,0 +1,139 @@
+//! Tables: the whole report of each, or the values of its rows.
+
+use csv::StringRecord;
+use garde::fields::{Is, Prefix};
+use garde::{DefaultI18n, range};
+use garde_form::{OrEmpty, Parsed};
+use garde_rows::{Columns, Names, RowScratch, read_columns, read_row};
+use garde_schema::{Any, Member, Object, Optional, Text, U8};
+use std::alloc::Global;
+use std::test::Fail;
+
+// What is told of the row of this index.
+fn told_of_row(
+    alloc: Global,
+    index: usize,
+    columns: &Columns,
+    cells: &[&str],
+    scratch: &mut RowScratch,
+) -> Result<String, Fail> {
+    let cells = StringRecord::from_fields(alloc, cells)?;
+    let form = Object((
+        Member("code", Text(Is(Prefix("P")))),
+        Member("price", Parsed(U8, Is(range!(min = 1, max = 200)))),
+        Optional("page", OrEmpty(Text(()))),
+    ));
+    match read_row(alloc, index, columns, &cells, scratch, &form, &DefaultI18n) {
+        Ok((code, price, page)) => {
+            let (code, page) = (code.text(), page.flatten().map(|page| page.text()));
+            Ok(format!(in alloc; "{code:?} {price} {page:?}\n")?)
+        }
+        Err(error) => Ok(format!(in alloc; "{error}")?),
+    }
+}
+
+// What is told of a table.
+fn told(alloc: Global, header: &[&str], rows: &[&[&str]]) -> Result<String, Fail> {
+    let header = StringRecord::from_fields(alloc, header)?;
+    let known = (Names(&["code", "price"]), Optional("page", Any));
+    let mut scratch = RowScratch::new(alloc);
+    let columns = match read_columns(alloc, header, known, &mut scratch, &DefaultI18n) {
+        Ok(columns) => columns,
+        Err(error) => return Ok(format!(in alloc; "{error}")?),
+    };
+    let mut all = String::new(alloc);
+    for (index, cells) in rows.iter().enumerate() {
+        let told = told_of_row(alloc, index, &columns, cells, &mut scratch)?;
+        all.push_str(&told)?;
+    }
+    Ok(all)
+}
+
+#[test]
+fn tells_every_fault_of_a_row(rt: HostRuntime) -> Result<(), Fail> {
+    let rows: [(&[&str], &str); 14] = [
+        (&["P1", "5", "x"], "\"P1\" 5 Some(\"x\")\n"),
+        (&["P1", "+200", ""], "\"P1\" 200 None\n"),
+        (
+            &["P\"\\,\n\u{1}é", "007", "{}"],
+            "\"P\\\"\\\\,\\n\\u{1}é\" 7 Some(\"{}\")\n",
+        ),
+        (
+            &["Q1", "201", ""],
+            "[0].code: value does not begin with \"P\"\n[0].price: greater than 200\n",
+        ),
+        (
+            &["", "", ""],
+            "[0].code: value does not begin with \"P\"\n[0].price: not a whole number\n",
+        ),
+        (&["P1", "256", ""], "[0].price: out of range: 0 to 255\n"),
+        (&["P1", "-1", ""], "[0].price: out of range: 0 to 255\n"),
+        (
+            &["P1", "5555555555555555555555555555555555555555", ""],
+            "[0].price: out of range: 0 to 255\n",
+        ),
+        (&["P1", " 5", ""], "[0].price: not a whole number\n"),
+        (&["P1", "1_0", ""], "[0].price: not a whole number\n"),
+        (&["P1", "5.0", ""], "[0].price: not a whole number\n"),
+        (&["Q1", "x"], "[0]: not as many fields as in the header\n"),
+        (
+            &["P1", "5", "x", ""],
+            "[0]: not as many fields as in the header\n",
+        ),
+        (&[], "[0]: not as many fields as in the header\n"),
+    ];
+    for (row, expected) in rows {
+        let told = told(rt.alloc(), &["code", "price", "page"], &[row])?;
+        assert_eq!(rt; told.as_str(), expected, "{expected}");
+    }
+    Ok(())
+}
+
+#[test]
+fn tells_of_the_columns_before_any_row(rt: HostRuntime) -> Result<(), Fail> {
+    let headers: [(&[&str], &str); 9] = [
+        (&["code", "price", "page"], "\"P1\" 7 Some(\"9\")\n"),
+        (
+            &["page", "code", "price"],
+            "[0].code: value does not begin with \"P\"\n",
+        ),
+        (
+            &["code", "price"],
+            "[0]: not as many fields as in the header\n",
+        ),
+        (&["code", "page"], "price: missing\n"),
+        (&["code", "price", "code"], "code: repeated\n"),
+        (&["page", "price", "page", "code"], "page: repeated\n"),
+        (
+            &["note", "code", "price", "note", ""],
+            "note: not known here\nnote: not known here\n: not known here\n",
+        ),
+        (
+            &["Code", "price", "price"],
+            "code: missing\nprice: repeated\nCode: not known here\n",
+        ),
+        (&[], "code: missing\nprice: missing\n"),
+    ];
+    for (header, expected) in headers {
+        let told = told(rt.alloc(), header, &[&["P1", "7", "9"]])?;
+        assert_eq!(rt; told.as_str(), expected, "{expected}");
+    }
+    Ok(())
+}
+
+#[test]
+fn reads_the_rows_behind_a_fault(rt: HostRuntime) -> Result<(), Fail> {
+    let rows: [&[&str]; 6] = [
+        &["7", "P1"],
+        &["7"],
+        &["x", "P2"],
+        &["7", "P3", ""],
+        &["201", "Q4"],
+        &["8", "P5"],
+    ];
+    let expected =
+        "\"P1\" 7 None\n[1]: not as many fields as in the header\n[2].price: not a whole number\n[3]: not as many fields as in the header\n[4].code: value does not begin with \"P\"\n[4].price: greater than 200\n\"P5\" 8 None\n";
+    let told = told(rt.alloc(), &["price", "code"], &rows)?;
+    assert_eq!(rt; told.as_str(), expected);
+    Ok(())
+}
