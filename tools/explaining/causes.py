@@ -32,7 +32,7 @@ def code_of(coded, pair):
 
 def of_call(place, body):
     """A call that does not say how long the fields of a type with parameters live."""
-    if place.is_bounded and re.match(r"\.\s*visit\s*\(", body.call):
+    if place.is_bounded and re.match(r"\.\s*visit\s*\(", body.call) and not re.match(r"\(\s*\)", body.last.blank):
         yield "a type with parameters or lifetimes calls `visit_of(self, ..)` in place of `visit(..)`"
 
 
