@@ -2,10 +2,8 @@
 
 use garde::fields::{Is, Prefix};
 use garde::{DefaultI18n, length, range};
-use garde_form::{Character, OrEmpty, Parsed, form_to_json, form_to_json_with_lists};
-use garde_schema::{
-    Closed, Flag, I8, ListUnder, Member, Object, OneOf, Optional, Scratch, Text, U8, read_json,
-};
+use garde_form::{OrEmpty, Parsed, form_to_json};
+use garde_schema::{Closed, I8, Member, Object, OneOf, Optional, Scratch, Text, U8, read_json};
 use std::alloc::Global;
 use std::test::Fail;
 
@@ -67,57 +65,6 @@ fn tells_every_fault_of_a_web_form(rt: HostRuntime) -> Result<(), Fail> {
     ];
     for (body, expected) in bodies {
         let told = told(rt.alloc(), body)?;
-        assert_eq!(rt; told.as_str(), expected, "{expected}");
-    }
-    Ok(())
-}
-
-// What is told of a form with a list.
-fn told_of_lists(alloc: Global, body: &[u8]) -> Result<String, Fail> {
-    let form = Object(Closed((
-        Member(
-            "tags",
-            ListUnder(Is(length!(max = 2)), Parsed(U8, Is(range!(min = 1)))),
-        ),
-        Optional("news", Parsed(Flag, ())),
-        Optional("initial", OrEmpty(Parsed(Character, ()))),
-    )));
-    let text = form_to_json_with_lists(alloc, body, &["tags"])?;
-    let mut scratch = Scratch::new(alloc);
-    match read_json(alloc, text.as_bytes(), &mut scratch, &form, &DefaultI18n) {
-        Ok((tags, news, initial)) => {
-            let tags = tags.as_slice();
-            Ok(format!(in alloc; "{tags:?} {news:?} {initial:?}")?)
-        }
-        Err(error) => Ok(format!(in alloc; "{error}")?),
-    }
-}
-
-#[test]
-fn tells_every_fault_of_a_list(rt: HostRuntime) -> Result<(), Fail> {
-    let bodies: [(&[u8], &str); 7] = [
-        (b"tags=7", "[7] None None"),
-        (
-            b"tags=2&news=true&tags=1&initial=%C3%A9",
-            "[2, 1] Some(true) Some(Some('\u{e9}'))",
-        ),
-        (b"initial=&tags=9&news=false", "[9] Some(false) Some(None)"),
-        (b"", "tags: missing\n"),
-        (
-            b"tags=1&tags=x&tags=0&tags=256&news=on&initial=ab",
-            "tags: length is greater than 2\ntags[1]: not a whole number\ntags[2]: lower than 1\ntags[3]: out of range: 0 to 255\nnews: not true or false\ninitial: not a character\n",
-        ),
-        (
-            b"tags=1&news=true&news=true&tags=",
-            "tags[1]: not a whole number\nnews: repeated\n",
-        ),
-        (
-            b"Tags=1&news=",
-            "tags: missing\nnews: not true or false\nTags: not known here\n",
-        ),
-    ];
-    for (body, expected) in bodies {
-        let told = told_of_lists(rt.alloc(), body)?;
         assert_eq!(rt; told.as_str(), expected, "{expected}");
     }
     Ok(())
