@@ -4,7 +4,7 @@ import tempfile
 import time
 
 from lib import edits as edits_of_crates
-from lib.copies import beside
+from lib.copies import Copy, beside
 from lib.edits import OPEN
 from lib.prover import checked
 from lib.verdicts import NAMED, PROVED, unfit_answers, verdicts
@@ -27,35 +27,46 @@ def reason(edit, found, lines):
     return (found.get(edit.function) or next((it for it in lines if "error" in it), "no verdict"))[:300]
 
 
-def batch_of(edits):
+def batch_of(edits, in_place):
     """As many of the edits as one check can judge, as bodies of functions of their own where that can be: the function that an
     edit is of is then proved as it stands, and so has a verdict what calls it."""
     taken = []
     for it in edits:
-        fit = beside(it, len(taken)) or it
+        fit = it if it.title in in_place else beside(it, len(taken)) or it
         if fit.stands_apart(taken):
             taken.append(fit)
     return taken
 
 
+def judged(batch, found, lines, in_place):
+    """The edits of a batch that have a verdict, and those that have none by themselves. A copy that is not refused, or that has no
+    verdict, is tried once more in place."""
+    done = [it for it in batch if found.get(it.function) in (PROVED, NAMED, OPEN)]
+    survivors = [it for it in done if isinstance(it, Copy) and found[it.function] != OPEN]
+    lost = batch if len(batch) == 1 and not done else [it for it in batch if is_unknown(it, lines)]
+    in_place |= {it.title for it in [*survivors, *lost] if isinstance(it, Copy)}
+    return [it for it in done if it not in survivors], [it for it in lost if not isinstance(it, Copy)]
+
+
 def rounds(crate, edits, room):
     """Tries a crate's edits. Gives what came of each, and how many checks that took."""
-    came, number, most = {}, 0, len(edits)
+    came, number, most, in_place = {}, 0, len(edits), set()
     with tempfile.TemporaryDirectory(prefix="wrong-bodies-kept-") as kept:
         left = sorted(edits, key=lambda it: it.is_alone)
         while left:
-            batch = batch_of(left)[:most]
+            batch, tried_in_place = batch_of(left, in_place)[:most], len(in_place)
             lines, number = checked(crate, batch, kept, room.share()), number + 1
             is_read = bool(lines) and re.match(r"(logic|only)=", lines[-1])
             found = verdicts(lines) if is_read else {}
             again = [it for it in batch if found.get(it.function) == NAMED and leaves_out(it, lines)]
-            done = [it for it in batch if found.get(it.function) in (PROVED, NAMED, OPEN) and it not in again]
+            done, lost = judged([it for it in batch if it not in again], found, lines, in_place)
             came.update({it.title: found[it.function] for it in done})
             if not done and not again:
-                done = batch if len(batch) == 1 else [it for it in batch if is_unknown(it, lines)]
-                came.update({it.title: f"NOT JUDGED: {reason(it, found, lines)}" for it in done})
+                came.update({it.title: f"NOT JUDGED: {reason(it, found, lines)}" for it in lost})
+                done = lost
             # where one edit keeps the others from a verdict, each half is tried by itself
-            most = len(edits) if done or again else (len(batch) + 1) // 2
+            moved = done or again or len(in_place) > tried_in_place
+            most = len(edits) if moved else (len(batch) + 1) // 2
             left = [it for it in left if it.title not in {other.title for other in done}]
     return came, number
 
