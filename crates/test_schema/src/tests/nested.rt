@@ -243,7 +243,7 @@ fn wide(alloc: Global, count: usize, member: &str) -> Result<String, AllocError>
 fn reads_ten_thousand_folders_in_order(rt: HostRuntime) {
     let body = wide(rt.alloc(), 10_000, "\"size\"").or_end(&rt);
     let bytes = body.as_str().as_bytes();
-    let told = told_of(rt.alloc(), Form::Nested(Case::Closed), bytes, &DefaultI18n).or_end(&rt);
+    let told = told_of(rt.alloc(), Form::Nested(Case::Open), bytes, &DefaultI18n).or_end(&rt);
     let told = told.as_str();
     assert_eq!(rt; told.matches("size: Some(").count(), 10_000);
     assert_eq!(rt; told.find("size: Some("), told.find("size: Some(0)"));
