@@ -124,7 +124,7 @@ visited_keyed_calls post text kind key each es {before} {after} {old} {new} {res
 pub visited_text_calls : {A : Type 0} (post : Visitor A) (text : Datum → List ℕ) (each : A → Visits) (es : List (String Global × A)) {before after : Trace} {old new : List Entry} {result : Answer} → CalledOver post (component_items (key_place kinds.Key string_bytes es) (map (λ e. e.1) es)) before old result after new → VisitsEach post each text → Visited (entries (λ k. key_part (string_bytes k)) each es) text before after old new result
 visited_text_calls post text each es called visits = visited_keyed_calls post text kinds.Key string_bytes each es called visits
 
-kept_by : (w : Trace) (b : Bool) (n : ℕ) → (cond b (record { components = w.components; front = length w.components; nodes = capped_sum w.nodes (length w.components - w.front + n) }) w).components ≡ w.components
+kept_by : (w : Trace) (b : Bool) (n : ℕ) → (cond b (record w { front = length w.components; nodes = capped_sum w.nodes (length w.components - w.front + n) }) w).components ≡ w.components
 kept_by w true n = refl
 kept_by w false n = refl
 

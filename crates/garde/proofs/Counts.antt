@@ -3,7 +3,7 @@ use Rattle.std.proofs.Common.{◌≡◌, ℕ, suc, ◌+◌, ◌-◌, ◌≤◌, 
 use Rattle.std.proofs.lemmas.Bool.{true≢false}
 use Rattle.garde_report.specs.Part.{Part}
 use Rattle.garde.specs.Tree.{Tree, nothing, fault, under, ◌then◌, bears, nodes}
-use Rattle.garde_report.specs.Trace.{Trace, IsTrace, capped_sum, with_component, without_last}
+use Rattle.garde_report.specs.Trace.{Trace, IsTrace, capped_sum, with_component, with_limit, without_last}
 use Rattle.garde.specs.Walk.{trace_after}
 use Rattle.garde.specs.Laws.{bears-then}
 use Rattle.garde.proofs.Flat.{or_false}
@@ -22,9 +22,9 @@ nodes_of_no_fault (under k s t) e =
 
 -- the walk of a tree with a fault or without, with so many nodes
 abbrev pub trace_by : Trace → Bool → ℕ → Trace
-trace_by w b n = cond b (record { components = w.components; front = length w.components; nodes = capped_sum w.nodes (length w.components - w.front + n) }) w
+trace_by w b n = cond b (record w { front = length w.components; nodes = capped_sum w.nodes (length w.components - w.front + n) }) w
 
-pub same_trace : {ps qs : List Part} {f g m n : ℕ} → ps ≡ qs → f ≡ g → m ≡ n → ◌≡◌ {A = Trace} (record { components = ps; front = f; nodes = m }) (record { components = qs; front = g; nodes = n })
+pub same_trace : {ps qs : List Part} {f g m n most : ℕ} → ps ≡ qs → f ≡ g → m ≡ n → ◌≡◌ {A = Trace} (record { components = ps; front = f; nodes = m; most = most }) (record { components = qs; front = g; nodes = n; most = most })
 same_trace p q r = cc
 
 trace_twice : (w : Trace) (x y : Bool) (m n : ℕ) → (x ≡ false → m ≡ 0) → (y ≡ false → n ≡ 0) → trace_by (trace_by w x m) y n ≡ trace_by w (x || y) (m + n)
@@ -62,6 +62,10 @@ by_parts : (w : Trace) (b : Bool) (n : ℕ) → (trace_by w b n).components ≡ 
 by_parts w true n = refl
 by_parts w false n = refl
 
+by_limit : (w : Trace) (b : Bool) (n : ℕ) → (trace_by w b n).most ≡ w.most
+by_limit w true n = refl
+by_limit w false n = refl
+
 by_count : (w : Trace) (b : Bool) (n : ℕ) → w.nodes ≤ (trace_by w b n).nodes
 by_count w true n = omega arith
 by_count w false n = omega arith
@@ -73,6 +77,9 @@ by_front w false n is = omega arith
 pub trace_after-components : (w : Trace) (t : Tree) → (trace_after w t).components ≡ w.components
 trace_after-components w t = by_parts w (bears t) (nodes t)
 
+pub trace_after-most : (w : Trace) (t : Tree) → (trace_after w t).most ≡ w.most
+trace_after-most w t = by_limit w (bears t) (nodes t)
+
 pub trace_after-nodes : (w : Trace) (t : Tree) → w.nodes ≤ (trace_after w t).nodes
 trace_after-nodes w t = by_count w (bears t) (nodes t)
 
@@ -81,6 +88,23 @@ trace_after-none w t e = ap (λ b. trace_by w b (nodes t)) e
 
 pub trace_after-front : (w : Trace) (t : Tree) → IsTrace w → w.front ≤ (trace_after w t).front
 trace_after-front w t is = by_front w (bears t) (nodes t) is.within
+
+-- a walk with a limit that is then set back
+limited_by : (most : ℕ) (w : Trace) (b : Bool) (n : ℕ) → with_limit w.most (trace_by (with_limit most w) b n) ≡ trace_by w b n
+limited_by most w true n = refl
+limited_by most w false n = refl
+
+pub trace_after-limit : (most : ℕ) (w : Trace) (t : Tree) → with_limit w.most (trace_after (with_limit most w) t) ≡ trace_after w t
+trace_after-limit most w t = limited_by most w (bears t) (nodes t)
+
+-- more nodes, where there is a fault
+by_more : (w : Trace) (x y : Bool) (m n : ℕ) → (x ≡ true → y ≡ true) → m ≤ n → (trace_by w x m).nodes ≤ (trace_by w y n).nodes
+by_more w true true m n bears more = omega (arith, more)
+by_more w true false m n bears more = absurd (true≢false (sym (bears refl)))
+by_more w false y m n bears more = by_count w y n
+
+pub trace_after-more : (w : Trace) (s t : Tree) → (bears s ≡ true → bears t ≡ true) → nodes s ≤ nodes t → (trace_after w s).nodes ≤ (trace_after w t).nodes
+trace_after-more w s t bearing more = by_more w (bears s) (bears t) (nodes s) (nodes t) bearing more
 
 -- what a pop leaves of what was pushed
 pub without_last-components : (w : Trace) (ps : List Part) (k : Part) → w.components ≡ ps ++ k ∷ [] → (without_last w).components ≡ ps

@@ -1,5 +1,6 @@
 mod Flat
 mod Counts
+mod FirstFaults
 mod Walks
 mod Refusals
 mod SelectLemmas

@@ -60,17 +60,17 @@ module _ {text : Datum → List ℕ} {E : Type 0} where
   may_allocate_more {result = Err e} told = record { ok = tt; err = told.err; why = inl tt }
 
   -- a rule's result was put
-  pub visited_found : (fault : Option Fault) {before after : Trace} {old new : List Entry} (outcome : Result Unit RuleError) {result : Result Unit E} → IsTrace before → Applies fault text outcome → OnOk result (IsPut outcome before after old new) → OnErr result (IsNotPut outcome before after) → OnErr result (new ≡ old) → Visited (found fault) text before after old new result
+  pub visited_found : (fault : Option Fault) {before after : Trace} {old new : List Entry} (outcome : Result Unit RuleError) {result : Result Unit E} → IsTrace before → Applies fault text outcome → OnOk result (IsPut outcome before after old new) → OnErr result (IsNotPut outcome before after old) → OnErr result (new ≡ old) → Visited (found fault) text before after old new result
   unfolding found
   visited_found fault outcome {result = Ok x} sound applies put refused same = record { ok = rule_walked fault outcome sound applies put; err = tt; why = tt }
-  visited_found fault {before} {after} outcome {result = Err e} sound applies put refused same = record {
+  visited_found fault {before} {after} {old} outcome {result = Err e} sound applies put refused same = record {
     ok = tt;
     err = rule_partly fault outcome applies refused same;
-    why = inr (found_tree fault, refl, inl (rule_bears text before after fault outcome applies refused));
+    why = inr (found_tree fault, refl, inl (rule_bears text before after old fault outcome applies refused));
   }
 
   -- a rule's result was put that may run out of memory though it finds nothing
-  pub visited_may_allocate : (fault : Option Fault) {before after : Trace} {old new : List Entry} (outcome : Result Unit RuleError) {result : Result Unit E} → IsTrace before → AppliesInMemory fault text outcome → OnOk result (IsPut outcome before after old new) → OnErr result (IsNotPut outcome before after) → OnErr result (new ≡ old) → Visited (may_allocate (found fault)) text before after old new result
+  pub visited_may_allocate : (fault : Option Fault) {before after : Trace} {old new : List Entry} (outcome : Result Unit RuleError) {result : Result Unit E} → IsTrace before → AppliesInMemory fault text outcome → OnOk result (IsPut outcome before after old new) → OnErr result (IsNotPut outcome before after old) → OnErr result (new ≡ old) → Visited (may_allocate (found fault)) text before after old new result
   unfolding found may_allocate
   visited_may_allocate fault (Ok x) sound applies put refused same = may_allocate_more (visited_found fault (Ok x) sound applies put refused same)
   visited_may_allocate fault (Err (errors.Fault m)) sound applies put refused same = may_allocate_more (visited_found fault (Err (errors.Fault m)) sound applies put refused same)

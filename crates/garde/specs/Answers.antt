@@ -8,7 +8,7 @@ use Rattle.garde.specs.declared.first_error.FirstError.{FirstError}
 use Rattle.garde.specs.declared.first_error.FirstError.TheVariants as firsts
 use Rattle.garde.specs.declared.validate_error.ValidateError.{ValidateError}
 use Rattle.garde.specs.declared.validate_error.ValidateError.TheVariants as errors
-use Rattle.garde.specs.Tree.{Tree, bears, flat, nodes, height}
+use Rattle.garde.specs.Tree.{Tree, bears, flat, first_faults, nodes, height}
 use Rattle.garde.specs.Trees.{NoneBears}
 use Rattle.garde.specs.Visits.{Visits}
 use Rattle.garde.specs.Walk.{trace_after, MayRefuse}
@@ -32,11 +32,11 @@ Answers visits text (Err (errors.Report report)) =
     (t : Tree) × visits.trees t × IsTrue (bears t) × (report ≡ flat text [] t)
 Answers visits text (Err errors.Memory) = MayRefuse visits.trees visits.allocates 0
 
--- The trail after a walk that ended somewhere in a tree: it has its components, its front is no smaller, and it made no more nodes
--- than all of the tree takes.
+-- The trail after a walk that ended somewhere in a tree: it has its components and its limit, its front is no smaller, and it made no
+-- more nodes than all of the tree takes.
 abbrev pub EndsWithin : Trace → Trace → Tree → Type 0
 EndsWithin before after t =
-    (after.components ≡ before.components) × (before.front ≤ after.front)
+    (after.components ≡ before.components) × (after.most ≡ before.most) × (before.front ≤ after.front)
     × (before.nodes ≤ after.nodes) × (after.nodes ≤ (trace_after before t).nodes)
 
 -- The answer on any trail, with the trail as it was and as it is left. Each path begins with the components of the trail. At
@@ -61,14 +61,18 @@ abbrev pub AreFirst : ℕ → List Entry → List Entry → Type 0
 AreFirst most all first = (most < length all) × (first ≡ take most all)
 
 -- The answer of at most so many faults, on any trail. `All`: the report of a tree with a fault, and it has no more than so many.
--- `First`: the first faults of a tree that has more, and the walk ended somewhere in it. Else it is the answer of a whole walk.
+-- `First`: the first faults of a tree that has more. At `First` and at `Memory` the walk ended somewhere in what is left of a tree
+-- without the faults after the first so many and one: it made no more nodes than these take. Ok is that of a whole walk.
 abbrev pub AnswersFirstOn : Visits → (Datum → List ℕ) → ℕ → Trace → Trace → Result Unit FirstError → Type 0
 AnswersFirstOn visits text most before after (Ok _) = AnswersOn visits text before after (Ok tt)
 AnswersFirstOn visits text most before after (Err (firsts.All report)) =
     (length report ≤ most) × AnswersOn visits text before after (Err (errors.Report report))
 AnswersFirstOn visits text most before after (Err (firsts.First report)) =
-    (t : Tree) × visits.trees t × AreFirst most (flat text before.components t) report × EndsWithin before after t
-AnswersFirstOn visits text most before after (Err firsts.Memory) = AnswersOn visits text before after (Err errors.Memory)
+    (t : Tree) × visits.trees t × AreFirst most (flat text before.components t) report
+    × EndsWithin before after (first_faults t (most + 1))
+AnswersFirstOn visits text most before after (Err firsts.Memory) =
+    MayRefuse visits.trees visits.allocates (length before.components)
+    × ((t : Tree) × visits.trees t × EndsWithin before after (first_faults t (most + 1)))
 
 -- The same answer where the trail is gone.
 abbrev pub AnswersFirst : Visits → (Datum → List ℕ) → ℕ → Result Unit FirstError → Type 0

@@ -1,5 +1,5 @@
 -- Visit trees: the result of walking a value.
-use Rattle.std.specs.Prelude.{ℕ, ◌+◌, Bool, true, false, Option, Some, None, ◌||◌, List, [], ◌∷◌, ◌++◌, max, if◌then◌else◌}
+use Rattle.std.specs.Prelude.{ℕ, zero, suc, ◌+◌, ◌-◌, Bool, true, false, Option, Some, None, ◌||◌, List, [], ◌∷◌, ◌++◌, max, if◌then◌else◌}
 use Rattle.garde_i18n.specs.Datum.{Datum}
 use Rattle.garde_report.specs.Part.{Part}
 use Rattle.garde_report.specs.Report.{Entry}
@@ -29,6 +29,19 @@ abbrev pub flat : (Datum → List ℕ) → List Part → Tree → List Entry
 flat text p nothing = []
 flat text p (fault f t) = (p, fault_text text f) ∷ flat text p t
 flat text p (under k s t) = flat text (p ++ k ∷ []) s ++ flat text p t
+
+-- how many faults
+abbrev pub faults : Tree → ℕ
+faults nothing = 0
+faults (fault f t) = faults t + 1
+faults (under k s t) = faults s + faults t
+
+-- the tree without the faults after the first so many
+abbrev pub first_faults : Tree → ℕ → Tree
+first_faults nothing n = nothing
+first_faults (fault f t) zero = first_faults t zero
+first_faults (fault f t) (suc n) = fault f (first_faults t n)
+first_faults (under k s t) n = under k (first_faults s n) (first_faults t (n - faults s))
 
 -- how many components have a fault at or under them
 abbrev pub nodes : Tree → ℕ

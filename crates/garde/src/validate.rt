@@ -34,7 +34,9 @@ pub trait Validate {
     /// Ok is returned whether or not there are faults, and the trail keeps its components.
     /// `AllocError` is returned where memory runs out: the report then holds what it held and a
     /// beginning of what would have been appended, and the trail has the components that it was
-    /// handed.
+    /// handed. The report gets no more faults than the limit of the trail lets in, which
+    /// `Trail::put` sees to: a `validate_into` that appends to the report itself is proved to keep
+    /// to the limit.
     fn validate_into<'a, H: I18n>(
         &'a self,
         alloc: Global,
@@ -150,9 +152,8 @@ pub trait Validate {
     ///
     /// It returns what `validate_first` returns, with paths that begin with the components of the
     /// trail. The trail keeps its components and its limit. The walk ends at the second fault after
-    /// the first `most`, of which no path is made, if every fault is put by `Trail::put`, as all
-    /// rules and checks of the library do. A `validate_into` that appends to the report itself is
-    /// walked on until it puts one; the result is the same.
+    /// the first `most`, of which no path is made: `Trail::nodes` grows by no more than the first
+    /// `most` faults and the next one take.
     final fn validate_first_on<'a, H: I18n>(
         &'a self,
         alloc: Global,

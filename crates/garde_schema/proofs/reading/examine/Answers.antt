@@ -6,7 +6,7 @@ use Rattle.garde_schema.proofs.reading.examine.Goals as goal
 
 pub returns-then-is_empty-clause-answer : goal.returns-then-is_empty-clause-answer
 returns-then-is_empty-clause-answer g c =
-    examined_valid (g.F.Form.visits c.args.form.now (g.H.FormI18n.form_text c.args.h.now) c.args.tree.now) c.new-trail.ensures c.new-report.ensures c.in-Ok.ensures.answer.ok (sym c.is_empty.ensures ∙ c.if-is_empty.true)
+    examined_valid (g.F.Form.visits c.args.form.now (g.H.FormI18n.form_text c.args.h.now) c.args.tree.now) (ap (λ w. w.components) c.new-trail.ensures) c.new-report.ensures c.in-Ok.ensures.answer.ok (sym c.is_empty.ensures ∙ c.if-is_empty.true)
 
 pub returns-then-is_empty-clause-taken : goal.returns-then-is_empty-clause-taken
 returns-then-is_empty-clause-taken g c =
@@ -14,4 +14,4 @@ returns-then-is_empty-clause-taken g c =
 
 pub returns-in-Ok-clause-answer : goal.returns-in-Ok-clause-answer
 returns-in-Ok-clause-answer g c =
-    examined_faults (g.F.Form.visits c.args.form.now (g.H.FormI18n.form_text c.args.h.now) c.args.tree.now) c.new-trail.ensures c.new-report.ensures c.in-Ok.ensures.answer.ok (sym c.is_empty.ensures ∙ c.if-is_empty.false)
+    examined_faults (g.F.Form.visits c.args.form.now (g.H.FormI18n.form_text c.args.h.now) c.args.tree.now) (ap (λ w. w.components) c.new-trail.ensures) c.new-report.ensures c.in-Ok.ensures.answer.ok (sym c.is_empty.ensures ∙ c.if-is_empty.false)

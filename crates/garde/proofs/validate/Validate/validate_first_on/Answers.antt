@@ -1,13 +1,15 @@
-use Rattle.std.proofs.Common.{Err, sym, ◌∙◌, arith}
-use Rattle.garde.specs.declared.first_error.FirstError.TheVariants.{All, First}
+use Rattle.std.proofs.Common.{◌≡◌, ◌+◌, ◌≤◌, Err, Ok, ap, sym, ◌∙◌, refl, arith}
+use Rattle.garde_report.specs.Trace.{with_limit}
+use Rattle.garde.specs.declared.first_error.FirstError.TheVariants.{All, First, Memory}
 use Rattle.garde.proofs.Answering.{answers_valid, answers_faults, empty_report, filled_report}
-use Rattle.garde.proofs.Firsts.{answers_first, surely_first, visited_between}
+use Rattle.garde.proofs.Firsts.{answers_first, answers_memory, answers_set_back, surely_first}
 use Rattle.garde.proofs.Known.{known_of}
 use Rattle.garde.proofs.validate.Validate.validate_first_on.Goals as goal
 
 pub returns-then-len-most-clause-on : goal.returns-then-len-most-clause-on
 returns-then-len-most-clause-on g c =
-    answers_first (g.Self.Validate.visits c.args.self.now c.args.ctx.now) c.args.most c.new-report.ensures (visited_between c.limit-before.ensures.unchanged c.limit.ensures.unchanged c.validate_into-walked.ensures) (grind (arith, c.if-len-most.true, c.len.ensures)) c.truncate.ensures
+    answers_set_back (g.Self.Validate.visits c.args.self.now c.args.ctx.now) _ c.args.most _ (Err (First c.truncate.new.self)) c.limit-before.ensures.set (c.limit.ensures.set ∙ ap (λ n. with_limit n _) c.limit-before.ensures.answer)
+    (answers_first (g.Self.Validate.visits c.args.self.now c.args.ctx.now) c.args.most c.new-report.ensures (grind (arith, c.limit-before.ensures.set)) c.validate_into-walked.ensures (grind (arith, c.if-len-most.true, c.len.ensures)) c.truncate.ensures)
 
 pub returns-then-len-most-clause-sure : goal.returns-then-len-most-clause-sure
 returns-then-len-most-clause-sure g c =
@@ -15,17 +17,20 @@ returns-then-len-most-clause-sure g c =
 
 pub returns-in-Ok-clause-on : goal.returns-in-Ok-clause-on
 returns-in-Ok-clause-on g c =
-    answers_valid (g.Self.Validate.visits c.args.self.now c.args.ctx.now) c.new-report.ensures (visited_between c.limit-before.ensures.unchanged c.limit.ensures.unchanged c.in-Ok.ensures).ok (empty_report _ (sym c.is_empty.ensures ∙ c.if-is_empty.true))
+    answers_set_back (g.Self.Validate.visits c.args.self.now c.args.ctx.now) _ c.args.most _ (Ok tt) c.limit-before.ensures.set (c.limit.ensures.set ∙ ap (λ n. with_limit n _) c.limit-before.ensures.answer)
+    (answers_valid (g.Self.Validate.visits c.args.self.now c.args.ctx.now) c.new-report.ensures c.in-Ok.ensures.ok (empty_report _ (sym c.is_empty.ensures ∙ c.if-is_empty.true)))
 
 pub returns-in-Ok-clause-known : goal.returns-in-Ok-clause-known
 returns-in-Ok-clause-known g c =
     known_of (g.Self.Validate.visits c.args.self.now c.args.ctx.now) (returns-in-Ok-clause-on g c).0
 
 pub returns-in-Ok-2-clause-on : goal.returns-in-Ok-2-clause-on
-returns-in-Ok-2-clause-on g c = (
-  grind (arith, c.if-len-most.false, c.len.ensures),
-  answers_faults (g.Self.Validate.visits c.args.self.now c.args.ctx.now) c.new-report.ensures (visited_between c.limit-before.ensures.unchanged c.limit.ensures.unchanged c.in-Ok-2.ensures).ok (filled_report _ (sym c.is_empty.ensures ∙ c.if-is_empty.false)),
-)
+returns-in-Ok-2-clause-on g c =
+    answers_set_back (g.Self.Validate.visits c.args.self.now c.args.ctx.now) _ c.args.most _ (Err (All c.validate_into-walked.new.report)) c.limit-before.ensures.set (c.limit.ensures.set ∙ ap (λ n. with_limit n _) c.limit-before.ensures.answer)
+    (
+      grind (arith, c.if-len-most.false, c.len.ensures),
+      answers_faults (g.Self.Validate.visits c.args.self.now c.args.ctx.now) c.new-report.ensures c.in-Ok-2.ensures.ok (filled_report _ (sym c.is_empty.ensures ∙ c.if-is_empty.false)),
+    )
 
 pub returns-in-Ok-2-clause-sure : goal.returns-in-Ok-2-clause-sure
 returns-in-Ok-2-clause-sure g c =

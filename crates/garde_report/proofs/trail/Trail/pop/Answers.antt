@@ -20,7 +20,7 @@ invariant_of-self-else-self-len c = record {
 }
 
 pub returns-then-self-len : goal.returns-then-self-len
-returns-then-self-len c = left_of part_of c.self.inside.components c.pop.new.self (length (stack_paths c.self.inside.paths)) (length (stack_paths c.forget_last.new.paths)) c.self.inside.made c.args.self.now c.pop.ensures (grind (arith, common_steps, c.if-self-len.true, c.self.invariant.front, c.len.ensures, c.pop.ensures, c.forget_last.ensures, c.self.invariant.paths.within)) (sym c.self.view_is)
+returns-then-self-len c = left_of part_of c.self.inside.components c.pop.new.self (length (stack_paths c.self.inside.paths)) (length (stack_paths c.forget_last.new.paths)) c.self.inside.made c.self.inside.most c.args.self.now c.pop.ensures (grind (arith, common_steps, c.if-self-len.true, c.self.invariant.front, c.len.ensures, c.pop.ensures, c.forget_last.ensures, c.self.invariant.paths.within)) (sym c.self.view_is)
 
 pub returns-else-self-len : goal.returns-else-self-len
-returns-else-self-len c = left_of part_of c.self.inside.components c.pop.new.self (length (stack_paths c.self.inside.paths)) (length (stack_paths c.self.inside.paths)) c.self.inside.made c.args.self.now c.pop.ensures (grind (arith, common_steps, c.if-self-len.false, c.self.invariant.front, c.len.ensures, c.pop.ensures)) (sym c.self.view_is)
+returns-else-self-len c = left_of part_of c.self.inside.components c.pop.new.self (length (stack_paths c.self.inside.paths)) (length (stack_paths c.self.inside.paths)) c.self.inside.made c.self.inside.most c.args.self.now c.pop.ensures (grind (arith, common_steps, c.if-self-len.false, c.self.invariant.front, c.len.ensures, c.pop.ensures)) (sym c.self.view_is)
