@@ -82,15 +82,15 @@ ends_set_back limit start before after end t began ended (parts, same, front, no
   omega (arith, most, ap (λ w. w.nodes) ended, ap (λ w. (trace_after w t).nodes) began, ap (λ w. w.nodes) (trace_after-limit limit start t)),
 )
 
-pub answers_set_back : (visits : Visits) (text : Datum → List ℕ) (most limit : ℕ) {start before after end : Trace} (answer : Result Unit FirstError) → before ≡ with_limit limit start → end ≡ with_limit start.most after → AnswersFirstOn visits text most before after answer → AnswersFirstOn visits text most start end answer
-answers_set_back visits text most limit {start} (Ok _) began ended (none, same) = (none, ended ∙ ap (with_limit start.most) (same ∙ began))
-answers_set_back visits text most limit {start} (Err (firsts.All r)) began ended (few, (t, v, b, is, trail)) = (
+pub answers_set_back : (visits : Visits) (text : Datum → List ℕ) (most limit : ℕ) (start before after end : Trace) (answer : Result Unit FirstError) → before ≡ with_limit limit start → end ≡ with_limit start.most after → AnswersFirstOn visits text most before after answer → AnswersFirstOn visits text most start end answer
+answers_set_back visits text most limit start before after end (Ok _) began ended (none, same) = (none, ended ∙ ap (with_limit start.most) (same ∙ began))
+answers_set_back visits text most limit start before after end (Err (firsts.All r)) began ended (few, (t, v, b, is, trail)) = (
   few,
   (t, v, b, is ∙ ap (λ w. flat text w.components t) began, ended ∙ ap (with_limit start.most) (trail ∙ ap (λ w. trace_after w t) began) ∙ trace_after-limit limit start t),
 )
-answers_set_back visits text most limit {start} {before} {after} {end} (Err (firsts.First r)) began ended (t, v, first, within) =
+answers_set_back visits text most limit start before after end (Err (firsts.First r)) began ended (t, v, first, within) =
     (t, v, subst (λ w. AreFirst most (flat text w.components t) r) began first, ends_set_back limit start before after end (first_faults t (most + 1)) began ended within)
-answers_set_back visits text most limit {start} {before} {after} {end} (Err firsts.Memory) began ended (why, (t, v, within)) =
+answers_set_back visits text most limit start before after end (Err firsts.Memory) began ended (why, (t, v, within)) =
     (subst (λ w. MayRefuse visits.trees visits.allocates (length w.components)) began why, (t, v, ends_set_back limit start before after end (first_faults t (most + 1)) began ended within))
 
 -- a value that has more faults than some number is not valid

@@ -1,6 +1,7 @@
 use Rattle.std.proofs.Common.{Ok, Err, sym, ◌∙◌}
 use Rattle.garde.specs.declared.validate_error.ValidateError.TheVariants.{Report}
 use Rattle.garde.proofs.Answering.{answers_valid, answers_faults, headline, surely, empty_report, filled_report}
+use Rattle.garde.proofs.Firsts.{ends_partly}
 use Rattle.garde.proofs.Known.{known_of}
 use Rattle.garde.proofs.validate.Validate.validate_on.Goals as goal
 
@@ -27,3 +28,7 @@ returns-else-is_empty-clause-headline g c =
 pub returns-else-is_empty-clause-sure : goal.returns-else-is_empty-clause-sure
 returns-else-is_empty-clause-sure g c =
     surely (g.Self.Validate.visits c.args.self.now c.args.ctx.now) _ _ _ (Err (Report c.validate_into.new.report)) (returns-else-is_empty-clause-on g c)
+
+pub returns-in-Err-clause-on : goal.returns-in-Err-clause-on
+returns-in-Err-clause-on g c =
+    (c.in-Err.ensures.why, (c.in-Err.ensures.err.tree, c.in-Err.ensures.err.visited, ends_partly c.in-Err.ensures.err))
