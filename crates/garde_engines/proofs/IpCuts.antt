@@ -1,5 +1,5 @@
 -- The test of a text by cuts is what the grammar of IP addresses says.
-use Rattle.std.proofs.Common.{◌≡◌, ℕ, zero, suc, ◌+◌, ◌-◌, ◌<◌, ◌≤◌, List, [], ◌∷◌, ◌++◌, length, Bool, true, false, eqb, ltb, leb, not, ◌&&◌, ◌||◌, refl, sym, ap, ◌∙◌, subst, arith, inl, inr, ◌⊎◌, ⊎_elim}
+use Rattle.std.proofs.Common.{◌≡◌, ℕ, zero, suc, ◌+◌, ◌-◌, ◌<◌, ◌≤◌, List, [], ◌∷◌, ◌++◌, length, Bool, false, eqb, leb, not, ◌&&◌, ◌||◌, refl, ap, ◌∙◌, subst, arith, inl, inr, ◌⊎◌, ⊎_elim}
 use Rattle.std.specs.Prelude.{slice_index}
 use Rattle.std.specs.Bool.{Decides}
 use Rattle.std.specs.Char.{is_digit, digit_value}

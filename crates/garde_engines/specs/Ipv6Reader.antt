@@ -1,9 +1,8 @@
 -- What the reader of IPv6 texts does, byte by byte.
-use Rattle.std.specs.Prelude.{ℕ, ◌+◌, List, [], ◌∷◌, Bool, true, false, nat_lt, nat_le, ◌==◌, ◌&&◌, ◌||◌, Option, Some, None, if◌then◌else◌}
+use Rattle.std.specs.Prelude.{ℕ, ◌+◌, List, [], ◌∷◌, Bool, true, false, nat_lt, nat_le, ◌==◌, ◌&&◌, Option, Some, None, if◌then◌else◌}
 use Rattle.std.specs.Char.{is_ascii_hexdigit}
-use Rattle.garde_engines.specs.Ip.{colon}
-use Rattle.garde_engines.specs.Ipv4Reader.{start_ipv4, ends_ipv4, read_ipv4}
-use Rattle.garde_engines.specs.declared.addresses.v4.Ipv4Reader.{Ipv4Reader}
+use Rattle.garde_engines.specs.Ip.{dot, colon}
+use Rattle.garde_engines.specs.IpText.{is_ipv4_text}
 use Rattle.garde_engines.specs.declared.addresses.v6.Place.{Place}
 use Rattle.garde_engines.specs.declared.addresses.v6.Place.TheVariants.{Start, Lead, Colon, Double, Piece}
 use Rattle.garde_engines.specs.declared.addresses.v6.Ipv6Reader.{Ipv6Reader}
@@ -12,32 +11,9 @@ use Rattle.garde_engines.specs.declared.addresses.v6.Ipv6Reader.{Ipv6Reader}
 abbrev pub start_ipv6 : Ipv6Reader
 start_ipv6 = record { groups = 0; compressed = false; place = Start }
 
--- a piece between colons may be an IPv4 text that ends here
-abbrev pub ends_octets : Option Ipv4Reader → Bool
-ends_octets None = false
-ends_octets (Some reader) = ends_ipv4 reader
-
--- a piece as an IPv4 text, after one more byte
-abbrev pub read_octets : Option Ipv4Reader → ℕ → Option Ipv4Reader
-read_octets None byte = None
-read_octets (Some reader) byte = read_ipv4 reader byte
-
 -- so many groups are an address, with `::` among them or without
 abbrev pub is_full : Bool → ℕ → Bool
 is_full compressed groups = if compressed then nat_le groups 7 else groups == 8
-
--- how many digits a piece has after one more byte; 5 stands for a piece that is no group
-abbrev pub count_digit : ℕ → ℕ → ℕ
-count_digit digits byte = if is_ascii_hexdigit byte && nat_lt digits 4 then digits + 1 else 5
-
--- a piece of so many digits is a group
-abbrev pub is_group_len : ℕ → Bool
-is_group_len digits = nat_lt 0 digits && nat_le digits 4
-
--- the reader in a piece, after one more byte of it
-abbrev pub read_piece : Ipv6Reader → ℕ → Option Ipv4Reader → ℕ → Ipv6Reader
-read_piece reader digits octets byte =
-    record reader { place = Piece (count_digit digits byte) (read_octets octets byte) }
 
 -- the reader after `::`
 abbrev pub read_double : Ipv6Reader → Ipv6Reader
@@ -49,21 +25,21 @@ read_colon Start reader = Some (record reader { place = Lead })
 read_colon Lead reader = Some (read_double reader)
 read_colon Colon reader = if reader.compressed then None else Some (read_double reader)
 read_colon Double reader = None
-read_colon (Piece digits octets) reader = if is_group_len digits && nat_lt reader.groups 8
+read_colon (Piece digits) reader = if nat_lt reader.groups 8
     then Some (record reader { groups = reader.groups + 1; place = Colon }) else None
 
--- after another byte at this place
-abbrev pub read_other : Place → Ipv6Reader → ℕ → Option Ipv6Reader
-read_other Start reader byte = Some (read_piece reader 0 (Some start_ipv4) byte)
-read_other Lead reader byte = None
-read_other Colon reader byte = Some (read_piece reader 0 (Some start_ipv4) byte)
-read_other Double reader byte = Some (read_piece reader 0 (Some start_ipv4) byte)
-read_other (Piece digits octets) reader byte = Some (read_piece reader digits octets byte)
+-- after a digit at this place
+abbrev pub read_digit : Place → Ipv6Reader → Option Ipv6Reader
+read_digit Start reader = Some (record reader { place = Piece 1 })
+read_digit Lead reader = None
+read_digit Colon reader = Some (record reader { place = Piece 1 })
+read_digit Double reader = Some (record reader { place = Piece 1 })
+read_digit (Piece digits) reader = if nat_lt digits 4 then Some (record reader { place = Piece (digits + 1) }) else None
 
--- after a byte
+-- after a byte that is no `.`
 abbrev pub read_ipv6 : Ipv6Reader → ℕ → Option Ipv6Reader
-read_ipv6 reader byte =
-    if byte == colon then read_colon reader.place reader else read_other reader.place reader byte
+read_ipv6 reader byte = if byte == colon then read_colon reader.place reader
+    else (if is_ascii_hexdigit byte then read_digit reader.place reader else None)
 
 -- an address may end at this place, with `::` among these groups or without
 abbrev pub ends_at : Place → Bool → ℕ → Bool
@@ -71,16 +47,20 @@ ends_at Start compressed groups = false
 ends_at Lead compressed groups = false
 ends_at Colon compressed groups = false
 ends_at Double compressed groups = nat_le groups 7
-ends_at (Piece digits octets) compressed groups =
-    (is_group_len digits && is_full compressed (groups + 1))
-    || (ends_octets octets && is_full compressed (groups + 2))
+ends_at (Piece digits) compressed groups = is_full compressed (groups + 1)
 
 -- an address may end here
 abbrev pub ends_ipv6 : Ipv6Reader → Bool
 ends_ipv6 reader = ends_at reader.place reader.compressed reader.groups
 
--- whether the reader takes each byte of the text and may end after it
-abbrev pub accepts_ipv6 : Ipv6Reader → List ℕ → Bool
-accepts_ipv6 reader [] = ends_ipv6 reader
-accepts_ipv6 reader (byte ∷ text) =
-    elim (read_ipv6 reader byte) [ None ↦ false | Some next ↦ accepts_ipv6 next text ]
+-- where the piece begins that the next byte belongs to
+abbrev pub piece_after : ℕ → List ℕ → List ℕ → List ℕ
+piece_after byte piece rest = if byte == colon then rest else piece
+
+-- Whether the reader takes each byte of the rest and may end after it. The piece is the text from the last `:` on; at a `.`
+-- all of it has to be an IPv4 text.
+abbrev pub accepts_ipv6 : Ipv6Reader → List ℕ → List ℕ → Bool
+accepts_ipv6 reader piece [] = ends_ipv6 reader
+accepts_ipv6 reader piece (byte ∷ rest) =
+    if byte == dot then is_full reader.compressed (reader.groups + 2) && is_ipv4_text piece
+    else elim (read_ipv6 reader byte) [ None ↦ false | Some next ↦ accepts_ipv6 next (piece_after byte piece rest) rest ]

@@ -1,91 +1,91 @@
 //! The reader of IPv4 texts.
-ghost use Rattle.std.specs.Prelude.{◌≡◌, ◌↔◌, ◌<◌, IsTrue};
-ghost use Rattle.garde_engines.specs.Ip.{IsIpv4};
+ghost use Rattle.std.specs.Prelude.{◌≡◌, ◌↔◌, ◌∷◌, ◌+◌, ◌*◌, ◌<◌, IsTrue, MatchOption, nat_le};
+ghost use Rattle.garde_engines.specs.Ip.{IsOctet, IsIpv4};
 ghost use Rattle.garde_engines.specs.IpText.{is_ipv4_text};
-ghost use Rattle.garde_engines.specs.Ipv4Reader.{accepts_ipv4, start_ipv4, ends_ipv4, read_dot, read_digit, read_ipv4};
+ghost use Rattle.garde_engines.specs.Octets.{NoDigit, NoOctet, FirstOctet, NoDotted, FirstDotted, NotInThree, LastOfFour};
 
-// What was read of an address: how many dots are to come, how many digits of this octet were read,
-// and their value.
-#[derive(Clone, Copy)]
-pub(super) struct Ipv4Reader {
-    left: u8,
-    digits: u8,
-    value: u8,
-}
-
-impl Ipv4Reader {
-    // At the start of a text.
-    pub(super) fn new() -> Ipv4Reader
-        ensures { result ≡ start_ipv4 }
-    {
-        Ipv4Reader {
-            left: 3,
-            digits: 0,
-            value: 0,
-        }
-    }
-
-    // Whether an address may end here.
-    pub(super) fn may_end(self) -> bool
-        ensures { result ≡ ends_ipv4 self }
-    {
-        self.digits > 0 && self.left == 0
-    }
-
-    fn read_dot(self) -> Option<Ipv4Reader>
-        ensures { result ≡ read_dot self }
-    {
-        if self.digits == 0 || self.left == 0 {
-            return None;
-        }
-        Some(Ipv4Reader {
-            left: self.left - 1,
-            digits: 0,
-            value: 0,
-        })
-    }
-
-    fn read_digit(self, digit: u8) -> Option<Ipv4Reader>
-        requires { digit < 10 }
-        ensures { result ≡ read_digit self digit }
-    {
-        if self.digits > 0 && (self.value == 0 || self.digits >= 3) {
-            return None;
-        }
-        let value = u16::from(self.value) * 10 + u16::from(digit);
-        if value > 255 {
-            return None;
-        }
-        Some(Ipv4Reader {
-            left: self.left,
-            digits: self.digits + 1,
-            value: value as u8,
-        })
-    }
-
-    // After one more byte, if an address may go on with it.
-    pub(super) fn read(self, byte: u8) -> Option<Ipv4Reader>
-        ensures { result ≡ read_ipv4 self byte }
-    {
-        match byte {
-            b'.' => self.read_dot(),
-            b'0'..=b'9' => self.read_digit(byte - b'0'),
-            _ => None,
-        }
-    }
-}
-
-fn reads_ipv4(text: &str) -> bool
-    ensures { result ≡ accepts_ipv4 start_ipv4 text.now }
+// The value of the decimal digit at the start of the bytes, and what follows it.
+#[inline(always)]
+fn split_digit(bytes: &[u8]) -> Option<(u8, &[u8])>
+    ensures { MatchOption result (NoDigit bytes.now)
+        (λ both. (both.0 < 10) × (bytes.now ≡ (48 + both.0) ∷ both.1.now)) }
 {
-    let mut reader = Ipv4Reader::new();
-    for byte in text.as_bytes() {
-        match reader.read(*byte) {
-            Some(next) => reader = next,
-            None => return false,
-        }
+    let (byte, rest) = bytes.split_first()?;
+    if byte.is_ascii_digit() {
+        Some((*byte - b'0', rest))
+    } else {
+        None
     }
-    reader.may_end()
+}
+
+// Whether three digits have a value of at most 255.
+#[inline(always)]
+fn is_small(first: u8, second: u8, third: u8) -> bool
+    requires second { second < 10 }
+    requires third { third < 10 }
+    ensures { result ≡ nat_le ((first * 10 + second) * 10 + third) 255 }
+{
+    first < 2 || (first == 2 && (second < 5 || (second == 5 && third <= 5)))
+}
+
+// What follows the octet at the start of the bytes, which ends at their end or at a `.`.
+#[inline(always)]
+fn after_octet(bytes: &[u8]) -> Option<&[u8]>
+    ensures { MatchOption result (NoOctet bytes.now) (λ rest. FirstOctet bytes.now rest.now) }
+{
+    let (first, rest) = split_digit(bytes)?;
+    if first == 0 {
+        return Some(rest);
+    }
+    let Some((second, more)) = split_digit(rest) else {
+        return Some(rest);
+    };
+    let Some((third, last)) = split_digit(more) else {
+        return Some(more);
+    };
+    if is_small(first, second, third) {
+        Some(last)
+    } else {
+        None
+    }
+}
+
+// What follows the octet and the `.` at the start of the bytes.
+#[inline(always)]
+fn after_dot(bytes: &[u8]) -> Option<&[u8]>
+    ensures { MatchOption result (NoDotted bytes.now) (λ rest. FirstDotted bytes.now rest.now) }
+{
+    let (dot, rest) = after_octet(bytes)?.split_first()?;
+    if *dot == b'.' { Some(rest) } else { None }
+}
+
+// What follows three octets, each with a `.` behind it.
+#[inline(always)]
+fn after_three(bytes: &[u8]) -> Option<&[u8]>
+    ensures { MatchOption result (NotInThree bytes.now) (λ rest. LastOfFour bytes.now rest.now) }
+{
+    after_dot(after_dot(after_dot(bytes)?)?)
+}
+
+#[inline(always)]
+fn is_octet(bytes: &[u8]) -> bool
+    ensures { IsTrue result ↔ IsOctet bytes.now }
+{
+    match after_octet(bytes) {
+        Some(rest) => rest.is_empty(),
+        None => false,
+    }
+}
+
+// Whether the bytes are an IPv4 address.
+pub(super) fn reads_ipv4(bytes: &[u8]) -> bool
+    ensures grammar { IsTrue result ↔ IsIpv4 bytes.now }
+    ensures value { result ≡ is_ipv4_text bytes.now }
+{
+    match after_three(bytes) {
+        Some(last) => is_octet(last),
+        None => false,
+    }
 }
 
 /// Whether the text is an IPv4 address: four octets joined by `.`.
@@ -97,5 +97,5 @@ pub fn is_ipv4(text: &str) -> bool
     ensures grammar { IsTrue result ↔ IsIpv4 text.now }
     ensures value { result ≡ is_ipv4_text text.now }
 {
-    reads_ipv4(text)
+    reads_ipv4(text.as_bytes())
 }

@@ -1,12 +1,10 @@
 //! The reader of IPv6 texts.
-ghost use Rattle.std.specs.Prelude.{◌≡◌, ◌↔◌, ◌+◌, ◌≤◌, IsTrue, None};
+ghost use Rattle.std.specs.Prelude.{◌≡◌, ◌↔◌, ◌+◌, ◌≤◌, IsTrue};
 ghost use Rattle.garde_engines.specs.Ip.{IsIpv6};
-ghost use Rattle.garde_engines.specs.declared.addresses.v6.Place.TheVariants.{Piece};
 ghost use Rattle.garde_engines.specs.IpText.{is_ipv6_text};
-ghost use Rattle.garde_engines.specs.Ipv6Reader.{accepts_ipv6, start_ipv6, read_ipv6, read_colon, read_other, ends_ipv6, read_piece, read_double, count_digit, read_octets, ends_octets, is_full, is_group_len};
+ghost use Rattle.garde_engines.specs.Ipv6Reader.{accepts_ipv6, start_ipv6, read_ipv6, read_colon, read_digit, read_double, ends_ipv6, is_full};
 
-use crate::addresses::v4::Ipv4Reader;
-use memchr::memchr;
+use crate::addresses::v4::reads_ipv4;
 
 // Where in a text the reader stands.
 #[derive(Clone, Copy)]
@@ -19,8 +17,8 @@ pub(super) enum Place {
     Colon,
     // After `::`.
     Double,
-    // In a piece between colons, with the count of its digits, and a reader of it as an IPv4 text.
-    Piece(u8, Option<Ipv4Reader>),
+    // In a piece between colons, after so many digits.
+    Piece(u8),
 }
 
 // What was read of an address: how many groups, whether `::` stood among them, and the place.
@@ -29,40 +27,6 @@ pub(super) struct Ipv6Reader {
     groups: u8,
     compressed: bool,
     place: Place,
-}
-
-fn count_digit(digits: u8, byte: u8) -> u8
-    ensures { result ≡ count_digit digits byte }
-{
-    if byte.is_ascii_hexdigit() && digits < 4 {
-        digits + 1
-    } else {
-        5
-    }
-}
-
-fn read_octets(octets: Option<Ipv4Reader>, byte: u8) -> Option<Ipv4Reader>
-    ensures { result ≡ read_octets octets byte }
-{
-    match octets {
-        Some(reader) => reader.read(byte),
-        None => None,
-    }
-}
-
-fn ends_octets(octets: Option<Ipv4Reader>) -> bool
-    ensures { result ≡ ends_octets octets }
-{
-    match octets {
-        Some(reader) => reader.may_end(),
-        None => false,
-    }
-}
-
-fn is_group_len(digits: u8) -> bool
-    ensures { result ≡ is_group_len digits }
-{
-    digits > 0 && digits <= 4
 }
 
 // Whether so many groups and these more are an address.
@@ -78,11 +42,15 @@ fn is_full(compressed: bool, groups: u8, more: u8) -> bool
 }
 
 impl Ipv6Reader {
-    fn read_piece(self, digits: u8, octets: Option<Ipv4Reader>, byte: u8) -> Ipv6Reader
-        ensures { result ≡ read_piece self digits octets byte }
+    // At the start of a text.
+    fn new() -> Ipv6Reader
+        ensures { result ≡ start_ipv6 }
     {
-        let place = Place::Piece(count_digit(digits, byte), read_octets(octets, byte));
-        Ipv6Reader { place, ..self }
+        Ipv6Reader {
+            groups: 0,
+            compressed: false,
+            place: Place::Start,
+        }
     }
 
     fn read_double(self) -> Ipv6Reader
@@ -95,20 +63,6 @@ impl Ipv6Reader {
         }
     }
 
-    // After the `:` behind a group of so many digits.
-    fn end_group(self, digits: u8) -> Option<Ipv6Reader>
-        ensures { result ≡ read_colon (Piece digits None) self }
-    {
-        if !is_group_len(digits) || self.groups >= 8 {
-            return None;
-        }
-        Some(Ipv6Reader {
-            groups: self.groups + 1,
-            place: Place::Colon,
-            ..self
-        })
-    }
-
     fn read_colon(self) -> Option<Ipv6Reader>
         ensures { result ≡ read_colon self.place self }
     {
@@ -118,37 +72,40 @@ impl Ipv6Reader {
                 ..self
             }),
             Place::Lead => Some(self.read_double()),
-            Place::Colon => {
-                if self.compressed {
-                    return None;
-                }
-                Some(self.read_double())
-            }
-            Place::Double => None,
-            Place::Piece(digits, _) => self.end_group(digits),
+            Place::Colon if !self.compressed => Some(self.read_double()),
+            Place::Piece(_) if self.groups < 8 => Some(Ipv6Reader {
+                groups: self.groups + 1,
+                place: Place::Colon,
+                ..self
+            }),
+            _ => None,
         }
     }
 
-    fn read_other(self, byte: u8) -> Option<Ipv6Reader>
-        ensures { result ≡ read_other self.place self byte }
+    fn read_digit(self) -> Option<Ipv6Reader>
+        ensures { result ≡ read_digit self.place self }
     {
-        match self.place {
-            Place::Lead => None,
-            Place::Start | Place::Colon | Place::Double => {
-                Some(self.read_piece(0, Some(Ipv4Reader::new()), byte))
-            }
-            Place::Piece(digits, octets) => Some(self.read_piece(digits, octets, byte)),
-        }
+        let digits = match self.place {
+            Place::Start | Place::Colon | Place::Double => 0,
+            Place::Piece(digits) if digits < 4 => digits,
+            _ => return None,
+        };
+        Some(Ipv6Reader {
+            place: Place::Piece(digits + 1),
+            ..self
+        })
     }
 
-    // After one more byte, if an address may go on with it.
+    // After one more byte, which is no `.`, if an address may go on with it.
     fn read(self, byte: u8) -> Option<Ipv6Reader>
         ensures { result ≡ read_ipv6 self byte }
     {
         if byte == b':' {
             self.read_colon()
+        } else if byte.is_ascii_hexdigit() {
+            self.read_digit()
         } else {
-            self.read_other(byte)
+            None
         }
     }
 
@@ -159,26 +116,28 @@ impl Ipv6Reader {
         match self.place {
             Place::Start | Place::Lead | Place::Colon => false,
             Place::Double => self.groups <= 7,
-            Place::Piece(digits, octets) => {
-                (is_group_len(digits) && is_full(self.compressed, self.groups, 1))
-                    || (ends_octets(octets) && is_full(self.compressed, self.groups, 2))
-            }
+            Place::Piece(_) => is_full(self.compressed, self.groups, 1),
         }
     }
 }
 
+// At the first `.` the whole piece is read as an IPv4 address, which ends the text.
 fn reads_ipv6(text: &str) -> bool
-    ensures { result ≡ accepts_ipv6 start_ipv6 text.now }
+    ensures { result ≡ accepts_ipv6 start_ipv6 text.now text.now }
 {
-    let mut reader = Ipv6Reader {
-        groups: 0,
-        compressed: false,
-        place: Place::Start,
-    };
-    for byte in text.as_bytes() {
+    let bytes = text.as_bytes();
+    let mut reader = Ipv6Reader::new();
+    let mut piece = 0;
+    for (at, byte) in bytes.iter().enumerate() {
+        if *byte == b'.' {
+            return is_full(reader.compressed, reader.groups, 2) && reads_ipv4(&bytes[piece..]);
+        }
         match reader.read(*byte) {
             Some(next) => reader = next,
             None => return false,
+        }
+        if *byte == b':' {
+            piece = at + 1;
         }
     }
     reader.may_end()
@@ -193,5 +152,5 @@ pub fn is_ipv6(text: &str) -> bool
     ensures grammar { IsTrue result ↔ IsIpv6 text.now }
     ensures value { result ≡ is_ipv6_text text.now }
 {
-    memchr(b':', text.as_bytes()).is_some() && reads_ipv6(text)
+    reads_ipv6(text)
 }
