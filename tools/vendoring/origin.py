@@ -4,7 +4,8 @@ import re
 import subprocess
 from dataclasses import dataclass
 
-PRODUCT = re.compile(r"garde(_\w+)?$")
+# The product, and the two examples that the program use_store stands on.
+PRODUCT = re.compile(r"(garde(_\w+)?|example_import|example_table)$")
 LICENCES = ("LICENSE-MIT", "LICENSE-APACHE")
 # Mutants, which the prover has to reject: a test of the crates' contracts, which is run where the crates are written.
 NOT_COPIED = ("must-fail", "wrong-bodies")
