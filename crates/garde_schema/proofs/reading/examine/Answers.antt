@@ -1,4 +1,4 @@
-use Rattle.std.proofs.Common.{sym, ◌∙◌}
+use Rattle.std.proofs.Common.{ap, sym, ◌∙◌}
 use Rattle.garde.proofs.Author.{known_of}
 use Rattle.garde_schema.proofs.Examined.{examined_valid, examined_faults}
 use Rattle.garde_schema.proofs.Lemmas.{taken_of}
