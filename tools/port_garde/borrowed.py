@@ -33,6 +33,9 @@ def is_named(item):
 def fields_of(item):
     return [it for variant in item.variants for it in variant.fields]
 
+# what a rule of a list or a map is told, and `inner` of a map
+OF_LISTS = (", which `--schema` does not write", ", which `--schema` does not write: the form of the values stands within `MapUnder(.., HERE)`, by hand")
+
 
 class Borrowed:
     """The types of a source."""
@@ -180,7 +183,7 @@ class Borrowed:
             yield it.line, f"the field `{it.name}`, whose name is a word of the statements"
         for rule in all_rules(it.attributes.rules):
             if rule.name == "matches" or any(it.value[0] == "self" for it in places_of(rule)):
-                yield rule.line, f"`{rule.name}` with another field, which the form of one member does not see: write it by `Checked` and `Under`, by hand"
+                yield rule.line, f"`{rule.name}` with another field, which the form of one member does not see: write it by `Checked` and `Under`, by hand, as `use_signup` does"
             if rule.name == "pattern":
                 yield rule.line, "`pattern`, which stands in a context: the form of `--schema` has none"
         if it.attributes.adapter:
@@ -224,7 +227,7 @@ class Borrowed:
             inside = ("inner", "dive") if kind.name == "Vec" else ()
             for it in rules:
                 if it.name not in inside and (it.name != "length" or it.mode != "simple"):
-                    yield it.line, f"`{it.name}` of a list or a map, of which a form asks `length`, and of a list `inner` and `dive`"
+                    yield it.line, f"`{it.name}` of a {'list' if inside else 'map'}{OF_LISTS[it.name == 'inner']}"
             within = [found for it in rules if it.name == "inner" for found in it.rules]
             yield from self.of_lists(kind.args[-1], within)
 
