@@ -1,6 +1,8 @@
 //! A TOML value, written as JSON.
 ghost use Rattle.std.specs.Prelude.{◌≡◌, OnOk, codes, is_nan, if◌then◌else◌};
 ghost use Rattle.std.specs.Float.{is_sign_negative};
+ghost use Rattle.json.specs.Token.{key};
+ghost use Rattle.json.specs.Written.{Writes};
 ghost use Rattle.toml.specs.Data.{integer, float, datetime, table};
 ghost use Rattle.toml.specs.View.{view, array_view, table_view};
 ghost use Rattle.garde_toml.specs.Writes.{WritesValue, WritesItems, WritesMembers};
@@ -48,10 +50,16 @@ fn write_members(alloc: Global, members: &Table, out: &mut Writer) -> Result<(),
     ensures { OnOk result (WritesMembers (table_view members.now) out.old out.new) }
 {
     for (key, value) in members.iter() {
-        out.key(key.as_str())?;
+        write_key(key.as_str(), out)?;
         write_value(alloc, value, out)?;
     }
     out.end_object()
+}
+
+fn write_key(name: &str, out: &mut Writer) -> Result<(), AllocError>
+    ensures { Writes result out.old out.new (key name.now) }
+{
+    out.key(name)
 }
 
 fn write_integer(number: i64, out: &mut Writer) -> Result<(), AllocError>

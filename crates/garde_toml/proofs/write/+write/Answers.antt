@@ -59,7 +59,7 @@ write_members-loop-key-preserved t c =
     let left : l.key-iterator ≡ entry ∷ c.next.new.self = grind (arith, common_steps) in
     let text = c.as_str.result.now in
     let name : text ≡ string_bytes c.in-Some.key.now = search rules in
-    let named = c.in_ok-key.ensures in
+    let named = c.in_ok-write_key.ensures in
     let (j, spelled, before, written) = c.in_ok-write_value.ensures in (
       before ∙ named.room.0 ∙ l.invariant.0,
       λ rest more.
