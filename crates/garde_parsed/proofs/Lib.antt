@@ -1,5 +1,6 @@
 mod Options
 mod AddressLaws
+mod InMemory
 mod Parts
 mod DateLaw
 mod TimeLaw

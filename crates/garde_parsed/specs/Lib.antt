@@ -1,4 +1,6 @@
 pub mod Addresses
+pub mod InMemory
+pub mod Urls
 pub mod Parts
 pub mod Dates
 pub mod Times

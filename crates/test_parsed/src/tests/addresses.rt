@@ -1,28 +1,12 @@
 //! Addresses: the value of each text, or the whole report.
 
-use super::texts::quoted;
-use garde::DefaultI18n;
-use garde_form::Parsed;
+use super::texts::check;
 use garde_parsed::{Ipv4, Ipv6};
-use garde_schema::{Scratch, read_json};
-use std::alloc::Global;
-use std::test::Fail;
-
-// What is told of a text as an IPv4 address.
-fn ipv4(alloc: Global, text: &str) -> Result<String, Fail> {
-    let json = quoted(alloc, text)?;
-    let mut scratch = Scratch::new(alloc);
-    let form = Parsed(Ipv4, ());
-    match read_json(alloc, json.as_bytes(), &mut scratch, &form, &DefaultI18n) {
-        Ok(address) => Ok(format!(in alloc; "{address}")?),
-        Err(error) => Ok(format!(in alloc; "{error}")?),
-    }
-}
 
 // Four numbers of RFC 3986, section 3.2.2 (`dec-octet`), and the texts of that section that are no
 // such address.
 #[test]
-fn reads_ipv4_addresses(rt: HostRuntime) -> Result<(), Fail> {
+fn reads_ipv4_addresses(rt: HostRuntime) {
     let wrong = "not an IPv4 address\n";
     let rows = [
         ("192.0.2.1", "192.0.2.1"),
@@ -44,27 +28,12 @@ fn reads_ipv4_addresses(rt: HostRuntime) -> Result<(), Fail> {
         ("::ffff:192.0.2.1", wrong),
         ("localhost", wrong),
     ];
-    for (text, expected) in rows {
-        let told = ipv4(rt.alloc(), text)?;
-        assert_eq!(rt; told.as_str(), expected, "{text}");
-    }
-    Ok(())
-}
-
-// What is told of a text as an IPv6 address.
-fn ipv6(alloc: Global, text: &str) -> Result<String, Fail> {
-    let json = quoted(alloc, text)?;
-    let mut scratch = Scratch::new(alloc);
-    let form = Parsed(Ipv6, ());
-    match read_json(alloc, json.as_bytes(), &mut scratch, &form, &DefaultI18n) {
-        Ok(address) => Ok(format!(in alloc; "{address}")?),
-        Err(error) => Ok(format!(in alloc; "{error}")?),
-    }
+    check(&rt, rt.alloc(), Ipv4, &rows);
 }
 
 // The texts of RFC 4291, section 2.2, each with its text by RFC 5952; and texts that are none.
 #[test]
-fn reads_ipv6_addresses(rt: HostRuntime) -> Result<(), Fail> {
+fn reads_ipv6_addresses(rt: HostRuntime) {
     let wrong = "not an IPv6 address\n";
     let rows = [
         (
@@ -98,9 +67,5 @@ fn reads_ipv6_addresses(rt: HostRuntime) -> Result<(), Fail> {
         ("[::1]", wrong),
         (" ::1", wrong),
     ];
-    for (text, expected) in rows {
-        let told = ipv6(rt.alloc(), text)?;
-        assert_eq!(rt; told.as_str(), expected, "{text}");
-    }
-    Ok(())
+    check(&rt, rt.alloc(), Ipv6, &rows);
 }

@@ -2,14 +2,14 @@
 ghost use Rattle.std.specs.Prelude.{int_le};
 ghost use Rattle.garde.specs.Fields.{message_unless};
 
+use crate::tests::OrEnd;
 use garde::fields::{Is, Rule};
 use garde::{DefaultI18n, I18n, RuleError};
 use garde_form::{OrEmpty, Parsed, form_to_json};
 use garde_parsed::{Date, Ipv4, Ipv6, Time, Timestamp, Uuid};
 use garde_schema::{Closed, Member, Object, Optional, Scratch, read_json};
-use std::alloc::Global;
+use std::alloc::{AllocError, Global};
 use std::borrow::CowStr;
-use std::test::Fail;
 
 /// The year is this one or a later one.
 #[derive(Clone, Copy, Debug)]
@@ -33,7 +33,7 @@ impl Rule<jiff::civil::Date> for Since {
 }
 
 // What is told of a booking.
-fn told(alloc: Global, json: &[u8]) -> Result<String, Fail> {
+fn told(alloc: Global, json: &[u8]) -> Result<String, AllocError> {
     let form = Object(Closed((
         Member("on", Parsed(Date, Is(Since(2026)))),
         Member("at", Parsed(Time, ())),
@@ -46,14 +46,14 @@ fn told(alloc: Global, json: &[u8]) -> Result<String, Fail> {
     match read_json(alloc, json, &mut scratch, &form, &DefaultI18n) {
         Ok((on, at, id, sent, v4, v6)) => {
             let (v4, v6) = (v4.flatten().is_some(), v6.flatten().is_some());
-            Ok(format!(in alloc; "{on} {at} {id} {sent:?} {v4} {v6}")?)
+            format!(in alloc; "{on} {at} {id} {sent:?} {v4} {v6}")
         }
-        Err(error) => Ok(format!(in alloc; "{error}")?),
+        Err(error) => format!(in alloc; "{error}"),
     }
 }
 
 #[test]
-fn tells_every_fault_of_json(rt: HostRuntime) -> Result<(), Fail> {
+fn tells_every_fault_of_json(rt: HostRuntime) {
     let bodies: [(&[u8], &str); 6] = [
         (
             b"{\"on\":\"2026-11-25\",\"at\":\"22:15\",\"id\":\"919108f7-52d1-4320-9bac-f847db4148a8\"}",
@@ -81,14 +81,13 @@ fn tells_every_fault_of_json(rt: HostRuntime) -> Result<(), Fail> {
         ),
     ];
     for (body, expected) in bodies {
-        let told = told(rt.alloc(), body)?;
+        let told = told(rt.alloc(), body).or_end(&rt);
         assert_eq!(rt; told.as_str(), expected, "{expected}");
     }
-    Ok(())
 }
 
 #[test]
-fn tells_every_fault_of_a_web_form(rt: HostRuntime) -> Result<(), Fail> {
+fn tells_every_fault_of_a_web_form(rt: HostRuntime) {
     let bodies: [(&[u8], &str); 5] = [
         (
             b"on=2026-11-25&at=22%3A15&id=919108f7-52d1-4320-9bac-f847db4148a8&v4=&v6=",
@@ -109,9 +108,8 @@ fn tells_every_fault_of_a_web_form(rt: HostRuntime) -> Result<(), Fail> {
         (b"", "on: missing\nat: missing\nid: missing\n"),
     ];
     for (body, expected) in bodies {
-        let json = form_to_json(rt.alloc(), body)?;
-        let told = told(rt.alloc(), json.as_bytes())?;
+        let json = form_to_json(rt.alloc(), body).or_end(&rt);
+        let told = told(rt.alloc(), json.as_bytes()).or_end(&rt);
         assert_eq!(rt; told.as_str(), expected, "{expected}");
     }
-    Ok(())
 }

@@ -1,28 +1,12 @@
 //! Times of day, and timestamps: the value of each text, or the whole report.
 
-use super::texts::quoted;
-use garde::DefaultI18n;
-use garde_form::Parsed;
+use super::texts::check;
 use garde_parsed::{Time, Timestamp};
-use garde_schema::{Scratch, read_json};
-use std::alloc::Global;
-use std::test::Fail;
-
-// What is told of a text as a time of day.
-fn time(alloc: Global, text: &str) -> Result<String, Fail> {
-    let json = quoted(alloc, text)?;
-    let mut scratch = Scratch::new(alloc);
-    let form = Parsed(Time, ());
-    match read_json(alloc, json.as_bytes(), &mut scratch, &form, &DefaultI18n) {
-        Ok(time) => Ok(format!(in alloc; "{time}")?),
-        Err(error) => Ok(format!(in alloc; "{error}")?),
-    }
-}
 
 // `partial-time` of RFC 3339, section 5.6; the other forms of ISO 8601 that `jiff` reads; and texts
 // that are none, one of which is as well a month and a day.
 #[test]
-fn reads_times_of_day(rt: HostRuntime) -> Result<(), Fail> {
+fn reads_times_of_day(rt: HostRuntime) {
     let wrong = "not a time\n";
     let rows = [
         ("23:20:50.52", "23:20:50.52"),
@@ -46,28 +30,13 @@ fn reads_times_of_day(rt: HostRuntime) -> Result<(), Fail> {
         ("1985-04-12", wrong),
         ("", wrong),
     ];
-    for (text, expected) in rows {
-        let told = time(rt.alloc(), text)?;
-        assert_eq!(rt; told.as_str(), expected, "{text}");
-    }
-    Ok(())
-}
-
-// What is told of a text as a timestamp.
-fn timestamp(alloc: Global, text: &str) -> Result<String, Fail> {
-    let json = quoted(alloc, text)?;
-    let mut scratch = Scratch::new(alloc);
-    let form = Parsed(Timestamp, ());
-    match read_json(alloc, json.as_bytes(), &mut scratch, &form, &DefaultI18n) {
-        Ok(moment) => Ok(format!(in alloc; "{moment}")?),
-        Err(error) => Ok(format!(in alloc; "{error}")?),
-    }
+    check(&rt, rt.alloc(), Time, &rows);
 }
 
 // The five texts of RFC 3339, section 5.8, each with the moment that this section names (a leap
 // second is the second before); and texts that are none.
 #[test]
-fn reads_timestamps(rt: HostRuntime) -> Result<(), Fail> {
+fn reads_timestamps(rt: HostRuntime) {
     let wrong = "not a timestamp\n";
     let rows = [
         ("1985-04-12T23:20:50.52Z", "1985-04-12T23:20:50.52Z"),
@@ -90,9 +59,5 @@ fn reads_timestamps(rt: HostRuntime) -> Result<(), Fail> {
         ("Fri, 12 Apr 1985 23:20:50 GMT", wrong),
         ("", wrong),
     ];
-    for (text, expected) in rows {
-        let told = timestamp(rt.alloc(), text)?;
-        assert_eq!(rt; told.as_str(), expected, "{text}");
-    }
-    Ok(())
+    check(&rt, rt.alloc(), Timestamp, &rows);
 }

@@ -1,28 +1,12 @@
 //! Dates, and dates with a time of day: the value of each text, or the whole report.
 
-use super::texts::quoted;
-use garde::DefaultI18n;
-use garde_form::Parsed;
+use super::texts::check;
 use garde_parsed::{Date, DateTime};
-use garde_schema::{Scratch, read_json};
-use std::alloc::Global;
-use std::test::Fail;
-
-// What is told of a text as a date.
-fn date(alloc: Global, text: &str) -> Result<String, Fail> {
-    let json = quoted(alloc, text)?;
-    let mut scratch = Scratch::new(alloc);
-    let form = Parsed(Date, ());
-    match read_json(alloc, json.as_bytes(), &mut scratch, &form, &DefaultI18n) {
-        Ok(date) => Ok(format!(in alloc; "{date}")?),
-        Err(error) => Ok(format!(in alloc; "{error}")?),
-    }
-}
 
 // `full-date` of RFC 3339, section 5.6, with the days of each month of section 5.7; the other forms
 // of ISO 8601 that `jiff` reads; and texts that are none.
 #[test]
-fn reads_dates(rt: HostRuntime) -> Result<(), Fail> {
+fn reads_dates(rt: HostRuntime) {
     let wrong = "not a date\n";
     let rows = [
         ("1985-04-12", "1985-04-12"),
@@ -59,27 +43,12 @@ fn reads_dates(rt: HostRuntime) -> Result<(), Fail> {
         ("", wrong),
         ("\u{661}985-04-12", wrong),
     ];
-    for (text, expected) in rows {
-        let told = date(rt.alloc(), text)?;
-        assert_eq!(rt; told.as_str(), expected, "{text}");
-    }
-    Ok(())
-}
-
-// What is told of a text as a date with a time of day.
-fn date_time(alloc: Global, text: &str) -> Result<String, Fail> {
-    let json = quoted(alloc, text)?;
-    let mut scratch = Scratch::new(alloc);
-    let form = Parsed(DateTime, ());
-    match read_json(alloc, json.as_bytes(), &mut scratch, &form, &DefaultI18n) {
-        Ok(value) => Ok(format!(in alloc; "{value}")?),
-        Err(error) => Ok(format!(in alloc; "{error}")?),
-    }
+    check(&rt, rt.alloc(), Date, &rows);
 }
 
 // The texts of RFC 3339, section 5.8, with and without their offsets.
 #[test]
-fn reads_dates_with_a_time(rt: HostRuntime) -> Result<(), Fail> {
+fn reads_dates_with_a_time(rt: HostRuntime) {
     let wrong = "not a date and time\n";
     let rows = [
         ("1985-04-12T23:20:50.52", "1985-04-12T23:20:50.52"),
@@ -100,9 +69,5 @@ fn reads_dates_with_a_time(rt: HostRuntime) -> Result<(), Fail> {
         ("23:20:50", wrong),
         ("", wrong),
     ];
-    for (text, expected) in rows {
-        let told = date_time(rt.alloc(), text)?;
-        assert_eq!(rt; told.as_str(), expected, "{text}");
-    }
-    Ok(())
+    check(&rt, rt.alloc(), DateTime, &rows);
 }

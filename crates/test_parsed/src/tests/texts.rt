@@ -1,9 +1,37 @@
-//! A text as the text of a JSON value.
+//! A parser, and a table of texts with what each is read as.
 
-use std::alloc::Global;
-use std::test::Fail;
+use crate::tests::OrEnd;
+use garde::DefaultI18n;
+use garde_form::{Parse, Parsed};
+use garde_schema::{Scratch, read_json};
+use std::alloc::{AllocError, Global};
+use std::fmt::Display;
+use std::process::Abort;
 
-// This text, which has no quotes and no backslashes, in quotes.
-pub(super) fn quoted(alloc: Global, text: &str) -> Result<String, Fail> {
-    Ok(format!(in alloc; "\"{text}\"")?)
+// What is told of a text, which has no quotes and no backslashes, as the text of a JSON value: the
+// value that it spells, or the whole report.
+fn told<P: Parse>(alloc: Global, parser: &P, text: &str) -> Result<String, AllocError>
+where
+    P: Copy,
+    P::Value: Display,
+{
+    let json = format!(in alloc; "\"{text}\"")?;
+    let mut scratch = Scratch::new(alloc);
+    let form = Parsed(*parser, ());
+    match read_json(alloc, json.as_bytes(), &mut scratch, &form, &DefaultI18n) {
+        Ok(value) => format!(in alloc; "{value}"),
+        Err(error) => format!(in alloc; "{error}"),
+    }
+}
+
+// Asks that of each text is told what stands beside it.
+pub(super) fn check<P: Parse>(rt: &impl Abort, alloc: Global, parser: P, rows: &[(&str, &str)])
+where
+    P: Copy,
+    P::Value: Display,
+{
+    for (text, expected) in rows {
+        let told = told(alloc, &parser, text).or_end(rt);
+        assert_eq!(rt; told.as_str(), *expected, "{text}");
+    }
 }

@@ -1,27 +1,11 @@
 //! UUIDs: the value of each text, or the whole report.
 
-use super::texts::quoted;
-use garde::DefaultI18n;
-use garde_form::Parsed;
+use super::texts::check;
 use garde_parsed::Uuid;
-use garde_schema::{Scratch, read_json};
-use std::alloc::Global;
-use std::test::Fail;
-
-// What is told of a text.
-fn told(alloc: Global, text: &str) -> Result<String, Fail> {
-    let json = quoted(alloc, text)?;
-    let mut scratch = Scratch::new(alloc);
-    let form = Parsed(Uuid, ());
-    match read_json(alloc, json.as_bytes(), &mut scratch, &form, &DefaultI18n) {
-        Ok(uuid) => Ok(format!(in alloc; "{uuid}")?),
-        Err(error) => Ok(format!(in alloc; "{error}")?),
-    }
-}
 
 // The texts of RFC 9562, sections 4 and 5 and appendix A, and the other forms of one of them.
 #[test]
-fn reads_uuids(rt: HostRuntime) -> Result<(), Fail> {
+fn reads_uuids(rt: HostRuntime) {
     let one = "f81d4fae-7dec-11d0-a765-00a0c91e6bf6";
     let rows = [
         (one, one),
@@ -50,34 +34,27 @@ fn reads_uuids(rt: HostRuntime) -> Result<(), Fail> {
             "017f22e2-79b0-7cc3-98c4-dc0c0c07398f",
         ),
     ];
-    for (text, expected) in rows {
-        let told = told(rt.alloc(), text)?;
-        assert_eq!(rt; told.as_str(), expected, "{text}");
-    }
-    Ok(())
+    check(&rt, rt.alloc(), Uuid, &rows);
 }
 
 #[test]
-fn tells_of_texts_that_are_no_uuids(rt: HostRuntime) -> Result<(), Fail> {
-    let texts = [
-        "",
-        "f81d4fae-7dec-11d0-a765-00a0c91e6bf",
-        "f81d4fae-7dec-11d0-a765-00a0c91e6bf66",
-        "g81d4fae-7dec-11d0-a765-00a0c91e6bf6",
-        "f81d4fae-7dec-11d0-a76500a0c91e6bf6",
-        "f81d-4fae-7dec-11d0-a765-00a0c91e6bf6",
-        "f81d4fae7-dec-11d0-a765-00a0c91e6bf6",
-        "f81d4fae_7dec_11d0_a765_00a0c91e6bf6",
-        "{f81d4fae-7dec-11d0-a765-00a0c91e6bf6",
-        "(f81d4fae-7dec-11d0-a765-00a0c91e6bf6)",
-        "urn:uuid:f81d4fae7dec11d0a76500a0c91e6bf6",
-        "urn:uid::f81d4fae-7dec-11d0-a765-00a0c91e6bf6",
-        " f81d4fae-7dec-11d0-a765-00a0c91e6bf6",
-        "f81d4fae-7dec-11d0-a765-00a0c91e6b\u{e9}",
+fn tells_of_texts_that_are_no_uuids(rt: HostRuntime) {
+    let wrong = "not a UUID\n";
+    let rows = [
+        ("", wrong),
+        ("f81d4fae-7dec-11d0-a765-00a0c91e6bf", wrong),
+        ("f81d4fae-7dec-11d0-a765-00a0c91e6bf66", wrong),
+        ("g81d4fae-7dec-11d0-a765-00a0c91e6bf6", wrong),
+        ("f81d4fae-7dec-11d0-a76500a0c91e6bf6", wrong),
+        ("f81d-4fae-7dec-11d0-a765-00a0c91e6bf6", wrong),
+        ("f81d4fae7-dec-11d0-a765-00a0c91e6bf6", wrong),
+        ("f81d4fae_7dec_11d0_a765_00a0c91e6bf6", wrong),
+        ("{f81d4fae-7dec-11d0-a765-00a0c91e6bf6", wrong),
+        ("(f81d4fae-7dec-11d0-a765-00a0c91e6bf6)", wrong),
+        ("urn:uuid:f81d4fae7dec11d0a76500a0c91e6bf6", wrong),
+        ("urn:uid::f81d4fae-7dec-11d0-a765-00a0c91e6bf6", wrong),
+        (" f81d4fae-7dec-11d0-a765-00a0c91e6bf6", wrong),
+        ("f81d4fae-7dec-11d0-a765-00a0c91e6b\u{e9}", wrong),
     ];
-    for text in texts {
-        let told = told(rt.alloc(), text)?;
-        assert_eq!(rt; told.as_str(), "not a UUID\n", "{text}");
-    }
-    Ok(())
+    check(&rt, rt.alloc(), Uuid, &rows);
 }

@@ -1,0 +1,48 @@
+//! URLs: the text of each, or the whole report.
+
+use crate::tests::OrEnd;
+use garde::DefaultI18n;
+use garde_parsed::{ParsedInMemory, Url};
+use garde_schema::{Scratch, read_json};
+use std::alloc::{AllocError, Global};
+
+// What is told of a text.
+fn told(alloc: Global, text: &str) -> Result<String, AllocError> {
+    let json = format!(in alloc; "\"{text}\"")?;
+    let mut scratch = Scratch::new(alloc);
+    let form = ParsedInMemory(Url, ());
+    match read_json(alloc, json.as_bytes(), &mut scratch, &form, &DefaultI18n) {
+        Ok(value) => String::from_str(alloc, value.as_str()),
+        Err(error) => format!(in alloc; "{error}"),
+    }
+}
+
+// The examples of the URL Standard, sections 3.5 and 4.4, and of RFC 3986, section 1.1.2.
+#[test]
+fn reads_urls(rt: HostRuntime) {
+    let wrong = "not a URL\n";
+    let rows = [
+        ("https://example.com/././foo", "https://example.com/foo"),
+        ("https:example.org", "https://example.org/"),
+        ("hello:world", "hello:world"),
+        ("https://EXAMPLE.com/../x", "https://example.com/x"),
+        ("http://1.2.3/", "http://1.2.0.3/"),
+        ("http://[::1]/", "http://[::1]/"),
+        ("https://example.org//", "https://example.org//"),
+        ("mailto:John.Doe@example.com", "mailto:John.Doe@example.com"),
+        ("tel:+1-816-555-1212", "tel:+1-816-555-1212"),
+        ("  https://example.org/ ", "https://example.org/"),
+        ("", wrong),
+        ("/page", wrong),
+        ("example.org", wrong),
+        ("https://ex ample.org/", wrong),
+        ("http://[www.example.com]/", wrong),
+        ("https://example.com:demo", wrong),
+        ("https://127.0.0.256/", wrong),
+        ("https://#fragment", wrong),
+    ];
+    for (text, expected) in rows {
+        let told = told(rt.alloc(), text).or_end(&rt);
+        assert_eq!(rt; told.as_str(), expected, "{text}");
+    }
+}
