@@ -23,7 +23,9 @@ module _ {text : Datum → List ℕ} {E : Type 0} where
       unsaid = [];
       cut = refl;
       report = sym (append-nil old);
+      fits = omega arith;
       components = refl;
+      limit = refl;
       front = omega arith;
       nodes = omega arith;
       most = omega arith;
