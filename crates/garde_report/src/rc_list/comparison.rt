@@ -1,7 +1,8 @@
 //! How lists are compared and hashed.
 ghost use Rattle.std.specs.Prelude.{◌≡◌, length, reverse, refl, Some};
 ghost use Rattle.std.specs.Cmp.{partial_order_from_agreeing_total};
-ghost use Rattle.std.specs.Cmp.Lexicographic.{pointwise, lists_per, lists_equiv};
+ghost use Rattle.std.specs.Ordering.{ordering_then};
+ghost use Rattle.std.specs.Cmp.Lexicographic.{pointwise, slice_cmp, lists_per, lists_equiv};
 ghost use Rattle.std.specs.Hash as fed;
 ghost use Rattle.garde_report.specs.Order.{shorter_first, shorter_first-total};
 ghost use Rattle.garde_report.specs.Order.{shorter_first-ties, reverse-fed};
@@ -46,13 +47,36 @@ impl<T: Ord> Ord for List<T> {
         if self.len() != other.len() {
             return self.len().cmp(&other.len());
         }
-        // From the last item on, so an earlier item outweighs what was found.
-        let mut order = Ordering::Equal;
-        for (item, like) in self.iter().zip(other.iter()) {
-            order = item.cmp(like).then(order);
+        match cmp_first(self, other) {
+            Ordering::Equal => cmp_from_last(self, other),
+            order => order,
         }
-        order
     }
+}
+
+// How the first items compare: where they differ, they decide.
+fn cmp_first<T: Ord>(list: &List<T>, other: &List<T>) -> Ordering
+    requires { length list.now ≡ length other.now }
+    ensures { ordering_then result (slice_cmp T.cmp list.now other.now)
+        ≡ slice_cmp T.cmp list.now other.now }
+{
+    match (list.get(0), other.get(0)) {
+        (Some(item), Some(like)) => item.cmp(like),
+        _ => Ordering::Equal,
+    }
+}
+
+// How lists of one length compare. From the last item on, so an earlier item outweighs what was
+// found.
+fn cmp_from_last<T: Ord>(list: &List<T>, other: &List<T>) -> Ordering
+    requires { length list.now ≡ length other.now }
+    ensures { result ≡ slice_cmp T.cmp list.now other.now }
+{
+    let mut order = Ordering::Equal;
+    for (item, like) in list.iter().zip(other.iter()) {
+        order = item.cmp(like).then(order);
+    }
+    order
 }
 
 impl<T: Ord> PartialOrd for List<T> {
