@@ -26,15 +26,46 @@ fn is_alphanumeric(c: char) -> bool
         )
 }
 
+// 1 at each letter and each digit of ASCII.
+#[rattlefmt::skip]
+static LETTERS_AND_DIGITS: [u8; 256] = [
+    0, 0, 0, 0, 0, 0, 0, 0, 0, 0, 0, 0, 0, 0, 0, 0,
+    0, 0, 0, 0, 0, 0, 0, 0, 0, 0, 0, 0, 0, 0, 0, 0,
+    0, 0, 0, 0, 0, 0, 0, 0, 0, 0, 0, 0, 0, 0, 0, 0,
+    1, 1, 1, 1, 1, 1, 1, 1, 1, 1, 0, 0, 0, 0, 0, 0,
+    0, 1, 1, 1, 1, 1, 1, 1, 1, 1, 1, 1, 1, 1, 1, 1,
+    1, 1, 1, 1, 1, 1, 1, 1, 1, 1, 1, 0, 0, 0, 0, 0,
+    0, 1, 1, 1, 1, 1, 1, 1, 1, 1, 1, 1, 1, 1, 1, 1,
+    1, 1, 1, 1, 1, 1, 1, 1, 1, 1, 1, 0, 0, 0, 0, 0,
+    0, 0, 0, 0, 0, 0, 0, 0, 0, 0, 0, 0, 0, 0, 0, 0,
+    0, 0, 0, 0, 0, 0, 0, 0, 0, 0, 0, 0, 0, 0, 0, 0,
+    0, 0, 0, 0, 0, 0, 0, 0, 0, 0, 0, 0, 0, 0, 0, 0,
+    0, 0, 0, 0, 0, 0, 0, 0, 0, 0, 0, 0, 0, 0, 0, 0,
+    0, 0, 0, 0, 0, 0, 0, 0, 0, 0, 0, 0, 0, 0, 0, 0,
+    0, 0, 0, 0, 0, 0, 0, 0, 0, 0, 0, 0, 0, 0, 0, 0,
+    0, 0, 0, 0, 0, 0, 0, 0, 0, 0, 0, 0, 0, 0, 0, 0,
+    0, 0, 0, 0, 0, 0, 0, 0, 0, 0, 0, 0, 0, 0, 0, 0,
+];
+
+// Whether the byte is a letter or a digit of ASCII.
+#[inline(always)]
+fn is_letter_or_digit(byte: u8) -> bool
+    ensures { result ≡ is_ascii_alphanumeric byte }
+{
+    LETTERS_AND_DIGITS[usize::from(byte)] == 1
+}
+
 // Whether every byte is a letter or a digit of ASCII.
+#[inline(always)]
 fn are_ascii_alphanumeric(bytes: &[u8]) -> bool
     ensures { result ≡ list_all is_ascii_alphanumeric bytes.now }
 {
-    bytes.iter().all(|byte| byte.is_ascii_alphanumeric())
+    bytes.iter().all(|byte| is_letter_or_digit(*byte))
 }
 
 // Whether every character of the text is a letter or a number. A text of ASCII is decided by its
 // bytes.
+#[inline(always)]
 #[tactic(auto, using(crate::proofs::AlphanumericLemmas::ascii_alphanumeric_text))]
 fn all_alphanumeric(text: &str) -> bool
     ensures { result ≡ is_alphanumeric_text text.now }

@@ -16,6 +16,7 @@ use std::alloc::Global;
 const LONG: usize = 512;
 
 // Whether the text has the pattern as a part. A pattern of one byte, as `@`, is searched as a byte.
+#[inline(always)]
 #[tactic(auto, using(crate::proofs::TextLemmas::part_is))]
 pub(crate) fn has_pattern(text: &str, pattern: &str) -> bool
     ensures { result ≡ has_part pattern.now text.now }

@@ -1,0 +1,25 @@
+use Rattle.std.proofs.Common.{◌≡◌, ℕ, ◌==◌, ◌<◌, Bool, true, false, map, cond, get_or, refl, ap, ◌∙◌, arith}
+use Rattle.std.proofs.lemmas.List.FromFn.{get_or-map-range_with_len}
+use Rattle.std.specs.Char.{is_ascii_alphanumeric}
+use Rattle.std.specs.List.{range_with_len}
+use Rattle.garde_rules.specs.declared.alphanumeric.TheConstants.{LETTERS_AND_DIGITS}
+use Rattle.garde_rules.proofs.alphanumeric.is_letter_or_digit.Goals as goal
+
+abbrev mark : ℕ → ℕ
+mark b = cond (is_ascii_alphanumeric b) 1 0
+
+-- the table has the mark of each byte
+table_is : LETTERS_AND_DIGITS ≡ map mark (range_with_len 0 256)
+table_is = refl
+
+marked : (t : Bool) → (cond t 1 0 == 1) ≡ t
+marked true = refl
+marked false = refl
+
+read : (b : ℕ) → b < 256 → (get_or LETTERS_AND_DIGITS b 0 == 1) ≡ is_ascii_alphanumeric b
+read b h =
+    ap (λ (n : ℕ). n == 1) (ap (λ t. get_or t b 0) table_is ∙ get_or-map-range_with_len mark 0 256 b b 0 h (omega arith))
+    ∙ marked (is_ascii_alphanumeric b)
+
+pub returns : goal.returns
+returns c = rw c.from.ensures (read c.args.byte (omega arith))
