@@ -16,6 +16,7 @@ enum Scenario {
     ReportClone,
     ToJson,
     FromJson,
+    FromText,
     Texts,
     Rules,
     Compile,
@@ -35,6 +36,7 @@ impl Calls for Scenario {
             Scenario::ReportClone => reports::copy(alloc, memory),
             Scenario::ToJson => reports::write(alloc, memory),
             Scenario::FromJson => reports::read(alloc, memory),
+            Scenario::FromText => reports::read_text(alloc, memory),
             Scenario::Texts => texts::texts(alloc, memory),
             Scenario::Rules => rules::rules(alloc, memory),
             Scenario::Compile => rules::compile(alloc, memory),
@@ -47,7 +49,7 @@ impl Calls for Scenario {
 }
 
 /// All scenarios.
-static ALL: [(&str, Scenario); 14] = [
+static ALL: [(&str, Scenario); 15] = [
     ("append", Scenario::Append),
     ("join", Scenario::Join),
     ("iter", Scenario::Iter),
@@ -55,6 +57,7 @@ static ALL: [(&str, Scenario); 14] = [
     ("report clone", Scenario::ReportClone),
     ("to json", Scenario::ToJson),
     ("from json", Scenario::FromJson),
+    ("from text", Scenario::FromText),
     ("texts", Scenario::Texts),
     ("rules", Scenario::Rules),
     ("compile", Scenario::Compile),
@@ -116,6 +119,11 @@ fn report_to_json(rt: HostRuntime) -> Result<(), Fail> {
 #[test]
 fn report_from_json(rt: HostRuntime) -> Result<(), Fail> {
     once(rt.alloc(), Scenario::FromJson)
+}
+
+#[test]
+fn report_from_text(rt: HostRuntime) -> Result<(), Fail> {
+    once(rt.alloc(), Scenario::FromText)
 }
 
 #[test]

@@ -4,6 +4,7 @@ use super::told::reads;
 use garde::error::PathComponentKind;
 use garde::json::{JsonRefused, report_from_json, report_to_json};
 use garde::{Error, Path, Report};
+use garde_json::report_from_json_text;
 use serde_json::Value;
 use std::alloc::{AllocError, Global};
 use test_memory::{Met, Scarce};
@@ -105,6 +106,17 @@ pub fn read(alloc: Global, memory: &mut Scarce) -> Result<Met, AllocError> {
     if !reads(alloc, &tree, FORM)? {
         return Ok(Met::Wrong);
     }
+    Ok(match answer {
+        Ok(report) if has(&report, &["lorem", "dolor"]) => Met::Ample,
+        Err(JsonRefused::Memory) => Met::Want,
+        _ => Met::Wrong,
+    })
+}
+
+pub fn read_text(alloc: Global, memory: &mut Scarce) -> Result<Met, AllocError> {
+    memory.begin();
+    let answer = report_from_json_text(alloc, FORM);
+    memory.end();
     Ok(match answer {
         Ok(report) if has(&report, &["lorem", "dolor"]) => Met::Ample,
         Err(JsonRefused::Memory) => Met::Want,
