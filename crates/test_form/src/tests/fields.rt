@@ -1,11 +1,12 @@
 //! The fields of a web form as JSON: the whole text of each body.
 
+use crate::tests::OrEnd;
 use garde_form::form_to_json;
 use std::alloc::Global;
-use std::test::Fail;
+use std::process::Abort;
 
 #[test]
-fn writes_each_field_as_a_member(rt: HostRuntime) -> Result<(), Fail> {
+fn writes_each_field_as_a_member(rt: HostRuntime) {
     let bodies: [(&[u8], &str); 14] = [
         (b"", "{}"),
         (b"&&", "{}"),
@@ -29,27 +30,25 @@ fn writes_each_field_as_a_member(rt: HostRuntime) -> Result<(), Fail> {
         (b"a=%FF&b=\xff", "{\"a\":\"\u{fffd}\",\"b\":\"\u{fffd}\"}"),
     ];
     for (body, expected) in bodies {
-        let text = form_to_json(rt.alloc(), body)?;
+        let text = form_to_json(rt.alloc(), body).or_end(&rt);
         assert_eq!(rt; text.as_str(), expected, "{expected}");
     }
-    Ok(())
 }
 
 // A body of as many fields, all of one name.
-fn fields(alloc: Global, count: usize) -> Result<Vec<u8>, Fail> {
+fn fields(rt: &impl Abort, alloc: Global, count: usize) -> Vec<u8> {
     let mut body = Vec::new(alloc);
     for _ in 0..count {
-        body.extend_from_slice(b"a=1&")?;
+        body.extend_from_slice(b"a=1&").or_end(rt);
     }
-    Ok(body)
+    body
 }
 
 #[test]
-fn writes_each_of_ten_thousand_fields(rt: HostRuntime) -> Result<(), Fail> {
-    let body = fields(rt.alloc(), 10_000)?;
-    let text = form_to_json(rt.alloc(), body.as_slice())?;
+fn writes_each_of_ten_thousand_fields(rt: HostRuntime) {
+    let body = fields(&rt, rt.alloc(), 10_000);
+    let text = form_to_json(rt.alloc(), body.as_slice()).or_end(&rt);
     // Seven bytes and a comma a field, but for the last, and two braces.
     assert_eq!(rt; text.len(), 80_001);
     assert_eq!(rt; text.as_str().matches("\"a\":\"1\"").count(), 10_000);
-    Ok(())
 }

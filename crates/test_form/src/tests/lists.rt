@@ -1,12 +1,13 @@
 //! The fields of a web form as JSON, where those of some names are lists: the whole text of each
 //! body.
 
+use crate::tests::OrEnd;
 use garde_form::form_to_json_with_lists;
 use std::alloc::Global;
-use std::test::Fail;
+use std::process::Abort;
 
 #[test]
-fn writes_the_fields_of_a_listed_name_as_a_list(rt: HostRuntime) -> Result<(), Fail> {
+fn writes_the_fields_of_a_listed_name_as_a_list(rt: HostRuntime) {
     let bodies: [(&[u8], &str); 10] = [
         (b"", "{}"),
         (b"a=1&b&a=2", "{\"a\":\"1\",\"b\":\"\",\"a\":\"2\"}"),
@@ -32,42 +33,41 @@ fn writes_the_fields_of_a_listed_name_as_a_list(rt: HostRuntime) -> Result<(), F
         ),
     ];
     for (body, expected) in bodies {
-        let text = form_to_json_with_lists(rt.alloc(), body, &["ids", "tags", "tags"])?;
+        let text = form_to_json_with_lists(rt.alloc(), body, &["ids", "tags", "tags"]).or_end(&rt);
         assert_eq!(rt; text.as_str(), expected, "{expected}");
     }
-    Ok(())
 }
 
 // A body of ten thousand fields, of which each tenth is a number under `n`.
-fn fields(alloc: Global) -> Result<String, Fail> {
+fn fields(rt: &impl Abort, alloc: Global) -> String {
     let mut body = String::new(alloc);
     for number in 0..1_000 {
-        let piece = format!(in alloc; "n={number}&")?;
-        body.push_str(piece.as_str())?;
-        body.push_str("a=1&a=1&a=1&a=1&a=1&a=1&a=1&a=1&a=1&")?;
+        let piece = format!(in alloc; "n={number}&").or_end(rt);
+        body.push_str(piece.as_str()).or_end(rt);
+        body.push_str("a=1&a=1&a=1&a=1&a=1&a=1&a=1&a=1&a=1&")
+            .or_end(rt);
     }
-    Ok(body)
+    body
 }
 
 // The object of these fields: the list of the numbers, and then nine thousand members.
-fn object(alloc: Global) -> Result<String, Fail> {
-    let mut text = String::from_str(alloc, "{\"n\":[\"0\"")?;
+fn object(rt: &impl Abort, alloc: Global) -> String {
+    let mut text = String::from_str(alloc, "{\"n\":[\"0\"").or_end(rt);
     for number in 1..1_000 {
-        let piece = format!(in alloc; ",\"{number}\"")?;
-        text.push_str(piece.as_str())?;
+        let piece = format!(in alloc; ",\"{number}\"").or_end(rt);
+        text.push_str(piece.as_str()).or_end(rt);
     }
-    text.push_str("]")?;
+    text.push_str("]").or_end(rt);
     for _ in 0..9_000 {
-        text.push_str(",\"a\":\"1\"")?;
+        text.push_str(",\"a\":\"1\"").or_end(rt);
     }
-    text.push_str("}")?;
-    Ok(text)
+    text.push_str("}").or_end(rt);
+    text
 }
 
 #[test]
-fn writes_a_list_of_a_thousand_among_ten_thousand_fields(rt: HostRuntime) -> Result<(), Fail> {
-    let (body, expected) = (fields(rt.alloc())?, object(rt.alloc())?);
-    let text = form_to_json_with_lists(rt.alloc(), body.as_bytes(), &["n"])?;
+fn writes_a_list_of_a_thousand_among_ten_thousand_fields(rt: HostRuntime) {
+    let (body, expected) = (fields(&rt, rt.alloc()), object(&rt, rt.alloc()));
+    let text = form_to_json_with_lists(rt.alloc(), body.as_bytes(), &["n"]).or_end(&rt);
     assert!(rt; text.as_str() == expected.as_str());
-    Ok(())
 }

@@ -1,19 +1,20 @@
 //! Whole numbers that texts write: what each type makes of each text.
 
+use crate::tests::OrEnd;
 use garde_form::Parse;
 use garde_schema::{I8, I16, I32, I64, Isize, U8, U16, U32, U64, Usize};
 use std::alloc::Global;
-use std::test::Fail;
+use std::process::Abort;
 
 // What the types without a sign make of a text.
-fn unsigned(alloc: Global, text: &str) -> Result<String, Fail> {
+fn unsigned(rt: &impl Abort, alloc: Global, text: &str) -> String {
     let (a, b, c) = (U8.parse(text), U16.parse(text), U32.parse(text));
     let (d, e) = (U64.parse(text), Usize.parse(text));
-    Ok(format!(in alloc; "{a:?} {b:?} {c:?} {d:?} {e:?}")?)
+    format!(in alloc; "{a:?} {b:?} {c:?} {d:?} {e:?}").or_end(rt)
 }
 
 #[test]
-fn reads_numbers_without_a_sign(rt: HostRuntime) -> Result<(), Fail> {
+fn reads_numbers_without_a_sign(rt: HostRuntime) {
     let texts = [
         ("0", "Some(0) Some(0) Some(0) Some(0) Some(0)"),
         ("255", "Some(255) Some(255) Some(255) Some(255) Some(255)"),
@@ -43,21 +44,20 @@ fn reads_numbers_without_a_sign(rt: HostRuntime) -> Result<(), Fail> {
         ("\u{661}", "None None None None None"),
     ];
     for (text, expected) in texts {
-        let told = unsigned(rt.alloc(), text)?;
+        let told = unsigned(&rt, rt.alloc(), text);
         assert_eq!(rt; told.as_str(), expected, "{text}");
     }
-    Ok(())
 }
 
 // What the types with a sign make of a text.
-fn signed(alloc: Global, text: &str) -> Result<String, Fail> {
+fn signed(rt: &impl Abort, alloc: Global, text: &str) -> String {
     let (a, b, c) = (I8.parse(text), I16.parse(text), I32.parse(text));
     let (d, e) = (I64.parse(text), Isize.parse(text));
-    Ok(format!(in alloc; "{a:?} {b:?} {c:?} {d:?} {e:?}")?)
+    format!(in alloc; "{a:?} {b:?} {c:?} {d:?} {e:?}").or_end(rt)
 }
 
 #[test]
-fn reads_numbers_with_a_sign(rt: HostRuntime) -> Result<(), Fail> {
+fn reads_numbers_with_a_sign(rt: HostRuntime) {
     let texts = [
         ("-0", "Some(0) Some(0) Some(0) Some(0) Some(0)"),
         ("127", "Some(127) Some(127) Some(127) Some(127) Some(127)"),
@@ -87,8 +87,7 @@ fn reads_numbers_with_a_sign(rt: HostRuntime) -> Result<(), Fail> {
         ("--1", "None None None None None"),
     ];
     for (text, expected) in texts {
-        let told = signed(rt.alloc(), text)?;
+        let told = signed(&rt, rt.alloc(), text);
         assert_eq!(rt; told.as_str(), expected, "{text}");
     }
-    Ok(())
 }

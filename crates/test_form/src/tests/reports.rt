@@ -1,14 +1,14 @@
 //! Web forms read by a form: the whole report of each body, or its values.
 
+use crate::tests::OrEnd;
 use garde::fields::{Is, Prefix};
 use garde::{DefaultI18n, length, range};
 use garde_form::{OrEmpty, Parsed, form_to_json};
 use garde_schema::{Closed, I8, Member, Object, OneOf, Optional, Scratch, Text, U8, read_json};
-use std::alloc::Global;
-use std::test::Fail;
+use std::alloc::{AllocError, Global};
 
 // What is told of who signs up.
-fn told(alloc: Global, body: &[u8]) -> Result<String, Fail> {
+fn told(alloc: Global, body: &[u8]) -> Result<String, AllocError> {
     let form = Object(Closed((
         Member("name", Text(Is(length!(chars, min = 1, max = 8)))),
         Member("age", Parsed(U8, Is(range!(min = 18, max = 120)))),
@@ -22,14 +22,14 @@ fn told(alloc: Global, body: &[u8]) -> Result<String, Fail> {
         Ok((name, age, shift, phone, terms)) => {
             let name = name.text();
             let phone = phone.flatten().map(|text| text.text().len());
-            Ok(format!(in alloc; "{name} {age} {shift:?} {phone:?} {terms:?}")?)
+            format!(in alloc; "{name} {age} {shift:?} {phone:?} {terms:?}")
         }
-        Err(error) => Ok(format!(in alloc; "{error}")?),
+        Err(error) => format!(in alloc; "{error}"),
     }
 }
 
 #[test]
-fn tells_every_fault_of_a_web_form(rt: HostRuntime) -> Result<(), Fail> {
+fn tells_every_fault_of_a_web_form(rt: HostRuntime) {
     let bodies: [(&[u8], &str); 13] = [
         (b"name=Ada&age=36", "Ada 36 None None None"),
         (
@@ -64,8 +64,7 @@ fn tells_every_fault_of_a_web_form(rt: HostRuntime) -> Result<(), Fail> {
         (b"name=A&age=1%008", "age: not a whole number\n"),
     ];
     for (body, expected) in bodies {
-        let told = told(rt.alloc(), body)?;
+        let told = told(rt.alloc(), body).or_end(&rt);
         assert_eq!(rt; told.as_str(), expected, "{expected}");
     }
-    Ok(())
 }

@@ -2,10 +2,9 @@
 
 use garde_form::{Character, Parse};
 use garde_schema::Flag;
-use std::test::Fail;
 
 #[test]
-fn reads_true_and_false(rt: HostRuntime) -> Result<(), Fail> {
+fn reads_true_and_false(rt: HostRuntime) {
     let texts = [
         ("true", Some(true)),
         ("false", Some(false)),
@@ -22,11 +21,10 @@ fn reads_true_and_false(rt: HostRuntime) -> Result<(), Fail> {
     for (text, expected) in texts {
         assert!(rt; Flag.parse(text) == expected, "{text}");
     }
-    Ok(())
 }
 
 #[test]
-fn reads_one_character(rt: HostRuntime) -> Result<(), Fail> {
+fn reads_one_character(rt: HostRuntime) {
     let texts = [
         ("a", Some('a')),
         (" ", Some(' ')),
@@ -44,5 +42,4 @@ fn reads_one_character(rt: HostRuntime) -> Result<(), Fail> {
     for (text, expected) in texts {
         assert!(rt; Character.parse(text) == expected, "{text}");
     }
-    Ok(())
 }

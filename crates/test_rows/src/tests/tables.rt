@@ -1,13 +1,14 @@
 //! Tables: the whole report of each, or the values of its rows.
 
+use crate::tests::OrEnd;
 use csv::StringRecord;
 use garde::fields::{Is, Prefix};
 use garde::{DefaultI18n, range};
 use garde_form::{OrEmpty, Parsed};
 use garde_rows::{Columns, Names, RowScratch, read_columns, read_row};
 use garde_schema::{Any, Member, Object, Optional, Text, U8};
-use std::alloc::Global;
-use std::test::Fail;
+use std::alloc::{AllocError, Global};
+use std::process::Abort;
 
 // What is told of the row of this index.
 fn told_of_row(
@@ -16,7 +17,7 @@ fn told_of_row(
     columns: &Columns,
     cells: &[&str],
     scratch: &mut RowScratch,
-) -> Result<String, Fail> {
+) -> Result<String, AllocError> {
     let cells = StringRecord::from_fields(alloc, cells)?;
     let form = Object((
         Member("code", Text(Is(Prefix("P")))),
@@ -26,31 +27,31 @@ fn told_of_row(
     match read_row(alloc, index, columns, &cells, scratch, &form, &DefaultI18n) {
         Ok((code, price, page)) => {
             let (code, page) = (code.text(), page.flatten().map(|page| page.text()));
-            Ok(format!(in alloc; "{code:?} {price} {page:?}\n")?)
+            format!(in alloc; "{code:?} {price} {page:?}\n")
         }
-        Err(error) => Ok(format!(in alloc; "{error}")?),
+        Err(error) => format!(in alloc; "{error}"),
     }
 }
 
 // What is told of a table.
-fn told(alloc: Global, header: &[&str], rows: &[&[&str]]) -> Result<String, Fail> {
-    let header = StringRecord::from_fields(alloc, header)?;
+fn told(rt: &impl Abort, alloc: Global, header: &[&str], rows: &[&[&str]]) -> String {
+    let header = StringRecord::from_fields(alloc, header).or_end(rt);
     let known = (Names(&["code", "price"]), Optional("page", Any));
     let mut scratch = RowScratch::new(alloc);
     let columns = match read_columns(alloc, header, known, &mut scratch, &DefaultI18n) {
         Ok(columns) => columns,
-        Err(error) => return Ok(format!(in alloc; "{error}")?),
+        Err(error) => return format!(in alloc; "{error}").or_end(rt),
     };
     let mut all = String::new(alloc);
     for (index, cells) in rows.iter().enumerate() {
-        let told = told_of_row(alloc, index, &columns, cells, &mut scratch)?;
-        all.push_str(&told)?;
+        let told = told_of_row(alloc, index, &columns, cells, &mut scratch).or_end(rt);
+        all.push_str(&told).or_end(rt);
     }
-    Ok(all)
+    all
 }
 
 #[test]
-fn tells_every_fault_of_a_row(rt: HostRuntime) -> Result<(), Fail> {
+fn tells_every_fault_of_a_row(rt: HostRuntime) {
     let rows: [(&[&str], &str); 14] = [
         (&["P1", "5", "x"], "\"P1\" 5 Some(\"x\")\n"),
         (&["P1", "+200", ""], "\"P1\" 200 None\n"),
@@ -83,14 +84,13 @@ fn tells_every_fault_of_a_row(rt: HostRuntime) -> Result<(), Fail> {
         (&[], "[0]: not as many fields as in the header\n"),
     ];
     for (row, expected) in rows {
-        let told = told(rt.alloc(), &["code", "price", "page"], &[row])?;
+        let told = told(&rt, rt.alloc(), &["code", "price", "page"], &[row]);
         assert_eq!(rt; told.as_str(), expected, "{expected}");
     }
-    Ok(())
 }
 
 #[test]
-fn tells_of_the_columns_before_any_row(rt: HostRuntime) -> Result<(), Fail> {
+fn tells_of_the_columns_before_any_row(rt: HostRuntime) {
     let headers: [(&[&str], &str); 9] = [
         (&["code", "price", "page"], "\"P1\" 7 Some(\"9\")\n"),
         (
@@ -115,14 +115,13 @@ fn tells_of_the_columns_before_any_row(rt: HostRuntime) -> Result<(), Fail> {
         (&[], "code: missing\nprice: missing\n"),
     ];
     for (header, expected) in headers {
-        let told = told(rt.alloc(), header, &[&["P1", "7", "9"]])?;
+        let told = told(&rt, rt.alloc(), header, &[&["P1", "7", "9"]]);
         assert_eq!(rt; told.as_str(), expected, "{expected}");
     }
-    Ok(())
 }
 
 #[test]
-fn reads_the_rows_behind_a_fault(rt: HostRuntime) -> Result<(), Fail> {
+fn reads_the_rows_behind_a_fault(rt: HostRuntime) {
     let rows: [&[&str]; 6] = [
         &["7", "P1"],
         &["7"],
@@ -133,7 +132,6 @@ fn reads_the_rows_behind_a_fault(rt: HostRuntime) -> Result<(), Fail> {
     ];
     let expected =
         "\"P1\" 7 None\n[1]: not as many fields as in the header\n[2].price: not a whole number\n[3]: not as many fields as in the header\n[4].code: value does not begin with \"P\"\n[4].price: greater than 200\n\"P5\" 8 None\n";
-    let told = told(rt.alloc(), &["price", "code"], &rows)?;
+    let told = told(&rt, rt.alloc(), &["price", "code"], &rows);
     assert_eq!(rt; told.as_str(), expected);
-    Ok(())
 }

@@ -6,6 +6,30 @@ use serde_json::Value;
 use std::alloc::{AllocError, Global};
 use std::fmt::Write;
 
+// Writes the kinds of the first four items of a list.
+fn draw_items(out: &mut String, tree: &Tree<'_, '_>) -> Result<(), AllocError> {
+    if let Some(mut items) = tree.items() {
+        for _ in 0..4 {
+            if let Some(item) = items.next() {
+                write!(out, " {:?}", item.kind())?;
+            }
+        }
+    }
+    Ok(())
+}
+
+// Writes the names and the kinds of the first eight members of an object.
+fn draw_members(out: &mut String, tree: &Tree<'_, '_>) -> Result<(), AllocError> {
+    if let Some(mut members) = tree.members() {
+        for _ in 0..8 {
+            if let Some((name, value)) = members.next() {
+                write!(out, " {name:?}={:?}", value.kind())?;
+            }
+        }
+    }
+    Ok(())
+}
+
 // A value: its kind, and what stands in it, of an object and of a list one level deep.
 fn drawn(alloc: Global, tree: &Tree<'_, '_>) -> Result<String, AllocError> {
     let mut out = format!(in alloc; "{:?}", tree.kind())?;
@@ -18,20 +42,8 @@ fn drawn(alloc: Global, tree: &Tree<'_, '_>) -> Result<String, AllocError> {
     if let Some(flag) = tree.as_bool() {
         write!(out, " {flag}")?;
     }
-    if let Some(mut items) = tree.items() {
-        for _ in 0..4 {
-            if let Some(item) = items.next() {
-                write!(out, " {:?}", item.kind())?;
-            }
-        }
-    }
-    if let Some(mut members) = tree.members() {
-        for _ in 0..8 {
-            if let Some((name, value)) = members.next() {
-                write!(out, " {name:?}={:?}", value.kind())?;
-            }
-        }
-    }
+    draw_items(&mut out, tree)?;
+    draw_members(&mut out, tree)?;
     Ok(out)
 }
 

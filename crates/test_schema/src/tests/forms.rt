@@ -5,7 +5,7 @@ ghost use Rattle.garde.specs.Fields.{message_unless};
 
 use super::OrEnd;
 use super::texts::Texts;
-use super::told::{Case, check, told, told_of};
+use super::told::{Case, check, check_many, told};
 use garde::fields::{Is, Rule};
 use garde::{DefaultI18n, I18n, RuleError};
 use garde_problem::WithCodes;
@@ -118,12 +118,18 @@ fn wide(alloc: Global, count: usize) -> Result<String, AllocError> {
 #[test]
 fn tells_each_of_many_unknown_members(rt: HostRuntime) {
     let body = wide(rt.alloc(), 10_000).or_end(&rt);
-    let h = Texts(DefaultI18n);
-    let told = told_of(rt.alloc(), Case::Forms, body.as_str().as_bytes(), &h).or_end(&rt);
-    let told = told.as_str();
-    assert_eq!(rt; told.lines().count(), 10_000);
-    assert!(rt; told.starts_with("k0: unknown\nk1: unknown\n"));
-    assert!(rt; told.ends_with("k9998: unknown\nk9999: unknown\n"));
+    check_many(
+        &rt,
+        rt.alloc(),
+        Case::Forms,
+        body.as_str(),
+        &Texts(DefaultI18n),
+        10_000,
+        (
+            "k0: unknown\nk1: unknown\n",
+            "k9998: unknown\nk9999: unknown\n",
+        ),
+    );
 }
 
 // A fault of form, its text, and its text with a code.

@@ -214,11 +214,9 @@ fn tells_each_of_two_thousand_members(rt: HostRuntime) {
 
 // A body of so many lists, one in the other, in an object.
 fn nest(alloc: Global, lists: usize) -> Result<String, AllocError> {
-    let mut body = String::from_str(alloc, "{\"name\":\"Ada\",\"any\":")?;
-    body.push_str("[".repeat(alloc, lists)?.as_str())?;
-    body.push_str("]".repeat(alloc, lists)?.as_str())?;
-    body.push_str("}")?;
-    Ok(body)
+    let begun = "[".repeat(alloc, lists)?;
+    let ended = "]".repeat(alloc, lists)?;
+    format!(in alloc; "{{\"name\":\"Ada\",\"any\":{begun}{ended}}}")
 }
 
 #[test]

@@ -3,7 +3,7 @@ ghost use Rattle.std.specs.Prelude.{nat_le};
 ghost use Rattle.garde.specs.Fields.{message_unless};
 
 use super::OrEnd;
-use super::told::{Case as Form, compare, told, told_of};
+use super::told::{Case as Form, check_many, compare, told};
 use garde::fields::{Ascii, Is, Rule};
 use garde::{DefaultI18n, I18n, RuleError, length, range};
 use garde_schema::{
@@ -183,12 +183,18 @@ fn reads_three_hundred_items_in_order(rt: HostRuntime) {
 #[test]
 fn tells_each_of_three_hundred_wrong_items(rt: HostRuntime) {
     let body = long(rt.alloc(), 300, "-").or_end(&rt);
-    let bytes = body.as_str().as_bytes();
-    let told = told_of(rt.alloc(), Form::Lists(Case::Numbers), bytes, &DefaultI18n).or_end(&rt);
-    let told = told.as_str();
-    assert_eq!(rt; told.lines().count(), 300);
-    assert!(rt; told.starts_with("[0]: not a whole number\n[1]: out of range: 0 to 65535\n[2]: "));
-    assert!(rt; told.ends_with("\n[299]: out of range: 0 to 65535\n"));
+    check_many(
+        &rt,
+        rt.alloc(),
+        Form::Lists(Case::Numbers),
+        body.as_str(),
+        &DefaultI18n,
+        300,
+        (
+            "[0]: not a whole number\n[1]: out of range: 0 to 65535\n[2]: ",
+            "\n[299]: out of range: 0 to 65535\n",
+        ),
+    );
 }
 
 // Lists in a list, ten deep.

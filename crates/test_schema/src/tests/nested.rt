@@ -4,7 +4,7 @@ ghost use Rattle.std.proofs.Common.{rules};
 ghost use Rattle.test_schema.specs.declared.tests.nested.Folder.{out-Folder, roll-Folder, the_lemmas};
 
 use super::OrEnd;
-use super::told::{Case as Form, compare, told, told_of};
+use super::told::{Case as Form, check_many, compare, told, told_of};
 use garde::fields::{Ascii, Is};
 use garde::{DefaultI18n, I18n, length, range};
 use garde_schema::{
@@ -87,7 +87,7 @@ fn closed<H: I18n + FormI18n>(
 }
 
 #[test]
-fn makes_folders_that_hold_folders(rt: HostRuntime) {
+fn makes_folders_that_hold_folders_or_tells_their_faults(rt: HostRuntime) {
     compare(
         &rt,
         rt.alloc(),
@@ -101,17 +101,6 @@ fn makes_folders_that_hold_folders(rt: HostRuntime) {
                 "{\"folders\":[{\"name\":\"b\",\"size\":1,\"folders\":[]},{\"name\":\"c\",\"folders\":[{\"folders\":[],\"name\":\"d\",\"size\":2}]}],\"size\":3,\"name\":\"a\"}",
                 "Folder { name: TextRef(\"a\"), size: Some(3), folders: Items([Folder { name: TextRef(\"b\"), size: Some(1), folders: Items([]) }, Folder { name: TextRef(\"c\"), size: None, folders: Items([Folder { name: TextRef(\"d\"), size: Some(2), folders: Items([]) }]) }]) }",
             ),
-        ],
-    );
-}
-
-#[test]
-fn tells_the_faults_of_folders_at_every_depth(rt: HostRuntime) {
-    compare(
-        &rt,
-        rt.alloc(),
-        Form::Nested(Case::Closed),
-        &[
             (
                 "{\"name\":\"\",\"x\":0,\"folders\":[{\"name\":\"b\",\"size\":1001,\"folders\":[{\"name\":\"\u{e9}\",\"size\":-1,\"folders\":[]},7]},{\"y\":0,\"name\":\"c\",\"folders\":{}}],\"z\":0}",
                 "name: length is lower than 1\nfolders[0].size: greater than 1000\nfolders[0].folders[0].name: not ascii\nfolders[0].folders[0].size: out of range: 0 to 65535\nfolders[0].folders[1]: not an object\nfolders[1].folders: not a list\nfolders[1].y: not known here\nx: not known here\nz: not known here\n",
@@ -129,17 +118,6 @@ fn tells_the_faults_of_folders_at_every_depth(rt: HostRuntime) {
                 "{\"name\":1,\"folders\":[{\"name\":2,\"folders\":[{\"name\":3,\"folders\":[{\"name\":4,\"folders\":4}]}]}]}",
                 "name: not a text\nfolders[0].name: not a text\nfolders[0].folders[0].name: not a text\nfolders[0].folders[0].folders[0].name: not a text\nfolders[0].folders[0].folders[0].folders: not a list\n",
             ),
-        ],
-    );
-}
-
-#[test]
-fn tells_of_null_texts_and_lists_at_every_level_of_folders(rt: HostRuntime) {
-    compare(
-        &rt,
-        rt.alloc(),
-        Form::Nested(Case::Closed),
-        &[
             ("null", "not an object\n"),
             ("\"a\"", "not an object\n"),
             ("[]", "not an object\n"),
@@ -253,10 +231,16 @@ fn reads_ten_thousand_folders_in_order(rt: HostRuntime) {
 #[test]
 fn tells_a_fault_of_each_folder_of_ten_thousand(rt: HostRuntime) {
     let body = wide(rt.alloc(), 10_000, "\"x\"").or_end(&rt);
-    let bytes = body.as_str().as_bytes();
-    let told = told_of(rt.alloc(), Form::Nested(Case::Closed), bytes, &DefaultI18n).or_end(&rt);
-    let told = told.as_str();
-    assert_eq!(rt; told.lines().count(), 10_000);
-    assert!(rt; told.starts_with("folders[0].x: not known here\nfolders[1].x: not known here\n"));
-    assert!(rt; told.ends_with("\nfolders[9999].x: not known here\n"));
+    check_many(
+        &rt,
+        rt.alloc(),
+        Form::Nested(Case::Closed),
+        body.as_str(),
+        &DefaultI18n,
+        10_000,
+        (
+            "folders[0].x: not known here\nfolders[1].x: not known here\n",
+            "\nfolders[9999].x: not known here\n",
+        ),
+    );
 }

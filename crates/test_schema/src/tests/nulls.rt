@@ -51,7 +51,7 @@ fn texts<H: I18n + FormI18n>(
 
 #[test]
 fn reads_members_that_may_be_null_or_missing(rt: HostRuntime) {
-    compare(
+    compare_codes(
         &rt,
         rt.alloc(),
         Form::Nulls(Case::Texts),
@@ -59,26 +59,18 @@ fn reads_members_that_may_be_null_or_missing(rt: HostRuntime) {
             (
                 "{\"must\":\"abc\",\"may\":\"bcd\",\"ish\":\"cde\",\"or\":\"def\"}",
                 "((Some(TextRef(\"abc\")), Some(Some(TextRef(\"bcd\")))), (Some(TextRef(\"cde\")), TextRef(\"def\")))",
+                "((Some(TextRef(\"abc\")), Some(Some(TextRef(\"bcd\")))), (Some(TextRef(\"cde\")), TextRef(\"def\")))",
             ),
             (
                 "{\"must\":null,\"may\":null,\"ish\":null}",
+                "((None, Some(None)), (None, TextRef(\"a default that is too long\")))",
                 "((None, Some(None)), (None, TextRef(\"a default that is too long\")))",
             ),
             (
                 "{\"must\":\"ab\"}",
                 "((Some(TextRef(\"ab\")), None), (None, TextRef(\"a default that is too long\")))",
+                "((Some(TextRef(\"ab\")), None), (None, TextRef(\"a default that is too long\")))",
             ),
-        ],
-    );
-}
-
-#[test]
-fn tells_faults_of_members_that_may_be_null(rt: HostRuntime) {
-    compare_codes(
-        &rt,
-        rt.alloc(),
-        Form::Nulls(Case::Texts),
-        &[
             ("{}", "must: missing\n", "must: member_missing\n"),
             (
                 "{\"must\":null,\"or\":null}",

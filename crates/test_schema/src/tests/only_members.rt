@@ -50,9 +50,13 @@ fn payment<H: I18n + FormI18n>(
     told(alloc, tree, &form, h)
 }
 
+const NONE: &str = "not an object with one member\n";
+
+const NONE_IN_CODES: &str = "wrong_form wanted=OneMember found=Object\n";
+
 #[test]
 fn reads_the_variant_that_the_only_member_names(rt: HostRuntime) {
-    compare(
+    compare_codes(
         &rt,
         rt.alloc(),
         Form::OnlyMembers(Case::Payment),
@@ -60,27 +64,19 @@ fn reads_the_variant_that_the_only_member_names(rt: HostRuntime) {
             (
                 "{\"card\":{\"year\":30,\"number\":\"49\"}}",
                 "Left((TextRef(\"49\"), Some(30)))",
+                "Left((TextRef(\"49\"), Some(30)))",
             ),
             (
                 "{\"card\":{\"number\":\"\"}}",
+                "Left((TextRef(\"\"), None))",
                 "Left((TextRef(\"\"), None))",
             ),
             (
                 "{\"c\\u0061sh\":18446744073709551615}",
                 "Right(Left(18446744073709551615))",
+                "Right(Left(18446744073709551615))",
             ),
-            ("{\"\":false}", "Right(Right(false))"),
-        ],
-    );
-}
-
-#[test]
-fn tells_of_the_variant_that_the_only_member_names(rt: HostRuntime) {
-    compare_codes(
-        &rt,
-        rt.alloc(),
-        Form::OnlyMembers(Case::Payment),
-        &[
+            ("{\"\":false}", "Right(Right(false))", "Right(Right(false))"),
             (
                 "{\"card\":{\"year\":31,\"sum\":null}}",
                 "card.number: missing\ncard.year: greater than 30\ncard.sum: not known here\n",
@@ -101,21 +97,6 @@ fn tells_of_the_variant_that_the_only_member_names(rt: HostRuntime) {
                 ": not true or false\n",
                 ": wrong_form wanted=Boolean found=Number\n",
             ),
-        ],
-    );
-}
-
-const NONE: &str = "not an object with one member\n";
-
-const NONE_IN_CODES: &str = "wrong_form wanted=OneMember found=Object\n";
-
-#[test]
-fn tells_of_what_is_no_object_with_one_known_member(rt: HostRuntime) {
-    compare_codes(
-        &rt,
-        rt.alloc(),
-        Form::OnlyMembers(Case::Payment),
-        &[
             ("{}", NONE, NONE_IN_CODES),
             ("{\"cash\":1,\"card\":{}}", NONE, NONE_IN_CODES),
             ("{\"cash\":1,\"cash\":1}", NONE, NONE_IN_CODES),
@@ -202,25 +183,18 @@ fn mixed<H: I18n + FormI18n>(
 
 #[test]
 fn reads_variants_with_fields_and_without(rt: HostRuntime) {
-    compare(
-        &rt,
-        rt.alloc(),
-        Form::OnlyMembers(Case::Mixed),
-        &[
-            ("\"cash\"", "Left(0)"),
-            ("\"transfer\"", "Left(1)"),
-            ("{\"card\":{\"number\":\"49\"}}", "Right(TextRef(\"49\"))"),
-        ],
-    );
-}
-
-#[test]
-fn tells_of_what_is_no_variant_with_fields_or_without(rt: HostRuntime) {
     compare_codes(
         &rt,
         rt.alloc(),
         Form::OnlyMembers(Case::Mixed),
         &[
+            ("\"cash\"", "Left(0)", "Left(0)"),
+            ("\"transfer\"", "Left(1)", "Left(1)"),
+            (
+                "{\"card\":{\"number\":\"49\"}}",
+                "Right(TextRef(\"49\"))",
+                "Right(TextRef(\"49\"))",
+            ),
             (
                 "\"card\"",
                 "not one of the known values\n",

@@ -99,6 +99,23 @@ pub fn check<H: I18n + FormI18n>(
     assert_eq!(rt; told.as_str(), expected);
 }
 
+/// Asks that the report of a body has so many lines, the first and the last of which are these.
+pub fn check_many<H: I18n + FormI18n>(
+    rt: &impl Abort,
+    alloc: Global,
+    case: Case,
+    body: &str,
+    h: &H,
+    count: usize,
+    ends: (&str, &str),
+) {
+    let told = told_of(alloc, case, body.as_bytes(), h).or_end(rt);
+    let (first, last) = ends;
+    assert_eq!(rt; told.as_str().lines().count(), count);
+    assert!(rt; told.as_str().starts_with(first));
+    assert!(rt; told.as_str().ends_with(last));
+}
+
 /// Asks that each body reads as this, in English.
 pub fn compare(rt: &impl Abort, alloc: Global, case: Case, rows: &[(&str, &str)]) {
     for (body, expected) in rows {

@@ -118,7 +118,7 @@ pub fn compare_sizes(rt: &impl Abort, alloc: Global, rows: &[(usize, &str, &str)
 }
 
 #[test]
-fn reads_tuples_of_few_members(rt: HostRuntime) {
+fn reads_tuples_of_up_to_twelve_members(rt: HostRuntime) {
     compare_sizes(
         &rt,
         rt.alloc(),
@@ -163,16 +163,6 @@ fn reads_tuples_of_few_members(rt: HostRuntime) {
                 "{\"a\":1,\"b\":true,\"c\":3,\"d\":21,\"e\":5,\"f\":\"1\",\"z\":0}",
                 "b: not a whole number\nd: greater than 20\nf: not a whole number\nz: not known here\n",
             ),
-        ],
-    );
-}
-
-#[test]
-fn reads_tuples_of_many_members(rt: HostRuntime) {
-    compare_sizes(
-        &rt,
-        rt.alloc(),
-        &[
             (
                 7,
                 "{\"g\":7,\"f\":6,\"e\":5,\"d\":4,\"c\":3,\"b\":2,\"a\":1}",

@@ -1,11 +1,12 @@
 //! TOML texts as JSON: the whole text of each document.
 
+use crate::tests::OrEnd;
 use garde_toml::toml_to_json;
 use std::alloc::Global;
-use std::test::Fail;
+use std::process::Abort;
 
 #[test]
-fn writes_each_value(rt: HostRuntime) -> Result<(), Fail> {
+fn writes_each_value(rt: HostRuntime) {
     let texts = [
         ("", "{}"),
         ("# a comment\r\n\n", "{}"),
@@ -43,14 +44,13 @@ fn writes_each_value(rt: HostRuntime) -> Result<(), Fail> {
         ),
     ];
     for (text, expected) in texts {
-        let json = toml_to_json(rt.alloc(), text)?;
+        let json = toml_to_json(rt.alloc(), text).or_end(&rt);
         assert_eq!(rt; json.as_str(), expected, "{expected}");
     }
-    Ok(())
 }
 
 #[test]
-fn writes_tables_and_arrays(rt: HostRuntime) -> Result<(), Fail> {
+fn writes_tables_and_arrays(rt: HostRuntime) {
     let texts = [
         ("b = 1\nB = 2\na = 3", r#"{"B":2,"a":3,"b":1}"#),
         (
@@ -76,26 +76,25 @@ fn writes_tables_and_arrays(rt: HostRuntime) -> Result<(), Fail> {
         ),
     ];
     for (text, expected) in texts {
-        let json = toml_to_json(rt.alloc(), text)?;
+        let json = toml_to_json(rt.alloc(), text).or_end(&rt);
         assert_eq!(rt; json.as_str(), expected, "{expected}");
     }
-    Ok(())
 }
 
 // A text of ten thousand keys, each with its number.
-fn many_keys(alloc: Global) -> Result<String, Fail> {
+fn many_keys(rt: &impl Abort, alloc: Global) -> String {
     let mut text = String::new(alloc);
     for number in 10_000..20_000u32 {
-        let line = format!(in alloc; "k{number} = {number}\n")?;
-        text.push_str(line.as_str())?;
+        let line = format!(in alloc; "k{number} = {number}\n").or_end(rt);
+        text.push_str(line.as_str()).or_end(rt);
     }
-    Ok(text)
+    text
 }
 
 #[test]
-fn writes_each_of_ten_thousand_keys(rt: HostRuntime) -> Result<(), Fail> {
-    let text = many_keys(rt.alloc())?;
-    let json = toml_to_json(rt.alloc(), text.as_str())?;
+fn writes_each_of_ten_thousand_keys(rt: HostRuntime) {
+    let text = many_keys(&rt, rt.alloc());
+    let json = toml_to_json(rt.alloc(), text.as_str()).or_end(&rt);
     // Fourteen bytes and a comma a key, but for the last, and two braces.
     assert_eq!(rt; json.len(), 150_001);
     assert!(rt;
@@ -104,5 +103,4 @@ fn writes_each_of_ten_thousand_keys(rt: HostRuntime) -> Result<(), Fail> {
     );
     assert!(rt; json.as_str().ends_with(",\"k19999\":19999}"));
     assert_eq!(rt; json.as_str().matches("\"k1").count(), 10_000);
-    Ok(())
 }

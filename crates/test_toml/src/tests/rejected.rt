@@ -1,21 +1,22 @@
 //! Texts that are not turned into JSON: what the error prints of each.
 
+use crate::tests::OrEnd;
 use garde_toml::{TomlError, toml_to_json};
 use std::alloc::Global;
-use std::test::Fail;
+use std::process::Abort;
 
-// What is printed of a text that is rejected, up to the first line feed.
-fn first_line(alloc: Global, text: &str) -> Result<String, Fail> {
-    let Err(error) = toml_to_json(alloc, text) else {
-        return Err(Fail::from("it is not rejected"));
+// What is printed of a text that is rejected, up to the first line feed. Of another it is JSON.
+fn first_line(rt: &impl Abort, alloc: Global, text: &str) -> String {
+    let printed = match toml_to_json(alloc, text) {
+        Ok(json) => json,
+        Err(error) => format!(in alloc; "{error}").or_end(rt),
     };
-    let printed = format!(in alloc; "{error}")?;
     let line = printed.as_str().lines().next().unwrap_or("");
-    Ok(String::from_str(alloc, line)?)
+    String::from_str(alloc, line).or_end(rt)
 }
 
 #[test]
-fn tells_the_line_and_the_column(rt: HostRuntime) -> Result<(), Fail> {
+fn tells_the_line_and_the_column(rt: HostRuntime) {
     let texts = [
         ("[server]\nport 80", "TOML parse error at line 2, column 6"),
         ("a = 1\na = 2", "TOML parse error at line 2, column 1"),
@@ -32,28 +33,26 @@ fn tells_the_line_and_the_column(rt: HostRuntime) -> Result<(), Fail> {
         ("{\"a\": 1}", "TOML parse error at line 1, column 1"),
     ];
     for (text, expected) in texts {
-        let line = first_line(rt.alloc(), text)?;
+        let line = first_line(&rt, rt.alloc(), text);
         assert_eq!(rt; line.as_str(), expected, "{text}");
     }
-    Ok(())
 }
 
 // A table below eighty tables, with so many tables below it.
-fn nested(alloc: Global, tables: usize) -> Result<String, Fail> {
-    let header = "a.".repeat(alloc, 79)?;
-    let key = "b.".repeat(alloc, tables)?;
-    Ok(format!(in alloc; "[{header}a]\n{key}b = 1\n")?)
+fn nested(rt: &impl Abort, alloc: Global, tables: usize) -> String {
+    let header = "a.".repeat(alloc, 79).or_end(rt);
+    let key = "b.".repeat(alloc, tables).or_end(rt);
+    format!(in alloc; "[{header}a]\n{key}b = 1\n").or_end(rt)
 }
 
 #[test]
-fn rejects_more_than_128_levels(rt: HostRuntime) -> Result<(), Fail> {
+fn rejects_more_than_128_levels(rt: HostRuntime) {
     // The root, eighty tables of the header, and those of the key.
-    let text = nested(rt.alloc(), 47)?;
+    let text = nested(&rt, rt.alloc(), 47);
     assert!(rt; toml_to_json(rt.alloc(), text.as_str()).is_ok());
-    let text = nested(rt.alloc(), 48)?;
+    let text = nested(&rt, rt.alloc(), 48);
     let read = toml_to_json(rt.alloc(), text.as_str());
     assert!(rt; matches!(&read, Err(TomlError::TooDeep)));
-    let line = first_line(rt.alloc(), text.as_str())?;
+    let line = first_line(&rt, rt.alloc(), text.as_str());
     assert_eq!(rt; line.as_str(), "tables and arrays nest deeper than 128");
-    Ok(())
 }
