@@ -11,12 +11,20 @@ macro_rules! nested {
     };
 }
 
+/// The same, where the others are the last eight, in a struct.
+macro_rules! with_eight {
+    ($tuple:expr; [$($front:tt)+] [$($rest:tt)+]) => {
+        ($(&$tuple.$front),+, crate::tuples::refs::Eight($(&$tuple.$rest),+))
+    };
+}
+
 mod flat;
 mod flat_long;
 mod long;
 mod longer;
 mod longest;
 mod middle;
+mod refs;
 mod short;
 
 use crate::form::Members;

@@ -151,14 +151,14 @@ impl<A: Drop, B: Drop, C: Drop, D: Drop, E: Drop, F: Drop, G: Drop, I: Drop, J: 
 
 impl<A: Drop, B: Drop, C: Drop, D: Drop, E: Drop, F: Drop, G: Drop, I: Drop, J: Drop, K: Drop> Flat
     for (A, B, C, D, E, F, G, I, J, K) {
-    type Nested = (A, B, C, (D, E, F, G, I, J, K));
+    type Nested = (A, B, (C, D, E, F, G, I, J, K));
 
     ghost flat = { λ v. flat10 v };
 
-    ghost nested = { λ v. (v.0, v.1, v.2, (v.3, v.4, v.5, v.6, v.7, v.8, v.9)) };
+    ghost nested = { λ v. (v.0, v.1, (v.2, v.3, v.4, v.5, v.6, v.7, v.8, v.9)) };
 
-    fn flat(parts: (A, B, C, (D, E, F, G, I, J, K))) -> (A, B, C, D, E, F, G, I, J, K) {
-        let (a, b, c, (d, e, f, g, i, j, k)) = parts;
+    fn flat(parts: (A, B, (C, D, E, F, G, I, J, K))) -> (A, B, C, D, E, F, G, I, J, K) {
+        let (a, b, (c, d, e, f, g, i, j, k)) = parts;
         (a, b, c, d, e, f, g, i, j, k)
     }
 }
@@ -202,14 +202,14 @@ impl<
     L: Drop,
     M: Drop,
 > Flat for (A, B, C, D, E, F, G, I, J, K, L, M) {
-    type Nested = (A, B, C, (D, E, F, G, I, J, K, L, M));
+    type Nested = (A, B, C, D, (E, F, G, I, J, K, L, M));
 
     ghost flat = { λ v. flat12 v };
 
-    ghost nested = { λ v. (v.0, v.1, v.2, (v.3, v.4, v.5, v.6, v.7, v.8, v.9, v.10, v.11)) };
+    ghost nested = { λ v. (v.0, v.1, v.2, v.3, (v.4, v.5, v.6, v.7, v.8, v.9, v.10, v.11)) };
 
-    fn flat(parts: (A, B, C, (D, E, F, G, I, J, K, L, M))) -> (A, B, C, D, E, F, G, I, J, K, L, M) {
-        let (a, b, c, (d, e, f, g, i, j, k, l, m)) = parts;
+    fn flat(parts: (A, B, C, D, (E, F, G, I, J, K, L, M))) -> (A, B, C, D, E, F, G, I, J, K, L, M) {
+        let (a, b, c, d, (e, f, g, i, j, k, l, m)) = parts;
         (a, b, c, d, e, f, g, i, j, k, l, m)
     }
 }

@@ -68,7 +68,7 @@ impl<
     ) -> Result<Option<Self::Out>, AllocError> {
         read_nested(
             alloc,
-            &nested!(self; [0 1 2] [3 4 5 6 7 8 9]),
+            &with_eight!(self; [0 1] [2 3 4 5 6 7 8 9]),
             object,
             trail,
             report,
@@ -77,7 +77,7 @@ impl<
     }
 
     fn names(&self, name: &str) -> bool {
-        nested!(self; [0 1 2] [3 4 5 6 7 8 9]).names(name)
+        with_eight!(self; [0 1] [2 3 4 5 6 7 8 9]).names(name)
     }
 }
 
@@ -141,7 +141,7 @@ impl<
     ) -> Result<Option<Self::Out>, AllocError> {
         read_nested(
             alloc,
-            &nested!(self; [0 1 2] [3 4 5 6 7 8 9 10]),
+            &with_eight!(self; [0 1 2] [3 4 5 6 7 8 9 10]),
             object,
             trail,
             report,
@@ -150,7 +150,7 @@ impl<
     }
 
     fn names(&self, name: &str) -> bool {
-        nested!(self; [0 1 2] [3 4 5 6 7 8 9 10]).names(name)
+        with_eight!(self; [0 1 2] [3 4 5 6 7 8 9 10]).names(name)
     }
 }
 
@@ -218,7 +218,7 @@ impl<
     ) -> Result<Option<Self::Out>, AllocError> {
         read_nested(
             alloc,
-            &nested!(self; [0 1 2] [3 4 5 6 7 8 9 10 11]),
+            &with_eight!(self; [0 1 2 3] [4 5 6 7 8 9 10 11]),
             object,
             trail,
             report,
@@ -227,6 +227,6 @@ impl<
     }
 
     fn names(&self, name: &str) -> bool {
-        nested!(self; [0 1 2] [3 4 5 6 7 8 9 10 11]).names(name)
+        with_eight!(self; [0 1 2 3] [4 5 6 7 8 9 10 11]).names(name)
     }
 }

@@ -93,7 +93,7 @@ impl<
     ) -> Result<Option<Self::Out>, AllocError> {
         read_nested(
             alloc,
-            &nested!(self; [0 1 2] [3 4 5 6 7 8 9 10 11 12]),
+            &with_eight!(self; [0 1 2 3 4] [5 6 7 8 9 10 11 12]),
             object,
             trail,
             report,
@@ -102,7 +102,7 @@ impl<
     }
 
     fn names(&self, name: &str) -> bool {
-        nested!(self; [0 1 2] [3 4 5 6 7 8 9 10 11 12]).names(name)
+        with_eight!(self; [0 1 2 3 4] [5 6 7 8 9 10 11 12]).names(name)
     }
 }
 
@@ -194,7 +194,7 @@ impl<
     ) -> Result<Option<Self::Out>, AllocError> {
         read_nested(
             alloc,
-            &nested!(self; [0 1 2] [3 4 5 6 7 8 9 10 11 12 13]),
+            &with_eight!(self; [0 1 2 3 4 5] [6 7 8 9 10 11 12 13]),
             object,
             trail,
             report,
@@ -203,6 +203,6 @@ impl<
     }
 
     fn names(&self, name: &str) -> bool {
-        nested!(self; [0 1 2] [3 4 5 6 7 8 9 10 11 12 13]).names(name)
+        with_eight!(self; [0 1 2 3 4 5] [6 7 8 9 10 11 12 13]).names(name)
     }
 }

@@ -105,7 +105,7 @@ impl<
     ) -> Result<Option<Self::Out>, AllocError> {
         read_nested(
             alloc,
-            &nested!(self; [0 1 2] [3 4 5 6 7 8 9 10 11 12 13 14]),
+            &with_eight!(self; [0 1 2 3 4 5 6] [7 8 9 10 11 12 13 14]),
             object,
             trail,
             report,
@@ -114,7 +114,7 @@ impl<
     }
 
     fn names(&self, name: &str) -> bool {
-        nested!(self; [0 1 2] [3 4 5 6 7 8 9 10 11 12 13 14]).names(name)
+        with_eight!(self; [0 1 2 3 4 5 6] [7 8 9 10 11 12 13 14]).names(name)
     }
 }
 
@@ -218,7 +218,7 @@ impl<
     ) -> Result<Option<Self::Out>, AllocError> {
         read_nested(
             alloc,
-            &nested!(self; [0 1 2 3] [4 5 6 7 8 9 10 11 12 13 14 15]),
+            &with_eight!(self; [0 1 2 3 4 5 6 7] [8 9 10 11 12 13 14 15]),
             object,
             trail,
             report,
@@ -227,6 +227,6 @@ impl<
     }
 
     fn names(&self, name: &str) -> bool {
-        nested!(self; [0 1 2 3] [4 5 6 7 8 9 10 11 12 13 14 15]).names(name)
+        with_eight!(self; [0 1 2 3 4 5 6 7] [8 9 10 11 12 13 14 15]).names(name)
     }
 }
