@@ -1,7 +1,9 @@
-//! Tests by what they are of.
+//! Tests by the input that they are of.
 
-mod documents;
-mod rejected;
+mod form;
+mod parsed;
+mod rows;
+mod toml;
 
 use std::process::Abort;
 

@@ -1,0 +1,7 @@
+//! Web forms.
+
+mod fields;
+mod lists;
+mod numbers;
+mod reports;
+mod texts;

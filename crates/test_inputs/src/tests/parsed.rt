@@ -1,0 +1,9 @@
+//! Texts that are parsed.
+
+mod addresses;
+mod booking;
+mod clocks;
+mod dates;
+mod texts;
+mod urls;
+mod uuids;

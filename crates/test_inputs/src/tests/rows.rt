@@ -1,0 +1,4 @@
+//! Rows of a table.
+
+mod long;
+mod tables;

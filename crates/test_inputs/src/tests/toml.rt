@@ -1,0 +1,4 @@
+//! Settings in TOML.
+
+mod documents;
+mod rejected;
