@@ -129,11 +129,8 @@ fn is_acting(c: char) -> bool
     ensures { result ≡ is_acting c }
 {
     c.is_control()
-        || matches!(
-            c,
-            '\u{61c}'
-                | '\u{200e}'..='\u{200f}'
-                | '\u{2028}'..='\u{202e}'
-                | '\u{2066}'..='\u{2069}'
-        )
+        || c == '\u{61c}'
+        || ('\u{200e}'..='\u{200f}').contains(&c)
+        || ('\u{2028}'..='\u{202e}').contains(&c)
+        || ('\u{2066}'..='\u{2069}').contains(&c)
 }

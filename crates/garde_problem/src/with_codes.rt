@@ -1,5 +1,7 @@
 //! The handler whose messages have codes beside sentences.
-ghost use Rattle.garde_problem.specs.CodedText.{datum_message};
+ghost use Rattle.std.specs.Prelude.{◌≡◌, [], IfOk};
+ghost use Rattle.std.specs.Cow.{cow_str_bytes};
+ghost use Rattle.garde_problem.specs.CodedText.{beside, datum_message, with_param};
 
 use garde_i18n::{I18n, InvalidCreditCard, InvalidPhoneNumber, InvalidUrl, IpKind};
 use std::alloc::{AllocError, Global};
@@ -37,16 +39,12 @@ impl<H: I18n> I18n for WithCodes<H> {
 
     fn range_lower_than(&self, alloc: Global, min: &str) -> Result<CowStr<'static>, AllocError> {
         let detail = self.0.range_lower_than(alloc, min)?;
-        Ok(CowStr::Owned(format!(in alloc;
-            "\u{1f}range_lower_than\u{1f}{detail}\u{1f}min\u{1f}{min}\u{1f}"
-        )?))
+        with_param(alloc, "range_lower_than", detail, "min", min)
     }
 
     fn range_greater_than(&self, alloc: Global, max: &str) -> Result<CowStr<'static>, AllocError> {
         let detail = self.0.range_greater_than(alloc, max)?;
-        Ok(CowStr::Owned(format!(in alloc;
-            "\u{1f}range_greater_than\u{1f}{detail}\u{1f}max\u{1f}{max}\u{1f}"
-        )?))
+        with_param(alloc, "range_greater_than", detail, "max", max)
     }
 
     fn credit_card_invalid(
@@ -66,9 +64,7 @@ impl<H: I18n> I18n for WithCodes<H> {
         pattern: &str,
     ) -> Result<CowStr<'static>, AllocError> {
         let detail = self.0.pattern_no_match(alloc, pattern)?;
-        Ok(CowStr::Owned(format!(in alloc;
-            "\u{1f}pattern_no_match\u{1f}{detail}\u{1f}pattern\u{1f}{pattern}\u{1f}"
-        )?))
+        with_param(alloc, "pattern_no_match", detail, "pattern", pattern)
     }
 
     fn contains_missing(
@@ -77,9 +73,7 @@ impl<H: I18n> I18n for WithCodes<H> {
         pattern: &str,
     ) -> Result<CowStr<'static>, AllocError> {
         let detail = self.0.contains_missing(alloc, pattern)?;
-        Ok(CowStr::Owned(format!(in alloc;
-            "\u{1f}contains_missing\u{1f}{detail}\u{1f}pattern\u{1f}{pattern}\u{1f}"
-        )?))
+        with_param(alloc, "contains_missing", detail, "pattern", pattern)
     }
 
     fn url_invalid(
@@ -95,16 +89,12 @@ impl<H: I18n> I18n for WithCodes<H> {
 
     fn prefix_missing(&self, alloc: Global, pattern: &str) -> Result<CowStr<'static>, AllocError> {
         let detail = self.0.prefix_missing(alloc, pattern)?;
-        Ok(CowStr::Owned(format!(in alloc;
-            "\u{1f}prefix_missing\u{1f}{detail}\u{1f}pattern\u{1f}{pattern}\u{1f}"
-        )?))
+        with_param(alloc, "prefix_missing", detail, "pattern", pattern)
     }
 
     fn suffix_missing(&self, alloc: Global, pattern: &str) -> Result<CowStr<'static>, AllocError> {
         let detail = self.0.suffix_missing(alloc, pattern)?;
-        Ok(CowStr::Owned(format!(in alloc;
-            "\u{1f}suffix_missing\u{1f}{detail}\u{1f}pattern\u{1f}{pattern}\u{1f}"
-        )?))
+        with_param(alloc, "suffix_missing", detail, "pattern", pattern)
     }
 
     fn phone_number_invalid(
@@ -131,23 +121,49 @@ impl<H: I18n> I18n for WithCodes<H> {
         field: &str,
     ) -> Result<CowStr<'static>, AllocError> {
         let detail = self.0.matches_field_mismatch(alloc, field)?;
-        Ok(CowStr::Owned(format!(in alloc;
-            "\u{1f}matches_field_mismatch\u{1f}{detail}\u{1f}field\u{1f}{field}\u{1f}"
-        )?))
+        with_param(alloc, "matches_field_mismatch", detail, "field", field)
     }
 
     fn ascii_invalid(&self, alloc: Global) -> Result<CowStr<'static>, AllocError> {
         let detail = self.0.ascii_invalid(alloc)?;
-        Ok(CowStr::Owned(format!(in alloc; "\u{1f}ascii_invalid\u{1f}{detail}\u{1f}")?))
+        without_param(alloc, "ascii_invalid", detail)
     }
 
     fn alphanumeric_invalid(&self, alloc: Global) -> Result<CowStr<'static>, AllocError> {
         let detail = self.0.alphanumeric_invalid(alloc)?;
-        Ok(CowStr::Owned(format!(in alloc; "\u{1f}alphanumeric_invalid\u{1f}{detail}\u{1f}")?))
+        without_param(alloc, "alphanumeric_invalid", detail)
     }
 
     fn required_not_set(&self, alloc: Global) -> Result<CowStr<'static>, AllocError> {
         let detail = self.0.required_not_set(alloc)?;
-        Ok(CowStr::Owned(format!(in alloc; "\u{1f}required_not_set\u{1f}{detail}\u{1f}")?))
+        without_param(alloc, "required_not_set", detail)
     }
+}
+
+// The message of a rule whose argument is a text.
+fn with_param(
+    alloc: Global,
+    code: &str,
+    detail: CowStr<'static>,
+    name: &str,
+    value: &str,
+) -> Result<CowStr<'static>, AllocError>
+    ensures { IfOk result (λ text. cow_str_bytes text
+        ≡ beside (with_param code.now name.now value.now) (cow_str_bytes detail.entry)) }
+{
+    Ok(CowStr::Owned(format!(in alloc;
+        "\u{1f}{code}\u{1f}{detail}\u{1f}{name}\u{1f}{value}\u{1f}"
+    )?))
+}
+
+// The message of a rule without an argument.
+fn without_param(
+    alloc: Global,
+    code: &str,
+    detail: CowStr<'static>,
+) -> Result<CowStr<'static>, AllocError>
+    ensures { IfOk result (λ text. cow_str_bytes text
+        ≡ beside (code.now, []) (cow_str_bytes detail.entry)) }
+{
+    Ok(CowStr::Owned(format!(in alloc; "\u{1f}{code}\u{1f}{detail}\u{1f}")?))
 }
