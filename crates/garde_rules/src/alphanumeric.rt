@@ -87,6 +87,7 @@ pub trait Alphanumeric {
 impl<T: AsStr> Alphanumeric for T {
     ghost passes = { λ v. is_alphanumeric_text (T.text v) };
 
+    #[inline(always)]
     fn validate_alphanumeric(&self) -> bool {
         all_alphanumeric(self.as_str())
     }

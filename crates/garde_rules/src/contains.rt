@@ -42,6 +42,7 @@ pub trait Contains {
 impl<T: AsStr> Contains for T {
     ghost passes = { λ pattern v. has_part pattern (T.text v) };
 
+    #[inline(always)]
     #[tactic(auto, using(crate::proofs::TextLemmas::part_iff))]
     fn validate_contains(&self, pattern: &str) -> bool
         ensures value { result ≡ has_part pattern.now (T.text self.now) }
