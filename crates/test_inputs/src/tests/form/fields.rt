@@ -5,34 +5,34 @@ use garde_form::form_to_json;
 use std::alloc::Global;
 use std::process::Abort;
 
+const FIELDS: [(&str, &str); 14] = [
+    ("", "{}"),
+    ("&&", "{}"),
+    ("a=b", "{\"a\":\"b\"}"),
+    ("a=1&b=2&a=3", "{\"a\":\"1\",\"b\":\"2\",\"a\":\"3\"}"),
+    ("a", "{\"a\":\"\"}"),
+    ("a&&b=&", "{\"a\":\"\",\"b\":\"\"}"),
+    ("=a", "{\"\":\"a\"}"),
+    ("a=b=c", "{\"a\":\"b=c\"}"),
+    ("a+b=c++d", "{\"a b\":\"c  d\"}"),
+    ("%61=%2B%26%3D%25", "{\"a\":\"+&=%\"}"),
+    (
+        "a=%&b=%4&c=%zz&d=%%41",
+        "{\"a\":\"%\",\"b\":\"%4\",\"c\":\"%zz\",\"d\":\"%A\"}",
+    ),
+    ("a=%00%0a%22%5C", "{\"a\":\"\\u0000\\n\\\"\\\\\"}"),
+    ("a=%C3%A9&b=\u{e9}", "{\"a\":\"\u{e9}\",\"b\":\"\u{e9}\"}"),
+    ("a=%FF", "{\"a\":\"\u{fffd}\"}"),
+];
+
 #[test]
 fn writes_each_field_as_a_member(rt: HostRuntime) {
-    let bodies: [(&[u8], &str); 14] = [
-        (b"", "{}"),
-        (b"&&", "{}"),
-        (b"a=b", "{\"a\":\"b\"}"),
-        (b"a=1&b=2&a=3", "{\"a\":\"1\",\"b\":\"2\",\"a\":\"3\"}"),
-        (b"a", "{\"a\":\"\"}"),
-        (b"a&&b=&", "{\"a\":\"\",\"b\":\"\"}"),
-        (b"=a", "{\"\":\"a\"}"),
-        (b"a=b=c", "{\"a\":\"b=c\"}"),
-        (b"a+b=c++d", "{\"a b\":\"c  d\"}"),
-        (b"%61=%2B%26%3D%25", "{\"a\":\"+&=%\"}"),
-        (
-            b"a=%&b=%4&c=%zz&d=%%41",
-            "{\"a\":\"%\",\"b\":\"%4\",\"c\":\"%zz\",\"d\":\"%A\"}",
-        ),
-        (b"a=%00%0a%22%5C", "{\"a\":\"\\u0000\\n\\\"\\\\\"}"),
-        (
-            b"a=%C3%A9&b=\xc3\xa9",
-            "{\"a\":\"\u{e9}\",\"b\":\"\u{e9}\"}",
-        ),
-        (b"a=%FF&b=\xff", "{\"a\":\"\u{fffd}\",\"b\":\"\u{fffd}\"}"),
-    ];
-    for (body, expected) in bodies {
-        let text = form_to_json(rt.alloc(), body).or_end(&rt);
+    for (body, expected) in FIELDS {
+        let text = form_to_json(rt.alloc(), body.as_bytes()).or_end(&rt);
         assert_eq!(rt; text.as_str(), expected, "{expected}");
     }
+    let text = form_to_json(rt.alloc(), b"b=\xff").or_end(&rt);
+    assert_eq!(rt; text.as_str(), "{\"b\":\"\u{fffd}\"}");
 }
 
 // A body of as many fields, all of one name.

@@ -6,34 +6,39 @@ use garde_form::form_to_json_with_lists;
 use std::alloc::Global;
 use std::process::Abort;
 
+const LISTS: [(&str, &str); 10] = [
+    ("", "{}"),
+    ("a=1&b&a=2", "{\"a\":\"1\",\"b\":\"\",\"a\":\"2\"}"),
+    ("tags=a", "{\"tags\":[\"a\"]}"),
+    ("tags=b&tags=a&tags=b", "{\"tags\":[\"b\",\"a\",\"b\"]}"),
+    (
+        "x=1&tags=a&x=2&tags=b&y=3",
+        "{\"x\":\"1\",\"tags\":[\"a\",\"b\"],\"x\":\"2\",\"y\":\"3\"}",
+    ),
+    (
+        "ids=1&tags=a&ids=2&tags=b&ids=3",
+        "{\"ids\":[\"1\",\"2\",\"3\"],\"tags\":[\"a\",\"b\"]}",
+    ),
+    ("tags=&tags&tags=+", "{\"tags\":[\"\",\"\",\" \"]}"),
+    ("t%61gs=a&tags=%62%", "{\"tags\":[\"a\",\"b%\"]}"),
+    (
+        "Tags=a&tag=b&tags[]=c&=d&tagss=e",
+        "{\"Tags\":\"a\",\"tag\":\"b\",\"tags[]\":\"c\",\"\":\"d\",\"tagss\":\"e\"}",
+    ),
+    (
+        "tags=%FF&tags=%00\"",
+        "{\"tags\":[\"\u{fffd}\",\"\\u0000\\\"\"]}",
+    ),
+];
+
 #[test]
 fn writes_the_fields_of_a_listed_name_as_a_list(rt: HostRuntime) {
-    let bodies: [(&[u8], &str); 10] = [
-        (b"", "{}"),
-        (b"a=1&b&a=2", "{\"a\":\"1\",\"b\":\"\",\"a\":\"2\"}"),
-        (b"tags=a", "{\"tags\":[\"a\"]}"),
-        (b"tags=b&tags=a&tags=b", "{\"tags\":[\"b\",\"a\",\"b\"]}"),
-        (
-            b"x=1&tags=a&x=2&tags=b&y=3",
-            "{\"x\":\"1\",\"tags\":[\"a\",\"b\"],\"x\":\"2\",\"y\":\"3\"}",
-        ),
-        (
-            b"ids=1&tags=a&ids=2&tags=b&ids=3",
-            "{\"ids\":[\"1\",\"2\",\"3\"],\"tags\":[\"a\",\"b\"]}",
-        ),
-        (b"tags=&tags&tags=+", "{\"tags\":[\"\",\"\",\" \"]}"),
-        (b"t%61gs=a&tags=%62%", "{\"tags\":[\"a\",\"b%\"]}"),
-        (
-            b"Tags=a&tag=b&tags[]=c&=d&tagss=e",
-            "{\"Tags\":\"a\",\"tag\":\"b\",\"tags[]\":\"c\",\"\":\"d\",\"tagss\":\"e\"}",
-        ),
-        (
-            b"tags=%FF&tags=%00\"",
-            "{\"tags\":[\"\u{fffd}\",\"\\u0000\\\"\"]}",
-        ),
-    ];
-    for (body, expected) in bodies {
-        let text = form_to_json_with_lists(rt.alloc(), body, &["ids", "tags", "tags"]).or_end(&rt);
+    for (body, expected) in LISTS {
+        let text = form_to_json_with_lists(
+            rt.alloc(),
+            body.as_bytes(),
+            &["ids", "tags", "tags"],
+        ).or_end(&rt);
         assert_eq!(rt; text.as_str(), expected, "{expected}");
     }
 }

@@ -3,43 +3,45 @@
 use garde_form::{Character, Parse};
 use garde_schema::Flag;
 
+const FLAGS: [(&str, Option<bool>); 11] = [
+    ("true", Some(true)),
+    ("false", Some(false)),
+    ("", None),
+    ("True", None),
+    ("TRUE", None),
+    (" true", None),
+    ("false ", None),
+    ("truefalse", None),
+    ("1", None),
+    ("on", None),
+    ("tru\u{435}", None),
+];
+
 #[test]
 fn reads_true_and_false(rt: HostRuntime) {
-    let texts = [
-        ("true", Some(true)),
-        ("false", Some(false)),
-        ("", None),
-        ("True", None),
-        ("TRUE", None),
-        (" true", None),
-        ("false ", None),
-        ("truefalse", None),
-        ("1", None),
-        ("on", None),
-        ("tru\u{435}", None),
-    ];
-    for (text, expected) in texts {
+    for (text, expected) in FLAGS {
         assert!(rt; Flag.parse(text) == expected, "{text}");
     }
 }
 
+const CHARACTERS: [(&str, Option<char>); 12] = [
+    ("a", Some('a')),
+    (" ", Some(' ')),
+    ("\0", Some('\0')),
+    ("\u{7f}", Some('\u{7f}')),
+    ("\u{e9}", Some('\u{e9}')),
+    ("\u{20ac}", Some('\u{20ac}')),
+    ("\u{1d11e}", Some('\u{1d11e}')),
+    ("\u{10ffff}", Some('\u{10ffff}')),
+    ("", None),
+    ("ab", None),
+    ("e\u{301}", None),
+    ("\u{1d11e}\0", None),
+];
+
 #[test]
 fn reads_one_character(rt: HostRuntime) {
-    let texts = [
-        ("a", Some('a')),
-        (" ", Some(' ')),
-        ("\0", Some('\0')),
-        ("\u{7f}", Some('\u{7f}')),
-        ("\u{e9}", Some('\u{e9}')),
-        ("\u{20ac}", Some('\u{20ac}')),
-        ("\u{1d11e}", Some('\u{1d11e}')),
-        ("\u{10ffff}", Some('\u{10ffff}')),
-        ("", None),
-        ("ab", None),
-        ("e\u{301}", None),
-        ("\u{1d11e}\0", None),
-    ];
-    for (text, expected) in texts {
+    for (text, expected) in CHARACTERS {
         assert!(rt; Character.parse(text) == expected, "{text}");
     }
 }

@@ -18,30 +18,32 @@ fn told(alloc: Global, text: &str) -> Result<String, AllocError> {
 }
 
 // The examples of the URL Standard, sections 3.5 and 4.4, and of RFC 3986, section 1.1.2.
+const NO_URL: &str = "not a URL\n";
+
+const URLS: [(&str, &str); 18] = [
+    ("https://example.com/././foo", "https://example.com/foo"),
+    ("https:example.org", "https://example.org/"),
+    ("hello:world", "hello:world"),
+    ("https://EXAMPLE.com/../x", "https://example.com/x"),
+    ("http://1.2.3/", "http://1.2.0.3/"),
+    ("http://[::1]/", "http://[::1]/"),
+    ("https://example.org//", "https://example.org//"),
+    ("mailto:John.Doe@example.com", "mailto:John.Doe@example.com"),
+    ("tel:+1-816-555-1212", "tel:+1-816-555-1212"),
+    ("  https://example.org/ ", "https://example.org/"),
+    ("", NO_URL),
+    ("/page", NO_URL),
+    ("example.org", NO_URL),
+    ("https://ex ample.org/", NO_URL),
+    ("http://[www.example.com]/", NO_URL),
+    ("https://example.com:demo", NO_URL),
+    ("https://127.0.0.256/", NO_URL),
+    ("https://#fragment", NO_URL),
+];
+
 #[test]
 fn reads_urls(rt: HostRuntime) {
-    let wrong = "not a URL\n";
-    let rows = [
-        ("https://example.com/././foo", "https://example.com/foo"),
-        ("https:example.org", "https://example.org/"),
-        ("hello:world", "hello:world"),
-        ("https://EXAMPLE.com/../x", "https://example.com/x"),
-        ("http://1.2.3/", "http://1.2.0.3/"),
-        ("http://[::1]/", "http://[::1]/"),
-        ("https://example.org//", "https://example.org//"),
-        ("mailto:John.Doe@example.com", "mailto:John.Doe@example.com"),
-        ("tel:+1-816-555-1212", "tel:+1-816-555-1212"),
-        ("  https://example.org/ ", "https://example.org/"),
-        ("", wrong),
-        ("/page", wrong),
-        ("example.org", wrong),
-        ("https://ex ample.org/", wrong),
-        ("http://[www.example.com]/", wrong),
-        ("https://example.com:demo", wrong),
-        ("https://127.0.0.256/", wrong),
-        ("https://#fragment", wrong),
-    ];
-    for (text, expected) in rows {
+    for (text, expected) in URLS {
         let told = told(rt.alloc(), text).or_end(&rt);
         assert_eq!(rt; told.as_str(), expected, "{text}");
     }

@@ -1,11 +1,11 @@
 //! Headers of many columns, and rows of many cells.
 
+use super::tables::told_of_row;
 use crate::tests::OrEnd;
 use csv::StringRecord;
 use garde::DefaultI18n;
-use garde_form::Parsed;
-use garde_rows::{Columns, Names, RowScratch, read_columns, read_row};
-use garde_schema::{Member, Object, ReadError, Text, U32};
+use garde_rows::{Columns, Names, RowScratch, read_columns};
+use garde_schema::ReadError;
 use std::alloc::{AllocError, Global};
 use std::process::Abort;
 
@@ -39,23 +39,6 @@ fn told_of_header(alloc: Global, header: StringRecord) -> Result<String, AllocEr
     }
 }
 
-// What is told of a row.
-fn told(
-    alloc: Global,
-    columns: &Columns,
-    cells: &StringRecord,
-    scratch: &mut RowScratch,
-) -> Result<String, AllocError> {
-    let form = Object((Member("code", Text(())), Member("price", Parsed(U32, ()))));
-    match read_row(alloc, 7, columns, cells, scratch, &form, &DefaultI18n) {
-        Ok((code, price)) => {
-            let long = code.text().len();
-            format!(in alloc; "{long} {price}")
-        }
-        Err(error) => format!(in alloc; "{error}"),
-    }
-}
-
 #[test]
 fn tells_each_of_ten_thousand_columns(rt: HostRuntime) {
     let header = many(&rt, rt.alloc(), &["price", "code"], "note");
@@ -70,10 +53,12 @@ fn reads_rows_of_many_cells(rt: HostRuntime) {
     let mut scratch = RowScratch::new(alloc);
     let columns = columns(alloc, header, &mut scratch).or_end(&rt);
     let cells = many(&rt, alloc, &["5", "P1"], "9");
-    let wide = told(alloc, &columns, &cells, &mut scratch).or_end(&rt);
+    let wide = told_of_row(alloc, 7, &columns, &cells, &mut scratch).or_end(&rt);
     assert_eq!(rt; wide.as_str(), "[7]: not as many fields as in the header\n");
-    let text = "\"\n".repeat(alloc, 500_000).or_end(&rt);
+    let text = "P\"\n".repeat(alloc, 500_000).or_end(&rt);
     let cells = StringRecord::from_fields(alloc, &["4", text.as_str()]).or_end(&rt);
-    let long = told(alloc, &columns, &cells, &mut scratch).or_end(&rt);
-    assert_eq!(rt; long.as_str(), "1000000 4");
+    let long = told_of_row(alloc, 7, &columns, &cells, &mut scratch).or_end(&rt);
+    assert!(rt; long.as_str().ends_with("P\\\"\\n\" 4 None\n"));
+    // A quote, five bytes for each three, a quote, and the other values.
+    assert_eq!(rt; long.len(), 2_500_010);
 }

@@ -11,20 +11,19 @@ use std::alloc::{AllocError, Global};
 use std::process::Abort;
 
 // What is told of the row of this index.
-fn told_of_row(
+pub(super) fn told_of_row(
     alloc: Global,
     index: usize,
     columns: &Columns,
-    cells: &[&str],
+    cells: &StringRecord,
     scratch: &mut RowScratch,
 ) -> Result<String, AllocError> {
-    let cells = StringRecord::from_fields(alloc, cells)?;
     let form = Object((
         Member("code", Text(Is(Prefix("P")))),
         Member("price", Parsed(U8, Is(range!(min = 1, max = 200)))),
         Optional("page", OrEmpty(Text(()))),
     ));
-    match read_row(alloc, index, columns, &cells, scratch, &form, &DefaultI18n) {
+    match read_row(alloc, index, columns, cells, scratch, &form, &DefaultI18n) {
         Ok((code, price, page)) => {
             let (code, page) = (code.text(), page.flatten().map(|page| page.text()));
             format!(in alloc; "{code:?} {price} {page:?}\n")
@@ -44,77 +43,80 @@ fn told(rt: &impl Abort, alloc: Global, header: &[&str], rows: &[&[&str]]) -> St
     };
     let mut all = String::new(alloc);
     for (index, cells) in rows.iter().enumerate() {
-        let told = told_of_row(alloc, index, &columns, cells, &mut scratch).or_end(rt);
+        let cells = StringRecord::from_fields(alloc, cells).or_end(rt);
+        let told = told_of_row(alloc, index, &columns, &cells, &mut scratch).or_end(rt);
         all.push_str(&told).or_end(rt);
     }
     all
 }
 
+const ROWS: [(&[&str], &str); 14] = [
+    (&["P1", "5", "x"], "\"P1\" 5 Some(\"x\")\n"),
+    (&["P1", "+200", ""], "\"P1\" 200 None\n"),
+    (
+        &["P\"\\,\n\u{1}é", "007", "{}"],
+        "\"P\\\"\\\\,\\n\\u{1}é\" 7 Some(\"{}\")\n",
+    ),
+    (
+        &["Q1", "201", ""],
+        "[0].code: value does not begin with \"P\"\n[0].price: greater than 200\n",
+    ),
+    (
+        &["", "", ""],
+        "[0].code: value does not begin with \"P\"\n[0].price: not a whole number\n",
+    ),
+    (&["P1", "256", ""], "[0].price: out of range: 0 to 255\n"),
+    (&["P1", "-1", ""], "[0].price: out of range: 0 to 255\n"),
+    (
+        &["P1", "5555555555555555555555555555555555555555", ""],
+        "[0].price: out of range: 0 to 255\n",
+    ),
+    (&["P1", " 5", ""], "[0].price: not a whole number\n"),
+    (&["P1", "1_0", ""], "[0].price: not a whole number\n"),
+    (&["P1", "5.0", ""], "[0].price: not a whole number\n"),
+    (&["Q1", "x"], "[0]: not as many fields as in the header\n"),
+    (
+        &["P1", "5", "x", ""],
+        "[0]: not as many fields as in the header\n",
+    ),
+    (&[], "[0]: not as many fields as in the header\n"),
+];
+
 #[test]
 fn tells_every_fault_of_a_row(rt: HostRuntime) {
-    let rows: [(&[&str], &str); 14] = [
-        (&["P1", "5", "x"], "\"P1\" 5 Some(\"x\")\n"),
-        (&["P1", "+200", ""], "\"P1\" 200 None\n"),
-        (
-            &["P\"\\,\n\u{1}é", "007", "{}"],
-            "\"P\\\"\\\\,\\n\\u{1}é\" 7 Some(\"{}\")\n",
-        ),
-        (
-            &["Q1", "201", ""],
-            "[0].code: value does not begin with \"P\"\n[0].price: greater than 200\n",
-        ),
-        (
-            &["", "", ""],
-            "[0].code: value does not begin with \"P\"\n[0].price: not a whole number\n",
-        ),
-        (&["P1", "256", ""], "[0].price: out of range: 0 to 255\n"),
-        (&["P1", "-1", ""], "[0].price: out of range: 0 to 255\n"),
-        (
-            &["P1", "5555555555555555555555555555555555555555", ""],
-            "[0].price: out of range: 0 to 255\n",
-        ),
-        (&["P1", " 5", ""], "[0].price: not a whole number\n"),
-        (&["P1", "1_0", ""], "[0].price: not a whole number\n"),
-        (&["P1", "5.0", ""], "[0].price: not a whole number\n"),
-        (&["Q1", "x"], "[0]: not as many fields as in the header\n"),
-        (
-            &["P1", "5", "x", ""],
-            "[0]: not as many fields as in the header\n",
-        ),
-        (&[], "[0]: not as many fields as in the header\n"),
-    ];
-    for (row, expected) in rows {
+    for (row, expected) in ROWS {
         let told = told(&rt, rt.alloc(), &["code", "price", "page"], &[row]);
         assert_eq!(rt; told.as_str(), expected, "{expected}");
     }
 }
 
+const HEADERS: [(&[&str], &str); 9] = [
+    (&["code", "price", "page"], "\"P1\" 7 Some(\"9\")\n"),
+    (
+        &["page", "code", "price"],
+        "[0].code: value does not begin with \"P\"\n",
+    ),
+    (
+        &["code", "price"],
+        "[0]: not as many fields as in the header\n",
+    ),
+    (&["code", "page"], "price: missing\n"),
+    (&["code", "price", "code"], "code: repeated\n"),
+    (&["page", "price", "page", "code"], "page: repeated\n"),
+    (
+        &["note", "code", "price", "note", ""],
+        "note: not known here\nnote: not known here\n: not known here\n",
+    ),
+    (
+        &["Code", "price", "price"],
+        "code: missing\nprice: repeated\nCode: not known here\n",
+    ),
+    (&[], "code: missing\nprice: missing\n"),
+];
+
 #[test]
 fn tells_of_the_columns_before_any_row(rt: HostRuntime) {
-    let headers: [(&[&str], &str); 9] = [
-        (&["code", "price", "page"], "\"P1\" 7 Some(\"9\")\n"),
-        (
-            &["page", "code", "price"],
-            "[0].code: value does not begin with \"P\"\n",
-        ),
-        (
-            &["code", "price"],
-            "[0]: not as many fields as in the header\n",
-        ),
-        (&["code", "page"], "price: missing\n"),
-        (&["code", "price", "code"], "code: repeated\n"),
-        (&["page", "price", "page", "code"], "page: repeated\n"),
-        (
-            &["note", "code", "price", "note", ""],
-            "note: not known here\nnote: not known here\n: not known here\n",
-        ),
-        (
-            &["Code", "price", "price"],
-            "code: missing\nprice: repeated\nCode: not known here\n",
-        ),
-        (&[], "code: missing\nprice: missing\n"),
-    ];
-    for (header, expected) in headers {
+    for (header, expected) in HEADERS {
         let told = told(&rt, rt.alloc(), header, &[&["P1", "7", "9"]]);
         assert_eq!(rt; told.as_str(), expected, "{expected}");
     }

@@ -15,24 +15,25 @@ fn first_line(rt: &impl Abort, alloc: Global, text: &str) -> String {
     String::from_str(alloc, line).or_end(rt)
 }
 
+const PLACES: [(&str, &str); 10] = [
+    ("[server]\nport 80", "TOML parse error at line 2, column 6"),
+    ("a = 1\na = 2", "TOML parse error at line 2, column 1"),
+    ("a.b = 1\n[a]\n", "TOML parse error at line 2, column 1"),
+    ("a = 2023-02-29", "TOML parse error at line 1, column 5"),
+    ("a = 24:00:00", "TOML parse error at line 1, column 5"),
+    (
+        "a = 9223372036854775808",
+        "TOML parse error at line 1, column 5",
+    ),
+    ("a = 007", "TOML parse error at line 1, column 5"),
+    ("a = 'b", "TOML parse error at line 1, column 7"),
+    ("a = [1, 2", "TOML parse error at line 1, column 10"),
+    ("{\"a\": 1}", "TOML parse error at line 1, column 1"),
+];
+
 #[test]
 fn tells_the_line_and_the_column(rt: HostRuntime) {
-    let texts = [
-        ("[server]\nport 80", "TOML parse error at line 2, column 6"),
-        ("a = 1\na = 2", "TOML parse error at line 2, column 1"),
-        ("a.b = 1\n[a]\n", "TOML parse error at line 2, column 1"),
-        ("a = 2023-02-29", "TOML parse error at line 1, column 5"),
-        ("a = 24:00:00", "TOML parse error at line 1, column 5"),
-        (
-            "a = 9223372036854775808",
-            "TOML parse error at line 1, column 5",
-        ),
-        ("a = 007", "TOML parse error at line 1, column 5"),
-        ("a = 'b", "TOML parse error at line 1, column 7"),
-        ("a = [1, 2", "TOML parse error at line 1, column 10"),
-        ("{\"a\": 1}", "TOML parse error at line 1, column 1"),
-    ];
-    for (text, expected) in texts {
+    for (text, expected) in PLACES {
         let line = first_line(&rt, rt.alloc(), text);
         assert_eq!(rt; line.as_str(), expected, "{text}");
     }
