@@ -1,13 +1,14 @@
 -- The members of the fields of a form, where some names are lists.
-use Rattle.std.proofs.Common.{◌≡◌, ℕ, List, [], ◌∷◌, ◌++◌, Bool, true, false, cond, refl, sym, ap, ◌∙◌}
-use Rattle.std.specs.Prelude.{◌||◌, bytes_eq}
+use Rattle.std.proofs.Common.{◌≡◌, ℕ, List, [], ◌∷◌, ◌++◌, Bool, true, false, cond, Result, Ok, refl, sym, ap, subst, ◌∙◌}
+use Rattle.std.specs.Prelude.{◌||◌, IfOk, bytes_eq}
 use Rattle.std.specs.Borrow.{Bor}
 use Rattle.std.proofs.lemmas.List.{append_assoc}
 use Rattle.std.specs.Cmp.Lexicographic.{same_text}
-use Rattle.json.specs.Json.{Json, string, array, object, Members, no_members, member}
+use Rattle.json.specs.Json.{Json, string, array, object, item, Members, no_members, member}
 use Rattle.json.specs.Token.{Token}
-use Rattle.json.specs.Tree.{json_tokens, members_tokens}
+use Rattle.json.specs.Tree.{json_tokens, items_tokens, members_tokens}
 use Rattle.garde_form.specs.Lists.{is_listed, texts_of, value_of, without, first_member, unseen}
+use Rattle.garde_form.specs.WebForm.{text_of}
 
 -- of no names these are all
 pub all_unseen : (ms : Members) → unseen [] ms ≡ ms
@@ -89,3 +90,40 @@ object_begun old begun seen ms all is none same =
     ∙ append_assoc old (Token.begin_object ∷ []) (members_tokens (unseen seen ms))
     ∙ ap (λ names. old ++ Token.begin_object ∷ members_tokens (unseen names ms)) none
     ∙ ap (λ (left : Members). old ++ Token.begin_object ∷ members_tokens left) (all_unseen ms ∙ same)
+
+-- the texts of a name, where the first field is one of the name or is not
+first_text : (name field n v : List ℕ) (left all : List (List ℕ × List ℕ)) (same : Bool) → all ≡ (n, v) ∷ left → field ≡ text_of n → same ≡ bytes_eq field name → items_tokens (texts_of name all) ≡ items_tokens (cond same (item (string (text_of v)) (texts_of name left)) (texts_of name left))
+first_text name field n v left all same is named test =
+    ap (λ (ps : List (List ℕ × List ℕ)). items_tokens (texts_of name ps)) is
+    ∙ ap (λ (b : Bool). items_tokens (cond b (item (string (text_of v)) (texts_of name left)) (texts_of name left))) (sym (test ∙ ap (λ (k : List ℕ). bytes_eq k name) named))
+
+-- the text of a field of the name is written before the texts that are left
+pub text_written : (name field text n v : List ℕ) (left all : List (List ℕ × List ℕ)) (same : Bool) (old new whole : List Token) → all ≡ (n, v) ∷ left → field ≡ text_of n → text ≡ text_of v → same ≡ bytes_eq field name → same ≡ true → new ≡ old ++ Token.string text ∷ [] → old ++ items_tokens (texts_of name all) ≡ whole → new ++ items_tokens (texts_of name left) ≡ whole
+text_written name field text n v left all same old new whole is named value test sure written before =
+    ap (λ (ts : List Token). ts ++ items_tokens (texts_of name left)) written
+    ∙ append_assoc old (Token.string text ∷ []) (items_tokens (texts_of name left))
+    ∙ ap (λ (t : List ℕ). old ++ Token.string t ∷ items_tokens (texts_of name left)) value
+    ∙ ap (λ (ts : List Token). old ++ ts) (sym (first_text name field n v left all true is named (sym sure ∙ test)))
+    ∙ before
+
+-- a field of another name leaves the texts that are left
+pub other_passed : (name field n v : List ℕ) (left all : List (List ℕ × List ℕ)) (same : Bool) (old new whole : List Token) → all ≡ (n, v) ∷ left → field ≡ text_of n → same ≡ bytes_eq field name → same ≡ false → new ≡ old → old ++ items_tokens (texts_of name all) ≡ whole → new ++ items_tokens (texts_of name left) ≡ whole
+other_passed name field n v left all same old new whole is named test other stays before =
+    ap (λ (ts : List Token). ts ++ items_tokens (texts_of name left)) stays
+    ∙ ap (λ (ts : List Token). old ++ ts) (sym (first_text name field n v left all false is named (sym other ∙ test)))
+    ∙ before
+
+-- a list is begun before the texts that are left, which are all
+pub list_begun : (name : List ℕ) (old begun : List Token) (left all : List (List ℕ × List ℕ)) → begun ≡ old ++ Token.begin_array ∷ [] → left ≡ all → begun ++ items_tokens (texts_of name left) ≡ old ++ json_tokens (array (texts_of name all))
+list_begun name old begun left all is same =
+    ap (λ (ts : List Token). ts ++ items_tokens (texts_of name left)) is
+    ∙ append_assoc old (Token.begin_array ∷ []) (items_tokens (texts_of name left))
+    ∙ ap (λ (ps : List (List ℕ × List ℕ)). old ++ Token.begin_array ∷ items_tokens (texts_of name ps)) same
+
+-- a list is ended where no field is left
+pub list_ended : (name : List ℕ) (old new whole : List Token) (left : List (List ℕ × List ℕ)) → new ≡ old ++ Token.end_array ∷ [] → left ≡ [] → old ++ items_tokens (texts_of name left) ≡ whole → new ≡ whole
+list_ended name old new whole left is none before = is ∙ sym (ap (λ (ps : List (List ℕ × List ℕ)). old ++ items_tokens (texts_of name ps)) none) ∙ before
+
+-- what is so of the value of a result is so of the value that it is
+pub of_value : {A E : Type 0} (P : A → Type 0) (r : Result A E) (a : A) → r ≡ Ok a → IfOk r P → P a
+of_value {A = A} {E = E} P r a is so = subst (λ (x : Result A E). IfOk x P) is so
