@@ -3,10 +3,10 @@
 use super::texts::check;
 use garde_parsed::{Time, Timestamp};
 
-// `partial-time` of RFC 3339, section 5.6; the other forms of ISO 8601 that `jiff` reads; and texts
-// that are none, one of which is as well a month and a day.
 const NO_TIME: &str = "not a time\n";
 
+// `partial-time` of RFC 3339, section 5.6; the other forms of ISO 8601 that `jiff` reads; and texts
+// that are none, one of which is as well a month and a day.
 const TIMES: [(&str, &str); 20] = [
     ("23:20:50.52", "23:20:50.52"),
     ("00:00:00", "00:00:00"),
@@ -35,10 +35,10 @@ fn reads_times_of_day(rt: HostRuntime) {
     check(&rt, rt.alloc(), Time, &TIMES);
 }
 
-// The five texts of RFC 3339, section 5.8, each with the moment that this section names (a leap
-// second is the second before); and texts that are none.
 const NO_TIMESTAMP: &str = "not a timestamp\n";
 
+// The five texts of RFC 3339, section 5.8, each with the moment that this section names (a leap
+// second is the second before); and texts that are none.
 const TIMESTAMPS: [(&str, &str); 19] = [
     ("1985-04-12T23:20:50.52Z", "1985-04-12T23:20:50.52Z"),
     ("1996-12-19T16:39:57-08:00", "1996-12-20T00:39:57Z"),

@@ -17,9 +17,9 @@ fn told(alloc: Global, text: &str) -> Result<String, AllocError> {
     }
 }
 
-// The examples of the URL Standard, sections 3.5 and 4.4, and of RFC 3986, section 1.1.2.
 const NO_URL: &str = "not a URL\n";
 
+// The examples of the URL Standard, sections 3.5 and 4.4, and of RFC 3986, section 1.1.2.
 const URLS: [(&str, &str); 18] = [
     ("https://example.com/././foo", "https://example.com/foo"),
     ("https:example.org", "https://example.org/"),

@@ -3,9 +3,9 @@
 use super::texts::check;
 use garde_parsed::Uuid;
 
-// The texts of RFC 9562, sections 4 and 5 and appendix A, and the other forms of one of them.
 const ONE: &str = "f81d4fae-7dec-11d0-a765-00a0c91e6bf6";
 
+// The texts of RFC 9562, sections 4 and 5 and appendix A, and the other forms of one of them.
 const UUIDS: [(&str, &str); 10] = [
     (ONE, ONE),
     ("urn:uuid:f81d4fae-7dec-11d0-a765-00a0c91e6bf6", ONE),
