@@ -116,6 +116,8 @@ pub fn report_from_json_text(alloc: Global, text: &str) -> Result<Report, JsonRe
     match parse(alloc, text, &mut scratch) {
         Ok(tape) => report_from_tree(alloc, &Tree::root(&tape)),
         Err(ParseError::NotJson(_)) => Err(JsonRefused::Form),
+        Err(ParseError::TooDeep(_)) => Err(JsonRefused::Form),
+        Err(ParseError::LoneSurrogate(_)) => Err(JsonRefused::Form),
         Err(ParseError::NotUtf8(_)) => unreachable!(),
         Err(ParseError::TooLong) => Err(JsonRefused::Memory),
         Err(ParseError::Memory) => Err(JsonRefused::Memory),

@@ -1,3 +1,5 @@
 pub mod Finding
+pub mod Marks
+pub mod Nesting
 pub mod Reading
 pub mod Sizes

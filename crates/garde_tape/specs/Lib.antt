@@ -4,4 +4,7 @@ pub mod Read
 pub mod Code
 pub mod Look
 pub mod Place
+pub mod Input
+pub mod Nesting
+pub mod Surrogate
 pub mod Refusals

@@ -4,7 +4,9 @@
 //! The tree stands on `json::Tape`: one list of tokens over the text, with its texts borrowed.
 #![tactic(auto)]
 
+mod fault;
 mod found;
+mod input;
 mod items;
 mod kind;
 mod members;
@@ -12,9 +14,11 @@ mod number;
 mod parse_error;
 mod place;
 mod read;
+mod surrogate;
 mod tree;
 
 pub use found::Found;
+pub use input::json_has_no_mark;
 pub use items::TreeItems;
 pub use json::{Scratch, Tape};
 pub use kind::Kind;

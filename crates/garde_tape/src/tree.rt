@@ -3,7 +3,7 @@ ghost use Rattle.std.specs.Prelude.{◌≡◌, ◌<◌, ◌^◌, length, option_
 ghost use Rattle.std.specs.Prelude.{IfSome, unwrap_or, false};
 ghost use Rattle.json.specs.Find.{get, as_str, as_number, as_bool, is_null, as_array, as_object};
 ghost use Rattle.garde_tape.specs.Reading.{json_of, item_list, member_list};
-ghost use Rattle.garde_tape.specs.Number.{unsigned_of, signed_of, is_whole_text};
+ghost use Rattle.garde_tape.specs.Number.{unsigned_of, signed_of, has_minus, is_whole_text};
 ghost use Rattle.garde_tape.specs.Look.{find_answer, kind_of};
 
 use crate::found::Found;
@@ -89,6 +89,16 @@ impl<'t, 'a> Tree<'t, 'a> {
     {
         match self.as_number() {
             Some(text) => number::is_whole(text.as_bytes()),
+            None => false,
+        }
+    }
+
+    /// Whether this is a number behind a minus.
+    pub fn is_negative(&self) -> bool
+        ensures { result ≡ unwrap_or (option_map has_minus (as_number self.now)) false }
+    {
+        match self.as_number() {
+            Some(text) => number::has_minus(text.as_bytes()),
             None => false,
         }
     }
