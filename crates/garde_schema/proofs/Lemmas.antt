@@ -1,5 +1,5 @@
 -- Lemmas on what a reading of a tree leaves and answers.
-use Rattle.std.proofs.Common.{◌≡◌, ℕ, Bool, true, false, ◌≤◌, List, [], ◌∷◌, length, Option, Some, None, Result, Ok, Err, refl, ap, sym, subst, ◌∙◌}
+use Rattle.std.proofs.Common.{◌≡◌, ℕ, Bool, ◌≤◌, List, [], ◌∷◌, length, Option, Some, None, Result, Ok, Err, refl, sym, subst, ◌∙◌}
 use Rattle.std.proofs.lemmas.Bool.{false≢true}
 use Rattle.std.specs.Prelude.{IfOk, IsOkAnd, IsSomeAnd, OnOk, option_map, option_and_then}
 use Rattle.std.specs.Result.{IsErr, IsOk}

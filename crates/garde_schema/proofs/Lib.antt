@@ -1,5 +1,6 @@
 mod Lemmas
 mod Examined
+mod Numbers
 mod Nulls
 mod Unions
 mod RulesOnValue

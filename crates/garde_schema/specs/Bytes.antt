@@ -1,10 +1,12 @@
 -- What reading bytes returns.
 use Rattle.std.specs.Prelude.{◌≡◌, ◌<◌, ⊤, ℕ, List, length, None, IsSomeAnd, Result, Ok, Err, codes, IsUtf8}
 use Rattle.json.specs.Json.{Json, document}
+use Rattle.json.specs.Lex.{tokens}
 use Rattle.garde_i18n.specs.Datum.{Datum}
 use Rattle.garde_report.specs.Report.{report_text}
 use Rattle.garde_tape.specs.declared.parse_error.ParseError.{ParseError}
 use Rattle.garde_tape.specs.declared.parse_error.ParseError.TheVariants as parse
+use Rattle.garde_tape.specs.Nesting.{most_nested}
 use Rattle.garde_tape.specs.Refusals.{parse_error_text}
 use Rattle.garde.specs.Answers.{Answers}
 use Rattle.garde.specs.Visits.{Visits}
@@ -21,6 +23,8 @@ OfDocument bytes holds = IsUtf8 bytes × IsSomeAnd (document bytes) holds
 abbrev pub NoDocument : List ℕ → ParseError → Type 0
 NoDocument bytes (parse.NotUtf8 place) = ¬ IsUtf8 bytes
 NoDocument bytes (parse.NotJson place) = IsUtf8 bytes × (document bytes ≡ None)
+NoDocument bytes (parse.TooDeep place) = IsUtf8 bytes × (document bytes ≡ None) × (128 < most_nested 0 (tokens bytes))
+NoDocument bytes (parse.LoneSurrogate place) = IsUtf8 bytes × (document bytes ≡ None)
 NoDocument bytes parse.TooLong = 4294967040 < length bytes
 NoDocument bytes parse.Memory = ⊥
 
@@ -36,6 +40,8 @@ AnswersBytes visits text bytes (Err Memory) = ⊤
 abbrev pub of_parse_error : ParseError → ReadError
 of_parse_error (parse.NotUtf8 place) = Parse (parse.NotUtf8 place)
 of_parse_error (parse.NotJson place) = Parse (parse.NotJson place)
+of_parse_error (parse.TooDeep place) = Parse (parse.TooDeep place)
+of_parse_error (parse.LoneSurrogate place) = Parse (parse.LoneSurrogate place)
 of_parse_error parse.TooLong = Parse parse.TooLong
 of_parse_error parse.Memory = Memory
 

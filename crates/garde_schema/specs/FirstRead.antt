@@ -27,6 +27,8 @@ AnswersFirstBytes visits text most bytes (Err Memory) = ⊤
 abbrev pub first_of_parse_error : ParseError → FirstReadError
 first_of_parse_error (parse.NotUtf8 place) = Parse (parse.NotUtf8 place)
 first_of_parse_error (parse.NotJson place) = Parse (parse.NotJson place)
+first_of_parse_error (parse.TooDeep place) = Parse (parse.TooDeep place)
+first_of_parse_error (parse.LoneSurrogate place) = Parse (parse.LoneSurrogate place)
 first_of_parse_error parse.TooLong = Parse parse.TooLong
 first_of_parse_error parse.Memory = Memory
 

@@ -2,6 +2,7 @@
 ghost use Rattle.std.specs.Prelude.{◌≡◌, Some, IfOk, IsSomeAnd};
 ghost use Rattle.garde.specs.Answers.{AnswersFirst};
 ghost use Rattle.garde_schema.specs.FirstRead.{AnswersFirstBytes};
+ghost use Rattle.garde_tape.specs.Input.{without_mark};
 ghost use Rattle.garde_schema.specs.Bytes.{OfDocument};
 ghost use Rattle.garde_schema.specs.Forms.{forget};
 
@@ -73,18 +74,18 @@ pub fn read_first<'t, 'a, F: Form<'a>, H: I18n + FormI18n>(
 /// `read_first` does. This is the call for a body that may hold any number of faults.
 pub fn read_json_first<'a, F: Form<'a>, H: I18n + FormI18n>(
     alloc: Global,
-    bytes: &'a [u8],
+    input: &'a [u8],
     scratch: &'a mut Scratch,
     form: &F,
     most: usize,
     h: &H,
 ) -> Result<F::Out, FirstReadError>
     ensures answer { AnswersFirstBytes (λ j. F.visits form.now (H.form_text h.now) j) (H.text h.now)
-        most bytes.now (forget result) }
-    ensures value { IfOk result (λ out. OfDocument bytes.now (λ j. F.value form.now j ≡ Some out)) }
+        most (without_mark input.now) (forget result) }
+    ensures value { IfOk result (λ out. OfDocument (without_mark input.now) (λ j. F.value form.now j ≡ Some out)) }
     ensures keeps { IfOk result (λ out. F.keeps form.now out) }
 {
-    let tape = parse_bytes(alloc, bytes, scratch)?;
+    let tape = parse_bytes(alloc, input, scratch)?;
     let value = read_first(alloc, form, &Tree::root(&tape), most, h)?;
     Ok(value)
 }

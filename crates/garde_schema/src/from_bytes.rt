@@ -1,5 +1,6 @@
 //! Reading bytes by a form.
 ghost use Rattle.std.specs.Prelude.{◌≡◌, Some, IfOk};
+ghost use Rattle.garde_tape.specs.Input.{without_mark};
 ghost use Rattle.garde_schema.specs.Bytes.{AnswersBytes, OfDocument};
 ghost use Rattle.garde_schema.specs.Forms.{forget};
 
@@ -18,17 +19,17 @@ use std::alloc::Global;
 /// Bytes that are no JSON text give `ReadError::Parse` with the line and the column, and no report.
 pub fn read_json<'a, F: Form<'a>, H: I18n + FormI18n>(
     alloc: Global,
-    bytes: &'a [u8],
+    input: &'a [u8],
     scratch: &'a mut Scratch,
     form: &F,
     h: &H,
 ) -> Result<F::Out, ReadError>
     ensures answer { AnswersBytes (λ j. F.visits form.now (H.form_text h.now) j) (H.text h.now)
-        bytes.now (forget result) }
-    ensures value { IfOk result (λ out. OfDocument bytes.now (λ j. F.value form.now j ≡ Some out)) }
+        (without_mark input.now) (forget result) }
+    ensures value { IfOk result (λ out. OfDocument (without_mark input.now) (λ j. F.value form.now j ≡ Some out)) }
     ensures keeps { IfOk result (λ out. F.keeps form.now out) }
 {
-    let tape = parse_bytes(alloc, bytes, scratch)?;
+    let tape = parse_bytes(alloc, input, scratch)?;
     let value = read(alloc, form, &Tree::root(&tape), h)?;
     Ok(value)
 }

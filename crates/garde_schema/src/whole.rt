@@ -1,10 +1,9 @@
 //! Whole numbers.
-ghost use Rattle.std.specs.Prelude.{◌≡◌, Option};
+ghost use Rattle.std.specs.Prelude.{◌≡◌, Bool, Option};
 ghost use Rattle.json.specs.Json.{Json};
-ghost use Rattle.garde.specs.Visits.{Known};
+ghost use Rattle.garde.specs.Visits.{Known, Visited};
 ghost use Rattle.garde_schema.specs.declared.fault.Integer.{Integer};
-ghost use Rattle.garde_schema.specs.Forms.{formed};
-ghost use Rattle.garde_schema.specs.Whole.{whole_fault};
+ghost use Rattle.garde_schema.specs.Whole.{is_negative, number_visits, other_visits};
 
 mod signed;
 mod unsigned;
@@ -13,8 +12,8 @@ mod wide;
 use crate::fault::{FormFault, Integer, Wanted};
 use crate::form::Form;
 use crate::handler::FormI18n;
-use crate::leaf::{Misfit, read_seen};
-use crate::rules::Rules;
+use crate::number_rules::NumberRules;
+use crate::put::{put, with};
 use garde::{I18n, Report, Trail};
 use garde_tape::Tree;
 pub use signed::{I8, I16, I32, I64, Isize};
@@ -33,6 +32,10 @@ pub trait WholeType {
     /// The number of this type that a tree spells.
     ghost spelled: { Self → Json → Option Self.Number };
 
+    /// Of the numbers beyond one end of the type, the number of the type that is nearest to them: the
+    /// least of the type for those below it, and else the greatest.
+    ghost nearest: { Self → Bool → Self.Number };
+
     /// Which type it is.
     fn integer(&self) -> Integer
         ensures { result ≡ integer self.now };
@@ -40,18 +43,38 @@ pub trait WholeType {
     /// The number of this type that a tree spells: by digits alone, perhaps behind a minus.
     fn spelled(&self, tree: &Tree<'_, '_>) -> Option<Self::Number>
         ensures { result ≡ spelled self.now tree.now };
+
+    /// The number of this type that is nearest to the numbers below it, or above it.
+    fn nearest(&self, below: bool) -> Self::Number
+        ensures { result ≡ nearest self.now below };
 }
 
-/// Of a tree that is no number of the type: whether it is a whole number at all.
-impl<N: WholeType> Misfit for N {
-    ghost misfit = { λ n j. whole_fault (N.integer n) j };
-
-    fn misfit(&self, tree: &Tree<'_, '_>) -> FormFault {
-        if tree.is_whole() {
-            FormFault::OutOfRange(self.integer())
-        } else {
-            FormFault::Wrong(Wanted::Whole, tree.kind())
+// Puts what is wrong with a tree that is no number of the type: of a whole number the first bound of
+// the rules that it is beyond, or else that the type does not hold it.
+#[inline(never)]
+fn put_other<'t, 'a, N: WholeType, R: NumberRules<N::Number>, H: I18n + FormI18n>(
+    alloc: Global,
+    form: &Whole<N, R>,
+    tree: &Tree<'t, 'a>,
+    trail: &mut Trail<'a>,
+    report: &mut Report,
+    h: &H,
+) -> Result<(), AllocError>
+    ensures { Visited (other_visits (H.form_text h.now) (N.integer form.now.0)
+        (R.bound form.now.1 (N.nearest form.now.0 (is_negative tree.now))) tree.now) (H.text h.now)
+        trail.old trail.new report.old report.new result }
+{
+    if !tree.is_whole() {
+        let fault = FormFault::Wrong(Wanted::Whole, tree.kind());
+        return put(alloc, fault, trail, report, h);
+    }
+    let nearest = form.0.nearest(tree.is_negative());
+    match form.1.find_bound(alloc, &nearest, h) {
+        Ok(()) => {
+            let fault = FormFault::OutOfRange(form.0.integer());
+            put(alloc, fault, trail, report, h)
         }
+        Err(bound) => trail.put(report, Err(bound)),
     }
 }
 
@@ -59,14 +82,17 @@ impl<N: WholeType> Misfit for N {
 /// `Whole(U8, Is(range!(min = 18, max = 120)))`.
 ///
 /// It is written by digits alone, perhaps behind a minus: `18.0`, `1e2` and `-0` are no whole numbers.
+/// Of a number that the type does not hold, the first bound of the rules that it is beyond is
+/// reported, as `lower than 18` of -1. Where it is beyond none, `out of range: 0 to 255` is.
 #[derive(Clone, Copy, Debug)]
 pub struct Whole<N, R>(pub N, pub R);
 
-impl<'a, N: WholeType, R: Rules<N::Number>> Form<'a> for Whole<N, R> {
+impl<'a, N: WholeType, R: NumberRules<N::Number>> Form<'a> for Whole<N, R> {
     type Out = N::Number;
 
-    ghost visits = { λ form texts j.
-        formed (texts (whole_fault (N.integer form.0) j)) (λ n. R.asks form.1 n) (N.spelled form.0 j) };
+    ghost visits = { λ form texts j. number_visits
+        (other_visits texts (N.integer form.0) (R.bound form.1 (N.nearest form.0 (is_negative j))) j)
+        (λ n. R.asks form.1 n) (N.spelled form.0 j) };
 
     ghost value = { λ form j. N.spelled form.0 j };
 
@@ -80,7 +106,12 @@ impl<'a, N: WholeType, R: Rules<N::Number>> Form<'a> for Whole<N, R> {
         report: &mut Report,
         h: &H,
     ) -> Result<Option<N::Number>, AllocError> {
-        let seen = self.0.spelled(tree);
-        read_seen(alloc, tree, &self.0, seen, &self.1, trail, report, h)
+        match self.0.spelled(tree) {
+            Some(number) => {
+                let told = self.1.ask(alloc, &number, trail, report, h);
+                with(told, Some(number))
+            }
+            None => with(put_other(alloc, self, tree, trail, report, h), None),
+        }
     }
 }

@@ -1,6 +1,7 @@
 //! Tests by what they are of.
 
 mod bodies;
+mod bounds;
 mod checked;
 mod enums;
 mod first;

@@ -1,5 +1,5 @@
 //! The types of whole numbers with a sign.
-ghost use Rattle.std.specs.Prelude.{◌≡◌, ◌-◌, ◌^◌, pos, negsuc};
+ghost use Rattle.std.specs.Prelude.{◌≡◌, ◌-◌, ◌^◌, pos, negsuc, if◌then◌else◌};
 ghost use Rattle.garde_schema.specs.declared.fault.Integer.TheVariants as integers;
 ghost use Rattle.garde_schema.specs.Whole.{between, signed_value};
 
@@ -17,6 +17,8 @@ impl WholeType for I8 {
     ghost integer = { λ _. integers.I8 };
 
     ghost spelled = { λ _ j. between (negsuc (2 ^ 7 - 1)) (pos (2 ^ 7 - 1)) (signed_value j) };
+
+    ghost nearest = { λ _ below. if below then negsuc (2 ^ 7 - 1) else pos (2 ^ 7 - 1) };
 
     fn integer(&self) -> Integer {
         Integer::I8
@@ -36,6 +38,10 @@ impl WholeType for I8 {
             }
         }
     }
+
+    fn nearest(&self, below: bool) -> i8 {
+        if below { i8::MIN } else { i8::MAX }
+    }
 }
 
 /// `i16`.
@@ -48,6 +54,8 @@ impl WholeType for I16 {
     ghost integer = { λ _. integers.I16 };
 
     ghost spelled = { λ _ j. between (negsuc (2 ^ 15 - 1)) (pos (2 ^ 15 - 1)) (signed_value j) };
+
+    ghost nearest = { λ _ below. if below then negsuc (2 ^ 15 - 1) else pos (2 ^ 15 - 1) };
 
     fn integer(&self) -> Integer {
         Integer::I16
@@ -67,6 +75,10 @@ impl WholeType for I16 {
             }
         }
     }
+
+    fn nearest(&self, below: bool) -> i16 {
+        if below { i16::MIN } else { i16::MAX }
+    }
 }
 
 /// `i32`.
@@ -79,6 +91,8 @@ impl WholeType for I32 {
     ghost integer = { λ _. integers.I32 };
 
     ghost spelled = { λ _ j. between (negsuc (2 ^ 31 - 1)) (pos (2 ^ 31 - 1)) (signed_value j) };
+
+    ghost nearest = { λ _ below. if below then negsuc (2 ^ 31 - 1) else pos (2 ^ 31 - 1) };
 
     fn integer(&self) -> Integer {
         Integer::I32
@@ -98,6 +112,10 @@ impl WholeType for I32 {
             }
         }
     }
+
+    fn nearest(&self, below: bool) -> i32 {
+        if below { i32::MIN } else { i32::MAX }
+    }
 }
 
 /// `i64`.
@@ -111,12 +129,18 @@ impl WholeType for I64 {
 
     ghost spelled = { λ _ j. signed_value j };
 
+    ghost nearest = { λ _ below. if below then negsuc (2 ^ 63 - 1) else pos (2 ^ 63 - 1) };
+
     fn integer(&self) -> Integer {
         Integer::I64
     }
 
     fn spelled(&self, tree: &Tree<'_, '_>) -> Option<i64> {
         tree.as_i64()
+    }
+
+    fn nearest(&self, below: bool) -> i64 {
+        if below { i64::MIN } else { i64::MAX }
     }
 }
 
@@ -131,6 +155,8 @@ impl WholeType for Isize {
 
     ghost spelled = { λ _ j. signed_value j };
 
+    ghost nearest = { λ _ below. if below then negsuc (2 ^ 63 - 1) else pos (2 ^ 63 - 1) };
+
     fn integer(&self) -> Integer {
         Integer::I64
     }
@@ -140,5 +166,9 @@ impl WholeType for Isize {
             None => None,
             Some(n) => Some(n as isize),
         }
+    }
+
+    fn nearest(&self, below: bool) -> isize {
+        if below { isize::MIN } else { isize::MAX }
     }
 }

@@ -1,5 +1,5 @@
 //! The types of whole numbers without a sign.
-ghost use Rattle.std.specs.Prelude.{◌≡◌, ◌-◌, ◌^◌};
+ghost use Rattle.std.specs.Prelude.{◌≡◌, ◌-◌, ◌^◌, if◌then◌else◌};
 ghost use Rattle.garde_schema.specs.declared.fault.Integer.TheVariants as integers;
 ghost use Rattle.garde_schema.specs.Whole.{up_to, unsigned_value};
 
@@ -18,6 +18,8 @@ impl WholeType for U8 {
 
     ghost spelled = { λ _ j. up_to (2 ^ 8 - 1) (unsigned_value j) };
 
+    ghost nearest = { λ _ below. if below then 0 else 2 ^ 8 - 1 };
+
     fn integer(&self) -> Integer {
         Integer::U8
     }
@@ -34,6 +36,10 @@ impl WholeType for U8 {
             }
         }
     }
+
+    fn nearest(&self, below: bool) -> u8 {
+        if below { u8::MIN } else { u8::MAX }
+    }
 }
 
 /// `u16`.
@@ -46,6 +52,8 @@ impl WholeType for U16 {
     ghost integer = { λ _. integers.U16 };
 
     ghost spelled = { λ _ j. up_to (2 ^ 16 - 1) (unsigned_value j) };
+
+    ghost nearest = { λ _ below. if below then 0 else 2 ^ 16 - 1 };
 
     fn integer(&self) -> Integer {
         Integer::U16
@@ -63,6 +71,10 @@ impl WholeType for U16 {
             }
         }
     }
+
+    fn nearest(&self, below: bool) -> u16 {
+        if below { u16::MIN } else { u16::MAX }
+    }
 }
 
 /// `u32`.
@@ -75,6 +87,8 @@ impl WholeType for U32 {
     ghost integer = { λ _. integers.U32 };
 
     ghost spelled = { λ _ j. up_to (2 ^ 32 - 1) (unsigned_value j) };
+
+    ghost nearest = { λ _ below. if below then 0 else 2 ^ 32 - 1 };
 
     fn integer(&self) -> Integer {
         Integer::U32
@@ -92,6 +106,10 @@ impl WholeType for U32 {
             }
         }
     }
+
+    fn nearest(&self, below: bool) -> u32 {
+        if below { u32::MIN } else { u32::MAX }
+    }
 }
 
 /// `u64`.
@@ -105,12 +123,18 @@ impl WholeType for U64 {
 
     ghost spelled = { λ _ j. unsigned_value j };
 
+    ghost nearest = { λ _ below. if below then 0 else 2 ^ 64 - 1 };
+
     fn integer(&self) -> Integer {
         Integer::U64
     }
 
     fn spelled(&self, tree: &Tree<'_, '_>) -> Option<u64> {
         tree.as_u64()
+    }
+
+    fn nearest(&self, below: bool) -> u64 {
+        if below { u64::MIN } else { u64::MAX }
     }
 }
 
@@ -125,6 +149,8 @@ impl WholeType for Usize {
 
     ghost spelled = { λ _ j. unsigned_value j };
 
+    ghost nearest = { λ _ below. if below then 0 else 2 ^ 64 - 1 };
+
     fn integer(&self) -> Integer {
         Integer::U64
     }
@@ -134,5 +160,9 @@ impl WholeType for Usize {
             None => None,
             Some(n) => Some(n as usize),
         }
+    }
+
+    fn nearest(&self, below: bool) -> usize {
+        if below { usize::MIN } else { usize::MAX }
     }
 }

@@ -1,5 +1,5 @@
 //! The types of whole numbers of 128 bits.
-ghost use Rattle.std.specs.Prelude.{◌≡◌, ◌<◌, ◌^◌, ◌==◌, length, slice_index, IsTrue, option_and_then, FitsSigned};
+ghost use Rattle.std.specs.Prelude.{◌≡◌, ◌<◌, ◌^◌, ◌==◌, ◌-◌, pos, negsuc, if◌then◌else◌, length, slice_index, IsTrue, option_and_then, FitsSigned};
 ghost use Rattle.std.specs.Int.{w128};
 ghost use Rattle.std.specs.Option.{SomeIff};
 ghost use Rattle.std.specs.Char.{digit_value};
@@ -135,6 +135,8 @@ impl WholeType for U128 {
 
     ghost spelled = { λ _ j. option_and_then (unsigned_of 128) (as_number j) };
 
+    ghost nearest = { λ _ below. if below then 0 else 2 ^ 128 - 1 };
+
     fn integer(&self) -> Integer {
         Integer::U128
     }
@@ -144,6 +146,10 @@ impl WholeType for U128 {
             Some(text) => unsigned(text.as_bytes()),
             None => None,
         }
+    }
+
+    fn nearest(&self, below: bool) -> u128 {
+        if below { u128::MIN } else { u128::MAX }
     }
 }
 
@@ -158,6 +164,8 @@ impl WholeType for I128 {
 
     ghost spelled = { λ _ j. option_and_then (signed_of 128) (as_number j) };
 
+    ghost nearest = { λ _ below. if below then negsuc (2 ^ 127 - 1) else pos (2 ^ 127 - 1) };
+
     fn integer(&self) -> Integer {
         Integer::I128
     }
@@ -167,5 +175,9 @@ impl WholeType for I128 {
             Some(text) => signed(text.as_bytes()),
             None => None,
         }
+    }
+
+    fn nearest(&self, below: bool) -> i128 {
+        if below { i128::MIN } else { i128::MAX }
     }
 }

@@ -51,8 +51,32 @@ const BODIES: &[(&[u8], &str)] = &[
     (b" \n ", "not JSON at line 2 column 1"),
     (
         b"\xef\xbb\xbf{\"name\":\"Ada\"}",
-        "not JSON at line 1 column 1",
+        "((TextRef(\"Ada\"), None), ((None, None), ((None, None), (None, None))))",
     ),
+    (b"\xef\xbb\xbf\xef\xbb\xbf{}", "not JSON at line 1 column 1"),
+    (b"\xef\xbb\xbf", "not JSON at line 1 column 0"),
+    (b"\xef\xbb{}", "not UTF-8 at line 1 column 1"),
+    (
+        b"\xef\xbb\xbf{\"name\":\xef\xbb\xbf\"Ada\"}",
+        "not JSON at line 1 column 9",
+    ),
+    (
+        b"{\"name\":\"A\\ud800\"}",
+        "a lone surrogate at line 1 column 11",
+    ),
+    (
+        b"{\"name\":\n\"\\ud83d\\ude00\\uDE00\"}",
+        "a lone surrogate at line 2 column 14",
+    ),
+    (
+        b"{\"a\\udbff\\u0041\":1}",
+        "a lone surrogate at line 1 column 4",
+    ),
+    (
+        b"{\"name\":\"\\\\ud800\\ud83d\\ude00\"}",
+        "((TextRef(\"\\\\ud800\u{1f600}\"), None), ((None, None), ((None, None), (None, None))))",
+    ),
+    (b"{\"name\":\"\\ud8\"}", "not JSON at line 1 column 9"),
     (b"{\"name\":\"\xff\"}", "not UTF-8 at line 1 column 10"),
     (b"{\n\"name\":\n\"Ad\xc3", "not UTF-8 at line 3 column 4"),
     (b"\xed\xa0\x80", "not UTF-8 at line 1 column 1"),
@@ -74,12 +98,15 @@ const BODIES: &[(&[u8], &str)] = &[
         b"{\"name\":\"Ada\",\"age\":NaN}",
         "not JSON at line 1 column 21",
     ),
-    (b"{\"name\":\"\\ud800\"}", "not JSON at line 1 column 9"),
+    (
+        b"{\"name\":\"\\ud800\"}",
+        "a lone surrogate at line 1 column 10",
+    ),
     (
         b"{\"name\":\"\\udc00\\ud800\"}",
-        "not JSON at line 1 column 9",
+        "a lone surrogate at line 1 column 10",
     ),
-    (b"{\"\\ud800\":1}", "not JSON at line 1 column 2"),
+    (b"{\"\\ud800\":1}", "a lone surrogate at line 1 column 3"),
     (b"{\"name\":\"A\nda\"}", "not JSON at line 1 column 9"),
     (b"null", "not an object\n"),
     (b"[]", "not an object\n"),
@@ -225,7 +252,8 @@ fn reads_bodies_that_nest_no_deeper_than_128(rt: HostRuntime) {
     let lists = [
         (126, valid),
         (127, valid),
-        (128, "not JSON at line 1 column 149"),
+        (128, "nested deeper than 128 at line 1 column 148"),
+        (200_000, "nested deeper than 128 at line 1 column 148"),
     ];
     for (count, expected) in lists {
         let body = nest(rt.alloc(), count).or_end(&rt);

@@ -113,7 +113,7 @@ fn asks_the_rules_of_a_list_before_its_items(rt: HostRuntime) {
             ("[1,1,1,1]", "length is greater than 3\n"),
             (
                 "[1,null,256,10,\"1\"]",
-                "length is greater than 3\nlength is greater than 4\n[1]: not a whole number\n[2]: out of range: 0 to 255\n[3]: greater than 9\n[4]: not a whole number\n",
+                "length is greater than 3\nlength is greater than 4\n[1]: not a whole number\n[2]: greater than 9\n[3]: greater than 9\n[4]: not a whole number\n",
             ),
         ],
     );

@@ -152,7 +152,7 @@ fn reads_tuples_of_up_to_sixteen_members(rt: HostRuntime) {
             (
                 16,
                 "{\"p\":256,\"o\":15,\"n\":1.0,\"m\":13,\"l\":12,\"k\":11,\"j\":10,\"i\":9,\"h\":8,\"g\":7,\"f\":6,\"e\":5,\"d\":4,\"c\":3,\"b\":[],\"a\":1,\"q\":0}",
-                "b: not a whole number\nn: not a whole number\np: out of range: 0 to 255\nq: not known here\n",
+                "b: not a whole number\nn: not a whole number\np: greater than 20\nq: not known here\n",
             ),
         ],
     );

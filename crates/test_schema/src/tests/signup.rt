@@ -42,8 +42,8 @@ fn reads_texts_and_whole_numbers_under_rules(rt: HostRuntime) {
             ),
             (
                 "{\"name\":\"\u{e9}\",\"again\":\"abc\",\"age\":256,\"low\":128,\"big\":18446744073709551616}",
-                "name: not ascii\nagain: length is greater than 2\nage: out of range: 0 to 255\nlow: out of range: -128 to 127\nbig: out of range: 0 to 18446744073709551615\n",
-                "name: ascii_invalid\nagain: length_greater_than max=2\nage: out_of_range of=u8\nlow: out_of_range of=i8\nbig: out_of_range of=u64\n",
+                "name: not ascii\nagain: length is greater than 2\nage: greater than 120\nlow: out of range: -128 to 127\nbig: out of range: 0 to 18446744073709551615\n",
+                "name: ascii_invalid\nagain: length_greater_than max=2\nage: range_greater_than max=120\nlow: out_of_range of=i8\nbig: out_of_range of=u64\n",
             ),
             (
                 "{\"name\":1,\"name\":2,\"age\":17,\"low\":1.0,\"big\":\"1\"}",

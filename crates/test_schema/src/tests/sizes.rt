@@ -51,11 +51,11 @@ fn nest(alloc: Global, depth: usize) -> Result<String, AllocError> {
     Ok(text)
 }
 
-// Where a nest of lists stops to be JSON, if it does.
+// Where a nest of lists is too deep, if it is.
 fn stop_of(alloc: Global, text: &str) -> Option<Place> {
     let mut scratch = Scratch::new(alloc);
     match parse(alloc, text, &mut scratch) {
-        Err(ParseError::NotJson(at)) => Some(at),
+        Err(ParseError::TooDeep(at)) => Some(at),
         _ => None,
     }
 }
@@ -73,7 +73,7 @@ fn refuses_a_nest_that_is_too_deep(rt: HostRuntime) {
     let deeper = nest(rt.alloc(), 129).or_end(&rt);
     let place = Place {
         line: 1,
-        column: 130,
+        column: 129,
     };
     assert_eq!(rt; stop_of(rt.alloc(), deeper.as_str()), Some(place));
 }

@@ -181,7 +181,7 @@ fn reads_tuples_of_up_to_twelve_members(rt: HostRuntime) {
             (
                 8,
                 "{\"a\":1,\"b\":true,\"c\":3,\"d\":21,\"e\":5,\"f\":\"1\",\"g\":7,\"h\":256,\"z\":0}",
-                "b: not a whole number\nd: greater than 20\nf: not a whole number\nh: out of range: 0 to 255\nz: not known here\n",
+                "b: not a whole number\nd: greater than 20\nf: not a whole number\nh: greater than 20\nz: not known here\n",
             ),
             (
                 9,
@@ -191,7 +191,7 @@ fn reads_tuples_of_up_to_twelve_members(rt: HostRuntime) {
             (
                 9,
                 "{\"a\":1,\"b\":true,\"c\":3,\"d\":21,\"e\":5,\"f\":\"1\",\"g\":7,\"h\":256,\"i\":9,\"z\":0}",
-                "b: not a whole number\nd: greater than 20\nf: not a whole number\nh: out of range: 0 to 255\nz: not known here\n",
+                "b: not a whole number\nd: greater than 20\nf: not a whole number\nh: greater than 20\nz: not known here\n",
             ),
             (
                 10,
@@ -201,7 +201,7 @@ fn reads_tuples_of_up_to_twelve_members(rt: HostRuntime) {
             (
                 10,
                 "{\"a\":1,\"b\":true,\"c\":3,\"d\":21,\"e\":5,\"f\":\"1\",\"g\":7,\"h\":256,\"i\":9,\"j\":1.0,\"z\":0}",
-                "b: not a whole number\nd: greater than 20\nf: not a whole number\nh: out of range: 0 to 255\nj: not a whole number\nz: not known here\n",
+                "b: not a whole number\nd: greater than 20\nf: not a whole number\nh: greater than 20\nj: not a whole number\nz: not known here\n",
             ),
             (
                 11,
@@ -211,7 +211,7 @@ fn reads_tuples_of_up_to_twelve_members(rt: HostRuntime) {
             (
                 11,
                 "{\"a\":1,\"b\":true,\"c\":3,\"d\":21,\"e\":5,\"f\":\"1\",\"g\":7,\"h\":256,\"i\":9,\"j\":1.0,\"k\":11,\"z\":0}",
-                "b: not a whole number\nd: greater than 20\nf: not a whole number\nh: out of range: 0 to 255\nj: not a whole number\nz: not known here\n",
+                "b: not a whole number\nd: greater than 20\nf: not a whole number\nh: greater than 20\nj: not a whole number\nz: not known here\n",
             ),
             (
                 12,
@@ -221,7 +221,7 @@ fn reads_tuples_of_up_to_twelve_members(rt: HostRuntime) {
             (
                 12,
                 "{\"a\":1,\"b\":true,\"c\":3,\"d\":21,\"e\":5,\"f\":\"1\",\"g\":7,\"h\":256,\"i\":9,\"j\":1.0,\"k\":11,\"l\":-1,\"z\":0}",
-                "b: not a whole number\nd: greater than 20\nf: not a whole number\nh: out of range: 0 to 255\nj: not a whole number\nl: out of range: 0 to 255\nz: not known here\n",
+                "b: not a whole number\nd: greater than 20\nf: not a whole number\nh: greater than 20\nj: not a whole number\nl: out of range: 0 to 255\nz: not known here\n",
             ),
         ],
     );

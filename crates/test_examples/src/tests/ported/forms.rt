@@ -53,7 +53,7 @@ const ROWS: &[(Of, &str, &str)] = &[
     (
         Of::Bill,
         "{\"number\":1,\"cents\":-1,\"payment\":{\"kind\":\"check\"},\"origin\":{\"web-site\":\"a\",\"shop\":{}}}",
-        "number: not a text\ncents: out of range: 0 to 18446744073709551615\npayment.kind: not one of the known values\norigin: not an object with one member\n",
+        "number: not a text\ncents: lower than 1\npayment.kind: not one of the known values\norigin: not an object with one member\n",
     ),
 ];
 

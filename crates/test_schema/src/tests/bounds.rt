@@ -1,0 +1,102 @@
+//! Numbers that their type does not hold, under rules with bounds and without.
+ghost use Rattle.std.specs.Prelude.{◌==◌, ◌%◌};
+ghost use Rattle.garde.specs.Fields.{message_unless};
+
+use super::OrEnd;
+use garde::fields::{Is, Rule, When};
+use garde::{DefaultI18n, I18n, RuleError, range};
+use garde_schema::{NumberRules, Scratch, U8, Whole, read_json};
+use std::alloc::{AllocError, Global};
+use std::borrow::CowStr;
+
+// The rule that a number is even, whose message says nothing of other numbers.
+#[derive(Clone, Copy)]
+struct Even;
+
+impl Rule<u8> for Even {
+    ghost finds = { λ _ n. message_unless "odd" (n % 2 == 0) };
+
+    fn find<H: I18n>(&self, alloc: Global, n: &u8, _h: &H) -> Result<(), RuleError> {
+        if *n % 2 == 0 {
+            Ok(())
+        } else {
+            Err(RuleError::of(alloc, Ok(CowStr::Borrowed("odd"))))
+        }
+    }
+}
+
+// What these rules report of a byte.
+fn report<R: NumberRules<u8> + Drop>(
+    alloc: Global,
+    body: &str,
+    rules: R,
+) -> Result<String, AllocError> {
+    let mut scratch = Scratch::new(alloc);
+    match read_json(
+        alloc,
+        body.as_bytes(),
+        &mut scratch,
+        &Whole(U8, &rules),
+        &DefaultI18n,
+    ) {
+        Ok(number) => format!(in alloc; "{number}"),
+        Err(error) => format!(in alloc; "{error}"),
+    }
+}
+
+// The same by so many rules, of which the last two have bounds.
+fn report_by(alloc: Global, count: usize, body: &str) -> Result<String, AllocError> {
+    let even = Is(Even);
+    let least = Is(range!(min = 10));
+    let most = Is(range!(max = 100));
+    match count {
+        0 => report(alloc, body, ()),
+        1 => report(alloc, body, even),
+        2 => report(alloc, body, (least, most)),
+        3 => report(alloc, body, (even, least, most)),
+        4 => report(alloc, body, (even, even, least, most)),
+        5 => report(alloc, body, (even, even, even, least, most)),
+        6 => report(alloc, body, (even, even, even, even, least, most)),
+        7 => report(alloc, body, (even, even, even, even, even, least, most)),
+        _ => report(
+            alloc,
+            body,
+            (even, even, even, even, even, even, least, most),
+        ),
+    }
+}
+
+// The number of rules, and what is reported of -1 and of 256.
+const ROWS: &[(usize, &str, &str)] = &[
+    (0, "out of range: 0 to 255\n", "out of range: 0 to 255\n"),
+    (1, "out of range: 0 to 255\n", "out of range: 0 to 255\n"),
+    (2, "lower than 10\n", "greater than 100\n"),
+    (3, "lower than 10\n", "greater than 100\n"),
+    (4, "lower than 10\n", "greater than 100\n"),
+    (5, "lower than 10\n", "greater than 100\n"),
+    (6, "lower than 10\n", "greater than 100\n"),
+    (7, "lower than 10\n", "greater than 100\n"),
+    (8, "lower than 10\n", "greater than 100\n"),
+];
+
+#[test]
+fn tells_the_first_bound_that_a_number_is_beyond(rt: HostRuntime) {
+    for (count, below, above) in ROWS {
+        let told = report_by(rt.alloc(), *count, "-1").or_end(&rt);
+        assert_eq!(rt; told.as_str(), *below);
+        let told = report_by(rt.alloc(), *count, "256").or_end(&rt);
+        assert_eq!(rt; told.as_str(), *above);
+    }
+}
+
+#[test]
+fn asks_a_bound_under_its_condition(rt: HostRuntime) {
+    let most = Is(range!(max = 100));
+    for (holds, expected) in [
+        (true, "greater than 100\n"),
+        (false, "out of range: 0 to 255\n"),
+    ] {
+        let told = report(rt.alloc(), "256", When(holds, most)).or_end(&rt);
+        assert_eq!(rt; told.as_str(), expected);
+    }
+}
