@@ -16,21 +16,25 @@ MOST = 1024 * 1024
 PLACE = "PLACE"
 ENGLISH = {
     "text": "not a text", "whole": "not a whole number", "list": "not a list", "object": "not an object",
-    "range": "out of range: 0 to 4294967295", "missing": "missing", "repeated": "repeated", "unknown": "not known here",
+    "missing": "missing", "repeated": "repeated", "unknown": "not known here",
     "short": "length is lower than {}", "long": "length is greater than {}", "low": "lower than {}", "high": "greater than {}",
     "prefix": 'value does not begin with "{}"',
 }
 CZECH = {
     **dict.fromkeys(("text", "whole", "list", "object"), "jiný druh hodnoty"),
-    "range": "číslo mimo rozsah", "missing": "položka chybí", "repeated": "položka se opakuje", "unknown": "neznámá položka",
+    "missing": "položka chybí", "repeated": "položka se opakuje", "unknown": "neznámá položka",
     "short": "délka je menší než {}", "long": "délka je větší než {}", "low": "hodnota je menší než {}",
     "high": "hodnota je větší než {}", "prefix": "text nezačíná na {}",
 }
 
-
+PHRASES = {
+    400: "Bad Request", 404: "Not Found", 405: "Method Not Allowed", 413: "Content Too Large", 414: "URI Too Long",
+    415: "Unsupported Media Type", 431: "Request Header Fields Too Large", 501: "Not Implemented", 505: "HTTP Version Not Supported",
+}
+TARGETS = {"": "CONNECT", "*": "OPTIONS"}
 CODES = {
     "text": ("wrong_form", "wanted", "found"), "whole": ("wrong_form", "wanted", "found"), "list": ("wrong_form", "wanted", "found"),
-    "object": ("wrong_form", "wanted", "found"), "range": ("out_of_range", "of"), "missing": ("member_missing",),
+    "object": ("wrong_form", "wanted", "found"), "missing": ("member_missing",),
     "repeated": ("member_repeated",), "unknown": ("member_unknown",), "short": ("length_lower_than", "min"),
     "long": ("length_greater_than", "max"), "low": ("range_lower_than", "min"), "high": ("range_greater_than", "max"),
     "prefix": ("prefix_missing", "pattern"),
@@ -96,8 +100,6 @@ class Reading:
     def count(self, value, path):
         if not (isinstance(value, Number) and re.fullmatch(r"0|-?[1-9][0-9]*", value)):
             self.other(path, "whole", value)
-        elif not 0 <= int(value) < 2**32:
-            self.put(path, "range", "u32")
         elif int(value) < 1:
             self.put(path, "low", 1)
         elif int(value) > 99:
@@ -133,18 +135,20 @@ def printed(value):
 
 
 def no_json(kind):
-    """The problem of a body that is no JSON text."""
-    return 400, printed({"title": "the body is no JSON text", "status": 400, "detail": f"{kind} at {PLACE}", "errors": []})
+    """The problem of a body that is not read as JSON."""
+    return 400, printed({"title": "the body is not read as JSON", "status": 400, "detail": f"{kind} at {PLACE}", "errors": []})
 
 
 def judged(body, texts):
     """The answer to the body of an order."""
     try:
-        value = parsed(body.decode("utf-8"))
+        value = parsed(body.decode("utf-8-sig"))
     except UnicodeDecodeError:
         return no_json("not UTF-8")
-    except ValueError:
-        return no_json("not JSON")
+    except UnicodeEncodeError:
+        return no_json("a lone surrogate")
+    except ValueError as error:
+        return no_json("nested deeper than 128" if "too deep" in str(error) else "not JSON")
     reading = Reading(texts)
     reading.order(value)
     if not reading.faults:
@@ -152,19 +156,44 @@ def judged(body, texts):
     return 422, printed({"title": "the order has faults", "status": 422, "errors": reading.faults})
 
 
+def path_of(target):
+    """The path of a target (RFC 9112, section 3.2): none of `host:port`, and `*` of `*`."""
+    if "://" in target:
+        target = "/" + target.partition("://")[2].partition("/")[2]
+    elif target != "*" and not target.startswith("/"):
+        target = ""
+    return target.partition("?")[0]
+
+
+def refused(status):
+    """The answer in which no order is judged: problem details of the type `about:blank` (RFC 9457, section 4.2.1)."""
+    return status, printed({"type": "about:blank", "title": PHRASES[status], "status": status})
+
+
 def answer(request):
     """The status and the body of the answer to a request."""
-    if request.path == "/health":
-        return (200, b"") if request.method in ("GET", "HEAD") else (405, b"")
-    if request.path != "/orders":
-        return 404, b""
-    if request.method != "POST":
-        return 405, b""
+    path = path_of(request.path)
     if len(request.body) > MOST:
-        return 413, b""
+        return refused(413)
+    if path in TARGETS:
+        return refused(501 if request.method == TARGETS[path] else 400)
+    if path == "/health":
+        return (200, b"") if request.method in ("GET", "HEAD") else refused(405)
+    if path != "/orders":
+        return refused(404)
+    if request.method != "POST":
+        return refused(405)
     if not re.fullmatch(r"application/json([; \t].*)?", request.media, re.IGNORECASE):
-        return 415, b""
+        return refused(415)
     return judged(request.body, CZECH if re.match(r"cs([-,; \t]|$)", request.language, re.IGNORECASE) else ENGLISH)
+
+
+def offered(request):
+    """The field of an answer that says what would do, beside its value: the methods of a path, or the form of a body."""
+    status = answer(request)[0]
+    if status == 405:
+        return "allow", "POST" if path_of(request.path) == "/orders" else "GET, HEAD"
+    return ("accept", "application/json") if status == 415 else None
 
 
 def placed(body):

@@ -118,8 +118,6 @@ class Reading:
             return self.put("age", "not set")
         if not re.fullmatch("[+-]?[0-9]+", text):
             return self.put("age", "no number")
-        if text[0] == "-" or int(text) > 255:
-            return self.put("age", "out of range")
         if int(text) < 18:
             self.put("age", "less", 18)
         elif int(text) > 120:

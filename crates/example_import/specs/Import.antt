@@ -4,18 +4,19 @@ use Rattle.std.specs.String.{string_bytes}
 use Rattle.garde.specs.Tree.{Tree, flat}
 use Rattle.garde.specs.Visits.{Known}
 use Rattle.garde.specs.Words.{default_text, index_part, key_part, Entry}
+use Rattle.garde_csv.specs.Texts.{fault_text}
 use Rattle.example_import.specs.Row.{row_visits}
 use Rattle.example_import.specs.Line.{Line, line_of, HasCode}
 use Rattle.example_import.specs.declared.row.Row.{Row}
 use Rattle.example_import.specs.declared.item.Flaw.{Flaw}
-use Rattle.example_import.specs.declared.item.Flaw.TheVariants.{Lengths, NotUtf8}
+use Rattle.example_import.specs.declared.item.Flaw.TheVariants as flaw
 use Rattle.example_import.specs.declared.item.Item.{Item}
 use Rattle.example_import.specs.declared.item.Item.TheVariants as item
 
 -- the fault of a record that is no row
 abbrev pub flaw_text : Flaw → List ℕ
-flaw_text Lengths = codes "not as many fields as in the header"
-flaw_text NotUtf8 = codes "not UTF-8"
+flaw_text flaw.Lengths = codes "not as many fields as in the header"
+flaw_text (flaw.Record fault) = fault_text fault
 
 -- the fault of a row whose code the table has
 abbrev pub stored_before : ℕ → Entry
@@ -43,7 +44,7 @@ Stores old row (fault ∷ more) new = new ≡ old
 abbrev pub Takes : ℕ → List Line → Item → List Entry → List Line → Type 0
 Takes index old (item.Row row) report new =
     (is_stored : Bool) × Tells (string_bytes row.code) old is_stored × IsReport index row is_stored report × Stores old row report new
-Takes index old (item.Broken flaw) report new = (report ≡ (index_part index ∷ [], flaw_text flaw) ∷ []) × (new ≡ old)
+Takes index old (item.Broken broken) report new = (report ≡ (index_part index ∷ [], flaw_text broken) ∷ []) × (new ≡ old)
 
 -- an item of the list, and what was reported of it
 abbrev pub Turn : Type 0

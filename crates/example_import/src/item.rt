@@ -1,25 +1,29 @@
 //! A list that is read an item at a time, and where its faults go.
-ghost use Rattle.std.specs.Prelude.{◌≡◌, IfOk, OnOk};
+ghost use Rattle.std.specs.Prelude.{Some, IfOk, OnOk};
 ghost use Rattle.example_import.specs.Import.{flaw_text};
 
 use crate::row::Row;
 use garde::Report;
+use garde_csv::Fault;
+use std::fmt;
 
 /// Why a record of a list is no row, where the records behind it can be read.
 #[derive(Clone, Copy, Debug, PartialEq, Eq)]
 pub enum Flaw {
+    /// It has more or fewer fields than the header.
     Lengths,
-    NotUtf8,
+    /// Its quotes are not those of RFC 4180, or it is not UTF-8.
+    Record(Fault),
 }
 
-impl Flaw {
-    /// The message of its fault.
-    pub fn text(self) -> &'static str
-        ensures { result.now ≡ flaw_text self }
-    {
+/// The message of its fault, which has no text of the list.
+impl fmt::Display for Flaw {
+    ghost output = { λ flaw. Some (flaw_text flaw) };
+
+    fn fmt<W: fmt::Write>(&self, f: &mut fmt::Formatter<W>) -> fmt::Result {
         match self {
-            Flaw::Lengths => "not as many fields as in the header",
-            Flaw::NotUtf8 => "not UTF-8",
+            Flaw::Lengths => f.write_str("not as many fields as in the header"),
+            Flaw::Record(fault) => write!(f, "{fault}"),
         }
     }
 }

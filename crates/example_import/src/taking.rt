@@ -69,7 +69,8 @@ fn report_of_flaw(alloc: Global, index: usize, flaw: Flaw) -> Result<Report, All
     ensures { IfOk result (λ report. report ≡ (index_part index ∷ [], flaw_text flaw) ∷ []) }
 {
     let mut report = Report::new(alloc);
-    report.append(Path::new(alloc, index)?, Error::new(alloc, flaw.text())?)?;
+    let text = format!(in alloc; "{flaw}")?;
+    report.append(Path::new(alloc, index)?, Error::new(alloc, text.as_str())?)?;
     Ok(report)
 }
 

@@ -2,9 +2,11 @@
 ghost use Rattle.std.specs.Prelude.{◌≡◌, OnOk, IsUtf8};
 ghost use Rattle.csv.specs.Records.{fields_of};
 ghost use Rattle.json.specs.Tree.{json_tokens};
+ghost use Rattle.garde_tape.specs.Input.{without_mark};
 ghost use Rattle.garde_rows.specs.Rows.{AreWritten, row_json, row_text};
 
 use csv::StringRecord;
+use garde_tape::json_has_no_mark;
 use json::Writer;
 use std::alloc::{AllocError, Global};
 use std::mem;
@@ -36,11 +38,13 @@ pub(crate) fn write_row(
 ) -> Result<(), AllocError>
     ensures text { OnOk result (text.new.items ≡ row_text (fields_of columns.now) (fields_of cells.now)) }
     ensures utf8 { OnOk result (IsUtf8 text.new.items) }
+    ensures mark { OnOk result (without_mark text.new.items ≡ text.new.items) }
 {
     let mut room = mem::replace(text, Vec::new(alloc));
     room.clear();
     let mut out = Writer::new(room);
     write_cells(columns, cells, &mut out)?;
     *text = out.into_inner();
+    json_has_no_mark(text.as_slice());
     Ok(())
 }

@@ -7,6 +7,7 @@ use example_import::memory::MemoryTable;
 use example_import::row::Row;
 use example_import::run::{Batch, import};
 use garde::Report;
+use garde_csv::Fault;
 use std::alloc::{AllocError, Global};
 use std::fmt::Write;
 use std::rt::HostRuntime;
@@ -61,7 +62,7 @@ fn item(alloc: Global, code: &str, name: &str, quantity: Option<u64>) -> Result<
 fn list(alloc: Global) -> Result<Items, AllocError> {
     let mut items = Vec::new(alloc);
     items.push(item(alloc, "P3", "Nut", Some(10_000))?)?;
-    items.push(Item::Broken(Flaw::NotUtf8))?;
+    items.push(Item::Broken(Flaw::Record(Fault::OpenQuote { line: 7 })))?;
     items.push(item(alloc, "P1", "", Some(1))?)?;
     items.push(item(alloc, "P1", "Other screw", Some(1))?)?;
     items.push(Item::Broken(Flaw::Lengths))?;
@@ -76,7 +77,7 @@ const REPORT: &str = "[1].code: value does not begin with \"P\"
 [3].code: stored before
 [4].name: length is lower than 1
 [4].code: stored before
-[5]: not UTF-8
+[5]: a quote in line 7 is not closed
 ";
 
 /// Whether an import under this batch reports all faults, counts so many stored rows, and keeps

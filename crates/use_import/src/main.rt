@@ -2,16 +2,17 @@
 //! faults of each row: all of them, or as many at most as a word says.
 #![tactic(auto)]
 
-mod input;
 mod options;
+mod place;
 mod row;
 
-use crate::input::Input;
-use crate::options::Options;
+use crate::options::{Options, Task, USAGE};
+use crate::place::Place;
 use crate::row::{COLUMNS, Row};
 use anyhow::{Result, anyhow};
-use csv::{ErrorKind, Reader, ReaderBuilder, StringRecord};
-use garde::{DefaultI18n, Report};
+use csv::StringRecord;
+use garde::DefaultI18n;
+use garde_csv::{Next, Records};
 use garde_problem::Escaped;
 use garde_rows::{Columns, Names, RowScratch, read_columns};
 use garde_schema::ReadError;
@@ -20,48 +21,40 @@ use std::io::{BufWriter, Read, Write};
 use std::process::ExitCode;
 use std::{env, io};
 
-/// Prints at most so many faults of a report, and returns how many it printed.
-fn print_first<W: Write>(report: &Report, most: usize, out: &mut W) -> io::Result<usize> {
-    for (path, error) in report.iter().take(most) {
-        writeln!(out, "{path}: {error}")?;
-    }
-    Ok(report.len().min(most))
-}
-
 /// A list whose header row has been read, and what is kept from one row to the next.
 #[derive(Drop)]
 struct List<R> {
-    reader: Reader<R>,
+    records: Records<R>,
     columns: Columns,
     cells: StringRecord,
     scratch: RowScratch,
 }
 
 impl<R: Read + Drop> List<R> {
-    /// Reads the next row. The answer is whether it is UTF-8, or `None` behind the last row.
-    fn next(&mut self) -> Result<Option<bool>> {
-        match self.reader.read_record(&mut self.cells) {
-            Ok(true) => Ok(Some(true)),
-            Ok(false) => Ok(None),
-            Err(error) => match error.kind() {
-                ErrorKind::Utf8 { .. } => Ok(Some(false)),
-                _ => Err(anyhow!("{error}")),
-            },
-        }
-    }
-
     /// Prints at most so many faults of the row that was read, and returns how many it printed.
     fn check<W: Write>(
         &mut self,
         alloc: Global,
-        index: usize,
+        place: Place,
         most: usize,
         out: &mut W,
     ) -> Result<usize> {
+        let index = place.index();
         match Row::read(alloc, index, &self.columns, &self.cells, &mut self.scratch) {
             Ok(_) => Ok(0),
-            Err(ReadError::Report(report)) => Ok(print_first(&report, most, out)?),
+            Err(ReadError::Report(report)) => place.tell_report(alloc, &report, most, out),
             Err(error) => Err(error.into()),
+        }
+    }
+
+    /// Where the row stands that was read last, and before which there are so many.
+    fn place(&self, options: &Options, count: usize) -> Result<Place> {
+        if options.lines {
+            return Ok(Place::Line(self.records.line()));
+        }
+        match options.first_row.unwrap_or(0).checked_add(count) {
+            Some(index) => Ok(Place::Row(index)),
+            None => Err(anyhow!("a row has no number")),
         }
     }
 }
@@ -74,43 +67,59 @@ fn import<R: Read + Drop, W: Write>(
     options: &Options,
     out: &mut W,
 ) -> Result<bool> {
-    let mut left = options.most;
-    for place in 0..usize::MAX {
-        let Some(is_text) = list.next()? else {
+    let most = options.most.unwrap_or(usize::MAX);
+    let mut left = most;
+    for count in 0..usize::MAX {
+        let next = list.records.read(&mut list.cells)?;
+        if next == Next::End {
             break;
-        };
-        let Some(index) = options.first_row.checked_add(place) else {
-            return Err(anyhow!("a row has no number"));
-        };
-        let told = if is_text {
-            list.check(alloc, index, left, out)?
-        } else {
-            writeln!(out, "[{index}]: not UTF-8")?;
-            1
+        }
+        let place = list.place(options, count)?;
+        let told = match next {
+            Next::Faulty(fault) => {
+                place.tell(fault, out)?;
+                1
+            }
+            _ => list.check(alloc, place, left, out)?,
         };
         left = left.saturating_sub(told);
         if left == 0 {
             break;
         }
     }
-    Ok(left == options.most)
+    Ok(left == most)
+}
+
+/// The header row of a list, or that of every list where it has none.
+fn header<R: Read + Drop>(
+    alloc: Global,
+    records: &mut Records<R>,
+    has_header: bool,
+) -> Result<StringRecord> {
+    if !has_header {
+        return Ok(StringRecord::from_fields(alloc, &COLUMNS)?);
+    }
+    let mut cells = StringRecord::new(alloc);
+    match records.read(&mut cells)? {
+        Next::Row | Next::End => Ok(cells),
+        Next::Faulty(fault) => Err(anyhow!("the header: {fault}")),
+    }
 }
 
 /// The list of these bytes, whose header row has each of the columns and no other. It prints every
 /// fault of another header row.
-fn open<R: Read + Drop, W: Write>(alloc: Global, bytes: R, out: &mut W) -> Result<List<R>> {
-    let mut reader = ReaderBuilder::new()
-        .has_headers(false)
-        .flexible(true)
-        .from_reader(alloc, bytes);
-    let mut header = StringRecord::new(alloc);
-    if let Err(error) = reader.read_record(&mut header) {
-        return Err(anyhow!("{error}"));
-    }
+fn open<R: Read + Drop, W: Write>(
+    alloc: Global,
+    bytes: R,
+    has_header: bool,
+    out: &mut W,
+) -> Result<List<R>> {
+    let mut records = Records::new(alloc, bytes)?;
+    let header = header(alloc, &mut records, has_header)?;
     let mut scratch = RowScratch::new(alloc);
     match read_columns(alloc, header, Names(&COLUMNS), &mut scratch, &DefaultI18n) {
         Ok(columns) => Ok(List {
-            reader,
+            records,
             columns,
             cells: StringRecord::new(alloc),
             scratch,
@@ -123,20 +132,51 @@ fn open<R: Read + Drop, W: Write>(alloc: Global, bytes: R, out: &mut W) -> Resul
     }
 }
 
-/// Whether each row of the list on standard input is valid.
-fn run(rt: &HostRuntime) -> Result<bool> {
-    let words: Vec<String> = env::args(rt)?.skip(1).collect(rt.alloc())?;
-    let options = Options::of(&words)?;
-    let bytes = Input::new(options.has_header, rt.stdin());
+/// Prints how the program is called, or checks the list on standard input. The answer is whether
+/// nothing is wrong.
+fn run(rt: &HostRuntime, task: Task) -> Result<bool> {
     let mut out = BufWriter::new(rt.alloc(), io::writer(rt))?;
-    let mut list = open(rt.alloc(), bytes, &mut out)?;
-    let valid = import(rt.alloc(), &mut list, &options, &mut out)?;
+    let valid = match task {
+        Task::Help => {
+            writeln!(out, "{USAGE}")?;
+            true
+        }
+        Task::Import(options) => {
+            let mut list = open(rt.alloc(), rt.stdin(), options.has_header, &mut out)?;
+            import(rt.alloc(), &mut list, &options, &mut out)?
+        }
+    };
     out.flush()?;
     Ok(valid)
 }
 
+/// The words of the command line.
+fn words(rt: &HostRuntime) -> Result<Vec<String>> {
+    Ok(env::args(rt)?.skip(1).collect(rt.alloc())?)
+}
+
+/// What the command line asks for, or what is wrong with it, which is printed.
+fn task(rt: &HostRuntime) -> Option<Task> {
+    match words(rt) {
+        Ok(words) => match Task::of(&words) {
+            Ok(task) => Some(task),
+            Err(reason) => {
+                let _ = eprintln!(rt; "use_import: {reason}\n{USAGE}");
+                None
+            }
+        },
+        Err(error) => {
+            let _ = eprintln!(rt; "use_import: {error}");
+            None
+        }
+    }
+}
+
 fn main(rt: HostRuntime) -> ExitCode {
-    match run(&rt) {
+    let Some(task) = task(&rt) else {
+        return ExitCode::from(2);
+    };
+    match run(&rt, task) {
         Ok(true) => ExitCode::SUCCESS,
         Ok(false) => ExitCode::FAILURE,
         Err(error) => {

@@ -1,18 +1,16 @@
 -- What a list in CSV gives.
-use Rattle.std.specs.Prelude.{◌≡◌, ◌≢◌, ℕ, true, false, List, [], ◌∷◌, length, Option, Some, None, unwrap_or, ◌<◌, ◌^◌}
+use Rattle.std.specs.Prelude.{◌≡◌, ◌≢◌, ℕ, false, List, [], ◌∷◌, length, Option, Some, None, IsSomeAnd, unwrap_or, ◌<◌, ◌^◌}
 use Rattle.std.specs.String.{string_bytes}
 use Rattle.std.specs.Str.Parse.{IsNumeral, digits_value, without_leading_plus}
-use Rattle.csv.specs.Reading.{ReadRecord, TookRecord, Ready, reader_trim, expected_len}
-use Rattle.csv.specs.Records.{field_at, AllText}
-use Rattle.csv.specs.declared.reader.Reader.{Reader}
-use Rattle.csv.specs.declared.reader.Trim.TheVariants as trim
-use Rattle.csv.specs.declared.error.ErrorKind.{ErrorKind}
-use Rattle.csv.specs.declared.error.ErrorKind.TheVariants as kind
+use Rattle.csv.specs.Records.{field_at}
+use Rattle.garde_csv.specs.Lists.{GivesNext, has_stopped, rest_of}
+use Rattle.garde_csv.specs.declared.records.Next.{Next}
+use Rattle.garde_csv.specs.declared.records.Next.TheVariants as next
+use Rattle.garde_csv.specs.declared.records.Records.{Records}
 use Rattle.example_import.specs.Line.{page_bytes}
 use Rattle.example_import.specs.declared.row.Row.{Row}
 use Rattle.example_import.specs.declared.item.Item.{Item}
 use Rattle.example_import.specs.declared.item.Item.TheVariants as item
-use Rattle.example_import.specs.declared.item.Flaw.{Flaw}
 use Rattle.example_import.specs.declared.item.Flaw.TheVariants as flaw
 
 -- the field of a record at a place, or an empty one where there is none
@@ -41,24 +39,22 @@ pub record Spells (fields : List (List ℕ)) (row : Row) : Type 0 where
   pub price : Writes (field fields 3) row.price
   pub page : page_bytes row.page ≡ filled (field fields 4)
 
--- why a record is no row
-abbrev pub HasFlaw : ErrorKind → Flaw → Type 0
-HasFlaw (kind.UnequalLengths pos expected len) flaw.Lengths = Unit {0}
-HasFlaw (kind.Utf8 pos err) flaw.NotUtf8 = Unit {0}
-HasFlaw _ _ = ⊥
+-- a record without a fault is the row that its five fields spell, or it has more or fewer fields
+abbrev pub IsRecord : List (List ℕ) → Item → Type 0
+IsRecord fields (item.Row row) = (length fields ≡ 5) × Spells fields row
+IsRecord fields (item.Broken flaw.Lengths) = length fields ≢ 5
+IsRecord fields (item.Broken (flaw.Record fault)) = ⊥
 
-module _ {R : Type 0} (remaining : R → Option (List ℕ)) (old new : Reader R) where
-  -- the record that is read next gives the item, or the list is at its end
-  abbrev pub ReadsItem : Option Item → Type 0
-  ReadsItem None = (fields : List (List ℕ)) × ReadRecord remaining old new false fields
-  ReadsItem (Some (item.Row row)) = (fields : List (List ℕ)) × ReadRecord remaining old new true fields × Spells fields row
-  ReadsItem (Some (item.Broken flaw.Lengths)) = (fields : List (List ℕ)) × TookRecord remaining old new fields × (expected_len old ≢ Some (length fields))
-  ReadsItem (Some (item.Broken flaw.NotUtf8)) = (fields : List (List ℕ)) × TookRecord remaining old new fields × ¬ AllText fields
+-- what was read of the list is this item: a record without a fault, one with this fault, or the end of the list
+abbrev pub IsItem : List (List ℕ) → Next → Option Item → Type 0
+IsItem fields next.Row given = IsSomeAnd given (IsRecord fields)
+IsItem fields (next.Faulty fault) given = given ≡ Some (item.Broken (flaw.Record fault))
+IsItem fields next.End given = given ≡ None
 
--- the reader reads records as they are, and its next read is of one
-abbrev pub IsReady : {R : Type 0} → Reader R → Type 0
-IsReady reader = (reader_trim reader ≡ trim.None) × Ready reader
-
--- the list gave the item, and it can be read on
-abbrev pub Gives : {R : Type 0} → (R → Option (List ℕ)) → Reader R → Option Item → Reader R → Type 0
-Gives remaining old next new = IsReady old → ReadsItem remaining old new next × IsReady new
+-- the record that is read next gives the item, and the list can be read on
+pub record Gives {R : Type 0} (remaining : R → Option (List ℕ)) (old : Records R) (given : Option Item) (new : Records R) : Type 0 where
+  pub fields : List (List ℕ)
+  pub answer : Next
+  pub read : GivesNext (rest_of remaining old) (rest_of remaining new) old new fields answer
+  pub is_item : IsItem fields answer given
+  pub goes : has_stopped new ≡ false

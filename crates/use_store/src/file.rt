@@ -39,6 +39,14 @@ pub fn open(rt: &HostRuntime, path: &str) -> Result<Stock<FileStore<File>>, Open
     Stock::over(connect(rt, path)?)
 }
 
+/// Whether a file was not opened since the disk is full, or failed.
+pub fn is_full(error: &OpenError) -> bool {
+    matches!(
+        error,
+        OpenError::Sqlite(Error::SqliteFailure(ErrorCode::DiskFull | ErrorCode::SystemIoFailure))
+    )
+}
+
 /// Closes the file, which holds all kept rows then. What was not kept is gone.
 pub fn close(stock: Stock<FileStore<File>>) -> Result<(), Error> {
     stock.conn.close()

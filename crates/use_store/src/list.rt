@@ -1,48 +1,24 @@
 //! A stock list in CSV, read a row at a time.
-ghost use Rattle.std.specs.Prelude.{◌≡◌, IfOk, IfSome};
+ghost use Rattle.std.specs.Prelude.{◌≡◌, false, length, IfOk};
 ghost use Rattle.csv.specs.Records.{fields_of};
-ghost use Rattle.csv.specs.Reading.{error_kind};
-ghost use Rattle.use_store.specs.List.{field, Spells, Writes, HasFlaw, IsReady};
+ghost use Rattle.garde_csv.specs.Lists.{has_stopped};
+ghost use Rattle.use_store.specs.List.{field, Spells, Writes, IsRecord};
 
 use anyhow::{Result, anyhow};
-use csv::{Error, ErrorKind, Reader, ReaderBuilder, StringRecord};
+use csv::StringRecord;
 use example_import::item::{Flaw, Item, Source};
 use example_import::row::Row;
+use garde_csv::{ListError, Next, Records};
 use std::alloc::{AllocError, Global};
-use std::fmt;
 use std::io::Read;
 
 /// The columns of a list, in their order.
 const COLUMNS: [&str; 5] = ["code", "name", "quantity", "price", "page"];
 
-/// Why a list was not read to its end.
-#[derive(Debug, Drop)]
-pub enum ListError {
-    Memory,
-    Csv(Error),
-}
-
-impl fmt::Display for ListError {
-    fn fmt<W: fmt::Write>(&self, f: &mut fmt::Formatter<W>) -> fmt::Result {
-        match self {
-            ListError::Memory => f.write_str("out of memory"),
-            ListError::Csv(error) => write!(f, "{error}"),
-        }
-    }
-}
-
-impl std::error::Error for ListError {}
-
-impl From<AllocError> for ListError {
-    fn from(_: AllocError) -> ListError {
-        ListError::Memory
-    }
-}
-
 /// A list whose header row was read.
 #[derive(Drop)]
 pub struct CsvList<R> {
-    pub reader: Reader<R>,
+    pub records: Records<R>,
     pub alloc: Global,
 }
 
@@ -54,17 +30,6 @@ fn has_columns(header: &StringRecord) -> bool {
         }
     }
     header.len() == COLUMNS.len()
-}
-
-/// Why a record is no row, where the records behind it can be read.
-fn flaw(error: &Error) -> Option<Flaw>
-    ensures { IfSome result (HasFlaw (error_kind error.now)) }
-{
-    match error.kind() {
-        ErrorKind::UnequalLengths { .. } => Some(Flaw::Lengths),
-        ErrorKind::Utf8 { .. } => Some(Flaw::NotUtf8),
-        _ => None,
-    }
 }
 
 /// The field of a record at a place, or an empty one where there is none.
@@ -101,23 +66,27 @@ fn row_of(alloc: Global, fields: &StringRecord) -> Result<Row, AllocError>
     })
 }
 
+/// The item that a record without a fault is.
+fn item_of(alloc: Global, fields: &StringRecord) -> Result<Item, AllocError>
+    ensures { IfOk result (IsRecord (fields_of fields.now)) }
+{
+    if fields.len() != COLUMNS.len() {
+        return Ok(Item::Broken(Flaw::Lengths));
+    }
+    Ok(Item::Row(row_of(alloc, fields)?))
+}
+
 impl<R: Read + Drop> CsvList<R> {
     /// The list that is read from here. Its header row has to name the columns.
     pub fn new(alloc: Global, list: R) -> Result<CsvList<R>>
-        ensures { IfOk result (λ list. IsReady list.reader) }
+        ensures { IfOk result (λ list. has_stopped list.records ≡ false) }
     {
-        let mut reader = ReaderBuilder::new()
-            .has_headers(false)
-            .from_reader(alloc, list);
+        let mut records = Records::new(alloc, list)?;
         let mut header = StringRecord::new(alloc);
-        let is_there = match reader.read_record(&mut header) {
-            Ok(is_there) => is_there,
-            Err(error) => return Err(anyhow!("{error}")),
-        };
-        if is_there && has_columns(&header) {
-            Ok(CsvList { reader, alloc })
-        } else {
-            Err(anyhow!("the columns must be code, name, quantity, price, page"))
+        match records.read(&mut header)? {
+            Next::Row if has_columns(&header) => Ok(CsvList { records, alloc }),
+            Next::Faulty(fault) => Err(anyhow!("the header: {fault}")),
+            _ => Err(anyhow!("the columns must be code, name, quantity, price, page")),
         }
     }
 }
@@ -127,22 +96,14 @@ impl<R: Read + Drop> Source for CsvList<R> {
 
     type Error = ListError;
 
-    ghost gives = { λ old next new. Gives R.remaining old.reader next new.reader };
+    ghost gives = { λ old next new. Gives R.remaining old.records next new.records };
 
     fn next(&mut self) -> Result<Option<Item>, ListError> {
         let mut fields = StringRecord::new(self.alloc);
-        let is_there = match self.reader.read_record(&mut fields) {
-            Ok(is_there) => is_there,
-            Err(error) => {
-                return match flaw(&error) {
-                    Some(flaw) => Ok(Some(Item::Broken(flaw))),
-                    None => Err(ListError::Csv(error)),
-                };
-            }
-        };
-        if !is_there {
-            return Ok(None);
+        match self.records.read(&mut fields)? {
+            Next::Row => Ok(Some(item_of(self.alloc, &fields)?)),
+            Next::Faulty(fault) => Ok(Some(Item::Broken(Flaw::Record(fault)))),
+            Next::End => Ok(None),
         }
-        Ok(Some(Item::Row(row_of(self.alloc, &fields)?)))
     }
 }

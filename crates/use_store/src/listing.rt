@@ -6,7 +6,7 @@ use example_import::row::Row;
 use example_table::reading::Stored;
 use std::alloc::Global;
 use std::io;
-use std::io::{BufWriter, Write};
+use std::io::Write;
 
 /// A number, or an empty text where there is none.
 fn number(alloc: Global, number: Option<u64>) -> Result<String> {
@@ -14,6 +14,12 @@ fn number(alloc: Global, number: Option<u64>) -> Result<String> {
         Some(number) => Ok(format!(in alloc; "{number}")?),
         None => Ok(String::new(alloc)),
     }
+}
+
+/// A writer of records, on the heap since its buffer is large.
+#[inline(never)]
+fn records_on<W: Write + Drop>(alloc: Global, out: W) -> Result<Box<Writer<W>>> {
+    Ok(Box::new(alloc, Writer::from_writer(out))?)
 }
 
 /// Writes a row as a record of five fields.
@@ -39,7 +45,7 @@ fn write_row<W: Write + Drop>(alloc: Global, row: &Row, out: &mut Writer<W>) -> 
 pub fn list(rt: &HostRuntime, path: &str) -> Result<bool> {
     let alloc = rt.alloc();
     let mut stock = file::open(rt, path)?;
-    let mut out = Writer::from_writer(BufWriter::new(alloc, io::writer(rt))?);
+    let mut out = records_on(alloc, io::writer(rt))?;
     out.write_fields(&[b"code", b"name", b"quantity", b"price", b"page"])?;
     let mut rows = stock.rows(alloc);
     let mut valid = true;

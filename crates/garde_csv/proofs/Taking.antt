@@ -1,0 +1,95 @@
+-- How the reading of a record follows the bytes of its list.
+use Rattle.std.proofs.Common.{◌≡◌, ℕ, List, [], ◌∷◌, ◌++◌, Option, Some, None, refl, sym, ap, ◌∙◌, true, false, Bool}
+use Rattle.std.specs.Prelude.{IfOk, MatchOption, Result, Ok, Err}
+use Rattle.std.specs.Io.KnownBytes.{IsAtEnd, Keeps, prepend_known}
+use Rattle.csv.proofs.ReadFacts.{Tracks, prepend-nil, tracks-keep, tracks-step}
+use Rattle.csv.specs.Machine.{Read, ends_at_end, field_after, fields_after, is_end, next_record, step}
+use Rattle.csv.specs.Reading.{default_config}
+use Rattle.csv.specs.declared.parser.State.{State}
+use Rattle.garde_csv.proofs.Feeding.{SeesOn, sees-step}
+use Rattle.garde_csv.specs.Lists.{Gives, GivesNext, IsAnswer, TakesAt, TakesNext, list_state, next_line}
+use Rattle.garde_csv.specs.Places.{state_of}
+use Rattle.garde_csv.specs.Quotes.{Seen, seen_after, seen_at_end, seen_in, seen_of, unbegun}
+use Rattle.garde_csv.specs.declared.list_error.ListError.{ListError}
+use Rattle.garde_csv.specs.declared.records.Next.{Next}
+use Rattle.garde_csv.specs.declared.records.Records.{Records}
+use Rattle.garde_csv.specs.declared.walk.Walk.{Walk}
+
+-- the reading of the record that was begun at p, where q is left: what `csv` reads from here on, and what is seen from here on
+abbrev pub Follows : Seen → Option (List ℕ) → Seen → List (List ℕ) → List ℕ → Option (List ℕ) → Type 0
+Follows a p b fields field q = Tracks default_config a.state p b.state fields field q × SeesOn a p b q
+
+-- one more byte that does not end the record
+pub follows-step : (a b b2 : Seen) (fields fields2 : List (List ℕ)) (field field2 : List ℕ) (p q k : Option (List ℕ)) (c : ℕ)
+    → Follows a p b fields field q → Keeps q (prepend_known (c ∷ []) k) → is_end (step default_config b.state c).1 ≡ false
+    → b2 ≡ seen_after b c → fields2 ≡ fields_after (step default_config b.state c).1 fields field
+    → field2 ≡ field_after (step default_config b.state c).1 c field → Follows a p b2 fields2 field2 k
+follows-step a b b2 fields fields2 field field2 p q k c t h e s f g =
+    let kept = tracks-keep default_config a.state b.state fields field p q (prepend_known (c ∷ []) k) t.0 h in
+    let more = rw (prepend-nil k) at (tracks-step default_config a.state b.state fields field p k c [] e kept) in
+    rw (s, f, g) (more, sees-step a b p q k c h e t.1)
+
+-- one more byte that ends the record
+pub follows-record : (a b : Seen) (w : Walk) (fields fields2 : List (List ℕ)) (field : List ℕ) (p q k : Option (List ℕ)) (c : ℕ)
+    → Follows a p b fields field q → Keeps q (prepend_known (c ∷ []) k) → is_end (step default_config b.state c).1 ≡ true
+    → seen_of w ≡ seen_after b c → fields2 ≡ fields_after (step default_config b.state c).1 fields field → TakesNext a p k fields2 (Some w)
+unfolding next_record seen_in
+follows-record a b w fields fields2 field None q k c t h e s f = tt
+follows-record a b w fields fields2 field (Some xs) None k c t h e s f = absurd t.0
+follows-record a b w fields fields2 field (Some xs) (Some ys) None c t h e s f = h
+follows-record a b w fields fields2 field (Some xs) (Some ys) (Some zs) c t h e s f =
+    rw (t.0, t.1, ← h, e) (refl, ap (λ (x : Seen). x.state) s, s, f)
+
+-- the end of the list, which ends a record
+pub follows-last : (a b : Seen) (w : Walk) (fields fields2 : List (List ℕ)) (field : List ℕ) (p q k : Option (List ℕ))
+    → Follows a p b fields field q → Keeps q k → IsAtEnd k → ends_at_end b.state ≡ true
+    → seen_of w ≡ seen_at_end b → fields2 ≡ fields ++ field ∷ [] → TakesNext a p k fields2 (Some w)
+unfolding next_record seen_in
+follows-last a b w fields fields2 field None q k t h n e s f = tt
+follows-last a b w fields fields2 field (Some xs) None k t h n e s f = absurd t.0
+follows-last a b w fields fields2 field (Some xs) (Some ys) None t h n e s f = h
+follows-last a b w fields fields2 field (Some xs) (Some ys) (Some zs) t h n e s f =
+    rw (t.0, t.1, ← h, n, e) (refl, ap (λ (x : Seen). x.state) s, s, f)
+
+-- the end of the list, where no record has begun
+pub follows-none : (a b : Seen) (fields fields2 : List (List ℕ)) (field : List ℕ) (p q k : Option (List ℕ))
+    → Follows a p b fields field q → Keeps q k → IsAtEnd k → ends_at_end b.state ≡ false → TakesNext a p k fields2 None
+unfolding next_record
+follows-none a b fields fields2 field None q k t h n e = tt
+follows-none a b fields fields2 field (Some xs) None k t h n e = absurd t.0
+follows-none a b fields fields2 field (Some xs) (Some ys) None t h n e = h
+follows-none a b fields fields2 field (Some xs) (Some ys) (Some zs) t h n e = rw (t.0, ← h, n, e) refl
+
+-- the end of the list
+pub follows-finish : (a b : Seen) (fields fields2 : List (List ℕ)) (field : List ℕ) (p q k : Option (List ℕ)) (r : Result (Option Walk) ListError)
+    → Follows a p b fields field q → Keeps q k → IsAtEnd k
+    → IfOk r (λ found. MatchOption found (ends_at_end b.state ≡ false)
+    (λ end. (ends_at_end b.state ≡ true) × (seen_of end ≡ seen_at_end b) × (fields2 ≡ fields ++ field ∷ [])))
+    → IfOk r (λ found. TakesNext a p k fields2 found)
+follows-finish a b fields fields2 field p q k (Err e) t h n f = tt
+follows-finish a b fields fields2 field p q k (Ok None) t h n f = follows-none a b fields fields2 field p q k t h n f
+follows-finish a b fields fields2 field p q k (Ok (Some w)) t h n f = follows-last a b w fields fields2 field p q k t h n f.0 f.1 f.2
+
+-- what was taken of a list is what it gives
+gives-at : {R : Type 0} (o : Option Read) (seen : Seen) (list : Records R) (walk : Walk) (rest : List ℕ) (fields cells : List (List ℕ)) (answer : Next)
+    → TakesAt o seen rest fields (Some walk) → IsAnswer walk.fault fields cells answer
+    → list.place ≡ walk.place → list.line ≡ walk.line → list.start ≡ walk.start → Gives o seen list rest cells answer
+gives-at None seen list walk rest fields cells answer t h place line start = cc t
+gives-at (Some p) seen list walk rest fields cells answer t h place line start = (
+  t.0,
+  ap state_of place ∙ t.1,
+  line ∙ ap (λ (x : Seen). x.line) t.2,
+  start ∙ ap (λ (x : Seen). x.start) t.2,
+  answers t.2 t.3,
+)
+  where
+    answers : seen_of walk ≡ seen → fields ≡ p.0 → IsAnswer seen.fault p.0 cells answer
+    answers s f = rw (← s, ← f) h
+
+pub gives-next : {R : Type 0} (old list : Records R) (walk : Walk) (p k : Option (List ℕ)) (fields cells : List (List ℕ)) (answer : Next)
+    → TakesNext (unbegun (list_state old) (next_line old)) p k fields (Some walk) → IsAnswer walk.fault fields cells answer
+    → list.place ≡ walk.place → list.line ≡ walk.line → list.start ≡ walk.start → GivesNext p k old list cells answer
+gives-next old list walk None k fields cells answer t h place line start = tt
+gives-next old list walk (Some xs) None fields cells answer t h place line start = absurd t
+gives-next old list walk (Some xs) (Some ys) fields cells answer t h place line start =
+    gives-at _ _ list walk ys fields cells answer t h place line start

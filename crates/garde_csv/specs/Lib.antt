@@ -1,0 +1,4 @@
+pub mod Places
+pub mod Quotes
+pub mod Lists
+pub mod Texts

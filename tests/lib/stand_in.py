@@ -1,0 +1,61 @@
+"""A stand-in for the toolchain: an `rt` whose prover prints what is stored of the checks that it is asked for."""
+import pathlib
+import re
+import sys
+import time
+
+RT = """#!/bin/sh
+# `rt doc` names a page of the folder that has the prover; `rt lib` makes nothing.
+[ "$1" = doc ] && echo {kit}/START-HERE.md && exit 0
+exit {lib}
+"""
+RATTLE = """#!/bin/sh
+exec {python} {here} {stored} {own} "$@"
+"""
+
+
+def put(kit, stored, own, lib=0):
+    """Puts the stand-in into a folder: its prover prints the checks of the file `stored`, of a crate in the folder `own`. `rt lib` ends
+    with the status `lib`. Gives the folder for PATH."""
+    here = pathlib.Path(__file__).resolve()
+    for name, text in {
+        "path/rt": RT.format(kit=kit, lib=lib),
+        "bin/rattle": RATTLE.format(python=sys.executable, here=here, stored=stored, own=own),
+    }.items():
+        file = kit / name
+        file.parent.mkdir(parents=True, exist_ok=True)
+        file.write_text(text, encoding="utf-8")
+        file.chmod(0o755)
+    return kit / "path"
+
+
+def files_of(folder):
+    """The files of a crate that a check reads, by their names."""
+    return {str(it.relative_to(folder)) for part in ("src", "specs", "proofs") for it in folder.glob(f"{part}/**/*") if it.is_file()}
+
+
+def blocks_of(text):
+    """The stored checks: their functions, the proof files that each was given, and what was printed."""
+    for block in text.split("asked: ")[1:]:
+        question, _, printed = block.partition("\n")
+        functions, _, given = question.partition(" (")
+        yield functions.split(), set(re.findall(r"proofs/\S+", given)), printed
+
+
+def main():
+    stored, own, *words = sys.argv[1:]
+    functions = [word for before, word in zip(words, words[1:]) if before == "--only"]
+    given = files_of(pathlib.Path.cwd()) - files_of(pathlib.Path(own))
+    pathlib.Path(f"{stored}.jobs").write_text(f"jobs: {words[words.index('--jobs') + 1]}\n", encoding="utf-8")
+    if pathlib.Path(f"{stored}.waits").exists():
+        pathlib.Path(f"{stored}.waits").rename(f"{stored}.waiting")
+        time.sleep(60)
+    for its_functions, its_given, printed in blocks_of(pathlib.Path(stored).read_text(encoding="utf-8")):
+        if its_functions == functions and its_given == given:
+            print(printed, end="")
+            return
+    print(f"error: no check of {' '.join(functions)} with {' '.join(sorted(given)) or 'no file'} is stored")
+
+
+if __name__ == "__main__":
+    main()

@@ -1,0 +1,1 @@
+"""A module of Dask's name for tests/in-parts."""

@@ -1,0 +1,115 @@
+"""Runs the whole command `tools/why`, with a stand-in for the toolchain, and says what is wrong with what it prints and leaves."""
+import contextlib
+import os
+import pathlib
+import signal
+import subprocess
+import sys
+import tempfile
+import time
+
+from lib import stand_in
+from lib.repository import ROOT
+
+WHY = ROOT / "tools/why"
+# a library that was never built, and a type above it
+LOW = {"crates.txt": "low:\nhigh: low\n", "crates/low/src/lib.rt": "#![tactic(auto)]\n"}
+
+
+def state_of(folder):
+    """The files of a crate with their bytes."""
+    return {name: (folder / name).read_bytes() for name in stand_in.files_of(folder)}
+
+
+class Run:
+    """A run of the command on a type of a crate in an own room, with what is stored as the prover's answers."""
+
+    def __init__(self, room, crate, stored, lib=0):
+        self.crate, self.stored, self.kit = crate, room / "stored", room / "kit"
+        self.temporary = room / "temporary"
+        self.temporary.mkdir()
+        self.stored.write_text(stored, encoding="utf-8")
+        path = stand_in.put(self.kit, self.stored, crate, lib)
+        self.env = {**os.environ, "PATH": f"{path}:{os.environ['PATH']}", "TMPDIR": str(self.temporary)}
+
+    def start(self, *words):
+        out = {"stdin": subprocess.DEVNULL, "stdout": subprocess.PIPE, "stderr": subprocess.PIPE}
+        return subprocess.Popen([sys.executable, WHY, *words], env=self.env, cwd=self.temporary.parent, text=True, **out)
+
+    def faults(self, words, status, says, complains=""):
+        """What is wrong with the answer to these words, or left behind."""
+        before = state_of(self.crate)
+        run = self.start(*words)
+        out, err = run.communicate(timeout=60)
+        wanted = (status, "".join(f"{it}\n" for it in says), complains)
+        if (run.returncode, out, err) != wanted:
+            yield f"tools/why {' '.join(words)}: {(run.returncode, out, err)}, and not {wanted}"
+        yield from self.left(before)
+
+    def left(self, before):
+        """What a run has changed in the crate, or left in the folder of copies."""
+        if state_of(self.crate) != before:
+            yield f"tools/why has changed {self.crate.name}"
+        for it in self.temporary.iterdir():
+            yield f"tools/why has left {it.name}"
+
+    def jobs(self):
+        """The jobs that the prover was asked for."""
+        return pathlib.Path(f"{self.stored}.jobs").read_text(encoding="utf-8")
+
+    def faults_where_ended(self, words):
+        """What is wrong where the command is ended while the prover works."""
+        waits, waiting = pathlib.Path(f"{self.stored}.waits"), pathlib.Path(f"{self.stored}.waiting")
+        waits.touch()
+        before, run = state_of(self.crate), self.start(*words)
+        end = time.monotonic() + 30
+        while not waiting.exists() and time.monotonic() < end:
+            time.sleep(0.01)
+        run.send_signal(signal.SIGTERM)
+        run.communicate(timeout=30)
+        if run.returncode != 2:
+            yield f"tools/why that is ended has the status {run.returncode}, and not 2"
+        yield from self.left(before)
+
+
+@contextlib.contextmanager
+def run_of(mistake):
+    """A run on the crate of a mistake."""
+    with tempfile.TemporaryDirectory(prefix="why-test-") as name:
+        room = pathlib.Path(name)
+        yield Run(room, mistake.copy(room), mistake.stored().read_text(encoding="utf-8"))
+
+
+def faults_of_mistake(mistake):
+    """What is wrong with the answer of the whole command to a planted mistake."""
+    with run_of(mistake) as run:
+        yield from run.faults(("--jobs", "3", str(run.crate), mistake.type), mistake.status, mistake.says)
+        if run.jobs() != "jobs: 3\n":
+            yield f"tools/why --jobs 3 asks for {run.jobs()}"
+
+
+def faults_of_words(mistake):
+    """What is wrong with the answers to words that name no type, and where the command is ended."""
+    with run_of(mistake) as run:
+        room = run.crate.parent
+        for name in (f"{mistake.type}x", mistake.type[1:], mistake.type.lower()):
+            yield from run.faults((str(run.crate), name), 2, [], unknown_type(run.crate, name))
+        nowhere = f"why: {room.resolve()}: there is no crate in it: it has no folder `src`\n"
+        yield from run.faults((str(room), mistake.type), 2, [], nowhere)
+        yield from run.faults_where_ended((str(run.crate), mistake.type))
+
+
+def unknown_type(crate, name):
+    """What the command says of a type that is not there. `use_order` has these three."""
+    return f"why: {crate.name}: no type of the name `{name}` with `impl Validate`: it has line::Line, order::Order, page::Page\n"
+
+
+def faults_without_library(mistake):
+    """What is wrong with the answer where a library below the crate cannot be built."""
+    with tempfile.TemporaryDirectory(prefix="why-test-") as name:
+        room = pathlib.Path(name)
+        for file, text in {**LOW, "crates/high/src/line.rt": mistake.texts["src/line.rt"]}.items():
+            (room / file).parent.mkdir(parents=True, exist_ok=True)
+            (room / file).write_text(text, encoding="utf-8")
+        run = Run(room, room / "crates/high", "", lib=1)
+        yield from run.faults(("crates/high", mistake.type), 2, [], "why: `rt lib` failed, so a library below is missing\n")
