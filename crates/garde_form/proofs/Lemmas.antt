@@ -8,9 +8,12 @@ use Rattle.garde_report.specs.Fault.{IfFault}
 use Rattle.garde_report.specs.declared.error.rule_error.RuleError.{RuleError}
 use Rattle.garde_report.specs.declared.error.rule_error.RuleError.TheVariants as errors
 use Rattle.garde_rules.specs.{Applies}
-use Rattle.garde.specs.Author.{Visits, Visited, Known, found, own}
+use Rattle.garde.specs.Author.{Fault, Visits, Visited, Known, found, own}
 use Rattle.garde.proofs.Author.{visited_none}
+use Rattle.garde_schema.specs.Bound.{TellsBound}
 use Rattle.garde_schema.specs.Forms.{formed, refused, Sound}
+use Rattle.garde_schema.specs.Whole.{beyond_fault, number_visits}
+use Rattle.garde_form.specs.Texts.{unread}
 use Rattle.garde_schema.specs.Nulls.{nullable_visits}
 
 -- the answer of a rule whose fault has a text of its own
@@ -28,10 +31,21 @@ pub on_ok : {A E : Type 0} (r : Result A E) {P : Type 0} → P → OnOk r P
 on_ok (Ok x) p = p
 on_ok (Err e) p = tt
 
+-- what is said of a text that spells no value is a fault
+unread_is_fault : (bound : Option Fault) (message : List ℕ) → Known (unread bound message) → ⊥
+unfolding Known found
+unread_is_fault bound message is = cc
+
+-- the fault of a bound, or that memory ran out, is what a rule says that finds a fault
+pub bound_applies : (bound : Option Fault) (message : List ℕ) (text : Datum → List ℕ) (e : RuleError) → TellsBound bound text (Err e) → Applies (Some (beyond_fault bound message)) text (Err e)
+bound_applies (Some fault) message text (errors.Fault told) tells = tells
+bound_applies None message text (errors.Fault told) tells = absurd tells
+bound_applies bound message text errors.Memory tells = refl
+
 -- what has no value has a fault, and of a value the rules are known
-pub sound_formed : {A : Type 0} (message : List ℕ) (each : A → Visits) (o : Option A) → Sound (formed message each o) (λ v. Known (each v)) o
-sound_formed message each (Some x) = λ known. known
-sound_formed message each None = refused_is_fault message
+pub sound_read : {A : Type 0} (bound : Option Fault) (message : List ℕ) (each : A → Visits) (o : Option A) → Sound (number_visits (unread bound message) each o) (λ v. Known (each v)) o
+sound_read bound message each (Some x) = λ known. known
+sound_read bound message each None = unread_is_fault bound message
 
 -- a text is as sound as what its parser makes of it
 pub sound_text : {A B : Type 0} (message : List ℕ) (each : B → Visits) (keeps : A → Type 0) (value : B → Option A) (o : Option B) → ((s : B) → Sound (each s) keeps (value s)) → Sound (formed message each o) keeps (option_and_then value o)

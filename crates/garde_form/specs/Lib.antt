@@ -1,3 +1,4 @@
+pub mod Bare
 pub mod Lists
 pub mod Texts
 pub mod WebForm

@@ -2,7 +2,9 @@
 use Rattle.std.specs.Prelude.{ℕ, ℤ, pos, negsuc, ◌-◌, ◌^◌, ◌==◌, ◌&&◌, Bool, true, false, List, [], ◌∷◌, length, nat_lt, Option, Some, None, if◌then◌else◌, chars, bytes_eq}
 use Rattle.std.specs.Char.{digit_value}
 use Rattle.std.specs.Str.Parse.{true_text, false_text, digits_value, signed_digits_value, without_leading_plus, without_leading_sign}
-use Rattle.garde_schema.specs.Whole.{between, up_to}
+use Rattle.garde.specs.Author.{Fault, Visits, found}
+use Rattle.garde_tape.specs.Number.{has_minus}
+use Rattle.garde_schema.specs.Whole.{between, up_to, beyond_fault}
 use Rattle.garde_schema.specs.declared.fault.FormFault.{FormFault}
 use Rattle.garde_schema.specs.declared.fault.FormFault.TheVariants.{Wrong, OutOfRange}
 use Rattle.garde_schema.specs.declared.fault.Wanted.TheVariants as wanted
@@ -38,6 +40,14 @@ signed_text text = if is_whole text then between (negsuc (2 ^ 63 - 1)) (pos (2 ^
 -- what is wrong with a text that is no number of this type
 abbrev pub text_fault : Integer → List ℕ → FormFault
 text_fault integer text = if is_whole text then OutOfRange integer else Wrong wanted.Whole kinds.Text
+
+-- of the least and the greatest number of a type, the one that is nearest to a whole number beyond the type which a text writes
+abbrev pub nearest_text : {A : Type 0} → A → A → List ℕ → Option A
+nearest_text least most text = if is_whole text then Some (if has_minus text then least else most) else None
+
+-- what is wrong with a text that spells no value: of a number beyond a bound of the rules this bound, and else this message
+abbrev pub unread : Option Fault → List ℕ → Visits
+unread bound message = found (Some (beyond_fault bound message))
 
 -- the value that a text names: `true` or `false`
 abbrev pub flag_text : List ℕ → Option Bool

@@ -1,5 +1,5 @@
 //! Texts of one character.
-ghost use Rattle.std.specs.Prelude.{◌≡◌};
+ghost use Rattle.std.specs.Prelude.{◌≡◌, false, None};
 ghost use Rattle.garde_schema.specs.declared.fault.FormFault.TheVariants.{Wrong};
 ghost use Rattle.garde_schema.specs.declared.fault.Wanted.TheVariants as wanted;
 ghost use Rattle.garde_tape.specs.declared.kind.Kind.TheVariants as kinds;
@@ -17,15 +17,23 @@ pub struct Character;
 impl Parse for Character {
     type Value = char;
 
+    ghost bare = { λ _. false };
+
     ghost parsed = { λ _ text. character_text text };
 
     ghost message = { λ _ texts _. texts (Wrong wanted.Character kinds.Text) };
+
+    ghost nearest = { λ _ _. None };
 
     fn parse(&self, text: &str) -> Option<char> {
         match text.parse::<char>() {
             Ok(character) => Some(character),
             Err(_) => None,
         }
+    }
+
+    fn is_bare(&self) -> bool {
+        false
     }
 
     fn message<H: FormI18n>(
@@ -35,5 +43,9 @@ impl Parse for Character {
         h: &H,
     ) -> Result<CowStr<'static>, AllocError> {
         h.form_fault(alloc, FormFault::Wrong(Wanted::Character, Kind::Text))
+    }
+
+    fn nearest(&self, _text: &str) -> Option<char> {
+        None
     }
 }

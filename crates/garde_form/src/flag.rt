@@ -1,5 +1,5 @@
 //! `true` and `false`, as texts write them.
-ghost use Rattle.std.specs.Prelude.{◌≡◌};
+ghost use Rattle.std.specs.Prelude.{◌≡◌, false, None};
 ghost use Rattle.garde_schema.specs.declared.fault.FormFault.TheVariants.{Wrong};
 ghost use Rattle.garde_schema.specs.declared.fault.Wanted.TheVariants as wanted;
 ghost use Rattle.garde_tape.specs.declared.kind.Kind.TheVariants as kinds;
@@ -14,9 +14,13 @@ use std::borrow::CowStr;
 impl Parse for Flag {
     type Value = bool;
 
+    ghost bare = { λ _. false };
+
     ghost parsed = { λ _ text. flag_text text };
 
     ghost message = { λ _ texts _. texts (Wrong wanted.Boolean kinds.Text) };
+
+    ghost nearest = { λ _ _. None };
 
     fn parse(&self, text: &str) -> Option<bool> {
         if text == "true" {
@@ -28,6 +32,10 @@ impl Parse for Flag {
         }
     }
 
+    fn is_bare(&self) -> bool {
+        false
+    }
+
     fn message<H: FormI18n>(
         &self,
         alloc: Global,
@@ -35,5 +43,9 @@ impl Parse for Flag {
         h: &H,
     ) -> Result<CowStr<'static>, AllocError> {
         h.form_fault(alloc, FormFault::Wrong(Wanted::Boolean, Kind::Text))
+    }
+
+    fn nearest(&self, _text: &str) -> Option<bool> {
+        None
     }
 }

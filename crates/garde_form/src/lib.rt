@@ -2,6 +2,7 @@
 //! fields of a web form.
 #![tactic(auto)]
 
+mod bare;
 mod character;
 mod flag;
 mod numbers;
@@ -11,6 +12,7 @@ mod parsed;
 mod put;
 mod web_form;
 
+pub use bare::write_bare;
 pub use character::Character;
 pub use or_empty::OrEmpty;
 pub use parse::Parse;

@@ -1,7 +1,8 @@
 //! Whole numbers that texts write.
 ghost use Rattle.std.specs.Prelude.{◌≡◌};
 ghost use Rattle.std.specs.Str.Parse.{without_leading_sign};
-ghost use Rattle.garde_form.specs.Texts.{all_digits, is_numeral, is_whole, signed_text, text_fault, unsigned_text};
+ghost use Rattle.garde_form.specs.Texts.{all_digits, is_numeral, is_whole, nearest_text, signed_text, text_fault, unsigned_text};
+ghost use Rattle.garde_tape.specs.Number.{has_minus};
 
 mod signed;
 mod unsigned;
@@ -58,6 +59,27 @@ fn fault_of(text: &str, integer: Integer) -> FormFault
         FormFault::OutOfRange(integer)
     } else {
         FormFault::Wrong(Wanted::Whole, Kind::Text)
+    }
+}
+
+// Whether a text begins with a minus.
+fn has_minus(text: &[u8]) -> bool
+    ensures { result ≡ has_minus text.now }
+{
+    !text.is_empty() && text[0] == b'-'
+}
+
+// Of the two ends of a type, the one that is nearest to a whole number beyond it which a text writes.
+fn nearest_of<T: Copy>(text: &str, least: T, most: T) -> Option<T>
+    ensures { result ≡ nearest_text least most text.now }
+{
+    if !is_whole(text) {
+        return None;
+    }
+    if has_minus(text.as_bytes()) {
+        Some(least)
+    } else {
+        Some(most)
     }
 }
 

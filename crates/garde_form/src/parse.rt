@@ -1,5 +1,5 @@
 //! Parsers of texts.
-ghost use Rattle.std.specs.Prelude.{◌≡◌, ℕ, List, Option, IfOk};
+ghost use Rattle.std.specs.Prelude.{◌≡◌, ℕ, Bool, List, Option, IfOk};
 ghost use Rattle.std.specs.Cow.{cow_str_bytes};
 ghost use Rattle.garde_schema.specs.Forms.{FormTexts};
 
@@ -12,15 +12,27 @@ pub trait Parse {
     /// What it makes of a text.
     type Value: Drop;
 
+    /// Whether it reads bare values too.
+    ghost bare: { Self → Bool };
+
     /// The value that a text spells. Another text spells none.
     ghost parsed: { Self → List ℕ → Option Self.Value };
 
     /// What is said of a text that spells none, where the faults of form have these texts.
     ghost message: { Self → FormTexts → List ℕ → List ℕ };
 
+    /// Of a text that writes a number which is no value of this parser, the value that is nearest to
+    /// it. Every other text has none, and so has each text of a parser that reads no numbers.
+    ghost nearest: { Self → List ℕ → Option Self.Value };
+
     /// The value that the text spells.
     fn parse(&self, text: &str) -> Option<Self::Value>
         ensures { result ≡ parsed self.now text.now };
+
+    /// Whether it reads bare values too, by their text: what TOML has without quotes and JSON does not
+    /// have, as a date. Where this is false a bare value is no text.
+    fn is_bare(&self) -> bool
+        ensures { result ≡ bare self.now };
 
     /// What is said of the text, which spells none. `AllocError` is the only error.
     fn message<H: FormI18n>(
@@ -31,4 +43,9 @@ pub trait Parse {
     ) -> Result<CowStr<'static>, AllocError>
         ensures { IfOk result (λ s.
             cow_str_bytes s ≡ message self.now (H.form_text h.now) text.now) };
+
+    /// The value nearest to the number that the text writes, where `parse` returns none of a number.
+    /// A parser that reads no numbers returns `None`.
+    fn nearest(&self, text: &str) -> Option<Self::Value>
+        ensures { result ≡ nearest self.now text.now };
 }

@@ -1,5 +1,5 @@
 //! IPv4 addresses.
-ghost use Rattle.std.specs.Prelude.{◌≡◌};
+ghost use Rattle.std.specs.Prelude.{◌≡◌, false, None};
 ghost use Rattle.garde_schema.specs.declared.fault.FormFault.TheVariants.{Wrong};
 ghost use Rattle.garde_schema.specs.declared.fault.Wanted.TheVariants as wanted;
 ghost use Rattle.garde_tape.specs.declared.kind.Kind.TheVariants as kinds;
@@ -19,15 +19,23 @@ pub struct Ipv4;
 impl Parse for Ipv4 {
     type Value = Ipv4Addr;
 
+    ghost bare = { λ _. false };
+
     ghost parsed = { λ _ text. ipv4_of text };
 
     ghost message = { λ _ texts _. texts (Wrong wanted.Ipv4 kinds.Text) };
+
+    ghost nearest = { λ _ _. None };
 
     fn parse(&self, text: &str) -> Option<Ipv4Addr> {
         match text.parse::<Ipv4Addr>() {
             Ok(value) => Some(value),
             Err(_) => None,
         }
+    }
+
+    fn is_bare(&self) -> bool {
+        false
     }
 
     fn message<H: FormI18n>(
@@ -37,5 +45,9 @@ impl Parse for Ipv4 {
         h: &H,
     ) -> Result<CowStr<'static>, AllocError> {
         h.form_fault(alloc, FormFault::Wrong(Wanted::Ipv4, Kind::Text))
+    }
+
+    fn nearest(&self, _text: &str) -> Option<Ipv4Addr> {
+        None
     }
 }

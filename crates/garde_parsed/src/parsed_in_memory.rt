@@ -1,5 +1,5 @@
 //! Texts of which a parser that may allocate makes values.
-ghost use Rattle.std.specs.Prelude.{◌≡◌, option_and_then, Some, None, IfOk};
+ghost use Rattle.std.specs.Prelude.{◌≡◌, option_and_then, Some, None, IfOk, false};
 ghost use Rattle.json.specs.Find.{as_str};
 ghost use Rattle.garde.specs.Visits.{Visited, Known, may_allocate};
 ghost use Rattle.garde_schema.specs.Forms.{formed, refused, forget};
@@ -24,12 +24,20 @@ struct NoValue<'p, P>(&'p P);
 impl<'p, P: ParseInMemory> Parse for NoValue<'p, P> {
     type Value = ();
 
+    ghost bare = { λ _. false };
+
     ghost parsed = { λ _ _. None };
 
     ghost message = { λ none texts text. P.message none.0.now texts text };
 
+    ghost nearest = { λ _ _. None };
+
     fn parse(&self, _text: &str) -> Option<()> {
         None
+    }
+
+    fn is_bare(&self) -> bool {
+        false
     }
 
     fn message<H: FormI18n>(
@@ -39,6 +47,10 @@ impl<'p, P: ParseInMemory> Parse for NoValue<'p, P> {
         h: &H,
     ) -> Result<CowStr<'static>, AllocError> {
         self.0.message(alloc, text, h)
+    }
+
+    fn nearest(&self, _text: &str) -> Option<()> {
+        None
     }
 }
 

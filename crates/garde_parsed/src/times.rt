@@ -1,5 +1,5 @@
 //! Times of day.
-ghost use Rattle.std.specs.Prelude.{◌≡◌};
+ghost use Rattle.std.specs.Prelude.{◌≡◌, true, None};
 ghost use Rattle.garde_schema.specs.declared.fault.FormFault.TheVariants.{Wrong};
 ghost use Rattle.garde_schema.specs.declared.fault.Wanted.TheVariants as wanted;
 ghost use Rattle.garde_tape.specs.declared.kind.Kind.TheVariants as kinds;
@@ -19,15 +19,23 @@ pub struct Time;
 impl Parse for Time {
     type Value = jiff::civil::Time;
 
+    ghost bare = { λ _. true };
+
     ghost parsed = { λ _ text. time_of text };
 
     ghost message = { λ _ texts _. texts (Wrong wanted.Time kinds.Text) };
+
+    ghost nearest = { λ _ _. None };
 
     fn parse(&self, text: &str) -> Option<jiff::civil::Time> {
         match text.parse::<jiff::civil::Time>() {
             Ok(value) => Some(value),
             Err(_) => None,
         }
+    }
+
+    fn is_bare(&self) -> bool {
+        true
     }
 
     fn message<H: FormI18n>(
@@ -37,5 +45,9 @@ impl Parse for Time {
         h: &H,
     ) -> Result<CowStr<'static>, AllocError> {
         h.form_fault(alloc, FormFault::Wrong(Wanted::Time, Kind::Text))
+    }
+
+    fn nearest(&self, _text: &str) -> Option<jiff::civil::Time> {
+        None
     }
 }

@@ -1,5 +1,5 @@
 //! Timestamps.
-ghost use Rattle.std.specs.Prelude.{◌≡◌};
+ghost use Rattle.std.specs.Prelude.{◌≡◌, true, None};
 ghost use Rattle.garde_schema.specs.declared.fault.FormFault.TheVariants.{Wrong};
 ghost use Rattle.garde_schema.specs.declared.fault.Wanted.TheVariants as wanted;
 ghost use Rattle.garde_tape.specs.declared.kind.Kind.TheVariants as kinds;
@@ -18,15 +18,23 @@ pub struct Timestamp;
 impl Parse for Timestamp {
     type Value = jiff::Timestamp;
 
+    ghost bare = { λ _. true };
+
     ghost parsed = { λ _ text. timestamp_of text };
 
     ghost message = { λ _ texts _. texts (Wrong wanted.Timestamp kinds.Text) };
+
+    ghost nearest = { λ _ _. None };
 
     fn parse(&self, text: &str) -> Option<jiff::Timestamp> {
         match text.parse::<jiff::Timestamp>() {
             Ok(value) => Some(value),
             Err(_) => None,
         }
+    }
+
+    fn is_bare(&self) -> bool {
+        true
     }
 
     fn message<H: FormI18n>(
@@ -36,5 +44,9 @@ impl Parse for Timestamp {
         h: &H,
     ) -> Result<CowStr<'static>, AllocError> {
         h.form_fault(alloc, FormFault::Wrong(Wanted::Timestamp, Kind::Text))
+    }
+
+    fn nearest(&self, _text: &str) -> Option<jiff::Timestamp> {
+        None
     }
 }

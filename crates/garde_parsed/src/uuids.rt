@@ -1,5 +1,5 @@
 //! UUIDs.
-ghost use Rattle.std.specs.Prelude.{◌≡◌};
+ghost use Rattle.std.specs.Prelude.{◌≡◌, false, None};
 ghost use Rattle.garde_schema.specs.declared.fault.FormFault.TheVariants.{Wrong};
 ghost use Rattle.garde_schema.specs.declared.fault.Wanted.TheVariants as wanted;
 ghost use Rattle.garde_tape.specs.declared.kind.Kind.TheVariants as kinds;
@@ -18,15 +18,23 @@ pub struct Uuid;
 impl Parse for Uuid {
     type Value = uuid::Uuid;
 
+    ghost bare = { λ _. false };
+
     ghost parsed = { λ _ text. uuid_of text };
 
     ghost message = { λ _ texts _. texts (Wrong wanted.Uuid kinds.Text) };
+
+    ghost nearest = { λ _ _. None };
 
     fn parse(&self, text: &str) -> Option<uuid::Uuid> {
         match uuid::Uuid::parse_str(text) {
             Ok(value) => Some(value),
             Err(_) => None,
         }
+    }
+
+    fn is_bare(&self) -> bool {
+        false
     }
 
     fn message<H: FormI18n>(
@@ -36,5 +44,9 @@ impl Parse for Uuid {
         h: &H,
     ) -> Result<CowStr<'static>, AllocError> {
         h.form_fault(alloc, FormFault::Wrong(Wanted::Uuid, Kind::Text))
+    }
+
+    fn nearest(&self, _text: &str) -> Option<uuid::Uuid> {
+        None
     }
 }

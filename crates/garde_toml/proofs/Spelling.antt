@@ -13,17 +13,20 @@ use Rattle.json.specs.Tree as tree
 use Rattle.json.specs.Tree.{json_tokens}
 use Rattle.json.specs.Written.{Written, Writes}
 use Rattle.json.proofs.Printed.Trees.{value-json_tokens}
-use Rattle.toml.specs.Data.{Data, string, integer, float, boolean, datetime, array, table, Items, no_items, item, Members, no_members, member, depth, items_depth, members_depth}
+use Rattle.toml.specs.Data.{Data, string, integer, float, boolean, datetime, array, table, Items, no_items, item, Members, no_members, member}
 use Rattle.toml_writer.specs.Text.{IsFloatText}
+use Rattle.garde_form.specs.Bare.{bare}
+use Rattle.garde_form.specs.WebForm.{AreWritten}
+use Rattle.garde_toml.specs.Nesting.{nesting, items_nesting, members_nesting}
 use Rattle.garde_toml.specs.Spelled.{Spells, SpellItems, SpellMembers}
 use Rattle.garde_toml.specs.Writes.{WritesValue, WritesItems, WritesMembers}
 
-float_depth : (finite : Bool) (text : List ℕ) → tree.depth (if finite then json.number text else json.string text) ≡ 0
+float_depth : (finite : Bool) (text : List ℕ) → tree.depth (if finite then json.number text else bare text) ≡ (if finite then 0 else 1)
 float_depth true text = refl
 float_depth false text = refl
 
 mutual
-  pub same_depth : (d : Data) (j : Json) → Spells d j → tree.depth j ≡ depth d
+  pub same_depth : (d : Data) (j : Json) → Spells d j → tree.depth j ≡ nesting d
   same_depth (string s) j h = rw h refl
   same_depth (integer z) j h = rw h refl
   same_depth (float x) j (text, told, is) = rw is (float_depth (float_is_finite x) text)
@@ -32,15 +35,15 @@ mutual
   same_depth (array ds) j (js, is, spelled) = rw is (ap suc (same_items_depth ds js spelled))
   same_depth (table ms) j (js, is, spelled) = rw is (ap suc (same_members_depth ms js spelled))
 
-  same_items_depth : (ds : Items) (js : json.Items) → SpellItems ds js → tree.items_depth js ≡ items_depth ds
+  same_items_depth : (ds : Items) (js : json.Items) → SpellItems ds js → tree.items_depth js ≡ items_nesting ds
   same_items_depth no_items js h = rw h refl
   same_items_depth (item d ds) js (j, rest, is, first, more) =
-      rw is (ap (λ n. max n (tree.items_depth rest)) (same_depth d j first) ∙ ap (max (depth d)) (same_items_depth ds rest more))
+      rw is (ap (λ n. max n (tree.items_depth rest)) (same_depth d j first) ∙ ap (max (nesting d)) (same_items_depth ds rest more))
 
-  same_members_depth : (ms : Members) (js : json.Members) → SpellMembers ms js → tree.members_depth js ≡ members_depth ms
+  same_members_depth : (ms : Members) (js : json.Members) → SpellMembers ms js → tree.members_depth js ≡ members_nesting ms
   same_members_depth no_members js h = rw h refl
   same_members_depth (member k d ms) js (j, rest, is, first, more) =
-      rw is (ap (λ n. max n (tree.members_depth rest)) (same_depth d j first) ∙ ap (max (depth d)) (same_members_depth ms rest more))
+      rw is (ap (λ n. max n (tree.members_depth rest)) (same_depth d j first) ∙ ap (max (nesting d)) (same_members_depth ms rest more))
 
 module _ {E : Type 0} where
   -- a value of one token is written by that token
@@ -57,6 +60,11 @@ module _ {E : Type 0} where
       let told : IsFloatText x s = rw finite (plain, parsed) in
       (json.number s, (s, told, rw finite refl), before, written)
   a_finite_float (Err e) old new x finite before h = tt
+
+  -- a bare value is written by the four tokens of its list
+  pub a_bare_value : (r : Result (Unit {0}) E) (old new : Written) (d : Data) (text : List ℕ) → Spells d (bare text) → OnOk r (AreWritten (json_tokens (bare text)) old new) → OnOk r (WritesValue d old new)
+  a_bare_value (Ok x) old new d text spelled written = (bare text, spelled, written.before, written.tokens)
+  a_bare_value (Err e) old new d text spelled written = tt
 
   -- an array is its bracket and its items, a table its brace and its members
   pub bracket_first : (r : Result (Unit {0}) E) (old mid new : Written) (ds : Items) → mid.before ≡ old.before → mid.tokens ≡ old.tokens ++ Token.begin_array ∷ [] → OnOk r (WritesItems ds mid new) → OnOk r (WritesValue (array ds) old new)

@@ -1,10 +1,11 @@
 -- What a TOML text is turned into, and why it is not.
 use Rattle.std.specs.Prelude.{◌≡◌, ◌<◌, ℕ, List, Some, None, ⊤}
 use Rattle.json.specs.Json.{Json, document, max_depth}
-use Rattle.toml.specs.Data.{Members, table, depth}
+use Rattle.toml.specs.Data.{Members, table}
 use Rattle.toml.specs.Errors.{IsMemory, IsWithin}
 use Rattle.toml.specs.Parse.{parse_document}
 use Rattle.toml.specs.declared.de.error.Error.{Error}
+use Rattle.garde_toml.specs.Nesting.{nesting}
 use Rattle.garde_toml.specs.Spelled.{Spells}
 use Rattle.garde_toml.specs.declared.error.TomlError.{TomlError}
 use Rattle.garde_toml.specs.declared.error.TomlError.TheVariants.{Parse, TooDeep, Memory}
@@ -16,7 +17,7 @@ IsInJson text out = (t : Members) × (j : Json) × (parse_document text ≡ Some
 -- why the text is not turned into JSON: that memory ran out says nothing of it
 abbrev pub IsReason : List ℕ → TomlError → Type 0
 IsReason text (Parse error) = (parse_document text ≡ None) × ¬ IsMemory error × IsWithin text error
-IsReason text TooDeep = (t : Members) × (parse_document text ≡ Some t) × (max_depth < depth (table t))
+IsReason text TooDeep = (t : Members) × (parse_document text ≡ Some t) × (max_depth < nesting (table t))
 IsReason text Memory = ⊤
 
 -- the error of the parser

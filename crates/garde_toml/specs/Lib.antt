@@ -1,3 +1,4 @@
 pub mod Answers
+pub mod Nesting
 pub mod Spelled
 pub mod Writes

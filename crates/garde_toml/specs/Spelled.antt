@@ -7,19 +7,20 @@ use Rattle.json.specs.Json as json
 use Rattle.toml.specs.Data.{Data, string, integer, float, boolean, datetime, array, table, Items, no_items, item, Members, no_members, member}
 use Rattle.toml_datetime.specs.Text.{datetime_text}
 use Rattle.toml_writer.specs.Text.{IsFloatText}
+use Rattle.garde_form.specs.Bare.{bare}
 
--- a finite float is a number, with a point or an exponent; `nan`, `inf` and `-inf` are texts
+-- a finite float is a number, with a point or an exponent; `nan`, `inf` and `-inf` are bare values
 abbrev pub SpellsFloat : Float → Json → Type 0
-SpellsFloat x j = (text : List ℕ) × IsFloatText x text × (j ≡ (if float_is_finite x then json.number text else json.string text))
+SpellsFloat x j = (text : List ℕ) × IsFloatText x text × (j ≡ (if float_is_finite x then json.number text else bare text))
 
 abbrev mutual
-  -- a date or a time is a text in its TOML form
+  -- a date or a time is a bare value in its TOML form
   pub Spells : Data → Json → Type 0
   Spells (string s) j = j ≡ json.string s
   Spells (integer z) j = j ≡ json.number (signed_decimal z)
   Spells (float x) j = SpellsFloat x j
   Spells (boolean b) j = j ≡ json.boolean b
-  Spells (datetime dt) j = j ≡ json.string (datetime_text dt)
+  Spells (datetime dt) j = j ≡ bare (datetime_text dt)
   Spells (array ds) j = (js : json.Items) × (j ≡ json.array js) × SpellItems ds js
   Spells (table ms) j = (js : json.Members) × (j ≡ json.object js) × SpellMembers ms js
 

@@ -11,7 +11,8 @@ use toml::de::Error;
 pub enum TomlError {
     /// The text is no TOML. Prints the line, the column and the reason.
     Parse(Error),
-    /// The tables and arrays nest deeper than the 128 that a reader of JSON takes.
+    /// The tables and arrays nest deeper than the 128 that a reader of JSON takes. A date, a time, `nan`
+    /// and `inf` count as an array.
     TooDeep,
     /// Out of memory.
     Memory,

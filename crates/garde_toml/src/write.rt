@@ -7,6 +7,7 @@ ghost use Rattle.toml.specs.Data.{integer, float, datetime, table};
 ghost use Rattle.toml.specs.View.{view, array_view, table_view};
 ghost use Rattle.garde_toml.specs.Writes.{WritesValue, WritesItems, WritesMembers};
 
+use garde_form::write_bare;
 use json::Writer;
 use std::alloc::{AllocError, Global};
 use toml::value::{Array, Datetime};
@@ -74,7 +75,7 @@ fn write_float(number: f64, out: &mut Writer) -> Result<(), AllocError>
     if number.is_finite() {
         out.float(number)
     } else {
-        out.string(name_of(number))
+        write_bare(name_of(number), out)
     }
 }
 
@@ -95,7 +96,7 @@ fn write_datetime(alloc: Global, moment: Datetime, out: &mut Writer) -> Result<(
     ensures { OnOk result (WritesValue (datetime moment) out.old out.new) }
 {
     let text = format!(in alloc; "{moment}")?;
-    out.string(text.as_str())
+    write_bare(text.as_str(), out)
 }
 
 /// Writes a table.

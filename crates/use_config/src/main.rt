@@ -26,16 +26,43 @@ use std::{env, io};
 /// The status of a run that judged no configuration.
 const NOT_JUDGED: u8 = 2;
 
-/// Whether the word after the program's name asks for JSON. Without a word it is TOML.
-fn asks_for_json(rt: &HostRuntime) -> Result<bool> {
-    let mut words = env::args(rt).context("the command line is not read")?;
-    match words.nth(1) {
-        None => Ok(false),
-        Some(word) => match word.as_str() {
-            "toml" => Ok(false),
-            "json" => Ok(true),
-            _ => bail!("the word is toml or json"),
-        },
+/// How the program is called.
+const USAGE: &str = "\
+usage: use_config [toml | json]
+Reads the configuration of a service on standard input, and prints what it asks for or every fault.
+
+  toml    reads TOML, as without a word
+  json    reads JSON
+  --help  prints this";
+
+/// How a configuration is written.
+#[derive(Clone, Copy)]
+enum Format {
+    Toml,
+    Json,
+}
+
+/// What the words of the command line ask for.
+enum Task {
+    /// The usage is printed.
+    Help,
+    /// A configuration is read.
+    Read(Format),
+}
+
+impl Task {
+    /// What the words after the program's name ask for, or what is wrong with them.
+    fn of(words: &[String]) -> Result<Task, &'static str> {
+        match words {
+            [] => Ok(Task::Read(Format::Toml)),
+            [word] => match word.as_str() {
+                "toml" => Ok(Task::Read(Format::Toml)),
+                "json" => Ok(Task::Read(Format::Json)),
+                "--help" => Ok(Task::Help),
+                _ => Err("the word is toml or json"),
+            },
+            _ => Err("there is one word at most"),
+        }
     }
 }
 
@@ -76,15 +103,34 @@ fn judge(rt: &HostRuntime, text: &str) -> Result<ExitCode> {
     }
 }
 
-fn run(rt: &HostRuntime) -> Result<ExitCode> {
+/// Reads the configuration on standard input, and judges it.
+fn check(rt: &HostRuntime, format: Format) -> Result<ExitCode> {
     let alloc = rt.alloc();
-    let json = asks_for_json(rt)?;
     let text = read_to_string(alloc, rt.stdin()).context("the configuration is not read")?;
-    if json {
-        return judge(rt, text.as_str());
+    match format {
+        Format::Json => judge(rt, text.as_str()),
+        Format::Toml => {
+            let text = to_json(alloc, text.as_str())?;
+            judge(rt, text.as_str())
+        }
     }
-    let text = to_json(alloc, text.as_str())?;
-    judge(rt, text.as_str())
+}
+
+/// Does what the words of the command line ask for.
+fn run(rt: &HostRuntime) -> Result<ExitCode> {
+    let words = env::args(rt).context("the command line is not read")?;
+    let words: Vec<String> = words.skip(1).collect(rt.alloc())?;
+    match Task::of(&words) {
+        Ok(Task::Read(format)) => check(rt, format),
+        Ok(Task::Help) => {
+            println!(rt; "{USAGE}")?;
+            Ok(ExitCode::SUCCESS)
+        }
+        Err(wrong) => {
+            eprintln!(rt; "use_config: {wrong}\n{USAGE}")?;
+            Ok(ExitCode::from(NOT_JUDGED))
+        }
+    }
 }
 
 /// A message in one line. A name in it may come from anyone, so what is not shown is escaped, and a

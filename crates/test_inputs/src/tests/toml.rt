@@ -1,4 +1,5 @@
 //! Settings in TOML.
 
+mod bare;
 mod documents;
 mod rejected;

@@ -1,9 +1,9 @@
 use Rattle.std.proofs.Common.{◌≡◌, true, false, refl, sym, ◌∙◌}
 use Rattle.std.specs.Float.{float_is_finite}
-use Rattle.json.specs.Json as json
 use Rattle.toml.specs.Data.{float}
+use Rattle.garde_form.specs.Bare.{bare}
 use Rattle.garde_toml.specs.Spelled.{SpellsFloat}
-use Rattle.garde_toml.proofs.Spelling.{one_token, a_finite_float}
+use Rattle.garde_toml.proofs.Spelling.{a_bare_value, a_finite_float}
 use Rattle.garde_toml.proofs.write.write_float.Goals as goal
 
 pub returns-then-is_finite : goal.returns-then-is_finite
@@ -16,5 +16,5 @@ pub returns-else-is_finite : goal.returns-else-is_finite
 returns-else-is_finite c =
     let finite : float_is_finite c.args.number ≡ false = sym c.is_finite.ensures.value ∙ c.if-is_finite.false in
     let text = c.name_of.result.now in
-    let spelled : SpellsFloat c.args.number (json.string text) = (text, rw finite c.name_of.ensures, rw finite refl) in
-    one_token _ _ _ _ (float c.args.number) (json.string text) refl spelled c.string.ensures
+    let spelled : SpellsFloat c.args.number (bare text) = (text, rw finite c.name_of.ensures, rw finite refl) in
+    a_bare_value _ _ _ (float c.args.number) text spelled c.write_bare.ensures.written

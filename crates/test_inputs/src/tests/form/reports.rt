@@ -38,8 +38,8 @@ const FORMS: [(&str, &str); 14] = [
         "name: length is lower than 1\nage: not a whole number\nshift: not a whole number\n",
     ),
     ("name=A&age=17", "age: lower than 18\n"),
-    ("name=A&age=256", "age: out of range: 0 to 255\n"),
-    ("name=A&age=-1", "age: out of range: 0 to 255\n"),
+    ("name=A&age=256", "age: greater than 120\n"),
+    ("name=A&age=-1", "age: lower than 18\n"),
     (
         "name=A&age=18&shift=0000000000000000000000000000000000000128",
         "shift: out of range: -128 to 127\n",

@@ -5,8 +5,10 @@ use garde_toml::toml_to_json;
 use std::alloc::Global;
 use std::process::Abort;
 
-const VALUES: [(&str, &str); 10] = [
+const VALUES: [(&str, &str); 12] = [
     ("", "{}"),
+    ("\u{feff}", "{}"),
+    ("\u{feff}# a comment", "{}"),
     ("# a comment\r\n\n", "{}"),
     (
         "\u{feff}a = true\r\nb = false\r\n",
@@ -26,7 +28,7 @@ const VALUES: [(&str, &str); 10] = [
     ),
     (
         "a = inf\nb = -inf\nc = nan\nd = +inf",
-        r#"{"a":"inf","b":"-inf","c":"nan","d":"inf"}"#,
+        r#"{"a":[-0,"inf"],"b":[-0,"-inf"],"c":[-0,"nan"],"d":[-0,"inf"]}"#,
     ),
     (
         "a = \"\\u00E9 \\\"\\\\\\t\"\nb = 'C:\\n'\nc = \"\"\"\n1\n2\"\"\"\nd = ''",
@@ -34,11 +36,11 @@ const VALUES: [(&str, &str); 10] = [
     ),
     (
         "a = 1979-05-27T07:32:00Z\nb = 1979-05-27 00:32:00.999999-07:00",
-        r#"{"a":"1979-05-27T07:32:00Z","b":"1979-05-27T00:32:00.999999-07:00"}"#,
+        r#"{"a":[-0,"1979-05-27T07:32:00Z"],"b":[-0,"1979-05-27T00:32:00.999999-07:00"]}"#,
     ),
     (
         "a = 2024-02-29\nb = 23:59:60\nc = 1979-05-27t07:32:00.500",
-        r#"{"a":"2024-02-29","b":"23:59:60","c":"1979-05-27T07:32:00.5"}"#,
+        r#"{"a":[-0,"2024-02-29"],"b":[-0,"23:59:60"],"c":[-0,"1979-05-27T07:32:00.5"]}"#,
     ),
 ];
 
@@ -81,6 +83,19 @@ fn writes_tables_and_arrays(rt: HostRuntime) {
         let json = toml_to_json(rt.alloc(), text).or_end(&rt);
         assert_eq!(rt; json.as_str(), expected, "{expected}");
     }
+}
+
+// Where an array were asked twice how deep it nests, or written twice, this took 2^79 steps.
+#[test]
+fn writes_arrays_as_deep_as_they_may_nest(rt: HostRuntime) {
+    let begin = "[".repeat(rt.alloc(), 79).or_end(&rt);
+    let end = "]".repeat(rt.alloc(), 79).or_end(&rt);
+    let text = format!(in rt.alloc(); "a = {begin}1979-05-27, 1{end}").or_end(&rt);
+    let json = toml_to_json(rt.alloc(), text.as_str()).or_end(&rt);
+    let expected = format!(in rt.alloc(); "{{\"a\":{begin}[-0,\"1979-05-27\"],1{end}}}").or_end(
+        &rt,
+    );
+    assert_eq!(rt; json.as_str(), expected.as_str());
 }
 
 // A text of ten thousand keys, each with its number.

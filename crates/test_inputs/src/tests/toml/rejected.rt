@@ -39,21 +39,42 @@ fn tells_the_line_and_the_column(rt: HostRuntime) {
     }
 }
 
-// A table below eighty tables, with so many tables below it.
-fn nested(rt: &impl Abort, alloc: Global, tables: usize) -> String {
+// A table below eighty tables, with so many tables below it, and this value there.
+fn nested(rt: &impl Abort, alloc: Global, tables: usize, value: &str) -> String {
     let header = "a.".repeat(alloc, 79).or_end(rt);
     let key = "b.".repeat(alloc, tables).or_end(rt);
-    format!(in alloc; "[{header}a]\n{key}b = 1\n").or_end(rt)
+    format!(in alloc; "[{header}a]\n{key}b = {value}\n").or_end(rt)
 }
+
+// The root, eighty tables of the header, and those of the key make 128 levels with 47. A date, a time,
+// `nan` and `inf` count as one more.
+const LEVELS: [(usize, &str, bool); 8] = [
+    (47, "1", true),
+    (48, "1", false),
+    (46, "1979-05-27", true),
+    (47, "1979-05-27", false),
+    (46, "inf", true),
+    (47, "-nan", false),
+    (46, "[1.5]", true),
+    (46, "[07:32:00]", false),
+];
 
 #[test]
 fn rejects_more_than_128_levels(rt: HostRuntime) {
-    // The root, eighty tables of the header, and those of the key.
-    let text = nested(&rt, rt.alloc(), 47);
-    assert!(rt; toml_to_json(rt.alloc(), text.as_str()).is_ok());
-    let text = nested(&rt, rt.alloc(), 48);
-    let read = toml_to_json(rt.alloc(), text.as_str());
-    assert!(rt; matches!(&read, Err(TomlError::TooDeep)));
+    for (tables, value, takes) in LEVELS {
+        let text = nested(&rt, rt.alloc(), tables, value);
+        let read = toml_to_json(rt.alloc(), text.as_str());
+        assert!(rt; read.is_ok() == takes, "{tables} {value}");
+        assert!(rt;
+            matches!(&read, Err(TomlError::TooDeep)) != takes,
+            "{tables} {value}"
+        );
+    }
+}
+
+#[test]
+fn tells_that_a_text_nests_too_deep(rt: HostRuntime) {
+    let text = nested(&rt, rt.alloc(), 48, "1");
     let line = first_line(&rt, rt.alloc(), text.as_str());
     assert_eq!(rt; line.as_str(), "tables and arrays nest deeper than 128");
 }
