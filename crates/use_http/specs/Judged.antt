@@ -5,6 +5,7 @@ use Rattle.json.specs.Json.{string, number, array, object, no_members, member}
 use Rattle.garde.specs.Handlers.{Datum}
 use Rattle.garde_report.specs.Report.{Entry}
 use Rattle.garde_problem.specs.Problem.{faults_json, json_text}
+use Rattle.garde_tape.specs.Input.{without_mark}
 use Rattle.garde_schema.specs.Bytes.{AnswersBytes, read_error_text}
 use Rattle.garde_schema.specs.declared.read_error.ReadError.{ReadError}
 use Rattle.garde_schema.specs.declared.read_error.ReadError.TheVariants.{Parse, Report, Memory}
@@ -25,10 +26,10 @@ faults_text report = json_text (object
     (member (codes "status") (number (decimal 422))
     (member (codes "errors") (array (faults_json report)) no_members))))
 
--- the problem details of a body that is no JSON text, for this reason, with these faults
+-- the problem details of a body that is not read as JSON, for this reason, with these faults
 abbrev pub no_json_text : List ℕ → List Entry → List ℕ
 no_json_text reason report = json_text (object
-    (member (codes "title") (string (codes "the body is no JSON text"))
+    (member (codes "title") (string (codes "the body is not read as JSON"))
     (member (codes "status") (number (decimal 400))
     (member (codes "detail") (string reason)
     (member (codes "errors") (array (faults_json report)) no_members)))))
@@ -40,9 +41,9 @@ Tells (Err (Report report)) response = IsResponse 422 problem_fields (faults_tex
 Tells (Err (Parse error)) response = IsResponse 400 problem_fields (no_json_text (read_error_text (Parse error)) []) response
 Tells (Err Memory) response = ⊥
 
--- this is the result of reading the body of an order, with these texts of faults of form and of rules
+-- this is the result of reading the body of an order, behind a byte order mark if there is one, with these texts of faults of form and of rules
 abbrev pub Reads : FormTexts → (Datum → List ℕ) → List ℕ → Result (Unit {0}) ReadError → Type 0
-Reads form_text text body read = AnswersBytes (λ j. order_visits form_text j) text body read
+Reads form_text text body read = AnswersBytes (λ j. order_visits form_text j) text (without_mark body) read
 
 -- the response tells the result of reading this body
 abbrev pub Judges : FormTexts → (Datum → List ℕ) → List ℕ → Response → Type 0

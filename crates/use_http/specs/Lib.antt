@@ -1,7 +1,10 @@
 pub mod Answered
 pub mod CzechText
+pub mod Dated
+pub mod Ending
 pub mod Fits
 pub mod Judged
 pub mod Order
+pub mod Refused
 pub mod Request
 pub mod Wire

@@ -1,5 +1,5 @@
 -- What a request asks for.
-use Rattle.std.specs.Prelude.{◌≡◌, ◌≤◌, ◌==◌, Bool, true, false, ◌||◌, ℕ, ◌⊎◌, List, length, map, take, slice_index, codes, IsTrue, IsSomeAnd}
+use Rattle.std.specs.Prelude.{◌≡◌, ◌≤◌, ◌==◌, Bool, true, false, ◌||◌, ℕ, ◌⊎◌, List, [], length, map, take, slice_index, codes, IsTrue, IsSomeAnd}
 use Rattle.std.specs.List.{list_any}
 use Rattle.std.specs.Str.{bytes_eq}
 use Rattle.std.specs.Char.{to_ascii_lowercase}
@@ -7,7 +7,7 @@ use Rattle.http.specs.declared.request.Parts.{Parts}
 use Rattle.http_header.specs.HeaderMap.{get}
 use Rattle.http_uri.specs.Uri.{uri_path}
 use Rattle.use_http.specs.declared.request.Route.{Route}
-use Rattle.use_http.specs.declared.request.Route.TheVariants.{Order, OtherForm, OtherOfOrders, Health, OtherOfHealth, Nowhere}
+use Rattle.use_http.specs.declared.request.Route.TheVariants.{Order, OtherForm, OtherOfOrders, Health, OtherOfHealth, Nowhere, Unserved, BadTarget}
 use Rattle.use_http.specs.declared.request.Language.{Language}
 use Rattle.use_http.specs.declared.request.Language.TheVariants.{English, Czech}
 use Rattle.use_http.specs.declared.request.TheConstants.{TYPE_ENDS, LANGUAGE_ENDS}
@@ -50,6 +50,15 @@ IsNot text other = bytes_eq text other ≡ false
 abbrev pub path_of : Parts → List ℕ
 path_of head = uri_path head.uri
 
+-- where no path of the service is asked for: `CONNECT` may name a host and a port, `OPTIONS` may name `*`, and another method names a path
+abbrev pub IsRouteElsewhere : Route → List ℕ → List ℕ → Type 0
+IsRouteElsewhere Unserved path method =
+    (Is path [] × Is method (codes "CONNECT")) ⊎ (Is path (codes "*") × Is method (codes "OPTIONS"))
+IsRouteElsewhere BadTarget path method =
+    (Is path [] × IsNot method (codes "CONNECT")) ⊎ (Is path (codes "*") × IsNot method (codes "OPTIONS"))
+IsRouteElsewhere Nowhere path method = IsNot path [] × IsNot path (codes "*")
+IsRouteElsewhere _ path method = ⊥
+
 abbrev pub IsRoute : Route → Parts → Type 0
 IsRoute Order head = Is (path_of head) (codes "/orders") × Is head.method (codes "POST") × HasJson head
 IsRoute OtherForm head = Is (path_of head) (codes "/orders") × Is head.method (codes "POST") × ¬ (HasJson head)
@@ -57,4 +66,6 @@ IsRoute OtherOfOrders head = Is (path_of head) (codes "/orders") × IsNot head.m
 IsRoute Health head = Is (path_of head) (codes "/health") × (Is head.method (codes "GET") ⊎ Is head.method (codes "HEAD"))
 IsRoute OtherOfHealth head =
     Is (path_of head) (codes "/health") × IsNot head.method (codes "GET") × IsNot head.method (codes "HEAD")
-IsRoute Nowhere head = IsNot (path_of head) (codes "/orders") × IsNot (path_of head) (codes "/health")
+IsRoute route head =
+    IsNot (path_of head) (codes "/orders") × IsNot (path_of head) (codes "/health")
+    × IsRouteElsewhere route (path_of head) head.method

@@ -8,7 +8,8 @@ use Rattle.http1.specs.Message.{ReadsRequestMessage, ReadsResponseMessage}
 use Rattle.http_server.specs.declared.state.Config.{Config}
 use Rattle.http_server.specs.declared.state.Refusal.{Refusal}
 use Rattle.http_server.specs.Exchange.{IsInterim}
-use Rattle.http_server.specs.Refusal.{refusal_text}
+use Rattle.http_server.specs.Refusal as server
+use Rattle.use_http.specs.Ending.{Ends}
 
 -- A client that sent a request with this method, and has room for the head, reads the text, whole, as this response.
 abbrev pub IsReadAs : List ℕ → List ℕ → Wire.Response → Type 0
@@ -42,7 +43,7 @@ abbrev pub IsLast : (Wire.Request → Wire.Response → Type 0) → Config → L
 IsLast Fits config stream text =
     ((after : List ℕ) × IsExchange Fits config stream text after)
     ⊎ ((interim : List ℕ) × IsInterim config.limits stream interim
-    × ((text ≡ interim) ⊎ ((why : Refusal) × (text ≡ interim ++ refusal_text why))))
+    × ((text ≡ interim) ⊎ ((why : Refusal) × (text ≡ interim ++ server.refusal_text why))))
 
 -- What was read begins with requests. What was written is a first part of the answers to them, in order, and of what follows.
 pub record IsConversation (Fits : Wire.Request → Wire.Response → Type 0) (config : Config) (read written : List ℕ) : Type 0 where
@@ -54,3 +55,10 @@ pub record IsConversation (Fits : Wire.Request → Wire.Response → Type 0) (co
   pub is_last : IsLast Fits config rest last
   pub unwritten : List ℕ
   pub joined : written ++ unwritten ≡ answers ++ last
+
+-- What was written is a conversation, or ends one in another way: the last bytes of the conversation are a refusal of `http_server`'s own,
+-- and problem details were written in its place.
+abbrev pub IsTalk : (Wire.Request → Wire.Response → Type 0) → Config → List ℕ → List ℕ → Type 0
+IsTalk Fits config read written =
+    (front : List ℕ) × (pending : List ℕ) × (end : List ℕ)
+    × (written ≡ front ++ end) × IsConversation Fits config read (front ++ pending) × Ends pending end

@@ -22,7 +22,11 @@ fn put(body: &mut Rope, text: &[u8]) -> Result<(), AllocError>
 }
 
 /// Answers with problem details.
-fn put_problem(response: &mut Response, status: StatusCode, text: &str) -> Result<(), AllocError>
+pub fn put_problem(
+    response: &mut Response,
+    status: StatusCode,
+    text: &str,
+) -> Result<(), AllocError>
     requires { IsBlank response.old }
     ensures { OnOk result (IsResponse status problem_fields text.now response.new) }
 {
@@ -48,7 +52,7 @@ fn put_report(alloc: Global, report: &Report, response: &mut Response) -> Result
     put_problem(response, StatusCode::UNPROCESSABLE_ENTITY, text.as_str())
 }
 
-/// Answers that the body is no JSON text, for this reason.
+/// Answers that the body is not read as JSON, for this reason.
 fn put_reason(
     alloc: Global,
     reason: &str,
@@ -61,7 +65,7 @@ fn put_reason(
 {
     let problem = Problem {
         type_uri: None,
-        title: "the body is no JSON text",
+        title: "the body is not read as JSON",
         status: 400,
         detail: Some(reason),
         instance: None,
@@ -70,7 +74,7 @@ fn put_reason(
     put_problem(response, StatusCode::BAD_REQUEST, text.as_str())
 }
 
-/// Answers that the body is no JSON text, and why.
+/// Answers that the body is not read as JSON, and why.
 fn put_no_json(alloc: Global, error: &ParseError, response: &mut Response) -> Result<(), AllocError>
     requires { IsBlank response.old }
     ensures { OnOk result (IsResponse 400 problem_fields

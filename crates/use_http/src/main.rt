@@ -3,12 +3,17 @@
 #![tactic(auto)]
 
 mod answer;
+mod command;
 mod czech;
+mod date;
 mod order;
+mod refusal;
+mod refused;
 mod request;
 mod service;
 mod wire;
 
+use crate::command::{Command, USAGE, command_of};
 use crate::wire::answer_all;
 use anyhow::{Context, Result, bail};
 use http_server::{Config, Reason, State};
@@ -17,39 +22,43 @@ use std::io::BufWriter;
 use std::process::ExitCode;
 use std::{env, io};
 
-/// A longer body is rejected, where the command line names no other length.
-const MOST: usize = 1024 * 1024;
-
-/// The longest body that is read: what the first word says.
-fn longest_body(rt: &HostRuntime) -> Result<usize> {
-    let mut words = env::args(rt).context("the command line is not read")?;
-    match words.nth(1) {
-        None => Ok(MOST),
-        Some(word) => match word.as_str().parse() {
-            Ok(most) => Ok(most),
-            Err(_) => bail!("the longest body is no number of bytes"),
-        },
-    }
-}
-
 /// Answers all requests of standard input.
-fn run(rt: &HostRuntime) -> Result<ExitCode> {
+fn run(rt: &HostRuntime, most: usize, dates: bool) -> Result<ExitCode> {
     let alloc = rt.alloc();
+    // No request is read while an answer is pending, so a refusal of `http_server` is pending alone.
     let config = Config {
-        max_body_len: longest_body(rt)?,
+        max_body_len: most,
+        max_pending: 0,
         ..Config::default()
     };
+    let clock = dates.then_some(rt);
     let keys = RandomState::new(rt)?;
     let mut output = BufWriter::new(alloc, io::writer(rt))?;
-    match answer_all(alloc, keys, config, &mut rt.stdin(), &mut output)? {
+    match answer_all(alloc, keys, config, clock, &mut rt.stdin(), &mut output)? {
         State::Closing(Reason::Asked | Reason::EndOfInput) => Ok(ExitCode::SUCCESS),
         State::Closing(Reason::Refused(_)) => Ok(ExitCode::FAILURE),
         _ => bail!("out of memory"),
     }
 }
 
+/// Does what the command line asks for.
+fn run_command(rt: &HostRuntime) -> Result<ExitCode> {
+    let words = env::args(rt).context("the command line is not read")?;
+    match command_of(&words.skip(1).collect::<Vec<String>>(rt.alloc())?) {
+        Ok(Command::Serve { most, dates }) => run(rt, most, dates),
+        Ok(Command::Help) => {
+            println!(rt; "{USAGE}")?;
+            Ok(ExitCode::SUCCESS)
+        }
+        Err(reason) => {
+            eprintln!(rt; "use_http: {reason}\n{USAGE}")?;
+            Ok(ExitCode::from(2))
+        }
+    }
+}
+
 fn main(rt: HostRuntime) -> ExitCode {
-    match run(&rt) {
+    match run_command(&rt) {
         Ok(status) => status,
         Err(error) => {
             let _ = eprintln!(rt; "use_http: {error:#}");

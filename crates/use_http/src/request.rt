@@ -1,7 +1,7 @@
 //! What a request asks for, and in which language.
 ghost use Rattle.std.specs.Prelude.{◌≡◌, ◌≤◌, ◌↔◌, IsTrue, codes, length};
 ghost use Rattle.http.specs.Request.{head_of};
-ghost use Rattle.use_http.specs.Request.{BeginsWith, FieldBeginsWith, Is, ends_at, IsLanguage, IsRoute, path_of};
+ghost use Rattle.use_http.specs.Request.{BeginsWith, FieldBeginsWith, Is, ends_at, IsLanguage, IsRoute, IsRouteElsewhere, path_of};
 
 use bytes::Bytes;
 use http::{HeaderName, Request, header};
@@ -21,6 +21,10 @@ pub enum Route {
     OtherOfHealth,
     /// Another path.
     Nowhere,
+    /// A tunnel, or what the server as a whole can do (RFC 9112, sections 3.2.3 and 3.2.4).
+    Unserved,
+    /// A target that has no path, with a method that needs one.
+    BadTarget,
 }
 
 /// The languages in which faults are reported.
@@ -82,6 +86,28 @@ fn route_of_orders(request: &Request<Bytes>) -> Route
     }
 }
 
+/// What a request asks for whose target may lack a path: one is `host:port`, for `CONNECT`, and `*` is
+/// for `OPTIONS`.
+fn route_elsewhere(path: &str, method: &str) -> Route
+    ensures { IsRouteElsewhere result path.now method.now }
+{
+    if path == "" {
+        if method == "CONNECT" {
+            Route::Unserved
+        } else {
+            Route::BadTarget
+        }
+    } else if path == "*" {
+        if method == "OPTIONS" {
+            Route::Unserved
+        } else {
+            Route::BadTarget
+        }
+    } else {
+        Route::Nowhere
+    }
+}
+
 /// What a request asks for.
 pub fn route_of(request: &Request<Bytes>) -> Route
     ensures { IsRoute result (head_of request.now) }
@@ -90,7 +116,7 @@ pub fn route_of(request: &Request<Bytes>) -> Route
     if path == "/orders" {
         route_of_orders(request)
     } else if path != "/health" {
-        Route::Nowhere
+        route_elsewhere(path, method)
     } else if method == "GET" || method == "HEAD" {
         Route::Health
     } else {

@@ -1,38 +1,50 @@
 //! The service: what is answered to each request.
-ghost use Rattle.std.specs.Prelude.{[], ◌∷◌, IsTrue, OnOk, codes};
+ghost use Rattle.std.specs.Prelude.{◌≡◌, [], ◌∷◌, ◌++◌, IsTrue, OnOk, codes};
 ghost use Rattle.http.specs.Request.{head_of, body_of};
 ghost use Rattle.http_header.specs.FieldValue.{is_visible_text};
 ghost use Rattle.http_server.specs.Response.{IsBlank, IsResponse};
-ghost use Rattle.use_http.specs.Answered.{AnswersRoute, IsAnswered, IsJudged, form_texts, rule_texts};
-ghost use Rattle.use_http.specs.Judged.{Judges};
+ghost use Rattle.use_http.specs.Answered.{AnswersRoute, IsAnswered, IsAnsweredSometime, IsJudged, form_texts, rule_texts};
+ghost use Rattle.use_http.specs.Judged.{Judges, problem_fields};
+ghost use Rattle.use_http.specs.Refused.{status_of, problem_of};
 
-use crate::answer::judge;
+use crate::answer::{judge, put_problem};
 use crate::czech::Czech;
+use crate::date::{date_of, put_date};
+use crate::refused::Refused;
 use crate::request::{Language, Route, language_of, route_of};
 use bytes::Bytes;
 use garde::DefaultI18n;
 use garde_problem::WithCodes;
 use garde_schema::Scratch;
-use http::{HeaderValue, Request, StatusCode, header};
+use http::{HeaderName, HeaderValue, Request, header};
 use http_server::{Response, Service};
+use httpdate::HttpDate;
 use std::alloc::{AllocError, Global};
+use std::time::Clock;
 
-/// Answers with a status alone.
-fn put_status(response: &mut Response, status: StatusCode)
+/// Answers that no order is judged.
+fn put_refused(response: &mut Response, why: Refused) -> Result<(), AllocError>
     requires { IsBlank response.old }
-    ensures { IsResponse status [] [] response.new }
+    ensures { OnOk result (IsResponse (status_of why) problem_fields (problem_of why) response.new) }
 {
-    response.status = status;
+    put_problem(response, why.status(), why.problem())
 }
 
-/// Answers that the path has these methods alone.
-fn put_allowed(response: &mut Response, methods: &'static str) -> Result<(), AllocError>
+/// Answers that no order is judged, and what there is in its place: the methods of the path, or the
+/// form of a body.
+fn put_offer(
+    response: &mut Response,
+    why: Refused,
+    name: HeaderName,
+    offer: &'static str,
+) -> Result<(), AllocError>
     requires blank { IsBlank response.old }
-    requires value { IsTrue (is_visible_text methods.now) }
-    ensures { OnOk result (IsResponse 405 ((codes "allow", methods.now) ∷ []) [] response.new) }
+    requires value { IsTrue (is_visible_text offer.now) }
+    ensures { OnOk result (IsResponse (status_of why) (problem_fields ++ (name, offer.now) ∷ [])
+        (problem_of why) response.new) }
 {
-    response.status = StatusCode::METHOD_NOT_ALLOWED;
-    response.add_header(header::ALLOW, HeaderValue::from_static(methods))
+    put_refused(response, why)?;
+    response.add_header(name, HeaderValue::from_static(offer))
 }
 
 /// Judges an order in this language.
@@ -78,51 +90,56 @@ fn answer_route(
     ensures { OnOk result (AnswersRoute route (head_of request.now) (body_of request.now)
         response.new) }
 {
+    let other = Refused::MethodNotAllowed;
     match route {
         Route::Order => judge_order(alloc, request, response),
         Route::OtherForm => {
-            put_status(response, StatusCode::UNSUPPORTED_MEDIA_TYPE);
-            Ok(())
+            let why = Refused::UnsupportedMediaType;
+            put_offer(response, why, header::ACCEPT, "application/json")
         }
-        Route::OtherOfOrders => put_allowed(response, "POST"),
+        Route::OtherOfOrders => put_offer(response, other, header::ALLOW, "POST"),
         Route::Health => Ok(()),
-        Route::OtherOfHealth => put_allowed(response, "GET, HEAD"),
-        Route::Nowhere => {
-            put_status(response, StatusCode::NOT_FOUND);
-            Ok(())
-        }
+        Route::OtherOfHealth => put_offer(response, other, header::ALLOW, "GET, HEAD"),
+        Route::Nowhere => put_refused(response, Refused::NotFound),
+        Route::Unserved => put_refused(response, Refused::NotImplemented),
+        Route::BadTarget => put_refused(response, Refused::BadRequest),
     }
 }
 
-/// Fills a blank response with the answer to a request.
+/// Fills a blank response with the answer to a request, at this date.
 pub fn answer(
     alloc: Global,
+    date: Option<HttpDate>,
     request: &Request<Bytes>,
     response: &mut Response,
 ) -> Result<(), AllocError>
     requires { IsBlank response.old }
-    ensures { OnOk result (IsAnswered (head_of request.now) (body_of request.now) response.new) }
+    ensures { OnOk result (IsAnswered date (head_of request.now) (body_of request.now)
+        response.new) }
 {
     let route = route_of(request);
     answer_route(alloc, route, request, response)?;
+    put_date(alloc, date, response);
     Ok(())
 }
 
 /// Judges orders. It keeps nothing from one request to the next.
 #[derive(Drop)]
-pub struct Orders {
+pub struct Orders<'a, C> {
     pub alloc: Global,
+    /// Shows the dates of answers. Without one, they have none.
+    pub clock: Option<&'a C>,
 }
 
-impl Service for Orders {
+impl<'a, C: Clock> Service for Orders<'a, C> {
     ghost answers = { λ _ request response _.
-        IsAnswered (head_of request) (body_of request) response };
+        IsAnsweredSometime (head_of request) (body_of request) response };
 
     fn call(
         &mut self,
         request: &Request<Bytes>,
         response: &mut Response,
     ) -> Result<(), AllocError> {
-        answer(self.alloc, request, response)
+        answer(self.alloc, date_of(self.clock), request, response)
     }
 }
