@@ -1,0 +1,57 @@
+/* check [LANGUAGE]: checks the order on standard input, writes the problem details of what is wrong to standard output, and ends
+ * with the status of the check. Where the order, memory or a device fails it ends with 10.
+ */
+#include <stdio.h>
+#include <stdlib.h>
+#include <string.h>
+
+#include "order.h"
+
+static const int FAILED = 10;
+
+/* Bytes that grow. */
+typedef struct {
+  uint8_t *at;
+  size_t len, room;
+} bytes;
+
+/* Makes room for so many bytes in all. */
+static bool grow(bytes *held, size_t room) {
+  uint8_t *at = room <= held->room ? held->at : realloc(held->at, room);
+  if (!at) return false;
+  held->at = at;
+  held->room = room <= held->room ? held->room : room;
+  return true;
+}
+
+/* Reads a stream to its end. */
+static bool read_all(FILE *from, bytes *held) {
+  do {
+    if (held->len == held->room && !grow(held, held->room ? 2 * held->room : 4096)) return false;
+    held->len += fread(held->at + held->len, 1, held->room - held->len, from);
+  } while (!feof(from) && !ferror(from));
+  return !ferror(from);
+}
+
+/* Checks a body. Where the details are longer than there is room for, it asks again with more room. */
+static int check(const bytes *body, const char *language, bytes *details) {
+  const uint8_t *tag = (const uint8_t *)language;
+  if (!grow(details, 512)) return FAILED;
+  int status = order_check(body->at, body->len, SIZE_MAX, tag, strlen(language), details->at, details->room, &details->len);
+  if (details->len > details->room) {
+    if (!grow(details, details->len)) return FAILED;
+    status = order_check(body->at, body->len, SIZE_MAX, tag, strlen(language), details->at, details->room, &details->len);
+  }
+  return status;
+}
+
+int main(int count, char **words) {
+  bytes body = {NULL, 0, 0}, details = {NULL, 0, 0};
+  if (order_version() != ORDER_VERSION || !read_all(stdin, &body)) return FAILED;
+  int status = check(&body, count > 1 ? words[1] : "", &details);
+  if (status != FAILED && fwrite(details.at, 1, details.len, stdout) != details.len) status = FAILED;
+  if (fflush(stdout) != 0) status = FAILED;
+  free(body.at);
+  free(details.at);
+  return status;
+}

@@ -1,0 +1,3 @@
+pub mod CzechText
+pub mod Language
+pub mod Order

@@ -1,0 +1,121 @@
+//! What is answered to bytes.
+ghost use Rattle.std.specs.Prelude.{◌≡◌};
+ghost use Rattle.garde_tape.specs.Input.{without_mark};
+ghost use Rattle.garde_schema.specs.FirstRead.{AnswersFirstBytes};
+ghost use Rattle.garde_library.specs.Checked.{IsChecked, IsHanded, IsOutOfMemory, IsTold, IsVerdict, status_of};
+
+use crate::details::details_of;
+use crate::status::Status;
+use garde::I18n;
+use garde_schema::{FirstReadError, Form, FormI18n, Scratch, read_json_first};
+use std::alloc::Global;
+
+/// Hands over a text: as much of it as there is room for, and how long it is.
+fn hand_over(text: &[u8], out: &mut [u8], len: &mut usize)
+    ensures { IsHanded text.now out.old out.new len.new }
+{
+    *len = text.len();
+    let room = text.len().min(out.len());
+    out[..room].copy_from_slice(&text[..room]);
+}
+
+/// Says that memory ran out, and hands over nothing.
+pub fn out_of_memory(out: &mut [u8], len: &mut usize) -> Status
+    ensures { IsOutOfMemory out.old out.new len.new result }
+{
+    hand_over(b"", out, len);
+    Status::Memory
+}
+
+/// The status of the result of reading.
+fn status_of(read: &Result<(), FirstReadError>) -> Status
+    ensures { result ≡ status_of read.now }
+{
+    match read {
+        Ok(()) => Status::Valid,
+        Err(FirstReadError::All(_) | FirstReadError::First(_)) => Status::Faults,
+        Err(FirstReadError::Parse(_)) => Status::NoJson,
+        Err(FirstReadError::Memory) => Status::Memory,
+    }
+}
+
+/// Reads bytes by a form, and lets the value go.
+fn read<'a, F: Form<'a>, H: I18n + FormI18n>(
+    alloc: Global,
+    bytes: &'a [u8],
+    scratch: &'a mut Scratch,
+    form: &F,
+    most: usize,
+    h: &H,
+) -> Result<(), FirstReadError>
+    ensures { AnswersFirstBytes (λ j. F.visits form.now (H.form_text h.now) j) (H.text h.now)
+        most (without_mark bytes.now) result }
+{
+    match read_json_first(alloc, bytes, scratch, form, most, h) {
+        Ok(_) => Ok(()),
+        Err(error) => Err(error),
+    }
+}
+
+/// Hands over the details of the result of reading.
+fn tell(
+    alloc: Global,
+    title: &str,
+    read: &Result<(), FirstReadError>,
+    out: &mut [u8],
+    len: &mut usize,
+) -> Status
+    ensures { IsTold title.now read.now out.old out.new len.new result }
+{
+    match details_of(alloc, title, read) {
+        Ok(text) => {
+            hand_over(text.as_str().as_bytes(), out, len);
+            status_of(read)
+        }
+        Err(_) => out_of_memory(out, len),
+    }
+}
+
+/// Checks bytes by a form. `out` gets the problem details of what is wrong under this title, cut where
+/// it ends, and `len` says how long they are as a whole. Of valid bytes there are none, nor where
+/// memory runs out.
+///
+/// The details have at most so many faults, with the messages of the handler: `WithCodes` of
+/// `garde_problem` gives them codes beside sentences. Where there are more, the member `detail` says
+/// so. That not even one fault is asked for is `Status::WrongArgument`.
+pub fn check_json<'a, F: Form<'a>, H: I18n + FormI18n>(
+    alloc: Global,
+    bytes: &'a [u8],
+    scratch: &'a mut Scratch,
+    form: &F,
+    most: usize,
+    h: &H,
+    title: &str,
+    out: &mut [u8],
+    len: &mut usize,
+) -> Status
+    ensures { IsChecked (λ j. F.visits form.now (H.form_text h.now) j) (H.text h.now)
+        most title.now bytes.now out.old out.new len.new result }
+{
+    if most == 0 {
+        hand_over(b"", out, len);
+        return Status::WrongArgument;
+    }
+    let read = read(alloc, bytes, scratch, form, most, h);
+    tell(alloc, title, &read, out, len)
+}
+
+/// Whether bytes have a fault by a form, or how they are not read. Reading ends at the first fault.
+pub fn is_valid_json<'a, F: Form<'a>, H: I18n + FormI18n>(
+    alloc: Global,
+    bytes: &'a [u8],
+    scratch: &'a mut Scratch,
+    form: &F,
+    h: &H,
+) -> Status
+    ensures { IsVerdict (λ j. F.visits form.now (H.form_text h.now) j) (H.text h.now)
+        bytes.now result }
+{
+    let read = read(alloc, bytes, scratch, form, 0, h);
+    status_of(&read)
+}

@@ -1,0 +1,13 @@
+//! What a static library for C needs: an answer to bytes by a form, as a status and as problem details
+//! in memory of the caller, and room that C holds from call to call.
+#![tactic(auto)]
+
+mod answer;
+mod details;
+mod loose;
+mod room;
+mod status;
+
+pub use answer::{check_json, is_valid_json, out_of_memory};
+pub use room::Room;
+pub use status::Status;

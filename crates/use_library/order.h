@@ -1,0 +1,100 @@
+/* Checks orders in JSON, and reports every fault as problem details (RFC 9457).
+ *
+ * What the caller owes, since nothing checks it:
+ * 1. A pointer and its length name memory that is there, and is not NULL, also where the length is 0.
+ * 2. `out`, `len` and `checker` overlap neither each other nor `body` and `language`, and nothing
+ *    else reads or writes them during the call, nor writes `body` and `language`.
+ * 3. A checker begins with all bytes 0, is used by one thread at a time, is not copied, and is
+ *    written by these functions alone.
+ * 4. `malloc`, `realloc` and `free` belong together, and no call comes from a signal handler or
+ *    from the forked child of a process with threads.
+ *
+ * No function keeps anything from one call to the next, but for what a checker holds, and any number
+ * of threads may call at the same time.
+ */
+
+#ifndef ORDER_H
+#define ORDER_H
+
+#include <stdbool.h>
+#include <stddef.h>
+#include <stdint.h>
+
+#ifdef __cplusplus
+extern "C" {
+#endif
+
+/* The version of the interface that this header describes. */
+#define ORDER_VERSION 1u
+
+/* There is no fault. */
+#define ORDER_VALID 0
+/* There are faults of form or of the rules. */
+#define ORDER_FAULTS 1
+/* The bytes are no JSON text. */
+#define ORDER_NO_JSON 2
+/* Out of memory. */
+#define ORDER_MEMORY 3
+/* Not even one fault was asked for. */
+#define ORDER_WRONG_ARGUMENT 4
+
+/* Room that is kept from one call to the next. Begin with ORDER_CHECKER_EMPTY, or with all bytes 0. */
+typedef struct {
+  void *room;
+  bool has_room;
+} order_checker;
+
+#define ORDER_CHECKER_EMPTY {NULL, false}
+
+/* The version of this interface: ORDER_VERSION, where the header belongs to the library. */
+uint32_t order_version(void);
+
+/* Checks the bytes of an order, and returns a status. `out` gets the problem details of what is
+ * wrong, as UTF-8 with no 0 at the end, cut where it ends; the rest of it stays as it was. `len` gets
+ * the length of the details as a whole: where it is greater than `out_len`, call again with more
+ * room. Of ORDER_VALID, ORDER_MEMORY and ORDER_WRONG_ARGUMENT there are no details, and `len` is 0.
+ *
+ * The details have `most` faults at most (SIZE_MAX: all), in the order of the form. Where there are
+ * more, their member `detail` is "there are more". Sentences are Czech where `language` is "cs", and
+ * English of any other and of none.
+ */
+uint8_t order_check(const uint8_t *body,
+                    size_t body_len,
+                    size_t most,
+                    const uint8_t *language,
+                    size_t language_len,
+                    uint8_t *out,
+                    size_t out_len,
+                    size_t *len);
+
+/* Returns the status of the bytes of an order, and no details: ORDER_VALID, ORDER_FAULTS,
+ * ORDER_NO_JSON or ORDER_MEMORY. Reading ends at the first fault.
+ */
+uint8_t order_is_valid(const uint8_t *body, size_t body_len);
+
+/* Makes the room of a checker for bodies of `body_len` bytes, and returns ORDER_VALID or
+ * ORDER_MEMORY. A call may be left out: `order_check_with` makes the room that it lacks.
+ */
+uint8_t order_reserve(order_checker *checker, uint32_t body_len);
+
+/* Does what `order_check` does, in the room of a checker, which is kept for the next call. The answer
+ * does not depend on what was checked before.
+ */
+uint8_t order_check_with(order_checker *checker,
+                         const uint8_t *body,
+                         size_t body_len,
+                         size_t most,
+                         const uint8_t *language,
+                         size_t language_len,
+                         uint8_t *out,
+                         size_t out_len,
+                         size_t *len);
+
+/* Frees the room of a checker, and leaves it as it began. A second call does nothing. */
+void order_free(order_checker *checker);
+
+#ifdef __cplusplus
+}
+#endif
+
+#endif

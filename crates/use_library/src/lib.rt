@@ -1,0 +1,107 @@
+//! Checks orders in JSON, and reports every fault as problem details (RFC 9457).
+//!
+//! What the caller owes, since nothing checks it:
+//! 1. A pointer and its length name memory that is there, and is not NULL, also where the length is 0.
+//! 2. `out`, `len` and `checker` overlap neither each other nor `body` and `language`, and nothing
+//!    else reads or writes them during the call, nor writes `body` and `language`.
+//! 3. A checker begins with all bytes 0, is used by one thread at a time, is not copied, and is
+//!    written by these functions alone.
+//! 4. `malloc`, `realloc` and `free` belong together, and no call comes from a signal handler or
+//!    from the forked child of a process with threads.
+//!
+//! No function keeps anything from one call to the next, but for what a checker holds, and any number
+//! of threads may call at the same time.
+#![tactic(auto)]
+
+ghost use Rattle.std.specs.Prelude.{◌≡◌};
+ghost use Rattle.example_order.specs.Language.{IsCheckedIn, IsOrder, language_of};
+ghost use Rattle.use_library.specs.Codes.{IsCode};
+
+use example_order::{Language, check_order, is_order};
+use garde_library::{Room, Status, out_of_memory};
+use garde_schema::Scratch;
+use std::alloc::Global;
+
+/// The version of this interface: ORDER_VERSION, where the header belongs to the library.
+#[unsafe(no_mangle)]
+pub extern "C" fn order_version() -> u32
+    ensures { result ≡ 1 }
+{
+    1
+}
+
+/// Checks the bytes of an order, and returns a status. `out` gets the problem details of what is
+/// wrong, as UTF-8 with no 0 at the end, cut where it ends; the rest of it stays as it was. `len` gets
+/// the length of the details as a whole: where it is greater than `out_len`, call again with more
+/// room. Of ORDER_VALID, ORDER_MEMORY and ORDER_WRONG_ARGUMENT there are no details, and `len` is 0.
+///
+/// The details have `most` faults at most (SIZE_MAX: all), in the order of the form. Where there are
+/// more, their member `detail` is "there are more". Sentences are Czech where `language` is "cs", and
+/// English of any other and of none.
+#[unsafe(no_mangle)]
+pub extern "C" fn order_check(
+    alloc: Global,
+    body: &[u8],
+    most: usize,
+    language: &[u8],
+    out: &mut [u8],
+    len: &mut usize,
+) -> u8
+    ensures { IsCode (λ s. IsCheckedIn (language_of language.now) most body.now
+        out.old out.new len.new s) result }
+{
+    let mut scratch = Scratch::new(alloc);
+    let language = Language::of(language);
+    let status = check_order(alloc, body, &mut scratch, most, language, out, len);
+    status as u8
+}
+
+/// Returns the status of the bytes of an order, and no details: ORDER_VALID, ORDER_FAULTS,
+/// ORDER_NO_JSON or ORDER_MEMORY. Reading ends at the first fault.
+#[unsafe(no_mangle)]
+pub extern "C" fn order_is_valid(alloc: Global, body: &[u8]) -> u8
+    ensures { IsCode (λ s. IsOrder body.now s) result }
+{
+    let mut scratch = Scratch::new(alloc);
+    is_order(alloc, body, &mut scratch) as u8
+}
+
+/// Makes the room of a checker for bodies of `body_len` bytes, and returns ORDER_VALID or
+/// ORDER_MEMORY. A call may be left out: `order_check_with` makes the room that it lacks.
+#[unsafe(no_mangle)]
+pub extern "C" fn order_reserve(alloc: Global, checker: &mut Room, body_len: u32) -> u8 {
+    match checker.reserve(alloc, body_len) {
+        Ok(()) => Status::Valid as u8,
+        Err(_) => Status::Memory as u8,
+    }
+}
+
+/// Does what `order_check` does, in the room of a checker, which is kept for the next call. The answer
+/// does not depend on what was checked before.
+#[unsafe(no_mangle)]
+pub extern "C" fn order_check_with(
+    alloc: Global,
+    checker: &mut Room,
+    body: &[u8],
+    most: usize,
+    language: &[u8],
+    out: &mut [u8],
+    len: &mut usize,
+) -> u8
+    ensures { IsCode (λ s. IsCheckedIn (language_of language.now) most body.now
+        out.old out.new len.new s) result }
+{
+    let language = Language::of(language);
+    let Ok(mut scratch) = checker.take_or_new(alloc) else {
+        return out_of_memory(out, len) as u8;
+    };
+    let status = check_order(alloc, body, &mut scratch, most, language, out, len);
+    checker.put(alloc, scratch);
+    status as u8
+}
+
+/// Frees the room of a checker, and leaves it as it began. A second call does nothing.
+#[unsafe(no_mangle)]
+pub extern "C" fn order_free(alloc: Global, checker: &mut Room) {
+    checker.free(alloc);
+}

@@ -1,0 +1,198 @@
+/* Tries what a caller of the library of crates/use_library may meet: no room, no bytes, much room, many threads, and memory that runs
+ * out. It is linked with --wrap for malloc, realloc and free, so that it counts the blocks and refuses the request that it chooses.
+ * It prints what is wrong, and ends with 1 then.
+ */
+#include <pthread.h>
+#include <stdio.h>
+#include <stdlib.h>
+#include <string.h>
+
+#include "order.h"
+
+void *__real_malloc(size_t size);
+void *__real_realloc(void *block, size_t size);
+void __real_free(void *block);
+
+static _Atomic long blocks, requests, refused, wrong;
+
+/* How many calls are made: 1,000,000, or what the first word says. */
+static long calls = 1000000;
+
+static bool refuses(void) { return ++requests == refused; }
+
+void *__wrap_malloc(size_t size) {
+  void *block = refuses() ? NULL : __real_malloc(size);
+  blocks += block != NULL;
+  return block;
+}
+
+void *__wrap_realloc(void *block, size_t size) {
+  void *moved = refuses() ? NULL : __real_realloc(block, size);
+  blocks += !block && moved;
+  return moved;
+}
+
+void __wrap_free(void *block) {
+  blocks -= block != NULL;
+  __real_free(block);
+}
+
+static void expect(bool holds, const char *what) {
+  if (holds) return;
+  wrong++;
+  printf("library: %s\n", what);
+}
+
+/* An answer: a status, and the details in a fresh piece of memory that is not the library's. */
+typedef struct {
+  int status;
+  size_t len;
+  char text[2048];
+} answer;
+
+static const char *GOOD = "{\"customer\":\"Ada\",\"lines\":[{\"code\":\"P1\",\"count\":1}]}";
+static const char *BAD = "{\"customer\":\"\",\"lines\":[{\"code\":\"X\",\"count\":0}],\"x\":1}";
+
+static answer checked_bytes(order_checker *checker, const uint8_t *body, size_t len, size_t most) {
+  answer got = {0, 99, {0}};
+  const uint8_t *none = (const uint8_t *)"";
+  uint8_t *out = (uint8_t *)got.text;
+  got.status = checker ? order_check_with(checker, body, len, most, none, 0, out, sizeof got.text, &got.len)
+                       : order_check(body, len, most, none, 0, out, sizeof got.text, &got.len);
+  return got;
+}
+
+static answer checked(order_checker *checker, const char *body, size_t most) {
+  return checked_bytes(checker, (const uint8_t *)body, strlen(body), most);
+}
+
+static bool same(const answer *a, const answer *b) {
+  return a->status == b->status && a->len == b->len && memcmp(a->text, b->text, sizeof a->text) == 0;
+}
+
+/* The details are cut at each room that is too small, and what is behind the room stays. */
+static void try_room(void) {
+  answer whole = checked(NULL, BAD, SIZE_MAX);
+  expect(whole.status == ORDER_FAULTS && whole.len > 100, "the faulty body has details");
+  for (size_t room = 0; room <= whole.len + 2; room++) {
+    uint8_t out[2048];
+    size_t len = 0;
+    memset(out, '#', sizeof out);
+    int status = order_check((const uint8_t *)BAD, strlen(BAD), SIZE_MAX, (const uint8_t *)"en", 2, out, room, &len);
+    size_t cut = room < whole.len ? room : whole.len;
+    expect(status == ORDER_FAULTS && len == whole.len, "the status and the length do not depend on the room");
+    expect(memcmp(out, whole.text, cut) == 0, "the details are cut");
+    for (size_t i = cut; i < sizeof out; i++) expect(out[i] == '#', "nothing is written behind them");
+  }
+}
+
+static void try_bytes(void) {
+  expect(checked(NULL, GOOD, 1).status == ORDER_VALID && checked(NULL, GOOD, 1).len == 0, "a valid order");
+  expect(checked(NULL, GOOD, 0).status == ORDER_WRONG_ARGUMENT && checked(NULL, GOOD, 0).len == 0, "no fault is asked for");
+  expect(checked(NULL, "", 1).status == ORDER_NO_JSON, "no bytes");
+  expect(strstr(checked(NULL, "{\"a\":\n 1,,}", 1).text, "not JSON at line 2 column 4"), "the place is told");
+  expect(strstr(checked(NULL, "\"\xff\"", 1).text, "not UTF-8 at line 1 column 2"), "bytes that are no UTF-8");
+  expect(strstr(checked(NULL, BAD, 2).text, "\"detail\":\"there are more\""), "there are more");
+  expect(!strstr(checked(NULL, BAD, 4).text, "there are more"), "there are just so many");
+  expect(order_is_valid((const uint8_t *)GOOD, strlen(GOOD)) == ORDER_VALID, "is_valid of a valid order");
+  expect(order_is_valid((const uint8_t *)BAD, strlen(BAD)) == ORDER_FAULTS, "is_valid of a faulty order");
+  expect(order_is_valid((const uint8_t *)"", 0) == ORDER_NO_JSON, "is_valid of no bytes");
+  expect(order_version() == ORDER_VERSION, "the version");
+}
+
+/* Large bodies: 50 MB of lines (1 MB where few calls are made), and 100,000 lists in one another. */
+static void try_size(void) {
+  size_t len = calls < 10000 ? 1000 * 1000 : 50 * 1000 * 1000;
+  char *body = __real_malloc(len), *end = body;
+  end += sprintf(end, "{\"customer\":\"Ada\",\"lines\":[");
+  while (end + 64 < body + len) end += sprintf(end, "{\"code\":\"P1\",\"count\":1},");
+  end += sprintf(end, "{\"code\":\"P1\",\"count\":1}]}");
+  answer got = checked_bytes(NULL, (uint8_t *)body, (size_t)(end - body), SIZE_MAX);
+  expect(got.status == ORDER_FAULTS && strstr(got.text, "length_greater_than"), "a body of 50 MB");
+  memset(body, '[', 100000);
+  got = checked_bytes(NULL, (uint8_t *)body, 100000, SIZE_MAX);
+  expect(got.status == ORDER_NO_JSON && strstr(got.text, "deeper than 128"), "100,000 lists in one another");
+  __real_free(body);
+}
+
+/* The request for memory whose number is N is refused: the answer is the right one or ORDER_MEMORY, and no block is left. */
+static void try_memory(const char *body, bool kept) {
+  answer right = checked(NULL, body, SIZE_MAX);
+  for (long n = 1;; n++) {
+    order_checker checker = ORDER_CHECKER_EMPTY;
+    long before = blocks;
+    requests = 0;
+    refused = n;
+    answer got = checked(kept ? &checker : NULL, body, SIZE_MAX);
+    bool was_refused = requests >= n;
+    refused = 0;
+    answer none = {ORDER_MEMORY, 0, {0}};
+    expect(same(&got, &right) || (was_refused && same(&got, &none)), "a refused request gives the right answer or ORDER_MEMORY");
+    answer again = checked(kept ? &checker : NULL, body, SIZE_MAX);
+    expect(same(&again, &right), "the next answer is right");
+    order_free(&checker);
+    order_free(&checker);
+    expect(blocks == before, "no block is left");
+    if (!was_refused) return;
+  }
+}
+
+/* A checker answers of the body that it is given, whatever it was given before. */
+static void try_checker(void) {
+  const char *bodies[] = {GOOD, BAD, "nope", "", "{\"customer\":\"\\u0041\",\"lines\":[]}"};
+  order_checker checker = ORDER_CHECKER_EMPTY;
+  long before = blocks;
+  expect(order_reserve(&checker, 4096) == ORDER_VALID, "room is made");
+  for (int i = 0; i < 25; i++) {
+    answer kept = checked(&checker, bodies[i % 5], SIZE_MAX), fresh = checked(NULL, bodies[i % 5], SIZE_MAX);
+    expect(same(&kept, &fresh), "a checker gives the answer of its body");
+    kept = checked(&checker, bodies[i / 5], SIZE_MAX);
+  }
+  order_free(&checker);
+  expect(blocks == before && !checker.room && !checker.has_room, "a freed checker holds nothing");
+}
+
+static void *in_thread(void *given) {
+  const char *body = given;
+  order_checker checker = ORDER_CHECKER_EMPTY;
+  answer first = checked(&checker, body, SIZE_MAX);
+  for (long i = 0; i < calls / 500; i++) {
+    answer got = checked(&checker, body, SIZE_MAX);
+    expect(same(&got, &first), "a thread gets the same answer each time");
+  }
+  order_free(&checker);
+  return NULL;
+}
+
+static void try_threads(void) {
+  pthread_t threads[64];
+  long before = blocks;
+  for (int i = 0; i < 64; i++) expect(!pthread_create(&threads[i], NULL, in_thread, (void *)(i % 2 ? GOOD : BAD)), "a thread starts");
+  for (int i = 0; i < 64; i++) pthread_join(threads[i], NULL);
+  expect(blocks == before, "no block is left by threads");
+}
+
+/* Many calls leave no block. */
+static void try_calls(void) {
+  order_checker checker = ORDER_CHECKER_EMPTY;
+  long before = blocks;
+  for (long i = 0; i < calls; i++) checked_bytes(&checker, (const uint8_t *)(i % 2 ? GOOD : BAD), strlen(i % 2 ? GOOD : BAD), SIZE_MAX);
+  order_free(&checker);
+  expect(blocks == before, "no block is left by many calls");
+}
+
+int main(int count, char **words) {
+  if (count > 1) calls = atol(words[1]);
+  try_room();
+  try_bytes();
+  try_size();
+  for (int kept = 0; kept < 2; kept++) {
+    try_memory(GOOD, kept);
+    try_memory(BAD, kept);
+    try_memory("nope", kept);
+  }
+  try_checker();
+  try_threads();
+  try_calls();
+  return wrong != 0;
+}
