@@ -96,12 +96,12 @@ class Reading:
         """A whole number is written by digits, perhaps behind a minus; `-0` is none."""
         if not (isinstance(value, Number) and re.fullmatch(r"0|-?[1-9][0-9]*", value)):
             return self.put(path, "not a whole number")
-        if not 0 <= int(value) < 2**32:
-            return self.put(path, "out of range: 0 to 4294967295")
         if int(value) < least:
             self.put(path, f"lower than {least}")
         elif int(value) > most:
             self.put(path, f"greater than {most}")
+        elif int(value) >= 2**32:
+            self.put(path, "out of range: 0 to 4294967295")
         return int(value)
 
     def member(self, members, name, path, read):

@@ -4,8 +4,8 @@ import re
 import subprocess
 from dataclasses import dataclass
 
-# The product, and the two examples that the program use_store stands on.
-PRODUCT = re.compile(r"(garde(_\w+)?|example_import|example_table)$")
+# The product, and the examples that programs to copy stand on.
+PRODUCT = re.compile(r"(garde(_\w+)?|example_import|example_order|example_table)$")
 LICENCES = ("LICENSE-MIT", "LICENSE-APACHE")
 # Mutants, which the prover has to reject: a test of the crates' contracts, which is run where the crates are written.
 NOT_COPIED = ("must-fail", "wrong-bodies")
@@ -103,11 +103,11 @@ class Origin:
         return {path: it for path, it in self.files(f"crates/{name}").items() if path.split("/")[0] not in NOT_COPIED}
 
     def program_files(self, name, copy):
-        """The files of a program, which is called `copy` in its sources. Its README speaks of tests that stay here."""
+        """The files of a program, which is called `copy` in its sources and in its header for C. Its README speaks of tests that stay here."""
         kept = {}
         for path, it in self.files(f"crates/{name}").items():
             first, *more = path.split("/")
-            if first in PROGRAM_FOLDERS and more and first != "data":
+            if first in PROGRAM_FOLDERS and more and first != "data" or path.endswith(".h"):
                 kept[path] = re.sub(rf"\b{name}\b".encode(), copy.encode(), it)
             elif path in PROGRAM_FILES or first == "data":
                 kept[path] = it

@@ -71,6 +71,7 @@ def program_of(origin, folder, source, name):
     line = Line(name, source.options, source.uses).text()
     words = files["args"].decode().split() if "args" in files else []
     run = " ".join(["rt try", *(["--", *words] if words else []), *(["< stdin"] if "stdin" in files else [])])
+    run = "rt lib" if "staticlib" in source.options else run
     return Program(name, source.name, line, files, run)
 
 

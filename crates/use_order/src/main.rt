@@ -12,13 +12,49 @@ use crate::form::read_orders;
 use crate::line::cost;
 use crate::order::{Order, destination, first};
 use crate::page::Page;
-use anyhow::{Result, anyhow};
+use anyhow::Result;
 use garde::{DefaultI18n, Valid};
 use garde_problem::Escaped;
 use garde_schema::{FirstReadError, Scratch};
 use std::io::Read;
 use std::process::ExitCode;
 use std::{env, io};
+
+/// The status of a run that judged no page.
+const NOT_JUDGED: u8 = 2;
+
+/// How the program is called.
+const USAGE: &str = "\
+usage: use_order [N]
+Reads a page of orders in JSON on standard input, and confirms each of them or prints every fault.
+
+  N       prints at most N faults, N from 1
+  --help  prints this";
+
+/// What the words of the command line ask for.
+#[derive(Clone, Copy)]
+enum Task {
+    /// The usage is printed.
+    Help,
+    /// A page is read, and at most so many faults are printed.
+    Read(usize),
+}
+
+impl Task {
+    /// What the words after the program's name ask for: all faults, or as many as the word says. Of
+    /// other words it says what is wrong with them.
+    fn of(words: &[String]) -> Result<Task, &'static str> {
+        match words {
+            [] => Ok(Task::Read(usize::MAX)),
+            [word] if word.as_str() == "--help" => Ok(Task::Help),
+            [word] => match word.parse() {
+                Ok(most) if most > 0 => Ok(Task::Read(most)),
+                _ => Err("the word must be a number from 1"),
+            },
+            _ => Err("there must be one word at most"),
+        }
+    }
+}
 
 /// Confirms an order by its customer, its first line, where it goes, and what each line costs. Texts
 /// of the order stand in quotes, with what is not shown escaped.
@@ -50,23 +86,9 @@ fn confirm_all(rt: &impl Print, page: Valid<Page<Order<'_>>>) -> io::Result<()> 
     Ok(())
 }
 
-/// How many faults are printed at most: all, or as many as the word says.
-fn most(words: &[String]) -> Result<usize> {
-    match words {
-        [] => Ok(usize::MAX),
-        [word] => match word.parse() {
-            Ok(number) if number > 0 => Ok(number),
-            _ => Err(anyhow!("the word must be a number from 1")),
-        },
-        _ => Err(anyhow!("there must be one word at most")),
-    }
-}
-
-/// Whether the page on standard input is valid.
-fn run(rt: &HostRuntime) -> Result<bool> {
+/// Whether the page on standard input is valid. At most so many faults are printed.
+fn judge(rt: &HostRuntime, most: usize) -> Result<bool> {
     let alloc = rt.alloc();
-    let words: Vec<String> = env::args(rt)?.skip(1).collect(alloc)?;
-    let most = most(&words)?;
     let mut body = Vec::new(alloc);
     rt.stdin().read_to_end(&mut body)?;
     let mut scratch = Scratch::new(alloc);
@@ -87,13 +109,29 @@ fn run(rt: &HostRuntime) -> Result<bool> {
     }
 }
 
+/// Does what the words of the command line ask for.
+fn run(rt: &HostRuntime) -> Result<ExitCode> {
+    let words: Vec<String> = env::args(rt)?.skip(1).collect(rt.alloc())?;
+    match Task::of(&words) {
+        Ok(Task::Help) => {
+            println!(rt; "{USAGE}")?;
+            Ok(ExitCode::SUCCESS)
+        }
+        Ok(Task::Read(most)) if judge(rt, most)? => Ok(ExitCode::SUCCESS),
+        Ok(Task::Read(_)) => Ok(ExitCode::FAILURE),
+        Err(reason) => {
+            eprintln!(rt; "use_order: {reason}\n{USAGE}")?;
+            Ok(ExitCode::from(NOT_JUDGED))
+        }
+    }
+}
+
 fn main(rt: HostRuntime) -> ExitCode {
     match run(&rt) {
-        Ok(true) => ExitCode::SUCCESS,
-        Ok(false) => ExitCode::FAILURE,
+        Ok(status) => status,
         Err(error) => {
             let _ = eprintln!(rt; "use_order: {error}");
-            ExitCode::from(2)
+            ExitCode::from(NOT_JUDGED)
         }
     }
 }

@@ -7,7 +7,7 @@ mod sign_up;
 
 use crate::czech::Czech;
 use crate::sign_up::{LISTS, SignUp, Words, read_sign_up};
-use anyhow::{Context, Result, bail};
+use anyhow::{Context, Result};
 use garde::{DefaultI18n, I18n};
 use garde_form::form_to_json_with_lists;
 use garde_problem::Escaped;
@@ -15,6 +15,14 @@ use garde_schema::{FormI18n, ReadError, Scratch};
 use std::io::Read;
 use std::process::ExitCode;
 use std::{env, io};
+
+/// How the program is called.
+const USAGE: &str = "\
+usage: use_signup [LANGUAGE]
+Reads a web form on standard input, and welcomes who signs up or prints every fault of the form.
+
+  LANGUAGE  answers in en, which is English, or cs, which is Czech; without it in English
+  --help    prints this";
 
 const IN_ENGLISH: Words = Words {
     welcome: "welcome",
@@ -26,19 +34,37 @@ const IN_CZECH: Words = Words {
     terms: "souhlas s podmínkami chybí",
 };
 
+/// The byte order mark of UTF-8. The URL Standard has none in a form, but a file may begin with it.
+const MARK: [u8; 3] = [0xEF, 0xBB, 0xBF];
+
 /// The status of a run that judged no form.
 const NOT_JUDGED: u8 = 2;
 
-/// Whether the word after the program's name asks for Czech. Without a word it is English.
-fn asks_for_czech(rt: &HostRuntime) -> Result<bool> {
-    let mut words = env::args(rt).context("the command line is not read")?;
-    match words.nth(1) {
-        None => Ok(false),
-        Some(word) => match word.as_str() {
-            "en" => Ok(false),
-            "cs" => Ok(true),
-            _ => bail!("the language is en or cs"),
-        },
+/// What the words of the command line ask for.
+#[derive(Clone, Copy)]
+enum Task {
+    /// The usage is printed.
+    Help,
+    /// A form is judged in English.
+    English,
+    /// A form is judged in Czech.
+    Czech,
+}
+
+impl Task {
+    /// What the words after the program's name ask for. Without a word it is English. Of other words it
+    /// says what is wrong with them.
+    fn of(words: &[String]) -> Result<Task, &'static str> {
+        match words {
+            [] => Ok(Task::English),
+            [word] => match word.as_str() {
+                "en" => Ok(Task::English),
+                "cs" => Ok(Task::Czech),
+                "--help" => Ok(Task::Help),
+                _ => Err("the language is en or cs"),
+            },
+            _ => Err("there must be one word at most"),
+        }
     }
 }
 
@@ -78,17 +104,31 @@ fn answer<H: I18n + FormI18n>(
     }
 }
 
-fn run(rt: &HostRuntime) -> Result<ExitCode> {
-    let czech = asks_for_czech(rt)?;
+/// Judges the form on standard input, which is read without the byte order mark at its beginning and
+/// the white space at its end, as of a file.
+fn judge<H: I18n + FormI18n>(rt: &HostRuntime, words: &Words, h: &H) -> Result<ExitCode> {
     let mut body = Vec::new(rt.alloc());
     rt.stdin()
         .read_to_end(&mut body)
         .context("the form is not read")?;
     let body = body.as_slice().trim_ascii_end();
-    if czech {
-        answer(rt, body, &IN_CZECH, &Czech)
-    } else {
-        answer(rt, body, &IN_ENGLISH, &DefaultI18n)
+    answer(rt, body.strip_prefix(&MARK).unwrap_or(body), words, h)
+}
+
+fn run(rt: &HostRuntime) -> Result<ExitCode> {
+    let all = env::args(rt).context("the command line is not read")?;
+    let words: Vec<String> = all.skip(1).collect(rt.alloc())?;
+    match Task::of(&words) {
+        Ok(Task::Help) => {
+            println!(rt; "{USAGE}")?;
+            Ok(ExitCode::SUCCESS)
+        }
+        Ok(Task::English) => judge(rt, &IN_ENGLISH, &DefaultI18n),
+        Ok(Task::Czech) => judge(rt, &IN_CZECH, &Czech),
+        Err(reason) => {
+            eprintln!(rt; "use_signup: {reason}\n{USAGE}")?;
+            Ok(ExitCode::from(NOT_JUDGED))
+        }
     }
 }
 
