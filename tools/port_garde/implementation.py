@@ -202,6 +202,6 @@ class Implementation:
     def visit(self, fields):
         """The call that visits the fields."""
         self.writer.uses.fields.add("Fields")
-        whole = together(fields, 12) if fields else Word("()")
+        whole = together(fields, 6) if fields else Word("()")
         words = tuple(map(Word, ("alloc", "trail", "report", "h")))
         return Method(whole, "visit_of", (Word("self"), *words)) if self.borrows and fields else Method(whole, "visit", words)

@@ -22,7 +22,7 @@ impl{life} Build for Make{name}{life} {{
 {body}
     }}
 }}"""
-MOST = 16
+MOST = 6
 
 
 def nested(parts, most=MOST):

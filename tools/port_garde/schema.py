@@ -8,7 +8,7 @@ from .scope import Scope, Seen, is_option, is_path, is_text
 from .source import is_ported
 from .words import Checks, together
 
-MOST = 16
+MOST = 6
 READ = """{docs}
 {tactic}{vis}fn read_{name}<'a, H: I18n + FormI18n>(
     alloc: Global,

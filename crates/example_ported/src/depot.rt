@@ -99,9 +99,11 @@ impl Validate for Depot {
                 chain,
                 (Is(length!(max = 1)), Each(Is(range!(max = 9)))),
             ),
-            Field("digits", digits, Each(Is(range!(max = 9)))),
-            Field("gate", gate, Dive(ctx)),
-            Field("doors", doors, Each(Dive(ctx))),
+            (
+                Field("digits", digits, Each(Is(range!(max = 9)))),
+                Field("gate", gate, Dive(ctx)),
+                Field("doors", doors, Each(Dive(ctx))),
+            ),
         )
             .visit(alloc, trail, report, h)
     }

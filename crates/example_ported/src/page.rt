@@ -86,12 +86,14 @@ impl Validate for Page {
                 source,
                 When(content.is_some(), Is(length!(min = 1))),
             ),
-            Field(
-                "volume",
-                volume,
-                (When(*number >= 10, Is(Ascii)), Is(length!(min = 1))),
+            (
+                Field(
+                    "volume",
+                    volume,
+                    (When(*number >= 10, Is(Ascii)), Is(length!(min = 1))),
+                ),
+                Field("number", number, Is(range!(max = 99))),
             ),
-            Field("number", number, Is(range!(max = 99))),
         )
             .visit(alloc, trail, report, h)
     }

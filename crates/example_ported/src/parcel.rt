@@ -118,12 +118,14 @@ impl<'t> Validate for Parcel<'t> {
                 things,
                 (Is(length!(min = 1, max = 50)), Each(Dive(ctx))),
             ),
-            Field(
-                "marks",
-                marks,
-                (Is(length!(max = 5)), Each(Is(Alphanumeric))),
+            (
+                Field(
+                    "marks",
+                    marks,
+                    (Is(length!(max = 5)), Each(Is(Alphanumeric))),
+                ),
+                Field("labels", labels, Is(length!(max = 3))),
             ),
-            Field("labels", labels, Is(length!(max = 3))),
         )
             .visit_of(self, alloc, trail, report, h)
     }
@@ -165,9 +167,11 @@ impl<'t> Build for MakeParcel<'t> {
         Option<TextRef<'t>>,
         Option<u16>,
         Speed,
-        Items<Thing<'t>>,
-        Items<TextRef<'t>>,
-        Entries<'t, TextRef<'t>>,
+        (
+            Items<Thing<'t>>,
+            Items<TextRef<'t>>,
+            Entries<'t, TextRef<'t>>,
+        ),
     );
 
     type Made = Parcel<'t>;
@@ -178,18 +182,18 @@ impl<'t> Build for MakeParcel<'t> {
       phone = parts.2;
       weight = parts.3;
       speed = parts.4;
-      things = parts.5;
-      marks = parts.6;
-      labels = parts.7;
+      things = parts.5.0;
+      marks = parts.5.1;
+      labels = parts.5.2;
     } };
 
     ghost parts_of = { λ _ v.
-        (v.number, v.sent_to, v.phone, v.weight, v.speed, v.things, v.marks, v.labels) };
+        (v.number, v.sent_to, v.phone, v.weight, v.speed, (v.things, v.marks, v.labels)) };
 
     ghost kept = { λ _ _. refl };
 
     fn build(&self, parts: Self::Parts) -> Self::Made {
-        let (number, sent_to, phone, weight, speed, things, marks, labels) = parts;
+        let (number, sent_to, phone, weight, speed, (things, marks, labels)) = parts;
         Parcel {
             number,
             sent_to,
@@ -234,15 +238,17 @@ pub fn read_parcel<'a, H: I18n + FormI18n>(
                 Under("grams", Is(Required)),
             ),
             WithDefault("speed", speed_form, Speed::NextDay),
-            Member(
-                "things",
-                ListUnder(Is(length!(min = 1, max = 50)), thing_form),
+            (
+                Member(
+                    "things",
+                    ListUnder(Is(length!(min = 1, max = 50)), thing_form),
+                ),
+                Member(
+                    "marks",
+                    ListUnder(Is(length!(max = 5)), Text(Is(Alphanumeric))),
+                ),
+                Member("labels", MapUnder(Is(length!(max = 3)), Text(()))),
             ),
-            Member(
-                "marks",
-                ListUnder(Is(length!(max = 5)), Text(Is(Alphanumeric))),
-            ),
-            Member("labels", MapUnder(Is(length!(max = 3)), Text(()))),
         ))),
         MakeParcel(PhantomData),
     );

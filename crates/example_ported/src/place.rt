@@ -63,13 +63,15 @@ impl Validate for Place {
             Field("host", host, Is(Ip(IpKind::Any))),
             Field("old", old, Is(Ip(IpKind::V4))),
             Field("new", new, Is(Ip(IpKind::V6))),
-            Field("site", site, IsInMemory(Url)),
-            Field("sign", sign, Is(length!(graphemes, min = 1, max = 3))),
-            Field("short", short, Is(length!(utf16, max = 2))),
-            Field(
-                "title",
-                title,
-                (Is(length!(min = 2)), Is(length!(chars, max = 4))),
+            (
+                Field("site", site, IsInMemory(Url)),
+                Field("sign", sign, Is(length!(graphemes, min = 1, max = 3))),
+                Field("short", short, Is(length!(utf16, max = 2))),
+                Field(
+                    "title",
+                    title,
+                    (Is(length!(min = 2)), Is(length!(chars, max = 4))),
+                ),
             ),
         )
             .visit(alloc, trail, report, h)

@@ -55,9 +55,11 @@ impl Validate for Reading {
             Field("kind", kind, Is(range!(equal = 7))),
             Field("channel", channel, Is(range!(min = 1, max = 255))),
             Field("coldest", coldest, Is(range!(min = -40))),
-            Field("depth", depth, Is(range!(max = -1))),
-            Field("tilt", tilt, Is(range!(min = -10, max = 10))),
-            Field("drift", drift, Is(range!(equal = 0))),
+            (
+                Field("depth", depth, Is(range!(max = -1))),
+                Field("tilt", tilt, Is(range!(min = -10, max = 10))),
+                Field("drift", drift, Is(range!(equal = 0))),
+            ),
         )
             .visit(alloc, trail, report, h)
     }

@@ -2,7 +2,7 @@
 ghost use Rattle.garde.specs.Fields.{◌and◌, field, ascii, length_between, chars_between, range_between, each, optional};
 
 use garde::fields::{Ascii, Each, Field, Fields, IfSome, Is};
-use garde::{I18n, Report, Trail, Validate, length, range};
+use garde::{I18n, Report, Trail, Validate, all, length, range};
 use std::alloc::{AllocError, Global};
 
 /// What is sent, to whom and where.
@@ -46,7 +46,7 @@ impl Validate for Order {
             note,
             parcels,
         } = self;
-        (
+        all!(
             Field("number", number, Is(range!(min = 1, max = 99999))),
             Field(
                 "customer",
@@ -57,8 +57,8 @@ impl Validate for Order {
             Field("town", town, Is(length!(min = 1, max = 40))),
             Field("lines", lines, Each(Is(length!(min = 1, max = 80)))),
             Field("note", note, IfSome(Is(length!(chars, min = 1, max = 200)))),
-            Field("parcels", parcels, Is(range!(min = 1, max = 20))),
+            Field("parcels", parcels, Is(range!(min = 1, max = 20)))
         )
-            .visit(alloc, trail, report, h)
+        .visit(alloc, trail, report, h)
     }
 }

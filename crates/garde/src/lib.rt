@@ -6,6 +6,7 @@ pub mod fields;
 mod first_error;
 mod into_valid_error;
 pub mod laws;
+mod many;
 mod no_text;
 pub mod recursive;
 pub mod samples;

@@ -1,4 +1,4 @@
-//! Tuples of members, of one to sixteen.
+//! Tuples of members, of one to six. More are tuples in tuples, by `all!`.
 ghost use Rattle.std.specs.Prelude.{◌≡◌, ◌||◌};
 ghost use Rattle.garde.specs.Visits.{◌and◌};
 ghost use Rattle.garde_schema.specs.Flat.{all1};
@@ -11,20 +11,7 @@ macro_rules! nested {
     };
 }
 
-/// The same, where the others are the last eight, in a struct.
-macro_rules! with_eight {
-    ($tuple:expr; [$($front:tt)+] [$($rest:tt)+]) => {
-        ($(&$tuple.$front),+, crate::tuples::refs::Eight($(&$tuple.$rest),+))
-    };
-}
-
 mod flat;
-mod flat_long;
-mod long;
-mod longer;
-mod longest;
-mod middle;
-mod refs;
 mod short;
 
 use crate::form::Members;

@@ -8,7 +8,6 @@ mod first;
 mod forms;
 mod json;
 mod lists;
-mod long_tuples;
 mod maps;
 mod members;
 mod nested;

@@ -4,7 +4,7 @@ ghost use Rattle.garde.specs.Author.{codes, matches};
 ghost use Rattle.garde.specs.Fields.{own_unless};
 
 use garde::fields::{Alphanumeric, Is, Matches, Prefix, Required, Rule};
-use garde::{I18n, Report, RuleError, Trail, length, range};
+use garde::{I18n, Report, RuleError, Trail, all, length, parts, range};
 use garde_form::{OrEmpty, Parsed};
 use garde_schema::{
     Checked, Closed, FormI18n, Items, ListUnder, Member, Object, OneOf, Optional, ReadError, Rules,
@@ -96,7 +96,7 @@ pub fn read_sign_up<'a, H: I18n + FormI18n>(
         Member("password", Text(Is(length!(chars, min = 12, max = 128)))),
         Member("password_again", Text(())),
     );
-    let form = Object(Closed((
+    let form = Object(Closed(all!(
         Member("name", Text(Is(length!(chars, min = 1, max = 40)))),
         Member(
             "username",
@@ -109,10 +109,10 @@ pub fn read_sign_up<'a, H: I18n + FormI18n>(
         Checked(
             Optional("terms", OneOf(&[("on", true)])),
             Under("terms", Is(Accepted(words.terms))),
-        ),
+        )
     )));
     match read_json(alloc, fields, scratch, &form, h) {
-        Ok((name, _, _, age, _, topics, _)) => {
+        Ok(parts!(name, _, _, age, _, topics, _)) => {
             let age = age.unwrap();
             Ok(SignUp { name, age, topics })
         }

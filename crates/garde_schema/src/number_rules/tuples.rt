@@ -1,4 +1,4 @@
-//! The bounds of tuples of five to eight rules.
+//! The bounds of tuples of five and six rules. More are tuples in tuples, by `all!`.
 ghost use Rattle.garde_schema.specs.Bound.{first_bound};
 
 use super::NumberRules;
@@ -36,45 +36,6 @@ impl<
 
     fn find_bound<H: I18n>(&self, alloc: Global, value: &T, h: &H) -> Result<(), RuleError> {
         let rest = (&self.3, &self.4, &self.5);
-        (&self.0, &self.1, &self.2, rest).find_bound(alloc, value, h)
-    }
-}
-
-/// The bounds of seven in turn.
-impl<
-    T,
-    A: NumberRules<T>,
-    B: NumberRules<T>,
-    C: NumberRules<T>,
-    D: NumberRules<T>,
-    E: NumberRules<T>,
-    F: NumberRules<T>,
-    G: NumberRules<T>,
-> NumberRules<T> for (A, B, C, D, E, F, G) {
-    ghost bound = { λ all value. first_bound (A.bound all.0 value) (first_bound (B.bound all.1 value) (first_bound (C.bound all.2 value) (first_bound (D.bound all.3 value) (first_bound (E.bound all.4 value) (first_bound (F.bound all.5 value) (G.bound all.6 value)))))) };
-
-    fn find_bound<H: I18n>(&self, alloc: Global, value: &T, h: &H) -> Result<(), RuleError> {
-        let rest = (&self.3, &self.4, &self.5, &self.6);
-        (&self.0, &self.1, &self.2, rest).find_bound(alloc, value, h)
-    }
-}
-
-/// The bounds of eight in turn.
-impl<
-    T,
-    A: NumberRules<T>,
-    B: NumberRules<T>,
-    C: NumberRules<T>,
-    D: NumberRules<T>,
-    E: NumberRules<T>,
-    F: NumberRules<T>,
-    G: NumberRules<T>,
-    I: NumberRules<T>,
-> NumberRules<T> for (A, B, C, D, E, F, G, I) {
-    ghost bound = { λ all value. first_bound (A.bound all.0 value) (first_bound (B.bound all.1 value) (first_bound (C.bound all.2 value) (first_bound (D.bound all.3 value) (first_bound (E.bound all.4 value) (first_bound (F.bound all.5 value) (first_bound (G.bound all.6 value) (I.bound all.7 value))))))) };
-
-    fn find_bound<H: I18n>(&self, alloc: Global, value: &T, h: &H) -> Result<(), RuleError> {
-        let rest = (&self.3, &self.4, &self.5, &self.6, &self.7);
         (&self.0, &self.1, &self.2, rest).find_bound(alloc, value, h)
     }
 }

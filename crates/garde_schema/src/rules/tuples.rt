@@ -1,4 +1,4 @@
-//! Tuples of five to eight rules.
+//! Tuples of five and six rules. More are tuples in tuples, by `all!`.
 ghost use Rattle.garde.specs.Visits.{◌and◌};
 
 use super::Rules;
@@ -43,66 +43,6 @@ impl<T, A: Rules<T>, B: Rules<T>, C: Rules<T>, D: Rules<T>, E: Rules<T>, F: Rule
         h: &H,
     ) -> Result<(), AllocError> {
         let rest = (&self.3, &self.4, &self.5);
-        (&self.0, &self.1, &self.2, rest).ask(alloc, value, trail, report, h)
-    }
-}
-
-/// Seven in turn.
-impl<
-    T,
-    A: Rules<T>,
-    B: Rules<T>,
-    C: Rules<T>,
-    D: Rules<T>,
-    E: Rules<T>,
-    F: Rules<T>,
-    G: Rules<T>,
-> Rules<T> for (A, B, C, D, E, F, G) {
-    ghost asks = { λ all value.
-        A.asks all.0 value and B.asks all.1 value and C.asks all.2 value and D.asks all.3 value
-        and E.asks all.4 value and F.asks all.5 value and G.asks all.6 value };
-
-    #[inline(always)]
-    fn ask<'a, H: I18n>(
-        &self,
-        alloc: Global,
-        value: &T,
-        trail: &mut Trail<'a>,
-        report: &mut Report,
-        h: &H,
-    ) -> Result<(), AllocError> {
-        let rest = (&self.3, &self.4, &self.5, &self.6);
-        (&self.0, &self.1, &self.2, rest).ask(alloc, value, trail, report, h)
-    }
-}
-
-/// Eight in turn.
-impl<
-    T,
-    A: Rules<T>,
-    B: Rules<T>,
-    C: Rules<T>,
-    D: Rules<T>,
-    E: Rules<T>,
-    F: Rules<T>,
-    G: Rules<T>,
-    I: Rules<T>,
-> Rules<T> for (A, B, C, D, E, F, G, I) {
-    ghost asks = { λ all value.
-        A.asks all.0 value and B.asks all.1 value and C.asks all.2 value and D.asks all.3 value
-        and E.asks all.4 value and F.asks all.5 value and G.asks all.6 value
-        and I.asks all.7 value };
-
-    #[inline(always)]
-    fn ask<'a, H: I18n>(
-        &self,
-        alloc: Global,
-        value: &T,
-        trail: &mut Trail<'a>,
-        report: &mut Report,
-        h: &H,
-    ) -> Result<(), AllocError> {
-        let rest = (&self.3, &self.4, &self.5, &self.6, &self.7);
         (&self.0, &self.1, &self.2, rest).ask(alloc, value, trail, report, h)
     }
 }

@@ -1,7 +1,7 @@
 //! Tuples of more than two values, which are read as pairs in pairs.
 ghost use Rattle.std.specs.Prelude.{◌≡◌, IfOk, OnOk, option_map};
 ghost use Rattle.garde.specs.Visits.{Visited};
-ghost use Rattle.garde_schema.specs.Flat.{flat3, flat4, flat5, flat6, flat7, flat8, flat9, flat10, flat11, flat12};
+ghost use Rattle.garde_schema.specs.Flat.{flat3, flat4, flat5, flat6};
 ghost use Rattle.garde_schema.specs.Forms.{forget, Sound};
 
 use crate::form::Members;
@@ -105,111 +105,5 @@ impl<A: Drop, B: Drop, C: Drop, D: Drop, E: Drop, F: Drop> Flat for (A, B, C, D,
     fn flat(parts: (A, B, C, (D, E, F))) -> (A, B, C, D, E, F) {
         let (a, b, c, (d, e, f)) = parts;
         (a, b, c, d, e, f)
-    }
-}
-
-impl<A: Drop, B: Drop, C: Drop, D: Drop, E: Drop, F: Drop, G: Drop> Flat for (A, B, C, D, E, F, G) {
-    type Nested = (A, B, C, (D, E, F, G));
-
-    ghost flat = { λ v. flat7 v };
-
-    ghost nested = { λ v. (v.0, v.1, v.2, (v.3, v.4, v.5, v.6)) };
-
-    fn flat(parts: (A, B, C, (D, E, F, G))) -> (A, B, C, D, E, F, G) {
-        let (a, b, c, (d, e, f, g)) = parts;
-        (a, b, c, d, e, f, g)
-    }
-}
-
-impl<A: Drop, B: Drop, C: Drop, D: Drop, E: Drop, F: Drop, G: Drop, I: Drop> Flat
-    for (A, B, C, D, E, F, G, I) {
-    type Nested = (A, B, C, (D, E, F, G, I));
-
-    ghost flat = { λ v. flat8 v };
-
-    ghost nested = { λ v. (v.0, v.1, v.2, (v.3, v.4, v.5, v.6, v.7)) };
-
-    fn flat(parts: (A, B, C, (D, E, F, G, I))) -> (A, B, C, D, E, F, G, I) {
-        let (a, b, c, (d, e, f, g, i)) = parts;
-        (a, b, c, d, e, f, g, i)
-    }
-}
-
-impl<A: Drop, B: Drop, C: Drop, D: Drop, E: Drop, F: Drop, G: Drop, I: Drop, J: Drop> Flat
-    for (A, B, C, D, E, F, G, I, J) {
-    type Nested = (A, B, C, (D, E, F, G, I, J));
-
-    ghost flat = { λ v. flat9 v };
-
-    ghost nested = { λ v. (v.0, v.1, v.2, (v.3, v.4, v.5, v.6, v.7, v.8)) };
-
-    fn flat(parts: (A, B, C, (D, E, F, G, I, J))) -> (A, B, C, D, E, F, G, I, J) {
-        let (a, b, c, (d, e, f, g, i, j)) = parts;
-        (a, b, c, d, e, f, g, i, j)
-    }
-}
-
-impl<A: Drop, B: Drop, C: Drop, D: Drop, E: Drop, F: Drop, G: Drop, I: Drop, J: Drop, K: Drop> Flat
-    for (A, B, C, D, E, F, G, I, J, K) {
-    type Nested = (A, B, (C, D, E, F, G, I, J, K));
-
-    ghost flat = { λ v. flat10 v };
-
-    ghost nested = { λ v. (v.0, v.1, (v.2, v.3, v.4, v.5, v.6, v.7, v.8, v.9)) };
-
-    fn flat(parts: (A, B, (C, D, E, F, G, I, J, K))) -> (A, B, C, D, E, F, G, I, J, K) {
-        let (a, b, (c, d, e, f, g, i, j, k)) = parts;
-        (a, b, c, d, e, f, g, i, j, k)
-    }
-}
-
-impl<
-    A: Drop,
-    B: Drop,
-    C: Drop,
-    D: Drop,
-    E: Drop,
-    F: Drop,
-    G: Drop,
-    I: Drop,
-    J: Drop,
-    K: Drop,
-    L: Drop,
-> Flat for (A, B, C, D, E, F, G, I, J, K, L) {
-    type Nested = (A, B, C, (D, E, F, G, I, J, K, L));
-
-    ghost flat = { λ v. flat11 v };
-
-    ghost nested = { λ v. (v.0, v.1, v.2, (v.3, v.4, v.5, v.6, v.7, v.8, v.9, v.10)) };
-
-    fn flat(parts: (A, B, C, (D, E, F, G, I, J, K, L))) -> (A, B, C, D, E, F, G, I, J, K, L) {
-        let (a, b, c, (d, e, f, g, i, j, k, l)) = parts;
-        (a, b, c, d, e, f, g, i, j, k, l)
-    }
-}
-
-impl<
-    A: Drop,
-    B: Drop,
-    C: Drop,
-    D: Drop,
-    E: Drop,
-    F: Drop,
-    G: Drop,
-    I: Drop,
-    J: Drop,
-    K: Drop,
-    L: Drop,
-    M: Drop,
-> Flat for (A, B, C, D, E, F, G, I, J, K, L, M) {
-    type Nested = (A, B, C, D, (E, F, G, I, J, K, L, M));
-
-    ghost flat = { λ v. flat12 v };
-
-    ghost nested = { λ v. (v.0, v.1, v.2, v.3, (v.4, v.5, v.6, v.7, v.8, v.9, v.10, v.11)) };
-
-    fn flat(parts: (A, B, C, D, (E, F, G, I, J, K, L, M))) -> (A, B, C, D, E, F, G, I, J, K, L, M) {
-        let (a, b, c, d, (e, f, g, i, j, k, l, m)) = parts;
-        (a, b, c, d, e, f, g, i, j, k, l, m)
     }
 }

@@ -4,7 +4,7 @@ ghost use Rattle.garde.specs.Fields.{message_unless};
 
 use super::OrEnd;
 use garde::fields::{Is, Rule, When};
-use garde::{DefaultI18n, I18n, RuleError, range};
+use garde::{DefaultI18n, I18n, RuleError, all, range};
 use garde_schema::{NumberRules, Scratch, U8, Whole, read_json};
 use std::alloc::{AllocError, Global};
 use std::borrow::CowStr;
@@ -57,12 +57,11 @@ fn report_by(alloc: Global, count: usize, body: &str) -> Result<String, AllocErr
         4 => report(alloc, body, (even, even, least, most)),
         5 => report(alloc, body, (even, even, even, least, most)),
         6 => report(alloc, body, (even, even, even, even, least, most)),
-        7 => report(alloc, body, (even, even, even, even, even, least, most)),
-        _ => report(
-            alloc,
-            body,
-            (even, even, even, even, even, even, least, most),
-        ),
+        7 => report(alloc, body, (even, even, even, even, even, (least, most))),
+        _ => {
+            let eight = all!(even, even, even, even, even, even, least, most);
+            report(alloc, body, eight)
+        }
     }
 }
 

@@ -1,11 +1,10 @@
-//! Tuples of one to twelve members: the value of each, and the whole report of a body in which every
-//! second member has a fault.
+//! Tuples of one to six members, and more members as tuples in tuples: the value of each, and the whole
+//! report of a body in which every second member has a fault.
 
-use super::long_tuples::{fifteen, fourteen, sixteen, thirteen};
 use super::told::{Case, check, told};
 use garde::fields::Is;
-use garde::{DefaultI18n, I18n, range};
-use garde_schema::{Closed, FormI18n, Member, Members, Object, U8, Whole};
+use garde::{DefaultI18n, I18n, all, parts, range};
+use garde_schema::{Closed, FormI18n, Member, Members, Object, U8, Whole, read};
 use garde_tape::Tree;
 use std::alloc::{AllocError, Global};
 use std::fmt::Debug;
@@ -33,7 +32,28 @@ where
     }
 }
 
-// The same of the first seven to twelve.
+// The same of sixteen, whose values are taken out of them.
+fn sixteen<'a, M: Members<'a> + Copy, H: I18n + FormI18n>(
+    alloc: Global,
+    tree: &Tree<'_, 'a>,
+    members: &[M; 16],
+    h: &H,
+) -> Result<String, AllocError>
+where
+    M::Out: Debug,
+{
+    let [a, b, c, d, e, f, g, i, j, k, l, m, n, o, p, q] = *members;
+    let all = all!(a, b, c, d, e, f, g, i, j, k, l, m, n, o, p, q);
+    match read(alloc, &Object(Closed(all)), tree, h) {
+        Ok(parts!(a, b, c, d, e, f, g, i, j, k, l, m, n, o, p, q)) => {
+            let values = ((a, b, c, d, e, f, g, i), (j, k, l, m, n, o, p, q));
+            format!(in alloc; "{values:?}")
+        }
+        Err(error) => format!(in alloc; "{error}"),
+    }
+}
+
+// The same of the first seven, in a tuple whose last item is a tuple, or of the first twelve.
 fn many<'a, M: Members<'a> + Copy, H: I18n + FormI18n>(
     alloc: Global,
     tree: &Tree<'_, 'a>,
@@ -45,28 +65,11 @@ where
     M::Out: Debug,
 {
     let [a, b, c, d, e, f, g, i, j, k, l, m, ..] = *members;
-    match size {
-        7 => told(alloc, tree, &Object(Closed((a, b, c, d, e, f, g))), h),
-        8 => told(alloc, tree, &Object(Closed((a, b, c, d, e, f, g, i))), h),
-        9 => told(alloc, tree, &Object(Closed((a, b, c, d, e, f, g, i, j))), h),
-        10 => told(
-            alloc,
-            tree,
-            &Object(Closed((a, b, c, d, e, f, g, i, j, k))),
-            h,
-        ),
-        11 => told(
-            alloc,
-            tree,
-            &Object(Closed((a, b, c, d, e, f, g, i, j, k, l))),
-            h,
-        ),
-        _ => told(
-            alloc,
-            tree,
-            &Object(Closed((a, b, c, d, e, f, g, i, j, k, l, m))),
-            h,
-        ),
+    if size == 7 {
+        told(alloc, tree, &Object(Closed((a, b, c, d, e, (f, g)))), h)
+    } else {
+        let twelve = all!(a, b, c, d, e, f, g, i, j, k, l, m);
+        told(alloc, tree, &Object(Closed(twelve)), h)
     }
 }
 
@@ -84,9 +87,6 @@ where
     match size {
         0..=6 => few(alloc, tree, size, members, h),
         7..=12 => many(alloc, tree, size, members, h),
-        13 => thirteen(alloc, tree, members, h),
-        14 => fourteen(alloc, tree, members, h),
-        15 => fifteen(alloc, tree, members, h),
         _ => sixteen(alloc, tree, members, h),
     }
 }
@@ -109,120 +109,98 @@ pub fn told_by<H: I18n + FormI18n>(
     told_of_members(alloc, tree, size, &members, h)
 }
 
-/// Asks that each body with so many members reads as this.
-pub fn compare_sizes(rt: &impl Abort, alloc: Global, rows: &[(usize, &str, &str)]) {
+// Asks that each body with so many members reads as this.
+fn compare_sizes(rt: &impl Abort, alloc: Global, rows: &[(usize, &str, &str)]) {
     for (size, body, expected) in rows {
         let case = Case::Tuples(*size);
         check(rt, alloc, case, body.as_bytes(), &DefaultI18n, expected);
     }
 }
 
+// How many members there are, a body, and what it reads as.
+const TUPLES: &[(usize, &str, &str)] = &[
+    (1, "{\"a\":1}", "(1,)"),
+    (1, "{\"a\":1,\"z\":0}", "z: not known here\n"),
+    (2, "{\"b\":2,\"a\":1}", "(1, 2)"),
+    (
+        2,
+        "{\"a\":1,\"b\":true,\"z\":0}",
+        "b: not a whole number\nz: not known here\n",
+    ),
+    (3, "{\"c\":3,\"b\":2,\"a\":1}", "(1, 2, 3)"),
+    (
+        3,
+        "{\"a\":1,\"b\":true,\"c\":3,\"z\":0}",
+        "b: not a whole number\nz: not known here\n",
+    ),
+    (4, "{\"d\":4,\"c\":3,\"b\":2,\"a\":1}", "(1, 2, 3, 4)"),
+    (
+        4,
+        "{\"a\":1,\"b\":true,\"c\":3,\"d\":21,\"z\":0}",
+        "b: not a whole number\nd: greater than 20\nz: not known here\n",
+    ),
+    (
+        5,
+        "{\"e\":5,\"d\":4,\"c\":3,\"b\":2,\"a\":1}",
+        "(1, 2, 3, 4, 5)",
+    ),
+    (
+        5,
+        "{\"a\":1,\"b\":true,\"c\":3,\"d\":21,\"e\":5,\"z\":0}",
+        "b: not a whole number\nd: greater than 20\nz: not known here\n",
+    ),
+    (
+        6,
+        "{\"f\":6,\"e\":5,\"d\":4,\"c\":3,\"b\":2,\"a\":1}",
+        "(1, 2, 3, 4, 5, 6)",
+    ),
+    (
+        6,
+        "{\"a\":1,\"b\":true,\"c\":3,\"d\":21,\"e\":5,\"f\":\"1\",\"z\":0}",
+        "b: not a whole number\nd: greater than 20\nf: not a whole number\nz: not known here\n",
+    ),
+];
+
 #[test]
-fn reads_tuples_of_up_to_twelve_members(rt: HostRuntime) {
-    compare_sizes(
-        &rt,
-        rt.alloc(),
-        &[
-            (1, "{\"a\":1}", "(1,)"),
-            (1, "{\"a\":1,\"z\":0}", "z: not known here\n"),
-            (2, "{\"b\":2,\"a\":1}", "(1, 2)"),
-            (
-                2,
-                "{\"a\":1,\"b\":true,\"z\":0}",
-                "b: not a whole number\nz: not known here\n",
-            ),
-            (3, "{\"c\":3,\"b\":2,\"a\":1}", "(1, 2, 3)"),
-            (
-                3,
-                "{\"a\":1,\"b\":true,\"c\":3,\"z\":0}",
-                "b: not a whole number\nz: not known here\n",
-            ),
-            (4, "{\"d\":4,\"c\":3,\"b\":2,\"a\":1}", "(1, 2, 3, 4)"),
-            (
-                4,
-                "{\"a\":1,\"b\":true,\"c\":3,\"d\":21,\"z\":0}",
-                "b: not a whole number\nd: greater than 20\nz: not known here\n",
-            ),
-            (
-                5,
-                "{\"e\":5,\"d\":4,\"c\":3,\"b\":2,\"a\":1}",
-                "(1, 2, 3, 4, 5)",
-            ),
-            (
-                5,
-                "{\"a\":1,\"b\":true,\"c\":3,\"d\":21,\"e\":5,\"z\":0}",
-                "b: not a whole number\nd: greater than 20\nz: not known here\n",
-            ),
-            (
-                6,
-                "{\"f\":6,\"e\":5,\"d\":4,\"c\":3,\"b\":2,\"a\":1}",
-                "(1, 2, 3, 4, 5, 6)",
-            ),
-            (
-                6,
-                "{\"a\":1,\"b\":true,\"c\":3,\"d\":21,\"e\":5,\"f\":\"1\",\"z\":0}",
-                "b: not a whole number\nd: greater than 20\nf: not a whole number\nz: not known here\n",
-            ),
-            (
-                7,
-                "{\"g\":7,\"f\":6,\"e\":5,\"d\":4,\"c\":3,\"b\":2,\"a\":1}",
-                "(1, 2, 3, 4, 5, 6, 7)",
-            ),
-            (
-                7,
-                "{\"a\":1,\"b\":true,\"c\":3,\"d\":21,\"e\":5,\"f\":\"1\",\"g\":7,\"z\":0}",
-                "b: not a whole number\nd: greater than 20\nf: not a whole number\nz: not known here\n",
-            ),
-            (
-                8,
-                "{\"h\":8,\"g\":7,\"f\":6,\"e\":5,\"d\":4,\"c\":3,\"b\":2,\"a\":1}",
-                "(1, 2, 3, 4, 5, 6, 7, 8)",
-            ),
-            (
-                8,
-                "{\"a\":1,\"b\":true,\"c\":3,\"d\":21,\"e\":5,\"f\":\"1\",\"g\":7,\"h\":256,\"z\":0}",
-                "b: not a whole number\nd: greater than 20\nf: not a whole number\nh: greater than 20\nz: not known here\n",
-            ),
-            (
-                9,
-                "{\"i\":9,\"h\":8,\"g\":7,\"f\":6,\"e\":5,\"d\":4,\"c\":3,\"b\":2,\"a\":1}",
-                "(1, 2, 3, 4, 5, 6, 7, 8, 9)",
-            ),
-            (
-                9,
-                "{\"a\":1,\"b\":true,\"c\":3,\"d\":21,\"e\":5,\"f\":\"1\",\"g\":7,\"h\":256,\"i\":9,\"z\":0}",
-                "b: not a whole number\nd: greater than 20\nf: not a whole number\nh: greater than 20\nz: not known here\n",
-            ),
-            (
-                10,
-                "{\"j\":10,\"i\":9,\"h\":8,\"g\":7,\"f\":6,\"e\":5,\"d\":4,\"c\":3,\"b\":2,\"a\":1}",
-                "(1, 2, 3, 4, 5, 6, 7, 8, 9, 10)",
-            ),
-            (
-                10,
-                "{\"a\":1,\"b\":true,\"c\":3,\"d\":21,\"e\":5,\"f\":\"1\",\"g\":7,\"h\":256,\"i\":9,\"j\":1.0,\"z\":0}",
-                "b: not a whole number\nd: greater than 20\nf: not a whole number\nh: greater than 20\nj: not a whole number\nz: not known here\n",
-            ),
-            (
-                11,
-                "{\"k\":11,\"j\":10,\"i\":9,\"h\":8,\"g\":7,\"f\":6,\"e\":5,\"d\":4,\"c\":3,\"b\":2,\"a\":1}",
-                "(1, 2, 3, 4, 5, 6, 7, 8, 9, 10, 11)",
-            ),
-            (
-                11,
-                "{\"a\":1,\"b\":true,\"c\":3,\"d\":21,\"e\":5,\"f\":\"1\",\"g\":7,\"h\":256,\"i\":9,\"j\":1.0,\"k\":11,\"z\":0}",
-                "b: not a whole number\nd: greater than 20\nf: not a whole number\nh: greater than 20\nj: not a whole number\nz: not known here\n",
-            ),
-            (
-                12,
-                "{\"l\":12,\"k\":11,\"j\":10,\"i\":9,\"h\":8,\"g\":7,\"f\":6,\"e\":5,\"d\":4,\"c\":3,\"b\":2,\"a\":1}",
-                "(1, 2, 3, 4, 5, 6, 7, 8, 9, 10, 11, 12)",
-            ),
-            (
-                12,
-                "{\"a\":1,\"b\":true,\"c\":3,\"d\":21,\"e\":5,\"f\":\"1\",\"g\":7,\"h\":256,\"i\":9,\"j\":1.0,\"k\":11,\"l\":-1,\"z\":0}",
-                "b: not a whole number\nd: greater than 20\nf: not a whole number\nh: greater than 20\nj: not a whole number\nl: out of range: 0 to 255\nz: not known here\n",
-            ),
-        ],
-    );
+fn reads_tuples_of_up_to_six_members(rt: HostRuntime) {
+    compare_sizes(&rt, rt.alloc(), TUPLES);
+}
+
+// The same of more than six.
+const LONGER: &[(usize, &str, &str)] = &[
+    (
+        7,
+        "{\"g\":7,\"f\":6,\"e\":5,\"d\":4,\"c\":3,\"b\":2,\"a\":1}",
+        "(1, 2, 3, 4, 5, (6, 7))",
+    ),
+    (
+        7,
+        "{\"a\":1,\"b\":true,\"c\":3,\"d\":21,\"e\":5,\"f\":\"1\",\"g\":7,\"z\":0}",
+        "b: not a whole number\nd: greater than 20\nf: not a whole number\nz: not known here\n",
+    ),
+    (
+        12,
+        "{\"l\":12,\"k\":11,\"j\":10,\"i\":9,\"h\":8,\"g\":7,\"f\":6,\"e\":5,\"d\":4,\"c\":3,\"b\":2,\"a\":1}",
+        "(1, 2, 3, 4, 5, (6, 7, 8, 9, 10, (11, 12)))",
+    ),
+    (
+        12,
+        "{\"a\":1,\"b\":true,\"c\":3,\"d\":21,\"e\":5,\"f\":\"1\",\"g\":7,\"h\":256,\"i\":9,\"j\":1.0,\"k\":11,\"l\":-1,\"z\":0}",
+        "b: not a whole number\nd: greater than 20\nf: not a whole number\nh: greater than 20\nj: not a whole number\nl: out of range: 0 to 255\nz: not known here\n",
+    ),
+    (
+        16,
+        "{\"p\":16,\"o\":15,\"n\":14,\"m\":13,\"l\":12,\"k\":11,\"j\":10,\"i\":9,\"h\":8,\"g\":7,\"f\":6,\"e\":5,\"d\":4,\"c\":3,\"b\":2,\"a\":1}",
+        "((1, 2, 3, 4, 5, 6, 7, 8), (9, 10, 11, 12, 13, 14, 15, 16))",
+    ),
+    (
+        16,
+        "{\"p\":256,\"o\":15,\"n\":1.0,\"m\":13,\"l\":12,\"k\":11,\"j\":10,\"i\":9,\"h\":8,\"g\":7,\"f\":6,\"e\":5,\"d\":4,\"c\":3,\"b\":[],\"a\":1,\"q\":0}",
+        "b: not a whole number\nn: not a whole number\np: greater than 20\nq: not known here\n",
+    ),
+];
+
+#[test]
+fn reads_more_members_as_tuples_in_tuples(rt: HostRuntime) {
+    compare_sizes(&rt, rt.alloc(), LONGER);
 }

@@ -2,7 +2,7 @@
 //! take them, and the whole report of the others.
 
 use crate::tests::OrEnd;
-use garde::DefaultI18n;
+use garde::{DefaultI18n, all};
 use garde_form::{Character, OrEmpty, Parsed};
 use garde_parsed::{Date, DateTime, ParsedInMemory, Time, Timestamp, Url, Uuid};
 use garde_schema::{
@@ -100,7 +100,7 @@ fn reads_a_bare_value_of_json(rt: HostRuntime) {
 fn read_others(alloc: Global, json: &[u8]) -> Result<String, AllocError> {
     let known = [("nan", ()), ("1979-05-27", ())];
     let open = Optional("a", Text(()));
-    let texts = (
+    let texts = all!(
         Optional("text", Text(())),
         Optional("nullable", Nullable(Text(()))),
         Optional("either", TextOr(Text(()), Map(Text(())))),
@@ -108,16 +108,16 @@ fn read_others(alloc: Global, json: &[u8]) -> Result<String, AllocError> {
         Optional("character", Parsed(Character, ())),
         Optional("byte", Parsed(U8, ())),
         Optional("uuid", Parsed(Uuid, ())),
-        Optional("url", ParsedInMemory(Url, ())),
+        Optional("url", ParsedInMemory(Url, ()))
     );
-    let others = (
+    let others = all!(
         Optional("number", Whole(U8, ())),
         Optional("flag", Flag),
         Optional("null", Null),
         Optional("open", Object(open)),
         Optional("map", Map(Text(()))),
         Optional("list", List(Text(()))),
-        Optional("any", Any),
+        Optional("any", Any)
     );
     let form = Object(Closed((texts, others)));
     let mut scratch = Scratch::new(alloc);
