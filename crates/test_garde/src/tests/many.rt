@@ -1,7 +1,7 @@
 //! Tuples of fields and of checks, checks of a condition, and lists whose items differ.
 use crate::tests::OrEnd;
 use garde::fields::{Ascii, Asks, Each, Equal, Field, Fields, Is, Length, RequiredIf, Unique};
-use garde::{DefaultI18n, Report, Trail};
+use garde::{DefaultI18n, Report, Trail, all};
 use std::alloc::Global;
 use std::process::Abort;
 
@@ -38,7 +38,8 @@ fn is_told<'a, F: Fields<'a>>(rt: &impl Abort, alloc: Global, fields: &F, text: 
 /// Whether this is reported for twelve fields.
 fn is_told_of_twelve(rt: &impl Abort, alloc: Global, text: &str) -> bool {
     let [a, b, c, d] = accented(&"é");
-    is_told(rt, alloc, &(a, b, c, d, a, b, c, d, a, b, c, d), text)
+    let twelve = all!(a, b, c, d, a, b, c, d, a, b, c, d);
+    is_told(rt, alloc, &twelve, text)
 }
 
 /// Whether this is reported for five fields.
