@@ -17,33 +17,45 @@ def run(words, room):
         sys.exit(f"the program was not built: {done.stdout[-2000:]}")
 
 
-def build(folder, listed=("garde", "garde_json"), from_kit=("serde_json",)):
-    """Proves and builds the program of a folder over the libraries that `rt ci` built, unless none of its files and of these libraries
-    changed since. It lists these crates, and these of the kit. Gives where it lies, in bench/out/."""
-    files, made = list((HERE / folder).glob("*.rt.txt")), HERE / "out" / f"garde_{folder}"
+def kit():
+    """The folder of the toolchain."""
+    said = subprocess.run(["rt", "doc"], check=True, capture_output=True, text=True).stdout
+    return pathlib.Path(said.strip()).parent
+
+
+def build(folder, listed=("garde", "garde_json"), from_kit=("serde_json",), is_library=False):
+    """Proves and builds the program, or the static library, of a folder over the libraries that `rt ci` built, unless none of its
+    files and of these libraries changed since. It lists these crates, and these of the kit. Gives where it lies, in bench/out/."""
+    name = f"garde_{pathlib.Path(folder).name}"
+    files, made = list((HERE / folder).glob("*.rt.txt")), HERE / "out" / (f"lib{name}.a" if is_library else name)
     libraries = {it: CRATES / it / "out/rlib" / f"{it}.rlib" for it in (*listed, *BELOW)}
     for it in listed:
         if not libraries[it].exists():
             sys.exit(f"{it} is not built: rt ci builds it")
     if made.is_file() and made.stat().st_mtime > max(it.stat().st_mtime for it in (*files, *libraries.values())):
         return made
-    said = subprocess.run(["rt", "doc"], check=True, capture_output=True, text=True).stdout
-    kit = pathlib.Path(said.strip()).parent
     made.parent.mkdir(exist_ok=True)
-    words = [kit / "bin/rattle", "build", "--crate-name", made.name, "src/main.rt", "--links", f"{made.name}=", "--jobs", str(os.cpu_count())]
-    words += ["--antt-project", kit / "rattle/logic/antt-project.json", "--logic-built", kit / "logic_built", "--toolchain", kit / "toolchain"]
+    root = ["src/lib.rt", "--crate-type", "staticlib"] if is_library else ["src/main.rt"]
+    words = [kit() / "bin/rattle", "build", "--crate-name", name, *root, "--links", f"{name}=", "--jobs", str(os.cpu_count())]
+    words += ["--antt-project", kit() / "rattle/logic/antt-project.json", "--logic-built", kit() / "logic_built", "--toolchain", kit() / "toolchain"]
     for it in ("std", *from_kit):
-        words += ["--extern", f"{it}={kit}/rlibs/{it}.rlib"]
+        words += ["--extern", f"{it}={kit()}/rlibs/{it}.rlib"]
     for it in listed:
         words += ["--extern", f"{it}={libraries[it]}"]
-    for it in [*(file.parent for file in libraries.values()), kit / "rlibs"]:
+    for it in [*(file.parent for file in libraries.values()), kit() / "rlibs"]:
         words += ["-L", f"dependency={it}"]
     with tempfile.TemporaryDirectory() as room:
         source = pathlib.Path(room, "src")
         source.mkdir()
         for it in files:
             (source / it.name[: -len(".txt")]).write_text(it.read_text(encoding="utf-8"), encoding="utf-8")
-        run([*words, "-o", f"{room}/made.o"], room)
-        linked = [kit / "bin/rattle-link", "--target", "x86_64-unknown-linux-gnu", "--toolchain", kit / "toolchain", "-o", made, f"{room}/made.o"]
-        run([*linked, kit / "c/libos_c.a", kit / "c/liblibc_c.a"], room)
+        run([*words, "-o", made if is_library else f"{room}/made.o"], room)
+        if not is_library:
+            link(f"{room}/made.o", made, room)
     return made
+
+
+def link(made, program, room):
+    """Links the object of a program."""
+    words = [kit() / "bin/rattle-link", "--target", "x86_64-unknown-linux-gnu", "--toolchain", kit() / "toolchain", "-o", program, made]
+    run([*words, kit() / "c/libos_c.a", kit() / "c/liblibc_c.a"], room)
