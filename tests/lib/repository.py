@@ -1,11 +1,10 @@
-"""The repository: its files, its crates, and where its documents lie."""
+"""The repository: its files and its crates."""
 import functools
 import pathlib
 import re
 import subprocess
 
 ROOT = pathlib.Path(__file__).resolve().parent.parent.parent
-PLACES_OF_PROMISES = ("docs/reference/promises.md", "docs/PROMISES.md")
 
 
 @functools.cache
@@ -55,8 +54,3 @@ def below(crate, root=ROOT):
         if it in libraries(root):
             found += [other for other in [*below(it, root), it] if other not in found]
     return found
-
-
-def promises():
-    """The name of the document that lists the promises."""
-    return next((name for name in PLACES_OF_PROMISES if (ROOT / name).is_file()), PLACES_OF_PROMISES[0])

@@ -12,13 +12,33 @@ from dataclasses import dataclass, field
 from lib import repository, source
 
 
+@dataclass(frozen=True, eq=False)
+class Function:
+    """A function: its file, the text of that, and where it stands there."""
+
+    file: str
+    text: source.Source
+    item: source.Item
+
+    @property
+    def place(self):
+        """What no other function has."""
+        return self.file, self.item.head
+
+    @property
+    def contract(self):
+        """Its head and its clauses."""
+        return self.text.contract(self.item)
+
+
 @dataclass
 class Module:
-    """A module: what it declares `pub` (each item with its functions and their contracts), its children and re-exports."""
+    """A module: what it declares `pub` (each item with its functions), its children and re-exports."""
 
+    file: str
     parent: "Module | None"
-    items: dict = field(default_factory=dict)  # name: {function: contract}, under "" for a free function
-    methods: dict = field(default_factory=dict)  # type: {function: contract}, of impl blocks
+    items: dict = field(default_factory=dict)  # name: {name: function}, under "" for a free function
+    methods: dict = field(default_factory=dict)  # type: {name: function}, of impl blocks
     children: dict = field(default_factory=dict)  # name: (is public, Module)
     reexports: list = field(default_factory=list)  # (path, new name)
 
@@ -45,28 +65,28 @@ def expanded(tree, before=()):
 
 def declare(module, text, item):
     """Adds what an item makes public, where it is no module."""
-    contracts = {it.name: text.contract(it) for it in item.members if it.kind == "fn"}
+    functions = {it.name: Function(module.file, text, it) for it in item.members if it.kind == "fn"}
     if item.kind == "impl":
         header = source.without_generics(text.header(item))
         if " for " not in header:
             public = {it.name for it in item.members if it.is_public}
             methods = module.methods.setdefault(re.match(r"impl\s*(\w+)", header).group(1), {})
-            methods.update({name: contract for name, contract in contracts.items() if name in public})
+            methods.update({name: function for name, function in functions.items() if name in public})
     elif not item.is_public:
         return
     elif item.kind == "use":
         module.reexports += expanded(" ".join(re.sub(r"^pub\s+use\s+", "", text.header(item)).split()))
     elif item.kind == "trait":
-        module.items[item.name] = contracts
+        module.items[item.name] = functions
     elif item.kind == "fn":
-        module.items[item.name] = {"": text.contract(item)}
+        module.items[item.name] = {"": Function(module.file, text, item)}
     elif item.kind in ("struct", "enum", "type"):
         module.items.setdefault(item.name, {})
 
 
 def read_module(file, folder, parent, all_public):
     """Reads a module and its children, which lie in its folder."""
-    module, text = Module(parent), source.read(repository.text_of(file))
+    module, text = Module(file, parent), source.read(repository.text_of(file))
     for item in text.items:
         if "#[cfg(test)]" in text.attributes(item):
             continue
@@ -127,7 +147,7 @@ def add_public(module, way, found):
 
 
 def public_functions(crate):
-    """The public functions of a crate under their names, each with its contract."""
+    """The public functions of a crate under their names."""
     folder = f"crates/{crate}/src"
     program = not (repository.ROOT / folder / "lib.rt").exists()
     root = read_module(f"{folder}/{'main' if program else 'lib'}.rt", folder, None, program)
@@ -138,7 +158,7 @@ def public_functions(crate):
     for way, module, item in sorted(found, key=lambda it: (len(it[0]), it[0])):
         shortest.setdefault((id(module), item), (way, module.items[item]))
     return {
-        "::".join(way + [name] if name else way): contract
+        "::".join(way + [name] if name else way): function
         for way, functions in shortest.values()
-        for name, contract in functions.items()
+        for name, function in functions.items()
     }

@@ -1,0 +1,65 @@
+"""The page of the promises: a head that is written by hand, and for each crate a table of its public functions."""
+from dataclasses import dataclass
+
+from lib import repository
+
+from . import clauses, notes, promised
+
+PAGE = "docs/reference/promises.md"
+COLUMNS = "| function | what it promises | clauses | tests | mutants |\n|---|---|---|---|---|\n"
+OTHERS = "| other function | mutants |\n|---|---|\n"
+# crates that tests reach through C alone
+THROUGH_C = ("garde_library", "example_order", "use_library")
+REASONS = ("C", "law", "run", "safe")
+
+
+@dataclass
+class Line:
+    """A public function: what is said of it, and in each cell names in backquotes, one of REASONS, or nothing."""
+
+    name: str
+    said: str
+    clauses: str
+    tests: str
+    mutants: str
+
+    def __str__(self):
+        return f"| `{self.name}` | {self.said} | {self.clauses} | {self.tests} | {self.mutants} |"
+
+
+def quoted(names):
+    return ", ".join(f"`{name}`" for name in names)
+
+
+def line(crate, name):
+    """The line of a public function. Where it lacks clauses, tests or mutants, a reason stands for them, if there is one."""
+    function, mutants = promised.of(crate)[name], notes.mutants(crate)[0][name]
+    stated = clauses.shown(function) or ("`Valid`" if promised.gives_valid(function) else "safe")
+    why = "run" if crate.startswith("use_") else "law" if promised.is_law(function) else "safe" if stated == "safe" else ""
+    said = " ".join(filter(None, [promised.docs(function), *notes.besides(name)])).replace("|", r"\|")
+    tests = quoted(notes.tests()[name]) or ("C" if crate in THROUGH_C else why)
+    return Line(name, said, stated, tests, quoted(mutants) or why)
+
+
+def lines(crate):
+    return [line(crate, name) for name in promised.of(crate)]
+
+
+def others(crate):
+    """The mutants that stand at no public function: the path of each function that they change, and their names."""
+    found = notes.mutants(crate)[1]
+    return [f"| `{path}` | {quoted(titles)} |" for path, titles in sorted(found.items())]
+
+
+def section(crate):
+    """The section of a crate."""
+    tables = [(COLUMNS, [str(it) for it in lines(crate)]), (OTHERS, others(crate))]
+    above = notes.sections(notes.CRATES).get(f"`{crate}`")
+    parts = [f"## `{crate}`", *filter(None, [above]), *(head + "\n".join(rows) for head, rows in tables if rows)]
+    return "\n\n".join(parts)
+
+
+def text():
+    """The text of the page."""
+    head = repository.text_of(notes.HEAD).strip()
+    return "\n\n".join([head, *(section(crate) for crate in promised.crates())]) + "\n"
