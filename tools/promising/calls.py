@@ -3,7 +3,7 @@
 A name counts where it can mean one function alone:
 - `name(..)`: a function that stands free in the same file, or one that a `use` of the file brings in;
 - `owner::name`, where the owner is a module, a type or a trait, or `Self` in a block of the type;
-- `.name(..)`, where one function of those that are looked for has the name, and no type of the standard library has it too.
+- `.name(..)`, where one function alone has the name, and no type of the standard library has it too.
 """
 import functools
 import re
@@ -96,10 +96,10 @@ def ways(function):
 
 
 class Calls:
-    """The calls of some functions among some functions."""
+    """The calls of some functions. Where others are called too, the names of their methods mean none of these."""
 
-    def __init__(self, targets):
-        self.by_token, self.times = {}, Counter(it.item.name for it in targets if owner_of(it))
+    def __init__(self, targets, others=()):
+        self.by_token, self.times = {}, Counter(it.item.name for it in [*targets, *others] if owner_of(it))
         for target in targets:
             for token in ways(target):
                 self.by_token.setdefault(token, []).append(target)

@@ -74,6 +74,13 @@ def shown(function):
     return ", ".join(cells)
 
 
+def asked(function):
+    """The words of the condition of a function."""
+    found = [next(filter(None, words(function, clause)), []) for _, clause in clauses(function, "requires")]
+    cells = dict.fromkeys(f"`{word}`" for stated in found for word in stated)
+    return "requires " + ", ".join(cells) if cells else ""
+
+
 def fields(clause):
     """What a clause names that states no word: the fields of which it speaks, or the result."""
     if "record {" in clause:

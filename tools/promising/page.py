@@ -31,14 +31,21 @@ def quoted(names):
     return ", ".join(f"`{name}`" for name in names)
 
 
+def reason(crate, function, stated):
+    """What stands for tests or mutants, where there are none, or nothing."""
+    if crate.startswith("use_"):
+        return "C" if crate in THROUGH_C else "run"
+    return "law" if promised.is_law(function) else "safe" if stated == "safe" else ""
+
+
 def line(crate, name):
-    """The line of a public function. Where it lacks clauses, tests or mutants, a reason stands for them, if there is one."""
+    """The line of a public function."""
     function, mutants = promised.of(crate)[name], notes.mutants(crate)[0][name]
-    stated = clauses.shown(function) or ("`Valid`" if promised.gives_valid(function) else "safe")
-    why = "run" if crate.startswith("use_") else "law" if promised.is_law(function) else "safe" if stated == "safe" else ""
     said = " ".join(filter(None, [promised.docs(function), *notes.besides(name)])).replace("|", r"\|")
+    stated = clauses.shown(function) or ("`Valid`" if promised.gives_valid(function) else "safe")
+    why = reason(crate, function, stated)
     tests = quoted(notes.tests()[name]) or ("C" if crate in THROUGH_C else why)
-    return Line(name, said, stated, tests, quoted(mutants) or why)
+    return Line(name, said, ", ".join(filter(None, [stated, clauses.asked(function)])), tests, quoted(mutants) or why)
 
 
 def lines(crate):

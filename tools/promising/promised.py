@@ -41,13 +41,19 @@ def gives_valid(function):
     return "Valid<" in function.text.header(function.item).partition("->")[2]
 
 
+def is_of_tests(function):
+    """Whether a function stands among tests."""
+    return calls.crate_of(function).startswith("test_") or "/tests" in function.file
+
+
 @functools.cache
 def tests():
     """All tests by their names, each with the public functions that it calls, itself or by functions of its crate's tests."""
-    targets, found = calls.Calls(list(every().values())), {}
+    helpers = {crate: [it for it in calls.functions_of(crate) if is_of_tests(it)] for crate in repository.crates()}
+    own = [it for functions in helpers.values() for it in functions if calls.method_of(it)[0] == ""]
+    targets, found = calls.Calls(list(every().values()), own), {}
     names = {function.place: name for name, function in every().items()}
-    for crate in repository.crates():
-        functions = [it for it in calls.functions_of(crate) if crate.startswith("test_") or "/tests" in it.file]
+    for crate, functions in helpers.items():
         beside = calls.Calls([it for it in functions if not calls.is_test(it)])
         for test in filter(calls.is_test, calls.functions_of(crate)):
             called = [it for caller in beside.reached(test) for it in targets.called(caller)]
@@ -112,7 +118,7 @@ class Mutants:
         return self.names.get(function.place) or self.traits.get(calls.method_of(function))
 
     def nearest(self, functions):
-        """The public functions among these, or the first that lead to them."""
+        """The public functions among these, or their nearest public callers."""
         seen = set()
         while functions:
             names = sorted({name for name in map(self.name_of, functions) if name})
