@@ -1,10 +1,16 @@
-"""How values are made: `FromParts` of a type, for `Built`."""
+"""The makers of values: what `Built` makes a value of a type of."""
 import textwrap
 
 from .layout import WIDTH, Angles, Call, Literal, Word, arm, call, statement
 
-MAKER = """impl{life} FromParts for {name}{life} {{
+MAKER = """/// Makes a value of the type `{name}` of what its form reads.
+#[derive(Clone, Copy)]
+{vis}struct Make{name}{life}{holds};
+
+impl{life} Build for Make{name}{life} {{
 {parts}
+
+    type Made = {made};
 
 {builds}
 
@@ -12,7 +18,7 @@ MAKER = """impl{life} FromParts for {name}{life} {{
 
 {kept}
 
-    fn from_parts(parts: Self::Parts) -> Self {{
+    fn build(&self, parts: Self::Parts) -> Self::Made {{
 {body}
     }}
 }}"""
@@ -86,14 +92,14 @@ def wrapped(name, head, text):
 
 def ghost_cases(name, cases):
     """A ghost member by cases."""
-    line = f"    ghost {name} = {{ elim [ {' | '.join(cases)} ] }};"
+    line = f"    ghost {name} = {{ λ _. elim [ {' | '.join(cases)} ] }};"
     if len(line) <= WIDTH:
         return line
-    return "\n".join([f"    ghost {name} = {{ elim [", *(f"      | {it}" for it in cases), "    ] };"])
+    return "\n".join([f"    ghost {name} = {{ λ _. elim [", *(f"      | {it}" for it in cases), "    ] };"])
 
 
 class Makers:
-    """How values of the types of a file are made."""
+    """The makers of the types of a file."""
 
     def __init__(self, schema):
         self.schema, self.writer = schema, schema.writer
@@ -105,21 +111,24 @@ class Makers:
         return "<'t>" if item.params else ""
 
     def value(self, item):
-        """The type of the value that is made, as code."""
-        self.writer.uses.others.add("std::marker::PhantomData")
-        life = "<'_>" if item.params else ""
-        return Word(f"PhantomData::<{item.name}{life}>")
+        """The maker as code."""
+        if item.params:
+            self.writer.uses.others.add("std::marker::PhantomData")
+        return call(f"Make{item.name}", "PhantomData") if item.params else Word(f"Make{item.name}")
 
     def text(self, item):
-        """How values of a type are made."""
-        self.schema.use("FromParts")
+        """The maker of a type."""
+        self.schema.use("Build")
         self.writer.uses.prelude.add("refl")
         self.writer.item = item
         halves = self.of_enum(item) if item.kind == "enum" else self.of_struct(item)
         parts, builds, parts_of, kept, body = halves
+        holds = f"({item.vis}PhantomData<&'t str>)" if item.params else ""
         written = statement(parts, 4, "type Parts = ", ";")
-        made = {"name": item.name, "life": self.life(item), "parts": written, "body": body}
-        return MAKER.format(builds=builds, parts_of=parts_of, kept=kept, **made)
+        return MAKER.format(
+            name=item.name, vis=item.vis, life=self.life(item), holds=holds, parts=written, made=self.type_name(item), builds=builds,
+            parts_of=parts_of, kept=kept, body=body,
+        )
 
     def types(self, variant):
         """The types of the parts of a variant."""
@@ -129,10 +138,10 @@ class Makers:
         variant = item.variants[0]
         names = [it.name or str(at) for at, it in enumerate(variant.fields)]
         rows = [f"{name} = {place}" for name, place in zip(names, places(nested(names), "parts"))]
-        builds = ghost("builds", "λ parts. record", "{ " + "; ".join(rows) + " }", [f"{it};" for it in rows])
+        builds = ghost("builds", "λ _ parts. record", "{ " + "; ".join(rows) + " }", [f"{it};" for it in rows])
         given = tuple_text(nested([f"v.{it}" for it in names]))
-        parts_of = wrapped("parts_of", "λ v.", given)
-        return self.types(variant), builds, parts_of, "    ghost kept = { λ _. refl };", self.body(item, variant)
+        parts_of = wrapped("parts_of", "λ _ v.", given)
+        return self.types(variant), builds, parts_of, "    ghost kept = { λ _ _. refl };", self.body(item, variant)
 
     def body(self, item, variant):
         """What a struct is made by."""

@@ -1,4 +1,4 @@
-"""The forms of `garde_schema` that read values of a source's types, how these are made, and the functions that read them."""
+"""The forms of `garde_schema` that read values of a source's types, the makers of these values, and the functions that read them."""
 from .borrowed import fields_of, is_map, is_named, within_option
 from .derives import options, type_names
 from .layout import Rows, Word, call, statement
@@ -43,7 +43,7 @@ class Schema:
         return names[0]
 
     def texts(self):
-        """How values are made, and the functions that read them."""
+        """The makers and the functions that read."""
         made = [it for it in self.items.values() if not is_named(it)]
         makers = [self.makers.text(self.turned[it.name]) for it in made]
         return [*makers, *(self.reader(it) for it in made if not self.is_held(it))]

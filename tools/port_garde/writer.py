@@ -92,7 +92,7 @@ class Writer:
         return []
 
     def schema_texts(self, rust):
-        """How the types are made and read, by their forms."""
+        """The makers and the readers of the types, by their forms."""
         texts = Schema(self).texts()
         for line, reason in lost_of_names(rust, self.borrowed.items.values(), texts):
             self.notes.refuse(line, reason)

@@ -12,8 +12,8 @@ use garde::fields::{
 };
 use garde::{I18n, Report, Trail, Valid, Validate, length, range};
 use garde_schema::{
-    Any, Built, Either, FormI18n, FromParts, Member, Nullish, Object, OneMember, ReadError,
-    Scratch, Tagged, Text, TextRef, U8, U16, U64, Variant, Whole, read_json,
+    Any, Build, Built, Either, FormI18n, Member, Nullish, Object, OneMember, ReadError, Scratch,
+    Tagged, Text, TextRef, U8, U16, U64, Variant, Whole, read_json,
 };
 use std::alloc::{AllocError, Global};
 use std::marker::PhantomData;
@@ -159,24 +159,30 @@ impl<'t> Validate for Bill<'t> {
     }
 }
 
-impl<'t> FromParts for Payment<'t> {
+/// Makes a value of the type `Payment` of what its form reads.
+#[derive(Clone, Copy)]
+pub struct MakePayment<'t>(pub PhantomData<&'t str>);
+
+impl<'t> Build for MakePayment<'t> {
     type Parts = Either<(TextRef<'t>, u16), Either<Option<TextRef<'t>>, ()>>;
 
-    ghost builds = { elim [
+    type Made = Payment<'t>;
+
+    ghost builds = { λ _. elim [
       | Left parts ↦ Card parts.0 parts.1
       | Right (Left parts) ↦ Account parts
       | Right (Right _) ↦ Cash
     ] };
 
-    ghost parts_of = { elim [
+    ghost parts_of = { λ _. elim [
       | Card card_no year ↦ Left (card_no, year)
       | Account holder ↦ Right (Left holder)
       | Cash ↦ Right (Right tt)
     ] };
 
-    ghost kept = { elim [ Left _ ↦ refl | Right (Left _) ↦ refl | Right (Right _) ↦ refl ] };
+    ghost kept = { λ _. elim [ Left _ ↦ refl | Right (Left _) ↦ refl | Right (Right _) ↦ refl ] };
 
-    fn from_parts(parts: Self::Parts) -> Self {
+    fn build(&self, parts: Self::Parts) -> Self::Made {
         match parts {
             Either::Left((card_no, year)) => Payment::Card { card_no, year },
             Either::Right(Either::Left(holder)) => Payment::Account { holder },
@@ -185,30 +191,42 @@ impl<'t> FromParts for Payment<'t> {
     }
 }
 
-impl<'t> FromParts for Number<'t> {
+/// Makes a value of the type `Number` of what its form reads.
+#[derive(Clone, Copy)]
+pub struct MakeNumber<'t>(pub PhantomData<&'t str>);
+
+impl<'t> Build for MakeNumber<'t> {
     type Parts = TextRef<'t>;
 
-    ghost builds = { λ parts. record { 0 = parts } };
+    type Made = Number<'t>;
 
-    ghost parts_of = { λ v. v.0 };
+    ghost builds = { λ _ parts. record { 0 = parts } };
 
-    ghost kept = { λ _. refl };
+    ghost parts_of = { λ _ v. v.0 };
 
-    fn from_parts(parts: Self::Parts) -> Self {
+    ghost kept = { λ _ _. refl };
+
+    fn build(&self, parts: Self::Parts) -> Self::Made {
         Number(parts)
     }
 }
 
-impl<'t> FromParts for Origin<'t> {
+/// Makes a value of the type `Origin` of what its form reads.
+#[derive(Clone, Copy)]
+pub struct MakeOrigin<'t>(pub PhantomData<&'t str>);
+
+impl<'t> Build for MakeOrigin<'t> {
     type Parts = Either<u8, TextRef<'t>>;
 
-    ghost builds = { elim [ Left parts ↦ Shop parts | Right parts ↦ WebSite parts ] };
+    type Made = Origin<'t>;
 
-    ghost parts_of = { elim [ Shop till ↦ Left till | WebSite value ↦ Right value ] };
+    ghost builds = { λ _. elim [ Left parts ↦ Shop parts | Right parts ↦ WebSite parts ] };
 
-    ghost kept = { elim [ Left _ ↦ refl | Right _ ↦ refl ] };
+    ghost parts_of = { λ _. elim [ Shop till ↦ Left till | WebSite value ↦ Right value ] };
 
-    fn from_parts(parts: Self::Parts) -> Self {
+    ghost kept = { λ _. elim [ Left _ ↦ refl | Right _ ↦ refl ] };
+
+    fn build(&self, parts: Self::Parts) -> Self::Made {
         match parts {
             Either::Left(till) => Origin::Shop { till },
             Either::Right(value) => Origin::WebSite(value),
@@ -216,21 +234,27 @@ impl<'t> FromParts for Origin<'t> {
     }
 }
 
-impl<'t> FromParts for Bill<'t> {
+/// Makes a value of the type `Bill` of what its form reads.
+#[derive(Clone, Copy)]
+pub struct MakeBill<'t>(pub PhantomData<&'t str>);
+
+impl<'t> Build for MakeBill<'t> {
     type Parts = (Number<'t>, u64, Payment<'t>, Option<Origin<'t>>);
 
-    ghost builds = { λ parts. record {
+    type Made = Bill<'t>;
+
+    ghost builds = { λ _ parts. record {
       number = parts.0;
       cents = parts.1;
       payment = parts.2;
       origin = parts.3;
     } };
 
-    ghost parts_of = { λ v. (v.number, v.cents, v.payment, v.origin) };
+    ghost parts_of = { λ _ v. (v.number, v.cents, v.payment, v.origin) };
 
-    ghost kept = { λ _. refl };
+    ghost kept = { λ _ _. refl };
 
-    fn from_parts(parts: Self::Parts) -> Self {
+    fn build(&self, parts: Self::Parts) -> Self::Made {
         let (number, cents, payment, origin) = parts;
         Bill {
             number,
@@ -249,7 +273,7 @@ pub fn read_bill<'a, H: I18n + FormI18n>(
     scratch: &'a mut Scratch,
     h: &H,
 ) -> Result<Valid<Bill<'a>>, ReadError> {
-    let number_form = Built(Text(Is(Prefix("B"))), PhantomData::<Number<'_>>);
+    let number_form = Built(Text(Is(Prefix("B"))), MakeNumber(PhantomData));
     let payment_form = Built(
         Tagged(
             "kind",
@@ -267,7 +291,7 @@ pub fn read_bill<'a, H: I18n + FormI18n>(
                 ),
             ),
         ),
-        PhantomData::<Payment<'_>>,
+        MakePayment(PhantomData),
     );
     let origin_form = Built(
         OneMember(
@@ -280,7 +304,7 @@ pub fn read_bill<'a, H: I18n + FormI18n>(
             ),
             PhantomData,
         ),
-        PhantomData::<Origin<'_>>,
+        MakeOrigin(PhantomData),
     );
     let bill_form = Built(
         Object((
@@ -289,7 +313,7 @@ pub fn read_bill<'a, H: I18n + FormI18n>(
             Member("payment", payment_form),
             Nullish("origin", origin_form),
         )),
-        PhantomData::<Bill<'_>>,
+        MakeBill(PhantomData),
     );
     match read_json(alloc, bytes, scratch, &bill_form, h) {
         Ok(value) => Ok(Valid::known(value, &())),

@@ -6,7 +6,7 @@ ghost use Rattle.garde.specs.Author as bytes;
 use garde::fields::{Alphanumeric, Ascii, Dive, Each, Field, Fields, IfSome, Is, Prefix, Required};
 use garde::{I18n, Report, Trail, Valid, Validate, length, range};
 use garde_schema::{
-    Built, Checked, Closed, Entries, Flag, FormI18n, FromParts, Items, ListUnder, MapUnder, Member,
+    Build, Built, Checked, Closed, Entries, Flag, FormI18n, Items, ListUnder, MapUnder, Member,
     Nullish, Object, OneOf, ReadError, Scratch, Text, TextRef, U8, U16, U32, Under, Whole,
     WithDefault, read_json,
 };
@@ -131,16 +131,22 @@ impl<'t> Validate for Parcel<'t> {
     }
 }
 
-impl<'t> FromParts for Thing<'t> {
+/// Makes a value of the type `Thing` of what its form reads.
+#[derive(Clone, Copy)]
+pub struct MakeThing<'t>(pub PhantomData<&'t str>);
+
+impl<'t> Build for MakeThing<'t> {
     type Parts = (TextRef<'t>, u8, bool);
 
-    ghost builds = { λ parts. record { name = parts.0; pieces = parts.1; fragile = parts.2 } };
+    type Made = Thing<'t>;
 
-    ghost parts_of = { λ v. (v.name, v.pieces, v.fragile) };
+    ghost builds = { λ _ parts. record { name = parts.0; pieces = parts.1; fragile = parts.2 } };
 
-    ghost kept = { λ _. refl };
+    ghost parts_of = { λ _ v. (v.name, v.pieces, v.fragile) };
 
-    fn from_parts(parts: Self::Parts) -> Self {
+    ghost kept = { λ _ _. refl };
+
+    fn build(&self, parts: Self::Parts) -> Self::Made {
         let (name, pieces, fragile) = parts;
         Thing {
             name,
@@ -150,7 +156,11 @@ impl<'t> FromParts for Thing<'t> {
     }
 }
 
-impl<'t> FromParts for Parcel<'t> {
+/// Makes a value of the type `Parcel` of what its form reads.
+#[derive(Clone, Copy)]
+pub struct MakeParcel<'t>(pub PhantomData<&'t str>);
+
+impl<'t> Build for MakeParcel<'t> {
     type Parts = (
         u32,
         TextRef<'t>,
@@ -164,7 +174,9 @@ impl<'t> FromParts for Parcel<'t> {
         ),
     );
 
-    ghost builds = { λ parts. record {
+    type Made = Parcel<'t>;
+
+    ghost builds = { λ _ parts. record {
       number = parts.0;
       sent_to = parts.1;
       phone = parts.2;
@@ -175,12 +187,12 @@ impl<'t> FromParts for Parcel<'t> {
       labels = parts.5.2;
     } };
 
-    ghost parts_of = { λ v.
+    ghost parts_of = { λ _ v.
         (v.number, v.sent_to, v.phone, v.weight, v.speed, (v.things, v.marks, v.labels)) };
 
-    ghost kept = { λ _. refl };
+    ghost kept = { λ _ _. refl };
 
-    fn from_parts(parts: Self::Parts) -> Self {
+    fn build(&self, parts: Self::Parts) -> Self::Made {
         let (number, sent_to, phone, weight, speed, (things, marks, labels)) = parts;
         Parcel {
             number,
@@ -214,7 +226,7 @@ pub fn read_parcel<'a, H: I18n + FormI18n>(
             WithDefault("pieces", Whole(U8, Is(range!(min = 1, max = 99))), 1),
             WithDefault("fragile", Flag, false),
         ))),
-        PhantomData::<Thing<'_>>,
+        MakeThing(PhantomData),
     );
     let parcel_form = Built(
         Object(Closed((
@@ -238,7 +250,7 @@ pub fn read_parcel<'a, H: I18n + FormI18n>(
                 Member("labels", MapUnder(Is(length!(max = 3)), Text(()))),
             ),
         ))),
-        PhantomData::<Parcel<'_>>,
+        MakeParcel(PhantomData),
     );
     match read_json(alloc, bytes, scratch, &parcel_form, h) {
         Ok(value) => Ok(Valid::known(value, &())),

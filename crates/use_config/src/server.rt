@@ -7,8 +7,9 @@ use garde::fields::{IsInMemory, Pattern, When};
 use garde::rules::ip::{is_ipv4, is_ipv6};
 use garde::rules::pattern::regex::Regex;
 use garde::{I18n, Report, Trail};
-use garde_schema::{FromParts, Rules, TextRef};
+use garde_schema::{Build, Rules, TextRef};
 use std::alloc::{AllocError, Global};
+use std::marker::PhantomData;
 
 /// What the name of a host is like.
 pub const NAME: &str = "^[a-z0-9-]+([.][a-z0-9-]+)*$";
@@ -20,16 +21,22 @@ pub struct Tls<'t> {
     pub key: TextRef<'t>,
 }
 
-impl<'t> FromParts for Tls<'t> {
+/// Makes it of its members.
+#[derive(Drop)]
+pub struct MakeTls<'t>(pub PhantomData<&'t str>);
+
+impl<'t> Build for MakeTls<'t> {
     type Parts = (TextRef<'t>, TextRef<'t>);
 
-    ghost builds = { λ parts. record { certificate = parts.0; key = parts.1 } };
+    type Made = Tls<'t>;
 
-    ghost parts_of = { λ tls. (tls.certificate, tls.key) };
+    ghost builds = { λ _ parts. record { certificate = parts.0; key = parts.1 } };
 
-    ghost kept = { λ _. refl };
+    ghost parts_of = { λ _ tls. (tls.certificate, tls.key) };
 
-    fn from_parts(parts: (TextRef<'t>, TextRef<'t>)) -> Tls<'t> {
+    ghost kept = { λ _ _. refl };
+
+    fn build(&self, parts: (TextRef<'t>, TextRef<'t>)) -> Tls<'t> {
         let (certificate, key) = parts;
         Tls { certificate, key }
     }
@@ -46,10 +53,16 @@ pub struct Server<'t> {
     pub tls: Option<Tls<'t>>,
 }
 
-impl<'t> FromParts for Server<'t> {
+/// Makes it of its members.
+#[derive(Drop)]
+pub struct MakeServer<'t>(pub PhantomData<&'t str>);
+
+impl<'t> Build for MakeServer<'t> {
     type Parts = (TextRef<'t>, u16, u16, u16, Option<Tls<'t>>);
 
-    ghost builds = { λ parts. record {
+    type Made = Server<'t>;
+
+    ghost builds = { λ _ parts. record {
       host = parts.0;
       port = parts.1;
       workers = parts.2;
@@ -57,12 +70,12 @@ impl<'t> FromParts for Server<'t> {
       tls = parts.4;
     } };
 
-    ghost parts_of = { λ server.
+    ghost parts_of = { λ _ server.
         (server.host, server.port, server.workers, server.connections, server.tls) };
 
-    ghost kept = { λ _. refl };
+    ghost kept = { λ _ _. refl };
 
-    fn from_parts(parts: (TextRef<'t>, u16, u16, u16, Option<Tls<'t>>)) -> Server<'t> {
+    fn build(&self, parts: (TextRef<'t>, u16, u16, u16, Option<Tls<'t>>)) -> Server<'t> {
         let (host, port, workers, connections, tls) = parts;
         Server {
             host,

@@ -4,8 +4,9 @@ ghost use Rattle.garde.specs.Author.{Known, codes, ◌and◌, field, prefix, uns
 
 use garde::fields::{Field, Fields, Is, Prefix};
 use garde::{I18n, Report, Trail, Validate, range};
-use garde_schema::{FromParts, TextRef};
+use garde_schema::{Build, TextRef};
 use std::alloc::{AllocError, Global};
+use std::marker::PhantomData;
 
 /// So many pieces of an article, each at so many cents.
 #[derive(Drop)]
@@ -15,16 +16,22 @@ pub struct Line<'t> {
     pub cents: u32,
 }
 
-impl<'t> FromParts for Line<'t> {
+/// Makes a line of its members.
+#[derive(Drop)]
+pub struct MakeLine<'t>(pub PhantomData<&'t str>);
+
+impl<'t> Build for MakeLine<'t> {
     type Parts = (TextRef<'t>, u32, u32);
 
-    ghost builds = { λ parts. record { code = parts.0; count = parts.1; cents = parts.2 } };
+    type Made = Line<'t>;
 
-    ghost parts_of = { λ line. (line.code, line.count, line.cents) };
+    ghost builds = { λ _ parts. record { code = parts.0; count = parts.1; cents = parts.2 } };
 
-    ghost kept = { λ _. refl };
+    ghost parts_of = { λ _ line. (line.code, line.count, line.cents) };
 
-    fn from_parts(parts: (TextRef<'t>, u32, u32)) -> Line<'t> {
+    ghost kept = { λ _ _. refl };
+
+    fn build(&self, parts: (TextRef<'t>, u32, u32)) -> Line<'t> {
         let (code, count, cents) = parts;
         Line { code, count, cents }
     }

@@ -8,7 +8,7 @@ use super::told::{Case as Form, check_many, compare, told, told_of};
 use garde::fields::{Ascii, Is};
 use garde::{DefaultI18n, I18n, length, range};
 use garde_schema::{
-    Closed, FormI18n, FromNested, Items, Member, Nested, Optional, Text, TextRef, U16, Whole,
+    BuildNested, Closed, FormI18n, Items, Member, Nested, Optional, Text, TextRef, U16, Whole,
 };
 use garde_tape::Tree;
 use std::alloc::{AllocError, Global};
@@ -43,16 +43,22 @@ struct Folder<'a> {
     folders: Items<Folder<'a>>,
 }
 
-impl<'a> FromNested for Folder<'a> {
+// Makes a folder of what its members are, and of the folders in it.
+#[derive(Drop)]
+struct MakeFolder<'a>(PhantomData<&'a str>);
+
+impl<'a> BuildNested for MakeFolder<'a> {
     type Own = (TextRef<'a>, Option<u16>);
 
-    ghost builds = { λ own below.
+    type Made = Folder<'a>;
+
+    ghost builds = { λ _ own below.
         roll-Folder (record { name = own.0; size = own.1; folders = below }) };
 
-    ghost parts_of = { λ folder.
+    ghost parts_of = { λ _ folder.
         (((out-Folder folder).name, (out-Folder folder).size), (out-Folder folder).folders) };
 
-    fn from_nested(own: (TextRef<'a>, Option<u16>), below: Items<Folder<'a>>) -> Folder<'a>
+    fn build(&self, own: (TextRef<'a>, Option<u16>), below: Items<Folder<'a>>) -> Folder<'a>
         ensures { result ≡ roll-Folder
             (record { name = own.entry.0; size = own.entry.1; folders = below.entry }) }
     {
@@ -64,7 +70,7 @@ impl<'a> FromNested for Folder<'a> {
         }
     }
 
-    ghost kept = { λ _ _. Prim.search (rules, the_lemmas) };
+    ghost kept = { λ _ _ _. Prim.search (rules, the_lemmas) };
 }
 
 fn closed<H: I18n + FormI18n>(
@@ -76,7 +82,7 @@ fn closed<H: I18n + FormI18n>(
         Member("name", Text((Is(Ascii), Is(length!(min = 1, max = 9))))),
         Optional("size", Whole(U16, Is(range!(max = 1000)))),
     );
-    let form = Closed(Nested("folders", members, PhantomData::<Folder<'_>>));
+    let form = Closed(Nested("folders", members, MakeFolder(PhantomData)));
     told(alloc, tree, &form, h)
 }
 
@@ -137,7 +143,7 @@ fn open<H: I18n + FormI18n>(
     h: &H,
 ) -> Result<String, AllocError> {
     let members = (Member("name", Text(())), Optional("size", Whole(U16, ())));
-    let form = Nested("folders", members, PhantomData::<Folder<'_>>);
+    let form = Nested("folders", members, MakeFolder(PhantomData));
     told(alloc, tree, &form, h)
 }
 
