@@ -6,3 +6,5 @@
 mod samples;
 #[cfg(test)]
 mod tests;
+#[cfg(test)]
+mod written;

@@ -68,34 +68,16 @@ pub(crate) fn keys(rt: &impl Abort, alloc: Global, keys: &[&str]) -> Path {
     path
 }
 
-/// Adds a fault at the path of these keys.
-pub(crate) fn add(
+/// Adds a fault with this message, at the path.
+pub(crate) fn append(
     rt: &impl Abort,
-    report: &mut Report,
     alloc: Global,
-    components: &[&str],
-    message: &str,
-) {
-    report
-        .append(
-            keys(rt, alloc, components),
-            Error::new(alloc, message).or_end(rt),
-        )
-        .or_end(rt);
-}
-
-/// Adds a fault at the path of these components.
-pub(crate) fn add_at(
-    rt: &impl Abort,
     report: &mut Report,
-    alloc: Global,
-    components: &[(Kind, &str)],
+    path: Path,
     message: &str,
 ) {
     let error = Error::new(alloc, message).or_end(rt);
-    report
-        .append(path_of(rt, alloc, components), error)
-        .or_end(rt)
+    report.append(path, error).or_end(rt)
 }
 
 /// A report of these faults.
@@ -106,18 +88,26 @@ pub(crate) fn report_of(
 ) -> Report {
     let mut report = Report::new(alloc);
     for (components, message) in faults {
-        add_at(rt, &mut report, alloc, components, message);
+        let path = path_of(rt, alloc, components);
+        append(rt, alloc, &mut report, path, message);
     }
     report
 }
 
-/// A report of four faults, two of them at one path.
+/// The keys of four faults, two of them at one path, and their messages.
+static FOUR: [(&[&str], &str); 4] = [
+    (&["a", "b"], "lol"),
+    (&["a", "b", "c"], "that seems wrong"),
+    (&["a", "b", "c"], "pog"),
+    (&["array", "0", "c"], "pog"),
+];
+
+/// The report of four faults, two of them at one path.
 pub(crate) fn four_faults(rt: &impl Abort, alloc: Global) -> Report {
     let mut report = Report::new(alloc);
-    add(rt, &mut report, alloc, &["a", "b"], "lol");
-    add(rt, &mut report, alloc, &["a", "b", "c"], "that seems wrong");
-    add(rt, &mut report, alloc, &["a", "b", "c"], "pog");
-    add(rt, &mut report, alloc, &["array", "0", "c"], "pog");
+    for (path, message) in &FOUR {
+        append(rt, alloc, &mut report, keys(rt, alloc, path), message);
+    }
     report
 }
 
@@ -129,6 +119,16 @@ pub(crate) fn printed<T: Display>(rt: &impl Abort, alloc: Global, value: &T) -> 
 /// The text of a value for a programmer.
 pub(crate) fn shown<T: Debug>(rt: &impl Abort, alloc: Global, value: &T) -> String {
     format!(in alloc; "{value:?}").or_end(rt)
+}
+
+/// Whether a value prints this text.
+pub(crate) fn has_text<T: Display>(rt: &impl Abort, alloc: Global, value: &T, text: &str) -> bool {
+    printed(rt, alloc, value).as_str() == text
+}
+
+/// Whether a value shows a programmer this text.
+pub(crate) fn shows<T: Debug>(rt: &impl Abort, alloc: Global, value: &T, text: &str) -> bool {
+    shown(rt, alloc, value).as_str() == text
 }
 
 /// How a value compares with another, and whether it equals it.

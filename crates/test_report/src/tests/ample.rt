@@ -1,13 +1,12 @@
 //! Ample memory: what is long, deep or many gets the answers of what is small.
 
-use crate::samples::{OrEnd, path_of, path_to};
-use garde_json::report_to_json_text;
-use garde_report::json::{report_from_json, report_to_json};
+use crate::samples::{OrEnd, append, path_of, path_to};
+use crate::written::is_read_back;
 use garde_report::rc_list::List;
 use garde_report::{Component, Error, Kind, Path, Report, RuleError, Trail};
-use serde_json::Value;
 use std::alloc::Global;
 use std::borrow::CowStr;
+use std::fmt::Display;
 use std::process::Abort;
 
 const SIZES: [usize; 6] = [0, 1, 8, 9, 12, 1000];
@@ -22,14 +21,18 @@ fn items_before(rt: &impl Abort, alloc: Global, size: usize) -> Option<usize> {
     for index in 0..size {
         list = list.append(alloc, index).or_end(rt);
     }
-    let before = list.before().or_end(rt);
-    before.map(|list| list.len())
+    match list.before().or_end(rt) {
+        Some(before) => Some(before.len()),
+        None => None,
+    }
 }
 
 // How many components a path of so many has without its last.
 fn components_above(rt: &impl Abort, alloc: Global, size: usize) -> Option<usize> {
-    let parent = path_to(rt, alloc, size).parent().or_end(rt);
-    parent.map(|path| path.len())
+    match path_to(rt, alloc, size).parent().or_end(rt) {
+        Some(parent) => Some(parent.len()),
+        None => None,
+    }
 }
 
 // How many components a clone of a path of so many gives.
@@ -72,8 +75,12 @@ fn walk(
 
 // Whether the one fault of a report stands so deep, and has this text.
 fn is_one_fault(report: &Report, size: usize, text: &str) -> bool {
-    let is_right = |(path, error): &(Path, Error)| path.len() == size && error.message() == text;
-    report.iter().count() == 1 && report.iter().all(is_right)
+    for (path, error) in report.iter() {
+        if path.len() != size || error.message() != text {
+            return false;
+        }
+    }
+    report.len() == 1
 }
 
 // Whether a way of so many components makes so many nodes, and gives its one fault.
@@ -100,11 +107,16 @@ fn is_component_kept(rt: &impl Abort, alloc: Global, kind: Kind, text: &str) -> 
 // Whether an error, its clone, and the fault of the text have it as their message.
 fn is_message_kept(rt: &impl Abort, alloc: Global, text: &str) -> bool {
     let error = Error::new(alloc, text).or_end(rt);
-    let copy = error.clone().or_end(rt);
+    error.clone().or_end(rt).message() == text && is_fault_kept(rt, alloc, text)
+}
+
+// Whether the fault of a text has it as its message.
+fn is_fault_kept(rt: &impl Abort, alloc: Global, text: &str) -> bool {
     let owned = String::from_str(alloc, text).or_end(rt);
-    let fault = RuleError::of(alloc, Ok(CowStr::Owned(owned)));
-    let is_kept = matches!(&fault, RuleError::Fault(same) if same.message() == text);
-    is_kept && copy.message() == text
+    match RuleError::of(alloc, Ok(CowStr::Owned(owned))) {
+        RuleError::Fault(fault) => fault.message() == text,
+        RuleError::Memory => false,
+    }
 }
 
 // Whether a letter so many times is kept by a component of each kind, and by a message.
@@ -134,36 +146,20 @@ fn faults(rt: &impl Abort, alloc: Global, count: usize, depth: usize, text: &str
     let path = path_to(rt, alloc, depth).join(alloc, text).or_end(rt);
     let mut report = Report::new(alloc);
     for _ in 0..count {
-        append(rt, alloc, &mut report, &path, text);
+        append(rt, alloc, &mut report, path.clone().or_end(rt), text);
     }
     report
 }
 
-// Appends a fault with this message, at the path.
-fn append(rt: &impl Abort, alloc: Global, report: &mut Report, path: &Path, text: &str) {
-    let error = Error::new(alloc, text).or_end(rt);
-    report.append(path.clone().or_end(rt), error).or_end(rt)
+// Whether the clone of a report has the same faults.
+fn is_cloned(rt: &impl Abort, report: &Report) -> bool {
+    report.clone().or_end(rt).iter().eq(report.iter())
 }
 
-// Whether both writers give one text of a report, which is then read back, as its clone is the same.
-fn is_read_back(rt: &impl Abort, alloc: Global, report: &Report) -> bool {
-    let text = report_to_json_text(alloc, report).or_end(rt);
-    let tree = report_to_json(alloc, report)
-        .or_end(rt)
-        .to_string(alloc)
-        .or_end(rt);
-    let again = Value::from_str(alloc, text.as_str()).or_end(rt);
-    let Ok(back) = report_from_json(alloc, &again) else {
-        return false;
-    };
-    let copy = report.clone().or_end(rt);
-    let is_same = copy.iter().eq(report.iter()) && back.iter().eq(report.iter());
-    is_same && tree.as_str() == text.as_str()
-}
-
-// Whether the report of so many faults is read back.
+// Whether the report of so many faults is cloned, and read back.
 fn are_read_back(rt: &impl Abort, alloc: Global, count: usize, depth: usize, text: &str) -> bool {
-    is_read_back(rt, alloc, &faults(rt, alloc, count, depth, text))
+    let report = faults(rt, alloc, count, depth, text);
+    is_cloned(rt, &report) && is_read_back(rt, alloc, &report)
 }
 
 #[test]
@@ -192,6 +188,11 @@ fn each_control_character_is_read_back(rt: HostRuntime) {
     }
 }
 
+// Whether a value prints as this text, whatever the width.
+fn is_unpadded<T: Display>(rt: &impl Abort, alloc: Global, value: &T, text: &str) -> bool {
+    format!(in alloc; "{value:>40}").or_end(rt).as_str() == text
+}
+
 // Whether a fault's path and message print as these, whatever the width.
 fn is_fault_unpadded(
     rt: &impl Abort,
@@ -200,9 +201,7 @@ fn is_fault_unpadded(
     way: &str,
     message: &str,
 ) -> bool {
-    let path = format!(in alloc; "{path:>40}").or_end(rt);
-    let error = format!(in alloc; "{error:>40}").or_end(rt);
-    path.as_str() == way && error.as_str() == message
+    is_unpadded(rt, alloc, path, way) && is_unpadded(rt, alloc, error, message)
 }
 
 // Whether each fault of a report prints as these, whatever the width.
@@ -213,11 +212,6 @@ fn are_unpadded(rt: &impl Abort, alloc: Global, report: &Report, way: &str, mess
         }
     }
     true
-}
-
-// Whether a report prints as this text, whatever the width.
-fn is_unpadded(rt: &impl Abort, alloc: Global, report: &Report, text: &str) -> bool {
-    format!(in alloc; "{report:>40}").or_end(rt).as_str() == text
 }
 
 // The width is that of nothing: what has parts prints as if none were asked for.

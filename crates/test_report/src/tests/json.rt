@@ -1,11 +1,10 @@
 //! Written forms, and trees that are none.
 
-use crate::samples::{OrEnd, path_of, printed, report_of};
+use crate::samples::{OrEnd, path_of, report_of};
+use crate::written::{has_lines, is_form, is_there_and_back};
 use garde_json::report_from_json_text;
-use garde_report::json::{
-    JsonRefused, path_from_json, path_to_json, report_from_json, report_to_json,
-};
-use garde_report::{Kind, Path, Report};
+use garde_report::json::{JsonRefused, path_from_json, path_to_json, report_from_json};
+use garde_report::{Kind, Path};
 use serde_json::Value;
 use std::alloc::Global;
 use std::process::Abort;
@@ -22,47 +21,31 @@ const ONE: (Kind, &str) = (Kind::Index, "1");
 
 const TWO: (Kind, &str) = (Kind::Index, "2");
 
-// Whether a report is written as this text, and is read back from its tree and from the text.
-fn is_there_and_back(rt: &impl Abort, alloc: Global, report: &Report, text: &str) -> bool {
-    let tree = report_to_json(alloc, report).or_end(rt);
-    let Ok(back) = report_from_json(alloc, &tree) else {
-        return false;
-    };
-    let Ok(read) = report_from_json_text(alloc, text) else {
-        return false;
-    };
-    let is_same = back.iter().eq(report.iter()) && read.iter().eq(report.iter());
-    is_same && tree.to_string(alloc).or_end(rt).as_str() == text
+// Whether a path was read, and is this one.
+fn is_path(read: Result<Path, JsonRefused>, path: &Path) -> bool {
+    match read {
+        Ok(read) => read == *path,
+        Err(_) => false,
+    }
 }
 
-// The same of a path.
+// Whether a path is written as this text, and is read back from its tree.
 fn is_path_there_and_back(rt: &impl Abort, alloc: Global, path: &Path, text: &str) -> bool {
     let tree = path_to_json(alloc, path).or_end(rt);
-    let Ok(back) = path_from_json(alloc, &tree) else {
-        return false;
-    };
-    let is_same = back == *path;
-    is_same && tree.to_string(alloc).or_end(rt).as_str() == text
+    is_path(path_from_json(alloc, &tree), path) && tree.to_string(alloc).or_end(rt).as_str() == text
 }
 
 // Whether the report that is read from a text, and from the tree of it, prints these lines.
 fn is_read(rt: &impl Abort, alloc: Global, text: &str, lines: &str) -> bool {
     let tree = Value::from_str(alloc, text).or_end(rt);
-    let Ok(report) = report_from_json(alloc, &tree) else {
-        return false;
-    };
-    let Ok(read) = report_from_json_text(alloc, text) else {
-        return false;
-    };
-    let read = printed(rt, alloc, &read);
-    printed(rt, alloc, &report).as_str() == lines && read.as_str() == lines
+    has_lines(rt, alloc, report_from_json(alloc, &tree), lines)
+        && has_lines(rt, alloc, report_from_json_text(alloc, text), lines)
 }
 
 // Whether a text, and the tree of it, are rejected as a report for their form.
 fn is_refused(rt: &impl Abort, alloc: Global, text: &str) -> bool {
     let tree = Value::from_str(alloc, text).or_end(rt);
-    report_from_json(alloc, &tree).err() == Some(JsonRefused::Form)
-        && report_from_json_text(alloc, text).err() == Some(JsonRefused::Form)
+    is_form(report_from_json(alloc, &tree)) && is_form(report_from_json_text(alloc, text))
 }
 
 // Whether the tree of a text is rejected as a path for its form.
@@ -71,26 +54,29 @@ fn is_refused_as_a_path(rt: &impl Abort, alloc: Global, text: &str) -> bool {
     matches!(&path_from_json(alloc, &tree), Err(JsonRefused::Form))
 }
 
+/// The components and the message of each fault of a report, and the text of the report.
+static WRITTEN: [(&[(&[(Kind, &str)], &str)], &str); 3] = [
+    (&[], r#"{"errors":[]}"#),
+    (
+        &[(&[A, ZERO], "lorem"), (&[B, C], "dolor")],
+        r#"{"errors":[[[["key","a"],["index","0"]],{"message":"lorem"}],[[["key","b"],["key","c"]],{"message":"dolor"}]]}"#,
+    ),
+    (
+        &[
+            (&[A, ZERO], "lorem"),
+            (&[A, ONE], "ispum"),
+            (&[A, TWO], "dolor"),
+            (&[B, C], "dolor"),
+        ],
+        r#"{"errors":[[[["key","a"],["index","0"]],{"message":"lorem"}],[[["key","a"],["index","1"]],{"message":"ispum"}],[[["key","a"],["index","2"]],{"message":"dolor"}],[[["key","b"],["key","c"]],{"message":"dolor"}]]}"#,
+    ),
+];
+
 #[test]
 fn a_report_is_written_and_read_back(rt: HostRuntime) {
-    let rows: [(&[(&[(Kind, &str)], &str)], &str); 3] = [
-        (&[], r#"{"errors":[]}"#),
-        (
-            &[(&[A, ZERO], "lorem"), (&[B, C], "dolor")],
-            r#"{"errors":[[[["key","a"],["index","0"]],{"message":"lorem"}],[[["key","b"],["key","c"]],{"message":"dolor"}]]}"#,
-        ),
-        (
-            &[
-                (&[A, ZERO], "lorem"),
-                (&[A, ONE], "ispum"),
-                (&[A, TWO], "dolor"),
-                (&[B, C], "dolor"),
-            ],
-            r#"{"errors":[[[["key","a"],["index","0"]],{"message":"lorem"}],[[["key","a"],["index","1"]],{"message":"ispum"}],[[["key","a"],["index","2"]],{"message":"dolor"}],[[["key","b"],["key","c"]],{"message":"dolor"}]]}"#,
-        ),
-    ];
-    for (faults, text) in rows {
-        assert!(rt; is_there_and_back(&rt, rt.alloc(), &report_of(&rt, rt.alloc(), faults), text));
+    for (faults, text) in &WRITTEN {
+        let report = report_of(&rt, rt.alloc(), faults);
+        assert!(rt; is_there_and_back(&rt, rt.alloc(), &report, text));
     }
 }
 
@@ -103,66 +89,72 @@ fn a_path_is_written_and_read_back(rt: HostRuntime) {
     assert!(rt; is_refused_as_a_path(&rt, rt.alloc(), r#"{"key":"a"}"#));
 }
 
+/// JSON texts that are no reports.
+static OTHERS: [&str; 16] = [
+    "null",
+    "{}",
+    "[[]]",
+    r#"{"errors":{}}"#,
+    r#"{"errors":[[[["key","a"],["index","0"]],{"message":"lorem"}],[[["key","b"],["key","c"]],{"message":"dolor"}]],"count":2}"#,
+    r#"{"errors":[[]]}"#,
+    r#"{"errors":[[[],{"message":"x"},"y"]]}"#,
+    r#"{"errors":[[[],{"message":1}]]}"#,
+    r#"{"errors":[[[],{"message":1.5}]]}"#,
+    r#"{"errors":[[[["key"]],{"message":"x"}]]}"#,
+    r#"{"errors":[[[["none","",""]],{"message":"x"}]]}"#,
+    r#"{"errors":[[[["Key","a"],["index","0"]],{"message":"lorem"}],[[["key","b"],["key","c"]],{"message":"dolor"}]]}"#,
+    r#"{"errors":[[[["Index","0"]],{"message":"x"}]]}"#,
+    r#"{"errors":[[[["key","a"],["index",0]],{"message":"lorem"}],[[["key","b"],["key","c"]],{"message":"dolor"}]]}"#,
+    r#"{"errors":[[[{"key":"a"}],{"message":"x"}]]}"#,
+    r#"{"errors":[[[],{"message":"x","code":"y"}]]}"#,
+];
+
 #[test]
 fn every_other_tree_is_refused(rt: HostRuntime) {
-    let rows = [
-        "null",
-        "{}",
-        "[[]]",
-        r#"{"errors":{}}"#,
-        r#"{"errors":[[[["key","a"],["index","0"]],{"message":"lorem"}],[[["key","b"],["key","c"]],{"message":"dolor"}]],"count":2}"#,
-        r#"{"errors":[[]]}"#,
-        r#"{"errors":[[[],{"message":"x"},"y"]]}"#,
-        r#"{"errors":[[[],{"message":1}]]}"#,
-        r#"{"errors":[[[],{"message":1.5}]]}"#,
-        r#"{"errors":[[[["key"]],{"message":"x"}]]}"#,
-        r#"{"errors":[[[["none","",""]],{"message":"x"}]]}"#,
-        r#"{"errors":[[[["Key","a"],["index","0"]],{"message":"lorem"}],[[["key","b"],["key","c"]],{"message":"dolor"}]]}"#,
-        r#"{"errors":[[[["Index","0"]],{"message":"x"}]]}"#,
-        r#"{"errors":[[[["key","a"],["index",0]],{"message":"lorem"}],[[["key","b"],["key","c"]],{"message":"dolor"}]]}"#,
-        r#"{"errors":[[[{"key":"a"}],{"message":"x"}]]}"#,
-        r#"{"errors":[[[],{"message":"x","code":"y"}]]}"#,
-    ];
-    for text in rows {
+    for text in &OTHERS {
         assert!(rt; is_refused(&rt, rt.alloc(), text), "at {text}");
     }
 }
 
+/// The text of a report, and its lines.
+static ANY: [(&str, &str); 3] = [
+    (r#"{"errors":[[[],{"message":""}]]}"#, "\n"),
+    (
+        r#"{"errors":[[[["none","a.b"]],{"message":"x"}]]}"#,
+        "a.b: x\n",
+    ),
+    (
+        r#"{"errors":[[[["index","b"],["key",""]],{"message":"x"}]]}"#,
+        "[b].: x\n",
+    ),
+];
+
 #[test]
 fn any_text_stands_with_any_kind(rt: HostRuntime) {
-    let rows = [
-        (r#"{"errors":[[[],{"message":""}]]}"#, "\n"),
-        (
-            r#"{"errors":[[[["none","a.b"]],{"message":"x"}]]}"#,
-            "a.b: x\n",
-        ),
-        (
-            r#"{"errors":[[[["index","b"],["key",""]],{"message":"x"}]]}"#,
-            "[b].: x\n",
-        ),
-    ];
-    for (text, lines) in rows {
+    for (text, lines) in &ANY {
         assert!(rt; is_read(&rt, rt.alloc(), text, lines), "at {text}");
     }
 }
 
+/// The text of a report with escapes or blanks, and its lines.
+static ESCAPED: [(&str, &str); 3] = [
+    (
+        r#"{"errors":[[[["key","a\"b\/\\"],["index","\u0037"]],{"message":"not ASCII: \u00e9\t."}]]}"#,
+        "a\"b/\\[7]: not ASCII: \u{e9}\t.\n",
+    ),
+    (
+        r#"{"\u0065rrors":[[[["k\u0065y","\u0000"]],{"mess\u0061ge":"\ud83d\ude00"}]]}"#,
+        "\0: \u{1f600}\n",
+    ),
+    (
+        " {\n\t\"errors\" : [ [ [ ] , { \"message\" : \" x \" } ] ] }\r\n",
+        " x \n",
+    ),
+];
+
 #[test]
 fn escapes_and_blanks_are_read(rt: HostRuntime) {
-    let rows = [
-        (
-            r#"{"errors":[[[["key","a\"b\/\\"],["index","\u0037"]],{"message":"not ASCII: \u00e9\t."}]]}"#,
-            "a\"b/\\[7]: not ASCII: \u{e9}\t.\n",
-        ),
-        (
-            r#"{"\u0065rrors":[[[["k\u0065y","\u0000"]],{"mess\u0061ge":"\ud83d\ude00"}]]}"#,
-            "\0: \u{1f600}\n",
-        ),
-        (
-            " {\n\t\"errors\" : [ [ [ ] , { \"message\" : \" x \" } ] ] }\r\n",
-            " x \n",
-        ),
-    ];
-    for (text, lines) in rows {
+    for (text, lines) in &ESCAPED {
         assert!(rt; is_read(&rt, rt.alloc(), text, lines), "at {text}");
     }
 }

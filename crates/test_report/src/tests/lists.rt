@@ -1,28 +1,28 @@
 //! Lists of letters, and a long list.
 
-use crate::samples::{OrEnd, compared, hash_of, list_of, shown};
+use crate::samples::{OrEnd, compared, hash_of, list_of, shown, shows};
 use garde_report::rc_list::List;
 use std::alloc::Global;
 use std::cmp::Ordering;
 use std::process::Abort;
-use std::test::Fail;
 
 /// Whether a list has these items, the last one first.
 fn has_items(list: &List<char>, items: &[char]) -> bool {
     list.iter().eq(items)
 }
 
+/// Whether two items that are appended to `a` stand before it.
+fn is_longer(rt: &impl Abort, alloc: Global, a: &List<char>) -> bool {
+    let more = a.append(alloc, 'c').or_end(rt);
+    let all = more.append(alloc, 'd').or_end(rt);
+    all.len() == 3 && has_items(&all, &['d', 'c', 'a'])
+}
+
 /// Whether a list to which items are appended keeps its own, and so does its clone.
 fn is_left(rt: &impl Abort, alloc: Global) -> bool {
     let a = list_of(rt, alloc, &['a']);
     let kept = a.clone().or_end(rt);
-    let all = a
-        .append(alloc, 'c')
-        .or_end(rt)
-        .append(alloc, 'd')
-        .or_end(rt);
-    let is_longer = all.len() == 3 && has_items(&all, &['d', 'c', 'a']);
-    is_longer && has_items(&a, &['a']) && kept.len() == 1
+    is_longer(rt, alloc, &a) && has_items(&a, &['a']) && kept.len() == 1
 }
 
 /// Whether a list has an item that is appended to none.
@@ -47,20 +47,25 @@ fn is_before(rt: &impl Abort, alloc: Global, items: &[char], before: &[char]) ->
 }
 
 /// Whether the list without items has nothing before its last.
-fn is_none_before() -> Result<bool, Fail> {
+fn is_none_before(rt: &impl Abort) -> bool {
     let none = List::<char>::new();
-    Ok(none.is_empty() && none.before()?.is_none())
+    none.is_empty() && none.before().or_end(rt).is_none()
 }
 
 #[test]
-fn before_leaves_the_last_item_out(rt: HostRuntime) -> Result<(), Fail> {
+fn before_leaves_the_last_item_out(rt: HostRuntime) {
     assert!(rt; is_before(&rt, rt.alloc(), &['a', 'c', 'd'], &['c', 'a']));
-    assert!(rt; is_none_before()?);
-    Ok(())
+    assert!(rt; is_none_before(&rt));
 }
 
-/// Whether the lists of these items are in this order, equal only where that is equality, and of
-/// one hash then.
+/// Whether two lists are in this order, equal only where that is equality, and of one hash then.
+fn is_order(list: &List<char>, other: &List<char>, order: Ordering) -> bool {
+    let same = order == Ordering::Equal;
+    let is_hashed = !same || hash_of(list) == hash_of(other);
+    compared(list, other) == (order, same) && is_hashed
+}
+
+/// The same of the lists of these items.
 fn are_in_order(
     rt: &impl Abort,
     alloc: Global,
@@ -68,30 +73,31 @@ fn are_in_order(
     others: &[char],
     order: Ordering,
 ) -> bool {
-    let list = list_of(rt, alloc, items);
-    let other = list_of(rt, alloc, others);
-    let same = order == Ordering::Equal;
-    let is_hashed = !same || hash_of(&list) == hash_of(&other);
-    compared(&list, &other) == (order, same) && is_hashed
+    is_order(
+        &list_of(rt, alloc, items),
+        &list_of(rt, alloc, others),
+        order,
+    )
 }
+
+/// The items of two lists, and their order.
+static ORDERED: [(&[char], &[char], Ordering); 4] = [
+    (&['b'], &['a', 'c'], Ordering::Less),
+    (&['a', 'd'], &['b', 'c'], Ordering::Less),
+    (&['a', 'd'], &['a', 'c'], Ordering::Greater),
+    (&['a', 'c'], &['a', 'c'], Ordering::Equal),
+];
 
 #[test]
 fn fewer_items_come_first(rt: HostRuntime) {
-    let rows: [(&[char], &[char], Ordering); 4] = [
-        (&['b'], &['a', 'c'], Ordering::Less),
-        (&['a', 'd'], &['b', 'c'], Ordering::Less),
-        (&['a', 'd'], &['a', 'c'], Ordering::Greater),
-        (&['a', 'c'], &['a', 'c'], Ordering::Equal),
-    ];
-    for (items, others, order) in rows {
-        assert!(rt; are_in_order(&rt, rt.alloc(), items, others, order));
+    for (items, others, order) in &ORDERED {
+        assert!(rt; are_in_order(&rt, rt.alloc(), items, others, *order));
     }
 }
 
 /// Whether the list of these items is shown so.
 fn is_shown(rt: &impl Abort, alloc: Global, items: &[char], wanted: &str) -> bool {
-    let list = list_of(rt, alloc, items);
-    shown(rt, alloc, &list).as_str() == wanted
+    shows(rt, alloc, &list_of(rt, alloc, items), wanted)
 }
 
 #[test]
@@ -111,8 +117,7 @@ fn numbers_below(rt: &impl Abort, alloc: Global, size: u32) -> List<u32> {
 /// Whether the list of so many numbers is cloned, walked to 0, and shown in so many bytes.
 fn is_long(rt: &impl Abort, alloc: Global, size: u32, bytes: usize) -> bool {
     let list = numbers_below(rt, alloc, size);
-    let like = list.clone().or_end(rt);
-    let is_cloned = compared(&list, &like) == (Ordering::Equal, true);
+    let is_cloned = compared(&list, &list.clone().or_end(rt)) == (Ordering::Equal, true);
     let is_walked = list.iter().last().copied() == Some(0);
     is_cloned && is_walked && shown(rt, alloc, &list).len() == bytes
 }

@@ -1,40 +1,46 @@
 //! Pointers, escaped reports and problem details, beside texts written by hand.
 
-use crate::samples::{OrEnd, path_of, printed, report_of};
+use crate::samples::{OrEnd, has_text, path_of, printed, report_of};
 use garde_problem::{
-    Coded, Escaped, JsonPointer, Problem, coded_message, laws, problem_to_json_text,
+    Coded, Escaped, JsonPointer, Params, Problem, coded_message, laws, problem_to_json_text,
 };
-use garde_report::{Kind, Report};
+use garde_report::{Kind, Path};
 use std::alloc::Global;
 use std::process::Abort;
 
 type Components<'a> = &'a [(Kind, &'a str)];
 
+/// Components that act on a terminal.
+const ACTING: Components<'_> = &[
+    (Kind::Key, "a\nb: forged"),
+    (Kind::Index, "0"),
+    (Kind::Key, "\u{1b}[2J\0"),
+];
+
 /// A fault whose key and message act on a terminal.
 const HOSTILE: (Components<'_>, &str) = (
-    &[
-        (Kind::Key, "a\nb: forged"),
-        (Kind::Index, "0"),
-        (Kind::Key, "\u{1b}[2J\0"),
-    ],
+    ACTING,
     "\t\u{202e}\\\u{7f}\u{85}\u{2028}\r\u{2069}\u{61c}\u{200f}",
 );
 
-/// A fault of plain texts, one of them beyond ASCII.
-const PLAIN: (Components<'_>, &str) = (
-    &[
-        (Kind::Index, "1"),
-        (Kind::None, ""),
-        (Kind::Key, "stra\u{df}e"),
-    ],
-    "lower than 1",
-);
+/// Components of plain texts, one of them beyond ASCII.
+const SHOWN: Components<'_> = &[
+    (Kind::Index, "1"),
+    (Kind::None, ""),
+    (Kind::Key, "stra\u{df}e"),
+];
+
+/// A message without a code.
+const LOWER: &str = "lower than 1";
+
+/// A fault of plain texts.
+const PLAIN: (Components<'_>, &str) = (SHOWN, LOWER);
+
+/// A message with a code.
+const TOO_MANY: &str = "\u{1f}too_many\u{1f}more than \"9\"\u{1f}max\u{1f}9\u{1f}a\nb\u{1f}\u{1f}";
 
 /// A fault with a code.
-const CODED: (Components<'_>, &str) = (
-    &[(Kind::Key, "count")],
-    "\u{1f}too_many\u{1f}more than \"9\"\u{1f}max\u{1f}9\u{1f}a\nb\u{1f}\u{1f}",
-);
+const CODED: (Components<'_>, &str) = (&[(Kind::Key, "count")], TOO_MANY);
 
 /// A fault at the root.
 const ROOT: (Components<'_>, &str) = (&[], "\u{1}");
@@ -42,43 +48,44 @@ const ROOT: (Components<'_>, &str) = (&[], "\u{1}");
 // Whether a path has this pointer.
 fn points(rt: &impl Abort, alloc: Global, components: Components<'_>, pointer: &str) -> bool {
     let path = path_of(rt, alloc, components);
-    printed(rt, alloc, &JsonPointer(alloc, &path)).as_str() == pointer
+    has_text(rt, alloc, &JsonPointer(alloc, &path), pointer)
 }
 
 // Whether a path prints this where it is escaped.
 fn escapes(rt: &impl Abort, alloc: Global, components: Components<'_>, text: &str) -> bool {
     let path = path_of(rt, alloc, components);
-    printed(rt, alloc, &Escaped(alloc, &path)).as_str() == text
+    has_text(rt, alloc, &Escaped(alloc, &path), text)
 }
 
-/// The examples of RFC 6901, section 5, and what they leave out.
+/// The examples of RFC 6901, section 5, and what they leave out: components, and the pointer.
+static POINTERS: [(Components<'_>, &str); 16] = [
+    (&[], ""),
+    (&[(Kind::Key, "foo")], "/foo"),
+    (&[(Kind::Key, "foo"), (Kind::Index, "0")], "/foo/0"),
+    (&[(Kind::Key, "")], "/"),
+    (&[(Kind::Key, "a/b")], "/a~1b"),
+    (&[(Kind::Key, "c%d")], "/c%d"),
+    (&[(Kind::Key, "e^f")], "/e^f"),
+    (&[(Kind::Key, "g|h")], "/g|h"),
+    (&[(Kind::Key, "i\\j")], "/i\\j"),
+    (&[(Kind::Key, "k\"l")], "/k\"l"),
+    (&[(Kind::Key, " ")], "/ "),
+    (&[(Kind::Key, "m~n")], "/m~0n"),
+    (&[(Kind::Key, "~1"), (Kind::Key, "/~0/")], "/~01/~1~00~1"),
+    (&[(Kind::None, ""), (Kind::None, "")], "//"),
+    (
+        &[(Kind::Key, "\0\u{1b}\n\u{202e}"), (Kind::Index, "-1")],
+        "/\0\u{1b}\n\u{202e}/-1",
+    ),
+    (
+        &[(Kind::Key, "a.b[0]~a text beyond the room of a component")],
+        "/a.b[0]~0a text beyond the room of a component",
+    ),
+];
+
 #[test]
 fn pointers_of_paths(rt: HostRuntime) {
-    let rows: [(Components<'_>, &str); 16] = [
-        (&[], ""),
-        (&[(Kind::Key, "foo")], "/foo"),
-        (&[(Kind::Key, "foo"), (Kind::Index, "0")], "/foo/0"),
-        (&[(Kind::Key, "")], "/"),
-        (&[(Kind::Key, "a/b")], "/a~1b"),
-        (&[(Kind::Key, "c%d")], "/c%d"),
-        (&[(Kind::Key, "e^f")], "/e^f"),
-        (&[(Kind::Key, "g|h")], "/g|h"),
-        (&[(Kind::Key, "i\\j")], "/i\\j"),
-        (&[(Kind::Key, "k\"l")], "/k\"l"),
-        (&[(Kind::Key, " ")], "/ "),
-        (&[(Kind::Key, "m~n")], "/m~0n"),
-        (&[(Kind::Key, "~1"), (Kind::Key, "/~0/")], "/~01/~1~00~1"),
-        (&[(Kind::None, ""), (Kind::None, "")], "//"),
-        (
-            &[(Kind::Key, "\0\u{1b}\n\u{202e}"), (Kind::Index, "-1")],
-            "/\0\u{1b}\n\u{202e}/-1",
-        ),
-        (
-            &[(Kind::Key, "a.b[0]~a text beyond the room of a component")],
-            "/a.b[0]~0a text beyond the room of a component",
-        ),
-    ];
-    for (components, pointer) in rows {
+    for (components, pointer) in &POINTERS {
         assert!(rt; points(&rt, rt.alloc(), components, pointer));
     }
 }
@@ -93,75 +100,133 @@ fn a_deep_path_is_printed_whole(rt: HostRuntime) {
     assert!(rt; escapes(&rt, rt.alloc(), &deep, text));
 }
 
-// How long the pointer and the escaped text of a path are whose one key has this many bytes.
-fn lengths_at(rt: &impl Abort, alloc: Global, count: usize, byte: char) -> (usize, usize) {
+// A key that repeats this character so often.
+fn key(rt: &impl Abort, alloc: Global, count: usize, byte: char) -> String {
     let mut key = String::new(alloc);
     for _index in 0..count {
         key.push(byte).or_end(rt);
     }
-    let path = path_of(rt, alloc, &[(Kind::Key, key.as_str())]);
-    let pointer = printed(rt, alloc, &JsonPointer(alloc, &path));
-    let escaped = printed(rt, alloc, &Escaped(alloc, &path));
-    (pointer.len(), escaped.len())
+    key
 }
+
+// How long the pointer and the escaped text of a path are.
+fn lengths_of(rt: &impl Abort, alloc: Global, path: &Path) -> (usize, usize) {
+    let pointer = printed(rt, alloc, &JsonPointer(alloc, path)).len();
+    (pointer, printed(rt, alloc, &Escaped(alloc, path)).len())
+}
+
+// The same of a path whose one key repeats this character so often.
+fn lengths_at(rt: &impl Abort, alloc: Global, count: usize, byte: char) -> (usize, usize) {
+    let key = key(rt, alloc, count, byte);
+    lengths_of(rt, alloc, &path_of(rt, alloc, &[(Kind::Key, key.as_str())]))
+}
+
+/// What a key repeats, and how long its pointer and its escaped text are.
+static LONG: [(char, usize, usize); 3] = [
+    ('~', 2_097_153, 1_048_576),
+    ('\u{1b}', 1_048_577, 6_291_456),
+    ('a', 1_048_577, 1_048_576),
+];
 
 #[test]
 fn a_key_of_a_megabyte_is_printed_whole(rt: HostRuntime) {
-    let rows = [
-        ('~', 2_097_153, 1_048_576),
-        ('\u{1b}', 1_048_577, 6_291_456),
-        ('a', 1_048_577, 1_048_576),
-    ];
-    for (byte, pointer, escaped) in rows {
-        assert!(rt; lengths_at(&rt, rt.alloc(), 1_048_576, byte) == (pointer, escaped));
+    for (byte, pointer, escaped) in &LONG {
+        assert!(rt; lengths_at(&rt, rt.alloc(), 1_048_576, *byte) == (*pointer, *escaped));
     }
 }
 
+/// Components, and the path as it is escaped.
+static ESCAPED: [(Components<'_>, &str); 4] = [
+    (&[], ""),
+    (ACTING, "a\\nb: forged[0].\\u{1b}[2J\\u{0}"),
+    (SHOWN, "[1].stra\u{df}e"),
+    (
+        &[
+            (Kind::None, "\u{2066}"),
+            (Kind::Index, "\u{9f}"),
+            (Kind::Key, "\u{a0}\u{200d}\u{202f}"),
+        ],
+        "\\u{2066}[\\u{9f}].\u{a0}\u{200d}\u{202f}",
+    ),
+];
+
 #[test]
 fn paths_are_escaped(rt: HostRuntime) {
-    let rows: [(Components<'_>, &str); 4] = [
-        (&[], ""),
-        (HOSTILE.0, "a\\nb: forged[0].\\u{1b}[2J\\u{0}"),
-        (PLAIN.0, "[1].stra\u{df}e"),
-        (
-            &[
-                (Kind::None, "\u{2066}"),
-                (Kind::Index, "\u{9f}"),
-                (Kind::Key, "\u{a0}\u{200d}\u{202f}"),
-            ],
-            "\\u{2066}[\\u{9f}].\u{a0}\u{200d}\u{202f}",
-        ),
-    ];
-    for (components, text) in rows {
+    for (components, text) in &ESCAPED {
         assert!(rt; escapes(&rt, rt.alloc(), components, text));
     }
 }
 
-// Whether a report prints this where it is escaped.
-fn prints(rt: &impl Abort, alloc: Global, report: &Report, text: &str) -> bool {
-    printed(rt, alloc, &Escaped(alloc, report)).as_str() == text
+/// Faults: the components of the path of each, and its message.
+const FAULTS: &[(Components<'_>, &str)] = &[HOSTILE, PLAIN, ROOT];
+
+/// The lines of these faults where they are escaped.
+const LINES: &str =
+    "a\\nb: forged[0].\\u{1b}[2J\\u{0}: \\t\\u{202e}\\\\\\u{7f}\\u{85}\\u{2028}\\r\\u{2069}\\u{61c}\\u{200f}\n[1].stra\u{df}e: lower than 1\n\\u{1}\n";
+
+// Whether the report of these faults prints this where it is escaped.
+fn prints(rt: &impl Abort, alloc: Global, faults: &[(Components<'_>, &str)], text: &str) -> bool {
+    let report = report_of(rt, alloc, faults);
+    has_text(rt, alloc, &Escaped(alloc, &report), text)
 }
 
 #[test]
 fn a_report_prints_a_line_for_each_fault(rt: HostRuntime) {
-    let text =
-        "a\\nb: forged[0].\\u{1b}[2J\\u{0}: \\t\\u{202e}\\\\\\u{7f}\\u{85}\\u{2028}\\r\\u{2069}\\u{61c}\\u{200f}\n[1].stra\u{df}e: lower than 1\n\\u{1}\n";
-    let faults: [(Components<'_>, &str); 3] = [HOSTILE, PLAIN, ROOT];
-    for (faults, text) in [(&[] as &[_], ""), (&faults, text)] {
-        let report = report_of(&rt, rt.alloc(), faults);
-        assert!(rt; prints(&rt, rt.alloc(), &report, text));
-    }
+    assert!(rt; prints(&rt, rt.alloc(), &[], "") && prints(&rt, rt.alloc(), FAULTS, LINES));
 }
 
-// Whether the problem details of a report are this text.
+/// Problem details with the members that all have.
+const SHORT: Problem<'static> = Problem {
+    type_uri: None,
+    title: "the body has faults",
+    status: 422,
+    detail: None,
+    instance: None,
+};
+
+/// Problem details with every member.
+const FULL: Problem<'static> = Problem {
+    type_uri: Some("https://example.org/faults"),
+    title: "\"quoted\"",
+    status: 65535,
+    detail: Some("2 faults"),
+    instance: Some("/orders/7"),
+};
+
+/// Problem details, the faults of a report, and the text of both.
+static DETAILS: [(&Problem<'_>, &[(Components<'_>, &str)], &str); 4] = [
+    (
+        &SHORT,
+        &[],
+        r#"{"title":"the body has faults","status":422,"errors":[]}"#,
+    ),
+    (
+        &SHORT,
+        FAULTS,
+        "{\"title\":\"the body has faults\",\"status\":422,\"errors\":[{\"pointer\":\"/a\\nb: forged/0/\\u001b[2J\\u0000\",\"detail\":\"\\t\u{202e}\\\\\u{7f}\u{85}\u{2028}\\r\u{2069}\u{61c}\u{200f}\",\"code\":\"custom\",\"params\":{}},{\"pointer\":\"/1//stra\u{df}e\",\"detail\":\"lower than 1\",\"code\":\"custom\",\"params\":{}},{\"pointer\":\"\",\"detail\":\"\\u0001\",\"code\":\"custom\",\"params\":{}}]}",
+    ),
+    (
+        &FULL,
+        &[PLAIN],
+        "{\"type\":\"https://example.org/faults\",\"title\":\"\\\"quoted\\\"\",\"status\":65535,\"detail\":\"2 faults\",\"instance\":\"/orders/7\",\"errors\":[{\"pointer\":\"/1//stra\u{df}e\",\"detail\":\"lower than 1\",\"code\":\"custom\",\"params\":{}}]}",
+    ),
+    (
+        &SHORT,
+        &[CODED],
+        r#"{"title":"the body has faults","status":422,"errors":[{"pointer":"/count","detail":"more than \"9\"","code":"too_many","params":{"max":"9","a\nb":""}}]}"#,
+    ),
+];
+
+// Whether the problem details of the report of these faults are this text.
 fn details(
     rt: &impl Abort,
     alloc: Global,
-    report: &Report,
+    faults: &[(Components<'_>, &str)],
     problem: &Problem<'_>,
     text: &str,
 ) -> bool {
-    problem_to_json_text(alloc, report, problem)
+    let report = report_of(rt, alloc, faults);
+    problem_to_json_text(alloc, &report, problem)
         .or_end(rt)
         .as_str()
         == text
@@ -169,81 +234,56 @@ fn details(
 
 #[test]
 fn problem_details_of_reports(rt: HostRuntime) {
-    let short = Problem {
-        type_uri: None,
-        title: "the body has faults",
-        status: 422,
-        detail: None,
-        instance: None,
-    };
-    let long = Problem {
-        type_uri: Some("https://example.org/faults"),
-        title: "\"quoted\"",
-        status: 65535,
-        detail: Some("2 faults"),
-        instance: Some("/orders/7"),
-    };
-    let faults: [(Components<'_>, &str); 3] = [HOSTILE, PLAIN, ROOT];
-    let rows: [(&Problem<'_>, &[(Components<'_>, &str)], &str); 4] = [
-        (
-            &short,
-            &[],
-            r#"{"title":"the body has faults","status":422,"errors":[]}"#,
-        ),
-        (
-            &short,
-            &faults,
-            "{\"title\":\"the body has faults\",\"status\":422,\"errors\":[{\"pointer\":\"/a\\nb: forged/0/\\u001b[2J\\u0000\",\"detail\":\"\\t\u{202e}\\\\\u{7f}\u{85}\u{2028}\\r\u{2069}\u{61c}\u{200f}\",\"code\":\"custom\",\"params\":{}},{\"pointer\":\"/1//stra\u{df}e\",\"detail\":\"lower than 1\",\"code\":\"custom\",\"params\":{}},{\"pointer\":\"\",\"detail\":\"\\u0001\",\"code\":\"custom\",\"params\":{}}]}",
-        ),
-        (
-            &long,
-            &[PLAIN],
-            "{\"type\":\"https://example.org/faults\",\"title\":\"\\\"quoted\\\"\",\"status\":65535,\"detail\":\"2 faults\",\"instance\":\"/orders/7\",\"errors\":[{\"pointer\":\"/1//stra\u{df}e\",\"detail\":\"lower than 1\",\"code\":\"custom\",\"params\":{}}]}",
-        ),
-        (
-            &short,
-            &[CODED],
-            r#"{"title":"the body has faults","status":422,"errors":[{"pointer":"/count","detail":"more than \"9\"","code":"too_many","params":{"max":"9","a\nb":""}}]}"#,
-        ),
-    ];
-    for (problem, faults, text) in rows {
-        let report = report_of(&rt, rt.alloc(), faults);
-        assert!(rt; details(&rt, rt.alloc(), &report, problem, text));
+    for (problem, faults, text) in &DETAILS {
+        assert!(rt; details(&rt, rt.alloc(), faults, problem, text));
     }
 }
 
-// The parts of a message, with a `|` behind each. It has fewer than eight parameters.
-fn parted(rt: &impl Abort, alloc: Global, message: &str) -> String {
-    let coded = Coded::of(message);
-    let mut params = coded.params;
-    let mut text = format!(in alloc; "{}|{}|", coded.code, coded.detail).or_end(rt);
-    for _ in 0..8 {
-        let Some((name, value)) = params.next() else {
-            return text;
-        };
-        let more = format!(in alloc; "{name}|{value}|").or_end(rt);
-        text.push_str(more.as_str()).or_end(rt);
+/// A message, and its code, its detail and its parameters.
+static PARTED: [(&str, &str, &str, &[(&str, &str)]); 11] = [
+    ("", "custom", "", &[]),
+    (
+        "a\u{1f}b\u{1f}c\u{1f}",
+        "custom",
+        "a\u{1f}b\u{1f}c\u{1f}",
+        &[],
+    ),
+    ("\u{1f}", "custom", "\u{1f}", &[]),
+    ("\u{1f}a", "custom", "\u{1f}a", &[]),
+    ("\u{1f}a\u{1f}", "a", "", &[]),
+    ("\u{1f}a\u{1f}b", "a", "b", &[]),
+    ("\u{1f}a\u{1f}b\u{1f}", "a", "b", &[]),
+    ("\u{1f}a\u{1f}b\u{1f}c", "a", "b", &[]),
+    ("\u{1f}a\u{1f}b\u{1f}c\u{1f}d", "a", "b", &[("c", "d")]),
+    (
+        TOO_MANY,
+        "too_many",
+        "more than \"9\"",
+        &[("max", "9"), ("a\nb", "")],
+    ),
+    (LOWER, "custom", "lower than 1", &[]),
+];
+
+// Whether parameters are these.
+fn are_params(mut params: Params<'_>, wanted: &[(&str, &str)]) -> bool {
+    for param in wanted {
+        if params.next() != Some(*param) {
+            return false;
+        }
     }
-    rt.abort()
+    params.next().is_none()
+}
+
+// Whether a message has this code and detail, and these parameters.
+fn is_parted(message: &str, code: &str, detail: &str, params: &[(&str, &str)]) -> bool {
+    let coded = Coded::of(message);
+    coded.code == code && coded.detail == detail && are_params(coded.params, params)
 }
 
 #[test]
 fn messages_are_parted(rt: HostRuntime) {
-    let rows = [
-        ("", "custom||"),
-        ("a\u{1f}b\u{1f}c\u{1f}", "custom|a\u{1f}b\u{1f}c\u{1f}|"),
-        ("\u{1f}", "custom|\u{1f}|"),
-        ("\u{1f}a", "custom|\u{1f}a|"),
-        ("\u{1f}a\u{1f}", "a||"),
-        ("\u{1f}a\u{1f}b", "a|b|"),
-        ("\u{1f}a\u{1f}b\u{1f}", "a|b|"),
-        ("\u{1f}a\u{1f}b\u{1f}c", "a|b|"),
-        ("\u{1f}a\u{1f}b\u{1f}c\u{1f}d", "a|b|c|d|"),
-        (CODED.1, "too_many|more than \"9\"|max|9|a\nb||"),
-        (PLAIN.1, "custom|lower than 1|"),
-    ];
-    for (message, parts) in rows {
-        assert!(rt; parted(&rt, rt.alloc(), message).as_str() == parts);
+    for (message, code, detail, params) in &PARTED {
+        assert!(rt; is_parted(message, code, detail, params), "{message}");
     }
 }
 
@@ -261,16 +301,21 @@ fn is_coded(
         == text
 }
 
+/// A code and a detail, parameters, and the message.
+static CODES: [((&str, &str), &[(&str, &str)], &str); 3] = [
+    (("", ""), &[], "\u{1f}\u{1f}\u{1f}"),
+    (("odd", "not even"), &[], "\u{1f}odd\u{1f}not even\u{1f}"),
+    (
+        ("too_many", "more than \"9\""),
+        &[("max", "9"), ("a\nb", "")],
+        TOO_MANY,
+    ),
+];
+
 #[test]
 fn messages_with_codes(rt: HostRuntime) {
-    let many: &[(&str, &str)] = &[("max", "9"), ("a\nb", "")];
-    let rows: [((&str, &str), &[(&str, &str)], &str); 3] = [
-        (("", ""), &[], "\u{1f}\u{1f}\u{1f}"),
-        (("odd", "not even"), &[], "\u{1f}odd\u{1f}not even\u{1f}"),
-        (("too_many", "more than \"9\""), many, CODED.1),
-    ];
-    for (texts, params, text) in rows {
-        assert!(rt; is_coded(&rt, rt.alloc(), texts, params, text));
+    for (texts, params, text) in &CODES {
+        assert!(rt; is_coded(&rt, rt.alloc(), *texts, params, text));
     }
 }
 

@@ -1,8 +1,8 @@
 //! Ways down and up, with the paths that are asked for and the nodes made so far.
 
-use crate::samples::{OrEnd, printed};
+use crate::samples::{OrEnd, has_text};
 use garde_report::{Component, Error, Report, RuleError, Trail};
-use std::alloc::{AllocError, Global};
+use std::alloc::Global;
 use std::process::Abort;
 
 /// A step on a way.
@@ -16,7 +16,7 @@ enum Step {
 
 /// Whether the path of a trail prints this text.
 fn is_at(rt: &impl Abort, trail: &mut Trail<'_>, alloc: Global, text: &str) -> bool {
-    printed(rt, alloc, &trail.path().or_end(rt)).as_str() == text
+    has_text(rt, alloc, &trail.path().or_end(rt), text)
 }
 
 /// Takes a step. Returns whether the path has its text then, and the trail so many nodes.
@@ -45,65 +45,76 @@ fn taken(rt: &impl Abort, alloc: Global, steps: &[Step]) -> usize {
     steps.len()
 }
 
+/// A way on which two paths are asked for under one component.
+static ONCE: [Step; 10] = [
+    Step::Index(0),
+    Step::Key("a"),
+    Step::Path("[0].a", 2),
+    Step::Path("[0].a", 2),
+    Step::Pop,
+    Step::Key("b"),
+    Step::Path("[0].b", 3),
+    Step::Pop,
+    Step::Pop,
+    Step::Path("", 3),
+];
+
 #[test]
 fn a_path_is_made_once_and_goes_with_its_component(rt: HostRuntime) {
-    let steps = [
-        Step::Index(0),
-        Step::Key("a"),
-        Step::Path("[0].a", 2),
-        Step::Path("[0].a", 2),
-        Step::Pop,
-        Step::Key("b"),
-        Step::Path("[0].b", 3),
-        Step::Pop,
-        Step::Pop,
-        Step::Path("", 3),
-    ];
-    assert_eq!(rt; taken(&rt, rt.alloc(), &steps), steps.len());
+    assert_eq!(rt; taken(&rt, rt.alloc(), &ONCE), ONCE.len());
 }
+
+/// A way on which paths are asked for under one that was made.
+static MISSING: [Step; 13] = [
+    Step::Key("a"),
+    Step::Index(0),
+    Step::Path("a[0]", 2),
+    Step::Pop,
+    Step::Index(1),
+    Step::Key("b"),
+    Step::Path("a[1].b", 4),
+    Step::Pop,
+    Step::Pop,
+    Step::Path("a", 4),
+    Step::Pop,
+    Step::Key("a"),
+    Step::Path("a", 5),
+];
 
 #[test]
 fn missing_paths_are_made_from_the_deepest_one_on(rt: HostRuntime) {
-    let steps = [
-        Step::Key("a"),
-        Step::Index(0),
-        Step::Path("a[0]", 2),
-        Step::Pop,
-        Step::Index(1),
-        Step::Key("b"),
-        Step::Path("a[1].b", 4),
-        Step::Pop,
-        Step::Pop,
-        Step::Path("a", 4),
-        Step::Pop,
-        Step::Key("a"),
-        Step::Path("a", 5),
-    ];
-    assert_eq!(rt; taken(&rt, rt.alloc(), &steps), steps.len());
+    assert_eq!(rt; taken(&rt, rt.alloc(), &MISSING), MISSING.len());
+}
+
+/// The fault `weak`.
+fn weak(rt: &impl Abort, alloc: Global) -> Result<(), RuleError> {
+    Err(RuleError::Fault(Error::new(alloc, "weak").or_end(rt)))
 }
 
 /// Puts the fault `weak`.
 fn put_weak(rt: &impl Abort, trail: &mut Trail<'_>, alloc: Global, report: &mut Report) {
-    let weak = Error::new(alloc, "weak").or_end(rt);
-    trail.put(report, Err(RuleError::Fault(weak))).or_end(rt)
+    trail.put(report, weak(rt, alloc)).or_end(rt)
 }
 
 /// Whether Ok puts nothing into a report, and makes no node.
-fn puts_nothing(trail: &mut Trail<'_>, report: &mut Report) -> Result<bool, AllocError> {
-    trail.put(report, Ok(()))?;
-    Ok(report.is_empty() && trail.nodes() == 0)
+fn puts_nothing(trail: &mut Trail<'_>, report: &mut Report) -> bool {
+    trail.put(report, Ok(())).is_ok() && report.is_empty() && trail.nodes() == 0
 }
 
-/// Whether one fault and one `Memory` under a key make one line and one node.
+/// Whether one fault and one `Memory` make one line and one node.
+fn puts_one(rt: &impl Abort, trail: &mut Trail<'_>, alloc: Global, report: &mut Report) -> bool {
+    put_weak(rt, trail, alloc, report);
+    trail.put(report, Err(RuleError::Memory)).is_err()
+        && trail.nodes() == 1
+        && has_text(rt, alloc, report, "a: weak\n")
+}
+
+/// Whether Ok puts nothing under a key, and then one fault and one `Memory` make one line there.
 fn puts_a_fault(rt: &impl Abort, alloc: Global) -> bool {
     let mut report = Report::new(alloc);
     let mut trail = Trail::new(alloc);
     trail.push(Component::key("a")).or_end(rt);
-    let is_nothing = puts_nothing(&mut trail, &mut report).or_end(rt);
-    put_weak(rt, &mut trail, alloc, &mut report);
-    let is_refused = trail.put(&mut report, Err(RuleError::Memory)).is_err();
-    let is_one = trail.nodes() == 1 && printed(rt, alloc, &report).as_str() == "a: weak\n";
-    is_nothing && is_refused && is_one
+    puts_nothing(&mut trail, &mut report) && puts_one(rt, &mut trail, alloc, &mut report)
 }
 
 #[test]
@@ -111,24 +122,34 @@ fn put_appends_a_fault_and_nothing_else(rt: HostRuntime) {
     assert!(rt; puts_a_fault(&rt, rt.alloc()));
 }
 
+/// Puts two faults, and leaves one of them.
+fn put_two(rt: &impl Abort, trail: &mut Trail<'_>, alloc: Global, report: &mut Report) {
+    put_weak(rt, trail, alloc, report);
+    put_weak(rt, trail, alloc, report);
+    report.truncate(1);
+}
+
+/// Whether a trail puts no fault and makes no path, where Ok passes.
+fn is_full(rt: &impl Abort, trail: &mut Trail<'_>, alloc: Global, report: &mut Report) -> bool {
+    trail.put(report, weak(rt, alloc)).is_err()
+        && trail.put(report, Ok(())).is_ok()
+        && trail.nodes() == 0
+}
+
 /// Whether a report of two faults, cut to one of them, is full for the trail that puts the next,
 /// which makes no path, and is not full once the limit of before is set again.
 fn is_full_at_its_limit(rt: &impl Abort, alloc: Global) -> bool {
     let mut report = Report::new(alloc);
     let mut trail = Trail::new(alloc);
-    put_weak(rt, &mut trail, alloc, &mut report);
-    put_weak(rt, &mut trail, alloc, &mut report);
-    report.truncate(1);
+    put_two(rt, &mut trail, alloc, &mut report);
     let unlimited = trail.limit(1);
     trail.push(Component::key("a")).or_end(rt);
-    let weak = Error::new(alloc, "weak").or_end(rt);
-    let is_refused = trail.put(&mut report, Err(RuleError::Fault(weak))).is_err();
-    let is_passed = trail.put(&mut report, Ok(())).is_ok() && trail.nodes() == 0;
+    let is_full = is_full(rt, &mut trail, alloc, &mut report);
     let was = trail.limit(unlimited);
     put_weak(rt, &mut trail, alloc, &mut report);
     report.truncate(9);
-    let is_two = printed(rt, alloc, &report).as_str() == "weak\na: weak\n";
-    is_refused && is_passed && was == 1 && unlimited == usize::MAX && is_two
+    let is_two = has_text(rt, alloc, &report, "weak\na: weak\n");
+    is_full && was == 1 && unlimited == usize::MAX && is_two
 }
 
 #[test]

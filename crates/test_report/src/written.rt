@@ -1,0 +1,67 @@
+//! Reports that are written in JSON and read back, by trees and by texts.
+
+use crate::samples::{OrEnd, has_text};
+use garde_json::{report_from_json_text, report_to_json_text};
+use garde_report::Report;
+use garde_report::json::{JsonRefused, report_from_json, report_to_json};
+use serde_json::Value;
+use std::alloc::Global;
+use std::process::Abort;
+
+/// Whether a report was read, and has the faults of this one.
+fn is_report(read: Result<Report, JsonRefused>, report: &Report) -> bool {
+    match read {
+        Ok(read) => read.iter().eq(report.iter()),
+        Err(_) => false,
+    }
+}
+
+/// Whether a report was read, and prints these lines.
+pub(crate) fn has_lines(
+    rt: &impl Abort,
+    alloc: Global,
+    read: Result<Report, JsonRefused>,
+    lines: &str,
+) -> bool {
+    match read {
+        Ok(read) => has_text(rt, alloc, &read, lines),
+        Err(_) => false,
+    }
+}
+
+/// Whether the form was rejected in place of a report.
+pub(crate) fn is_form(read: Result<Report, JsonRefused>) -> bool {
+    read.err() == Some(JsonRefused::Form)
+}
+
+/// Whether the tree of a report is written as this text, and the report is read back from it.
+fn has_tree(rt: &impl Abort, alloc: Global, report: &Report, text: &str) -> bool {
+    let tree = report_to_json(alloc, report).or_end(rt);
+    is_report(report_from_json(alloc, &tree), report)
+        && tree.to_string(alloc).or_end(rt).as_str() == text
+}
+
+/// Whether a report is read from a text, and from the tree of the text.
+fn is_read_of(rt: &impl Abort, alloc: Global, report: &Report, text: &str) -> bool {
+    let tree = Value::from_str(alloc, text).or_end(rt);
+    is_report(report_from_json(alloc, &tree), report)
+        && is_report(report_from_json_text(alloc, text), report)
+}
+
+/// Whether both writers give this text of a report, and each reader the report again.
+pub(crate) fn is_there_and_back(
+    rt: &impl Abort,
+    alloc: Global,
+    report: &Report,
+    text: &str,
+) -> bool {
+    has_tree(rt, alloc, report, text)
+        && is_read_of(rt, alloc, report, text)
+        && report_to_json_text(alloc, report).or_end(rt).as_str() == text
+}
+
+/// Whether each reader gives a report of its text again, which is that of its tree.
+pub(crate) fn is_read_back(rt: &impl Abort, alloc: Global, report: &Report) -> bool {
+    let text = report_to_json_text(alloc, report).or_end(rt);
+    has_tree(rt, alloc, report, text.as_str()) && is_read_of(rt, alloc, report, text.as_str())
+}
