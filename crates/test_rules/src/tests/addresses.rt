@@ -355,32 +355,34 @@ fn refusal_prints<T: Ip>(
     }
 }
 
+/// The kind that is asked for, and what an error prints and shows.
+static KINDS: [(IpKind, &str, &str); 3] = [
+    (
+        IpKind::Any,
+        "invalid IP address syntax",
+        "AddrParseError(IP)",
+    ),
+    (
+        IpKind::V4,
+        "invalid IPv4 address syntax",
+        "AddrParseError(IPv4)",
+    ),
+    (
+        IpKind::V6,
+        "invalid IPv6 address syntax",
+        "AddrParseError(IPv6)",
+    ),
+];
+
 #[test]
 fn prints_the_kind_that_was_asked_for(rt: HostRuntime) {
-    let rows = [
-        (
-            IpKind::Any,
-            "invalid IP address syntax",
-            "AddrParseError(IP)",
-        ),
-        (
-            IpKind::V4,
-            "invalid IPv4 address syntax",
-            "AddrParseError(IPv4)",
-        ),
-        (
-            IpKind::V6,
-            "invalid IPv6 address syntax",
-            "AddrParseError(IPv6)",
-        ),
-    ];
-    for (kind, printed, shown) in rows {
+    for (kind, printed, shown) in &KINDS {
         assert!(rt;
-            refusal_prints(&rt, rt.alloc(), &"1.2.3", kind, printed),
+            refusal_prints(&rt, rt.alloc(), &"1.2.3", *kind, printed),
             "{printed}"
         );
         assert!(rt;
-            refusal_shows(&rt, rt.alloc(), "1.2.3", kind, shown),
+            refusal_shows(&rt, rt.alloc(), "1.2.3", *kind, shown),
             "{shown}"
         );
     }

@@ -5,7 +5,6 @@ use garde_engines::urls::{ParseError, check_url, reason};
 use garde_i18n::InvalidUrl;
 use std::alloc::Global;
 use std::process::Abort;
-use std::test::Fail;
 
 /// Whether the pattern of this source matches in the text.
 fn is_found(rt: &impl Abort, alloc: Global, source: &str, text: &str) -> bool {
@@ -89,11 +88,10 @@ static IN_TURN: [(&str, bool); 5] = [
 ];
 
 #[test]
-fn searches_again_by_one_searcher(rt: HostRuntime) -> Result<(), Fail> {
-    let pattern = Regex::new(rt.alloc(), "b+c$")?;
+fn searches_again_by_one_searcher(rt: HostRuntime) {
+    let pattern = Regex::new(rt.alloc(), "b+c$").or_end(&rt);
     assert!(rt; searcher_keeps(&rt, rt.alloc(), &pattern, "b+c$"));
     assert_eq!(rt; answered_in_turn(&rt, rt.alloc(), &pattern, &IN_TURN), 5);
-    Ok(())
 }
 
 /// Whether a source is rejected as a pattern for this reason.
@@ -104,16 +102,18 @@ fn is_refused(alloc: Global, source: &str, refused: PatternRefused) -> bool {
     }
 }
 
+/// A source, and why it is rejected.
+static REFUSED: [(&str, PatternRefused); 4] = [
+    ("(", PatternRefused::Syntax),
+    ("[z-a]", PatternRefused::Syntax),
+    ("*", PatternRefused::Syntax),
+    (r"(?:\pL{1000}){1000}", PatternRefused::Other),
+];
+
 #[test]
 fn says_why_a_pattern_is_refused(rt: HostRuntime) {
-    let rows = [
-        ("(", PatternRefused::Syntax),
-        ("[z-a]", PatternRefused::Syntax),
-        ("*", PatternRefused::Syntax),
-        (r"(?:\pL{1000}){1000}", PatternRefused::Other),
-    ];
-    for (source, refused) in rows {
-        assert!(rt; is_refused(rt.alloc(), source, refused), "/{source}/");
+    for (source, refused) in &REFUSED {
+        assert!(rt; is_refused(rt.alloc(), source, *refused), "/{source}/");
     }
 }
 
@@ -151,20 +151,22 @@ fn has_reason(error: &ParseError, wanted: Option<InvalidUrl>) -> bool {
     reason(error) == wanted
 }
 
+/// An error of parsing, and its name here.
+static REASONS: [(ParseError, Option<InvalidUrl>); 6] = [
+    (ParseError::EmptyHost, Some(InvalidUrl::EmptyHost)),
+    (ParseError::InvalidPort, Some(InvalidUrl::InvalidPort)),
+    (
+        ParseError::SetHostOnCannotBeABaseUrl,
+        Some(InvalidUrl::SetHostOnCannotBeABaseUrl),
+    ),
+    (ParseError::CannotSet, Some(InvalidUrl::Other)),
+    (ParseError::Overflow, None),
+    (ParseError::OutOfMemory, None),
+];
+
 #[test]
 fn keeps_the_name_of_an_error(rt: HostRuntime) {
-    let rows = [
-        (ParseError::EmptyHost, Some(InvalidUrl::EmptyHost)),
-        (ParseError::InvalidPort, Some(InvalidUrl::InvalidPort)),
-        (
-            ParseError::SetHostOnCannotBeABaseUrl,
-            Some(InvalidUrl::SetHostOnCannotBeABaseUrl),
-        ),
-        (ParseError::CannotSet, Some(InvalidUrl::Other)),
-        (ParseError::Overflow, None),
-        (ParseError::OutOfMemory, None),
-    ];
-    for (row, (error, kept)) in rows.iter().enumerate() {
+    for (row, (error, kept)) in REASONS.iter().enumerate() {
         assert!(rt; has_reason(error, *kept), "row {row}");
     }
 }

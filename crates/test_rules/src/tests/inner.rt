@@ -57,15 +57,17 @@ fn leaves<C: Inner<u8>>(rt: &impl Abort, alloc: Global, field: &C, done: bool, p
     answer.is_ok() == done && is_at(rt, alloc, &mut trail, path)
 }
 
+/// Items, whether the walk comes to its end, and the path that it leaves.
+static WALKS: [(&[u8], bool, &str); 3] = [
+    (&[1, 2], true, "[0][1]"),
+    (&[1, 9, 2], false, "[0]"),
+    (&[], true, ""),
+];
+
 #[test]
 fn each_item_until_a_refusal(rt: HostRuntime) {
-    let rows: [(&[u8], bool, &str); 3] = [
-        (&[1, 2], true, "[0][1]"),
-        (&[1, 9, 2], false, "[0]"),
-        (&[], true, ""),
-    ];
-    for (items, done, path) in rows {
-        assert!(rt; leaves(&rt, rt.alloc(), &items, done, path), "{path}");
+    for (items, done, path) in &WALKS {
+        assert!(rt; leaves(&rt, rt.alloc(), items, *done, path), "{path}");
     }
 }
 

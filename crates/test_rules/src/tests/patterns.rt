@@ -29,12 +29,16 @@ fn digits_tell<T: Pattern>(alloc: Global, value: &T, fault: Option<&str>) -> boo
     }
 }
 
+const NO_DIGITS: Option<&str> = Some("does not match pattern /^[0-9]{5}$/");
+
+/// A text, and what is found in it.
+static DIGITS: [(&str, Option<&str>); 3] = [("12345", None), ("123", NO_DIGITS), ("", NO_DIGITS)];
+
 #[test]
 fn asks_for_a_match(rt: HostRuntime) {
-    let fault = Some("does not match pattern /^[0-9]{5}$/");
-    for (text, fault) in [("12345", None), ("123", fault), ("", fault)] {
-        assert!(rt; digits_tell(rt.alloc(), &text, fault), "{text}");
-        assert!(rt; digits_tell(rt.alloc(), &Some(text), fault), "{text}");
+    for (text, fault) in &DIGITS {
+        assert!(rt; digits_tell(rt.alloc(), text, *fault), "{text}");
+        assert!(rt; digits_tell(rt.alloc(), &Some(*text), *fault), "{text}");
     }
     assert!(rt; digits_tell(rt.alloc(), &None::<&str>, None));
 }

@@ -14,16 +14,18 @@ fn finds<T: Bounds>(
     tells(range::apply(alloc, value, bounds, &DefaultI18n), fault)
 }
 
+/// A number, its bounds, and what is found.
+static BOUNDED: [(u8, Option<u8>, Option<u8>, Option<&str>); 4] = [
+    (5, Some(10), Some(3), Some("lower than 10")),
+    (20, Some(10), Some(3), Some("greater than 3")),
+    (10, Some(10), Some(10), None),
+    (255, None, None, None),
+];
+
 #[test]
 fn asks_the_lower_bound_first(rt: HostRuntime) {
-    let rows = [
-        (5, Some(10), Some(3), Some("lower than 10")),
-        (20, Some(10), Some(3), Some("greater than 3")),
-        (10, Some(10), Some(10), None),
-        (255, None, None, None),
-    ];
-    for (value, lo, hi, fault) in rows {
-        assert!(rt; finds::<u8>(rt.alloc(), &value, (lo, hi), fault), "{value}");
+    for (value, lo, hi, fault) in &BOUNDED {
+        assert!(rt; finds(rt.alloc(), value, (*lo, *hi), *fault), "{value}");
     }
 }
 

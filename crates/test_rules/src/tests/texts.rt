@@ -14,15 +14,18 @@ fn ascii_tells(alloc: Global, text: &str, fault: Option<&str>) -> bool {
     tells(ascii::apply(alloc, &text, (), &DefaultI18n), fault)
 }
 
+/// A text, and what is found in it.
+static ASKED: [(&str, Option<&str>); 4] = [
+    ("test", None),
+    ("", None),
+    ("é", Some("not ascii")),
+    ("a\u{80}", Some("not ascii")),
+];
+
 #[test]
 fn asks_for_ascii(rt: HostRuntime) {
-    for (text, fault) in [
-        ("test", None),
-        ("", None),
-        ("é", Some("not ascii")),
-        ("a\u{80}", Some("not ascii")),
-    ] {
-        assert!(rt; ascii_tells(rt.alloc(), text, fault), "{text}");
+    for (text, fault) in &ASKED {
+        assert!(rt; ascii_tells(rt.alloc(), text, *fault), "{text}");
     }
 }
 
@@ -60,16 +63,18 @@ fn part_tells(alloc: Global, text: &str, part: &str, fault: Option<&str>) -> boo
     tells(contains::apply(alloc, &text, (part,), &DefaultI18n), fault)
 }
 
+/// A text, a part of it, and what is found.
+static PARTS: [(&str, &str, Option<&str>); 4] = [
+    ("abc", "\"", Some("does not contain \"\"\"")),
+    ("abc", "ac", Some("does not contain \"ac\"")),
+    ("abc", "bc", None),
+    ("", "", None),
+];
+
 #[test]
 fn asks_for_a_part(rt: HostRuntime) {
-    let rows = [
-        ("abc", "\"", Some("does not contain \"\"\"")),
-        ("abc", "ac", Some("does not contain \"ac\"")),
-        ("abc", "bc", None),
-        ("", "", None),
-    ];
-    for (text, pattern, fault) in rows {
-        assert!(rt; part_tells(rt.alloc(), text, pattern, fault), "{pattern}");
+    for (text, pattern, fault) in &PARTS {
+        assert!(rt; part_tells(rt.alloc(), text, pattern, *fault), "{pattern}");
     }
 }
 
@@ -83,19 +88,21 @@ fn end_tells(alloc: Global, text: &str, end: &str, fault: Option<&str>) -> bool 
     tells(suffix::apply(alloc, &text, (end,), &DefaultI18n), fault)
 }
 
+/// A text, what is asked for at either end, and what is found there.
+static ENDS: [(&str, &str, Option<&str>, Option<&str>); 3] = [
+    ("abc", "bc", Some("value does not begin with \"bc\""), None),
+    ("abc", "ab", None, Some("does not end with \"ab\"")),
+    ("", "", None, None),
+];
+
 #[test]
 fn asks_for_a_beginning_and_an_end(rt: HostRuntime) {
-    let rows = [
-        ("abc", "bc", Some("value does not begin with \"bc\""), None),
-        ("abc", "ab", None, Some("does not end with \"ab\"")),
-        ("", "", None, None),
-    ];
-    for (text, pattern, at_front, at_end) in rows {
+    for (text, pattern, at_front, at_end) in &ENDS {
         assert!(rt;
-            front_tells(rt.alloc(), text, pattern, at_front),
+            front_tells(rt.alloc(), text, pattern, *at_front),
             "{pattern}"
         );
-        assert!(rt; end_tells(rt.alloc(), text, pattern, at_end), "{pattern}");
+        assert!(rt; end_tells(rt.alloc(), text, pattern, *at_end), "{pattern}");
     }
 }
 

@@ -5,27 +5,28 @@ use garde_i18n::DefaultI18n;
 use garde_rules::url::{self, InvalidUrl, ParseError, Url, reason};
 use std::alloc::Global;
 use std::process::Abort;
-use std::test::Fail;
 
 /// Whether this is found in a value that is asked for a URL.
 fn finds<T: Url>(alloc: Global, value: &T, fault: Option<&str>) -> bool {
     tells(url::apply(alloc, value, (), &DefaultI18n), fault)
 }
 
+/// A text, and what is found in it.
+static ASKED: [(&str, Option<&str>); 4] = [
+    ("https://example.com/", None),
+    ("abc", Some("not a valid url: relative URL without a base")),
+    ("http://", Some("not a valid url: empty host")),
+    (
+        "http://a:65536/",
+        Some("not a valid url: invalid port number"),
+    ),
+];
+
 #[test]
 fn asks_for_a_url(rt: HostRuntime) {
-    let rows = [
-        ("https://example.com/", None),
-        ("abc", Some("not a valid url: relative URL without a base")),
-        ("http://", Some("not a valid url: empty host")),
-        (
-            "http://a:65536/",
-            Some("not a valid url: invalid port number"),
-        ),
-    ];
-    for (text, fault) in rows {
-        assert!(rt; finds(rt.alloc(), &text, fault), "{text}");
-        assert!(rt; finds(rt.alloc(), &Some(text), fault), "{text}");
+    for (text, fault) in &ASKED {
+        assert!(rt; finds(rt.alloc(), text, *fault), "{text}");
+        assert!(rt; finds(rt.alloc(), &Some(*text), *fault), "{text}");
     }
     assert!(rt; finds(rt.alloc(), &None::<&str>, None));
 }
@@ -41,11 +42,10 @@ fn has_reason(error: &ParseError, wanted: Option<InvalidUrl>) -> bool {
 }
 
 #[test]
-fn says_why_a_text_is_no_url(rt: HostRuntime) -> Result<(), Fail> {
+fn says_why_a_text_is_no_url(rt: HostRuntime) {
     let relative = Err(InvalidUrl::RelativeUrlWithoutBase);
     assert!(rt; is_checked(&rt, rt.alloc(), "https://example.com/", Ok(())));
     assert!(rt; is_checked(&rt, rt.alloc(), "abc", relative));
     assert!(rt; has_reason(&ParseError::InvalidPort, Some(InvalidUrl::InvalidPort)));
     assert!(rt; has_reason(&ParseError::OutOfMemory, None));
-    Ok(())
 }

@@ -1,5 +1,6 @@
 //! Tests of the counts of items.
 use super::assert_answer;
+use crate::tests::OrEnd;
 use garde_i18n::DefaultI18n;
 use garde_lengths::length::{HasBytes, HasChars, HasSimpleLength, bytes, chars, simple};
 use std::alloc::Global;
@@ -7,7 +8,6 @@ use std::boxed::BoxedSlice;
 use std::collections::{BTreeMap, BTreeSet, BinaryHeap, HashMap, HashSet, LinkedList, VecDeque};
 use std::process::Abort;
 use std::rc::RcSlice;
-use std::test::Fail;
 
 /// Asserts that a collection, and a reference to it, has three items.
 fn assert_three<T: HasSimpleLength + Drop>(rt: &impl Abort, collection: T) {
@@ -16,33 +16,30 @@ fn assert_three<T: HasSimpleLength + Drop>(rt: &impl Abort, collection: T) {
 }
 
 #[test]
-fn counts_the_items_of_lists(rt: HostRuntime) -> Result<(), Fail> {
+fn counts_the_items_of_lists(rt: HostRuntime) {
     let alloc = rt.alloc();
-    assert_three(&rt, (0..3).collect::<Vec<u8>>(alloc)?);
+    assert_three(&rt, (0..3).collect::<Vec<u8>>(alloc).or_end(&rt));
     assert_three(&rt, b"789".as_slice());
-    assert_three(&rt, (0..3).collect::<BoxedSlice<u8>>(alloc)?);
-    assert_three(&rt, (0..3).collect::<VecDeque<u8>>(alloc)?);
-    assert_three(&rt, (0..3).collect::<LinkedList<u8>>(alloc)?);
-    Ok(())
+    assert_three(&rt, (0..3).collect::<BoxedSlice<u8>>(alloc).or_end(&rt));
+    assert_three(&rt, (0..3).collect::<VecDeque<u8>>(alloc).or_end(&rt));
+    assert_three(&rt, (0..3).collect::<LinkedList<u8>>(alloc).or_end(&rt));
 }
 
 #[test]
-fn counts_the_items_of_sets_and_heaps(rt: HostRuntime) -> Result<(), Fail> {
+fn counts_the_items_of_sets_and_heaps(rt: HostRuntime) {
     let alloc = rt.alloc();
-    assert_three(&rt, (0..3).collect::<HashSet<u8>>(alloc)?);
-    assert_three(&rt, (0..3).collect::<BTreeSet<u8>>(alloc)?);
-    assert_three(&rt, (0..3).collect::<BinaryHeap<u8>>(alloc)?);
-    Ok(())
+    assert_three(&rt, (0..3).collect::<HashSet<u8>>(alloc).or_end(&rt));
+    assert_three(&rt, (0..3).collect::<BTreeSet<u8>>(alloc).or_end(&rt));
+    assert_three(&rt, (0..3).collect::<BinaryHeap<u8>>(alloc).or_end(&rt));
 }
 
 #[test]
-fn counts_the_pairs_of_maps(rt: HostRuntime) -> Result<(), Fail> {
+fn counts_the_pairs_of_maps(rt: HostRuntime) {
     let pairs = [(0, true), (1, true), (2, true)];
-    let hashed: HashMap<u8, bool> = pairs.into_iter().collect(rt.alloc())?;
+    let hashed: HashMap<u8, bool> = pairs.into_iter().collect(rt.alloc()).or_end(&rt);
     assert_three(&rt, hashed);
-    let ordered: BTreeMap<u8, bool> = pairs.into_iter().collect(rt.alloc())?;
+    let ordered: BTreeMap<u8, bool> = pairs.into_iter().collect(rt.alloc()).or_end(&rt);
     assert_three(&rt, ordered);
-    Ok(())
 }
 
 /// Asserts that a list of characters has two.
@@ -69,15 +66,14 @@ fn assert_octets(rt: &impl Abort, octets: Vec<u8>) {
 }
 
 #[test]
-fn counts_the_bytes_and_characters_of_lists(rt: HostRuntime) -> Result<(), Fail> {
+fn counts_the_bytes_and_characters_of_lists(rt: HostRuntime) {
     let alloc = rt.alloc();
-    assert_letters(&rt, alloc, vec![in alloc; 'a', 'b']?);
+    assert_letters(&rt, alloc, vec![in alloc; 'a', 'b'].or_end(&rt));
     assert_two_chars(&rt, ['a', 'b'].as_slice());
-    assert_two_chars(&rt, RcSlice::from_slice(alloc, &['a', 'b'])?);
-    assert_octets(&rt, vec![in alloc; 0, 255]?);
+    assert_two_chars(&rt, RcSlice::from_slice(alloc, &['a', 'b']).or_end(&rt));
+    assert_octets(&rt, vec![in alloc; 0, 255].or_end(&rt));
     assert_two_bytes(&rt, [0u8, 255].as_slice());
-    assert_two_bytes(&rt, RcSlice::from_slice(alloc, &[0u8, 255])?);
-    Ok(())
+    assert_two_bytes(&rt, RcSlice::from_slice(alloc, &[0u8, 255]).or_end(&rt));
 }
 
 #[test]

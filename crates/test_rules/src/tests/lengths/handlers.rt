@@ -87,41 +87,43 @@ fn assert_answers<H: I18n>(
     }
 }
 
+/// What is asked, and its text.
+static ROWS: [(Asked<'static>, &str); 17] = [
+    (Asked::LengthLower(5), "length is lower than 5"),
+    (Asked::LengthGreater(10), "length is greater than 10"),
+    (Asked::RangeLower("0"), "lower than 0"),
+    (Asked::RangeGreater("100"), "greater than 100"),
+    (
+        Asked::Card(InvalidCreditCard::InvalidLuhn),
+        "not a valid credit card number: invalid luhn",
+    ),
+    (Asked::Pattern("\\d+"), "does not match pattern /\\d+/"),
+    (Asked::Contains("test"), "does not contain \"test\""),
+    (
+        Asked::Url(InvalidUrl::EmptyHost),
+        "not a valid url: empty host",
+    ),
+    (
+        Asked::Prefix("http://"),
+        "value does not begin with \"http://\"",
+    ),
+    (Asked::Suffix(".com"), "does not end with \".com\""),
+    (
+        Asked::Phone(InvalidPhoneNumber::Invalid),
+        "not a valid phone number",
+    ),
+    (
+        Asked::Phone(InvalidPhoneNumber::TooLong),
+        "not a valid phone number: the number is too long",
+    ),
+    (Asked::Ip(IpKind::V4), "not a valid IPv4 address"),
+    (Asked::Matches("password"), "does not match password field"),
+    (Asked::NotAscii, "not ascii"),
+    (Asked::NotAlphanumeric, "not alphanumeric"),
+    (Asked::NotSet, "not set"),
+];
+
 #[test]
 fn answers_the_default_texts(rt: HostRuntime) {
-    let rows = [
-        (Asked::LengthLower(5), "length is lower than 5"),
-        (Asked::LengthGreater(10), "length is greater than 10"),
-        (Asked::RangeLower("0"), "lower than 0"),
-        (Asked::RangeGreater("100"), "greater than 100"),
-        (
-            Asked::Card(InvalidCreditCard::InvalidLuhn),
-            "not a valid credit card number: invalid luhn",
-        ),
-        (Asked::Pattern("\\d+"), "does not match pattern /\\d+/"),
-        (Asked::Contains("test"), "does not contain \"test\""),
-        (
-            Asked::Url(InvalidUrl::EmptyHost),
-            "not a valid url: empty host",
-        ),
-        (
-            Asked::Prefix("http://"),
-            "value does not begin with \"http://\"",
-        ),
-        (Asked::Suffix(".com"), "does not end with \".com\""),
-        (
-            Asked::Phone(InvalidPhoneNumber::Invalid),
-            "not a valid phone number",
-        ),
-        (
-            Asked::Phone(InvalidPhoneNumber::TooLong),
-            "not a valid phone number: the number is too long",
-        ),
-        (Asked::Ip(IpKind::V4), "not a valid IPv4 address"),
-        (Asked::Matches("password"), "does not match password field"),
-        (Asked::NotAscii, "not ascii"),
-        (Asked::NotAlphanumeric, "not alphanumeric"),
-        (Asked::NotSet, "not set"),
-    ];
-    assert_answers(&rt, rt.alloc(), &DefaultI18n, &rows);
+    assert_answers(&rt, rt.alloc(), &DefaultI18n, &ROWS);
 }

@@ -15,7 +15,6 @@ use std::borrow::CowStr;
 use std::boxed::BoxedStr;
 use std::process::Abort;
 use std::rc::RcStr;
-use std::test::Fail;
 
 /// A face (U+1F602), and an `e` with a mark of its own (U+0301).
 const FACE: &str = "😂";
@@ -36,14 +35,17 @@ pub fn counts<T: HasBytes + HasChars + HasGraphemes + HasSimpleLength + HasUtf16
     ]
 }
 
+/// A text, and its five lengths.
+static COUNTED: [(&str, [usize; 5]); 3] = [
+    (FACE, [4, 1, 1, 4, 2]),
+    (MARKED, [3, 2, 1, 3, 2]),
+    ("", [0; 5]),
+];
+
 #[test]
 fn counts_a_text_by_each_unit(rt: HostRuntime) {
-    for (text, wanted) in [
-        (FACE, [4, 1, 1, 4, 2]),
-        (MARKED, [3, 2, 1, 3, 2]),
-        ("", [0; 5]),
-    ] {
-        assert_eq!(rt; counts(&text), wanted, "{text}");
+    for (text, wanted) in &COUNTED {
+        assert_eq!(rt; counts(text), *wanted, "{text}");
     }
     units();
 }
@@ -56,15 +58,14 @@ fn assert_counts_of_the_face<
 }
 
 #[test]
-fn counts_every_type_of_text_alike(rt: HostRuntime) -> Result<(), Fail> {
+fn counts_every_type_of_text_alike(rt: HostRuntime) {
     let alloc = rt.alloc();
-    let owned = String::from_str(alloc, FACE)?;
+    let owned = String::from_str(alloc, FACE).or_end(&rt);
     assert_counts_of_the_face(&rt, &owned);
     assert_counts_of_the_face(&rt, CowStr::Owned(owned));
-    assert_counts_of_the_face(&rt, String::from_str(alloc, FACE)?);
-    assert_counts_of_the_face(&rt, RcStr::from_str(alloc, FACE)?);
-    assert_counts_of_the_face(&rt, BoxedStr::from_str(alloc, FACE)?);
-    Ok(())
+    assert_counts_of_the_face(&rt, String::from_str(alloc, FACE).or_end(&rt));
+    assert_counts_of_the_face(&rt, RcStr::from_str(alloc, FACE).or_end(&rt));
+    assert_counts_of_the_face(&rt, BoxedStr::from_str(alloc, FACE).or_end(&rt));
 }
 
 /// A text of so many blocks, each of characters of one, two, three and four bytes.
@@ -76,20 +77,28 @@ fn blocks(rt: &impl Abort, alloc: Global, count: usize) -> String {
     text
 }
 
+/// Bounds, and what is found in the blocks by characters and by code units.
+static BOUNDED: [((usize, usize), Checked, Checked); 4] = [
+    ((0, 1000), Ok(()), Ok(())),
+    ((400, 400), Ok(()), Err(OutOfBounds::Upper)),
+    ((500, 500), Err(OutOfBounds::Lower), Ok(())),
+    ((1001, 9), Err(OutOfBounds::Lower), Err(OutOfBounds::Lower)),
+];
+
+type Checked = Result<(), OutOfBounds>;
+
+/// Whether this is found in a text by characters and by code units.
+fn is_checked(text: &str, (min, max): (usize, usize), chars: Checked, units: Checked) -> bool {
+    text.check_num_chars(min, max) == chars && text.check_num_code_units(min, max) == units
+}
+
 #[test]
-fn counts_a_text_of_many_blocks(rt: HostRuntime) -> Result<(), Fail> {
+fn counts_a_text_of_many_blocks(rt: HostRuntime) {
     let text = blocks(&rt, rt.alloc(), 100);
     assert_eq!(rt; counts(&text), [1000, 400, 400, 1000, 500]);
-    for (min, max, chars, units) in [
-        (0, 1000, Ok(()), Ok(())),
-        (400, 400, Ok(()), Err(OutOfBounds::Upper)),
-        (500, 500, Err(OutOfBounds::Lower), Ok(())),
-        (1001, 9, Err(OutOfBounds::Lower), Err(OutOfBounds::Lower)),
-    ] {
-        assert_eq!(rt; text.check_num_chars(min, max), chars);
-        assert_eq!(rt; text.check_num_code_units(min, max), units);
+    for (bounds, chars, units) in &BOUNDED {
+        assert!(rt; is_checked(text.as_str(), *bounds, *chars, *units));
     }
-    Ok(())
 }
 
 #[test]

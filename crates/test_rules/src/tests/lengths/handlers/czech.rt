@@ -190,37 +190,39 @@ impl I18n for Czech {
     }
 }
 
+/// What is asked, and its text.
+static ROWS: [(Asked<'static>, &str); 19] = [
+    (Asked::LengthLower(0), "délka je menší než 0 znaků"),
+    (Asked::LengthLower(1), "délka je menší než 1 znak"),
+    (Asked::LengthLower(2), "délka je menší než 2 znaky"),
+    (Asked::LengthGreater(4), "délka je větší než 4 znaky"),
+    (Asked::LengthGreater(5), "délka je větší než 5 znaků"),
+    (Asked::RangeLower("18"), "hodnota je menší než 18"),
+    (Asked::RangeGreater("120"), "hodnota je větší než 120"),
+    (
+        Asked::Card(InvalidCreditCard::Other),
+        "neplatné číslo platební karty",
+    ),
+    (Asked::Pattern("[0-9]"), "text neodpovídá vzoru /[0-9]/"),
+    (Asked::Contains("@"), "text neobsahuje \"@\""),
+    (Asked::Url(InvalidUrl::Other), "neplatná adresa URL"),
+    (Asked::Prefix("+"), "text nezačíná na \"+\""),
+    (Asked::Suffix(".cz"), "text nekončí na \".cz\""),
+    (
+        Asked::Phone(InvalidPhoneNumber::TooLong),
+        "neplatné telefonní číslo",
+    ),
+    (Asked::Ip(IpKind::Any), "neplatná adresa IP"),
+    (Asked::Matches("heslo"), "hodnota se liší od pole heslo"),
+    (Asked::NotAscii, "text má jiné znaky než ASCII"),
+    (
+        Asked::NotAlphanumeric,
+        "text má jiné znaky než písmena a číslice",
+    ),
+    (Asked::NotSet, "hodnota chybí"),
+];
+
 #[test]
 fn answers_czech_texts(rt: HostRuntime) {
-    let rows = [
-        (Asked::LengthLower(0), "délka je menší než 0 znaků"),
-        (Asked::LengthLower(1), "délka je menší než 1 znak"),
-        (Asked::LengthLower(2), "délka je menší než 2 znaky"),
-        (Asked::LengthGreater(4), "délka je větší než 4 znaky"),
-        (Asked::LengthGreater(5), "délka je větší než 5 znaků"),
-        (Asked::RangeLower("18"), "hodnota je menší než 18"),
-        (Asked::RangeGreater("120"), "hodnota je větší než 120"),
-        (
-            Asked::Card(InvalidCreditCard::Other),
-            "neplatné číslo platební karty",
-        ),
-        (Asked::Pattern("[0-9]"), "text neodpovídá vzoru /[0-9]/"),
-        (Asked::Contains("@"), "text neobsahuje \"@\""),
-        (Asked::Url(InvalidUrl::Other), "neplatná adresa URL"),
-        (Asked::Prefix("+"), "text nezačíná na \"+\""),
-        (Asked::Suffix(".cz"), "text nekončí na \".cz\""),
-        (
-            Asked::Phone(InvalidPhoneNumber::TooLong),
-            "neplatné telefonní číslo",
-        ),
-        (Asked::Ip(IpKind::Any), "neplatná adresa IP"),
-        (Asked::Matches("heslo"), "hodnota se liší od pole heslo"),
-        (Asked::NotAscii, "text má jiné znaky než ASCII"),
-        (
-            Asked::NotAlphanumeric,
-            "text má jiné znaky než písmena a číslice",
-        ),
-        (Asked::NotSet, "hodnota chybí"),
-    ];
-    assert_answers(&rt, rt.alloc(), &Czech, &rows);
+    assert_answers(&rt, rt.alloc(), &Czech, &ROWS);
 }

@@ -156,13 +156,16 @@ fn prints_the_reasons_of_phone_numbers(rt: HostRuntime) {
     assert_ne!(rt; InvalidPhoneNumber::Invalid, InvalidPhoneNumber::NotANumber);
 }
 
+/// The IP kinds, with their texts.
+static KINDS: [(IpKind, &str); 3] = [
+    (IpKind::Any, "IP"),
+    (IpKind::V4, "IPv4"),
+    (IpKind::V6, "IPv6"),
+];
+
 #[test]
 fn prints_the_ip_kinds(rt: HostRuntime) {
-    for (kind, text) in [
-        (IpKind::Any, "IP"),
-        (IpKind::V4, "IPv4"),
-        (IpKind::V6, "IPv6"),
-    ] {
-        assert!(rt; is_printed(&rt, rt.alloc(), &kind, text), "{text}");
+    for (kind, text) in &KINDS {
+        assert!(rt; is_printed(&rt, rt.alloc(), kind, text), "{text}");
     }
 }
