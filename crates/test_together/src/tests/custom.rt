@@ -1,5 +1,6 @@
 //! A handler with texts and memory of its own.
-ghost use Rattle.std.specs.Prelude.{◌++◌, codes};
+ghost use Rattle.std.specs.Prelude.{◌≡◌, ◌++◌, IfOk, codes};
+ghost use Rattle.std.specs.Cow.{cow_str_bytes};
 ghost use Rattle.std.specs.Fmt.{decimal};
 ghost use Rattle.garde_i18n.specs.Datum as datum;
 ghost use Rattle.garde_i18n.specs.Reasons.{card_name, url_name, phone_name, ip_kind_text};
@@ -21,6 +22,25 @@ pub fn weightless(alloc: Global) -> Custom {
     Custom {
         weight: Vec::new(alloc),
     }
+}
+
+// A text with what stands around it.
+fn around(
+    alloc: Global,
+    before: &str,
+    text: &str,
+    after: &str,
+) -> Result<CowStr<'static>, AllocError>
+    ensures { IfOk result (λ s. cow_str_bytes s ≡ before.now ++ (text.now ++ after.now)) }
+{
+    Ok(CowStr::Owned(format!(in alloc; "{before}{text}{after}")?))
+}
+
+// A text with a number behind it.
+fn with_number(alloc: Global, text: &str, number: usize) -> Result<CowStr<'static>, AllocError>
+    ensures { IfOk result (λ s. cow_str_bytes s ≡ text.now ++ decimal number) }
+{
+    Ok(CowStr::Owned(format!(in alloc; "{text}{number}")?))
 }
 
 impl I18n for Custom {
@@ -45,7 +65,7 @@ impl I18n for Custom {
     ] };
 
     fn length_lower_than(&self, alloc: Global, min: usize) -> Result<CowStr<'static>, AllocError> {
-        Ok(CowStr::Owned(format!(in alloc; "custom: too short, need at least {min}")?))
+        with_number(alloc, "custom: too short, need at least ", min)
     }
 
     fn length_greater_than(
@@ -53,15 +73,15 @@ impl I18n for Custom {
         alloc: Global,
         max: usize,
     ) -> Result<CowStr<'static>, AllocError> {
-        Ok(CowStr::Owned(format!(in alloc; "custom: too long, maximum is {max}")?))
+        with_number(alloc, "custom: too long, maximum is ", max)
     }
 
     fn range_lower_than(&self, alloc: Global, min: &str) -> Result<CowStr<'static>, AllocError> {
-        Ok(CowStr::Owned(format!(in alloc; "custom: value too small, minimum is {min}")?))
+        around(alloc, "custom: value too small, minimum is ", min, "")
     }
 
     fn range_greater_than(&self, alloc: Global, max: &str) -> Result<CowStr<'static>, AllocError> {
-        Ok(CowStr::Owned(format!(in alloc; "custom: value too large, maximum is {max}")?))
+        around(alloc, "custom: value too large, maximum is ", max, "")
     }
 
     fn credit_card_invalid(
@@ -77,7 +97,7 @@ impl I18n for Custom {
         alloc: Global,
         pattern: &str,
     ) -> Result<CowStr<'static>, AllocError> {
-        Ok(CowStr::Owned(format!(in alloc; "custom: doesn't match /{pattern}/")?))
+        around(alloc, "custom: doesn't match /", pattern, "/")
     }
 
     fn contains_missing(
@@ -85,7 +105,7 @@ impl I18n for Custom {
         alloc: Global,
         pattern: &str,
     ) -> Result<CowStr<'static>, AllocError> {
-        Ok(CowStr::Owned(format!(in alloc; "custom: missing required text '{pattern}'")?))
+        around(alloc, "custom: missing required text '", pattern, "'")
     }
 
     fn url_invalid(
@@ -97,11 +117,11 @@ impl I18n for Custom {
     }
 
     fn prefix_missing(&self, alloc: Global, pattern: &str) -> Result<CowStr<'static>, AllocError> {
-        Ok(CowStr::Owned(format!(in alloc; "custom: must start with '{pattern}'")?))
+        around(alloc, "custom: must start with '", pattern, "'")
     }
 
     fn suffix_missing(&self, alloc: Global, pattern: &str) -> Result<CowStr<'static>, AllocError> {
-        Ok(CowStr::Owned(format!(in alloc; "custom: must end with '{pattern}'")?))
+        around(alloc, "custom: must end with '", pattern, "'")
     }
 
     fn phone_number_invalid(
@@ -121,7 +141,7 @@ impl I18n for Custom {
         alloc: Global,
         field: &str,
     ) -> Result<CowStr<'static>, AllocError> {
-        Ok(CowStr::Owned(format!(in alloc; "custom: must match {field}")?))
+        around(alloc, "custom: must match ", field, "")
     }
 
     fn ascii_invalid(&self, _alloc: Global) -> Result<CowStr<'static>, AllocError> {

@@ -144,19 +144,22 @@ fn way(alloc: Global, (down, asked, up): (usize, bool, usize)) -> Result<(), All
     Ok(())
 }
 
+/// Steps down, whether the path is asked for, and steps up.
+static WAYS: [(usize, bool, usize); 8] = [
+    (0, true, 0),
+    (3, false, 0),
+    (3, true, 0),
+    (3, true, 2),
+    (12, false, 0),
+    (12, true, 0),
+    (12, true, 5),
+    (12, true, 12),
+];
+
 // Trails in each state.
 fn ways(alloc: Global) -> Result<(), AllocError> {
-    for steps in [
-        (0, true, 0),
-        (3, false, 0),
-        (3, true, 0),
-        (3, true, 2),
-        (12, false, 0),
-        (12, true, 0),
-        (12, true, 5),
-        (12, true, 12),
-    ] {
-        way(alloc, steps)?;
+    for steps in &WAYS {
+        way(alloc, *steps)?;
     }
     Ok(())
 }

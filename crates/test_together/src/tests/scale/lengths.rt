@@ -103,26 +103,24 @@ fn finds_beyond_none(alloc: Global, unit: Unit, text: &str, fault: Option<&str>)
     tells(find(alloc, unit, (0, 0), text), fault)
 }
 
+// The same of no byte, in which nothing is found, and of one.
+fn finds_one_beyond_none(alloc: Global, unit: Unit) -> bool {
+    finds_beyond_none(alloc, unit, "", None)
+        && finds_beyond_none(alloc, unit, "a", Some("length is greater than 0"))
+}
+
+/// Each unit.
+static UNITS: [Unit; 5] = [
+    Unit::Simple,
+    Unit::Bytes,
+    Unit::Chars,
+    Unit::Graphemes,
+    Unit::Utf16,
+];
+
 #[test]
 fn a_text_of_no_characters(rt: HostRuntime) {
-    let long = Some("length is greater than 0");
-    for (row, unit) in [
-        Unit::Simple,
-        Unit::Bytes,
-        Unit::Chars,
-        Unit::Graphemes,
-        Unit::Utf16,
-    ]
-    .iter()
-    .enumerate()
-    {
-        assert!(rt;
-            finds_beyond_none(rt.alloc(), *unit, "", None),
-            "no byte, unit {row}"
-        );
-        assert!(rt;
-            finds_beyond_none(rt.alloc(), *unit, "a", long),
-            "one byte, unit {row}"
-        );
+    for (row, unit) in UNITS.iter().enumerate() {
+        assert!(rt; finds_one_beyond_none(rt.alloc(), *unit), "unit {row}");
     }
 }

@@ -26,51 +26,52 @@ fn finds<T: Bounds>(
     tells(by_function, fault) && tells(as_value, fault)
 }
 
+/// A number, its bounds, and what is found.
+static SIGNED: [(i128, Option<i128>, Option<i128>, Option<&str>); 8] = [
+    (i128::MIN, Some(i128::MIN), Some(i128::MIN), None),
+    (i128::MIN, Some(i128::MIN + 1), None, Some(ABOVE_LEAST)),
+    (i128::MIN, Some(i128::MAX), None, Some(GREATEST)),
+    (0, None, Some(i128::MIN), Some(LEAST)),
+    (0, Some(i128::MAX), Some(i128::MIN), Some(GREATEST)),
+    (i128::MAX, Some(i128::MAX), Some(i128::MAX), None),
+    (i128::MAX, None, Some(i128::MAX - 1), Some(BELOW_GREATEST)),
+    (i128::MAX, None, Some(i128::MIN), Some(LEAST)),
+];
+
 #[test]
 fn numbers_with_a_sign_at_their_ends(rt: HostRuntime) {
-    const MIN: i128 = i128::MIN;
-    const MAX: i128 = i128::MAX;
-    let rows = [
-        (MIN, Some(MIN), Some(MIN), None),
-        (MIN, Some(MIN + 1), None, Some(ABOVE_LEAST)),
-        (MIN, Some(MAX), None, Some(GREATEST)),
-        (0, None, Some(MIN), Some(LEAST)),
-        (0, Some(MAX), Some(MIN), Some(GREATEST)),
-        (MAX, Some(MAX), Some(MAX), None),
-        (MAX, None, Some(MAX - 1), Some(BELOW_GREATEST)),
-        (MAX, None, Some(MIN), Some(LEAST)),
-    ];
-    for (row, (value, min, max, fault)) in rows.iter().enumerate() {
+    for (row, (value, min, max, fault)) in SIGNED.iter().enumerate() {
         assert!(rt; finds(rt.alloc(), value, (*min, *max), *fault), "row {row}");
     }
 }
 
+/// The same without a sign.
+static UNSIGNED: [(u128, Option<u128>, Option<u128>, Option<&str>); 5] = [
+    (u128::MAX, Some(u128::MAX), Some(u128::MAX), None),
+    (
+        u128::MAX,
+        None,
+        Some(u128::MAX - 1),
+        Some("greater than 340282366920938463463374607431768211454"),
+    ),
+    (u128::MAX, None, Some(0), Some("greater than 0")),
+    (
+        0,
+        Some(u128::MAX),
+        None,
+        Some("lower than 340282366920938463463374607431768211455"),
+    ),
+    (
+        0,
+        Some(u128::MAX),
+        Some(0),
+        Some("lower than 340282366920938463463374607431768211455"),
+    ),
+];
+
 #[test]
 fn numbers_without_a_sign_at_their_ends(rt: HostRuntime) {
-    const MAX: u128 = u128::MAX;
-    let rows = [
-        (MAX, Some(MAX), Some(MAX), None),
-        (
-            MAX,
-            None,
-            Some(MAX - 1),
-            Some("greater than 340282366920938463463374607431768211454"),
-        ),
-        (MAX, None, Some(0), Some("greater than 0")),
-        (
-            0,
-            Some(MAX),
-            None,
-            Some("lower than 340282366920938463463374607431768211455"),
-        ),
-        (
-            0,
-            Some(MAX),
-            Some(0),
-            Some("lower than 340282366920938463463374607431768211455"),
-        ),
-    ];
-    for (row, (value, min, max, fault)) in rows.iter().enumerate() {
+    for (row, (value, min, max, fault)) in UNSIGNED.iter().enumerate() {
         assert!(rt; finds(rt.alloc(), value, (*min, *max), *fault), "row {row}");
     }
 }

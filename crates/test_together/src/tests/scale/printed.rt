@@ -50,26 +50,31 @@ fn refusal_prints(rt: &impl Abort, alloc: Global, kind: IpKind, text: &str) -> b
     }
 }
 
-#[test]
-fn reasons_and_kinds(rt: HostRuntime) {
-    let alloc = rt.alloc();
-    assert!(rt; prints(&rt, alloc, &InvalidUrl::EmptyHost, "empty host"));
-    assert!(rt; prints(&rt, alloc, &InvalidCreditCard::Other, "invalid credit card"));
-    assert!(rt;
-        prints(
-            &rt,
+// Whether a reason of each type prints its text.
+fn reasons_print(rt: &impl Abort, alloc: Global) -> bool {
+    prints(rt, alloc, &InvalidUrl::EmptyHost, "empty host")
+        && prints(rt, alloc, &InvalidCreditCard::Other, "invalid credit card")
+        && prints(
+            rt,
             alloc,
             &InvalidPhoneNumber::Other,
-            "invalid phone number"
+            "invalid phone number",
         )
-    );
-    for (kind, text, error) in [
-        (IpKind::Any, "IP", "invalid IP address syntax"),
-        (IpKind::V4, "IPv4", "invalid IPv4 address syntax"),
-        (IpKind::V6, "IPv6", "invalid IPv6 address syntax"),
-    ] {
-        assert!(rt; prints(&rt, alloc, &kind, text), "{text}");
-        assert!(rt; refusal_prints(&rt, alloc, kind, error), "{error}");
+}
+
+/// A kind of address, its text, and that of the error.
+static KINDS: [(IpKind, &str, &str); 3] = [
+    (IpKind::Any, "IP", "invalid IP address syntax"),
+    (IpKind::V4, "IPv4", "invalid IPv4 address syntax"),
+    (IpKind::V6, "IPv6", "invalid IPv6 address syntax"),
+];
+
+#[test]
+fn reasons_and_kinds(rt: HostRuntime) {
+    assert!(rt; reasons_print(&rt, rt.alloc()));
+    for (kind, text, error) in &KINDS {
+        assert!(rt; prints(&rt, rt.alloc(), kind, text), "{text}");
+        assert!(rt; refusal_prints(&rt, rt.alloc(), *kind, error), "{error}");
     }
 }
 

@@ -117,15 +117,18 @@ fn meets_each_budget(alloc: Global, call: Call) -> Result<bool, AllocError> {
     Ok(matches!(met, Met::Ample))
 }
 
+/// All calls.
+static CALLS: [(&str, Call); 4] = [
+    ("join", Call::Join),
+    ("write", Call::Write),
+    ("write text", Call::WriteText),
+    ("read", Call::Read),
+];
+
 #[test]
 fn each_budget_of_memory(rt: HostRuntime) -> Result<(), Fail> {
-    for (name, call) in [
-        ("join", Call::Join),
-        ("write", Call::Write),
-        ("write text", Call::WriteText),
-        ("read", Call::Read),
-    ] {
-        assert!(rt; meets_each_budget(rt.alloc(), call)?, "at {name}");
+    for (name, call) in &CALLS {
+        assert!(rt; meets_each_budget(rt.alloc(), *call)?, "at {name}");
     }
     Ok(())
 }
