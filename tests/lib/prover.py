@@ -20,11 +20,11 @@ def kit():
     return pathlib.Path(said.strip()).parent
 
 
-def command(crate, functions, jobs, root=repository.ROOT):
+def command(crate, functions, jobs, root=repository.ROOT, verb="check"):
     """A check of some functions of a crate, over the libraries as they were built last, by so many jobs."""
     libraries, rlibs, crates = repository.libraries(root), kit() / "rlibs", root / "crates"
     main = "src/main.rt" if (crates / crate / "src/main.rt").is_file() else "src/lib.rt"
-    words = [f"{kit()}/bin/rattle", "check", "--crate-name", crate, main, "--extern", f"std={rlibs}/std.rlib"]
+    words = [f"{kit()}/bin/rattle", verb, "--crate-name", crate, main, "--extern", f"std={rlibs}/std.rlib"]
     for it in libraries[crate]:
         folder = crates / it / "out/rlib" if it in libraries else rlibs
         words += ["--extern", f"{it}={folder}/{it}.rlib"]
@@ -91,3 +91,11 @@ def build(crates, root=repository.ROOT):
         newest = max(file.stat().st_mtime for folder in folders for file in folder.rglob("*.*"))
         if not made.is_dir() or made.stat().st_mtime < newest:
             subprocess.run(["rt", "lib"], cwd=root / "crates" / name, check=True, stdout=subprocess.DEVNULL)
+
+
+def static_library(crate, made):
+    """Proves a crate and builds the static library of it, over the libraries as they were built last. Gives what is wrong, or an
+    empty text."""
+    words = [*command(crate, (), 1, verb="build"), "--crate-type", "staticlib", "--toolchain", kit() / "toolchain", "-o", made]
+    done = subprocess.run(list(map(str, words)), cwd=CRATES / crate, stdin=subprocess.DEVNULL, capture_output=True, text=True, errors="replace")
+    return "" if done.returncode == 0 else (done.stdout + done.stderr).strip()[-2000:]
