@@ -109,8 +109,9 @@ class Folder:
                 self.put(f"{self.prefix}{path}", plan.files[path])
             for path in gone:
                 self.drop(path)
-            if plan.program and not self.place(plan.program.name).exists():
-                self.put_program(plan.program)
+            for copy in plan.program.copies if plan.program else ():
+                if not self.place(copy.name).exists():
+                    self.put_copy(copy)
         if not {it.strip() for it in ignored.splitlines()} & {"out/", "out", "**/out/", "**/out"}:
             self.put(".gitignore", ignored + ("\n" if ignored and not ignored.endswith("\n") else "") + "out/\n")
         self.put("crates.txt", listing)
@@ -131,16 +132,16 @@ class Folder:
         finally:
             self.clear()
 
-    def put_program(self, program):
-        """Writes a program's folder: in full, or not at all."""
+    def put_copy(self, copy):
+        """Writes the folder of a crate that is the reader's: in full, or not at all."""
         part = self.path / PART
         self.clear()
         try:
-            for path, content in program.files.items():
+            for path, content in copy.files.items():
                 (part / path).parent.mkdir(parents=True, exist_ok=True)
                 (part / path).write_bytes(content)
             self.place("").mkdir(exist_ok=True)
-            os.rename(part, self.place(program.name))
+            os.rename(part, self.place(copy.name))
         finally:
             self.clear()
 

@@ -16,9 +16,10 @@ def with_lines(text, record, plan):
         after = [row for at, row in enumerate(rows) if at >= first and at not in ours and at not in marks]
         gap = ["\n"] if before and before[-1].strip() and first == len(rows) else []
         rows = [*closed(before), *gap, *(f"{row}\n" for row in (MARK, *wanted)), *after]
-    if plan.program and plan.program.name not in map(named, rows):
-        gap = ["\n"] if named(rows[-1]) in copied else []
-        rows = [*closed(rows), *gap, f"{plan.program.line}\n"]
+    for copy in plan.program.copies if plan.program else ():
+        if copy.name not in map(named, rows):
+            gap = ["\n"] if named(rows[-1]) in copied else []
+            rows = [*closed(rows), *gap, f"{copy.line}\n"]
     return "".join(rows)
 
 

@@ -4,8 +4,11 @@ import re
 import subprocess
 from dataclasses import dataclass
 
-# The product, and the examples that programs to copy stand on.
-PRODUCT = re.compile(r"(garde(_\w+)?|example_import|example_order|example_table)$")
+# The product, and the examples that programs to copy stand on as they are.
+PRODUCT = re.compile(r"(garde(_\w+)?|example_import|example_table)$")
+# Programs that are copied with an example, which is the reader's to change too: it is called NAME_form then. The functions for C of
+# such a program, which begin with a prefix, begin with NAME.
+WITH_FORM = {"use_library": ("example_order", "order")}
 LICENCES = ("LICENSE-MIT", "LICENSE-APACHE")
 # Mutants, which the prover has to reject: a test of the crates' contracts, which is run where the crates are written.
 NOT_COPIED = ("must-fail", "wrong-bodies")
@@ -38,6 +41,18 @@ def read_line(text):
 
 def is_product(name):
     return PRODUCT.match(name) is not None
+
+
+def names_of(program, copy):
+    """The names of the copies of a program's crates, lowest first."""
+    form = {WITH_FORM[program][0]: f"{copy}_form"} if program in WITH_FORM else {}
+    return {**form, program: copy}
+
+
+def renamed(text, names):
+    """Bytes of a source with other names. One that ends in `_` is the beginning of a name."""
+    words = "|".join(it if it.endswith("_") else rf"{it}\b" for it in names)
+    return re.sub(rf"\b(?:{words})".encode(), lambda found: names[found.group().decode()].encode(), text)
 
 
 class Origin:
@@ -89,26 +104,32 @@ class Origin:
         return name
 
     def program(self, name):
-        """The line of a program to copy."""
+        """The lines of the crates that are copied as a program, lowest first: that of its form, if it has one, and its own."""
         if name not in self.lines or not name.startswith("use_"):
             known = ", ".join(it for it in self.lines if it.startswith("use_"))
             raise Refusal(f"{name} is no program to copy: those are {known}")
-        for it in self.lines[name].uses:
-            if it in self.lines:
-                self.own(it, name)
-        return self.lines[name]
+        lines = [self.lines[it] for it in names_of(name, name)]
+        for line in lines:
+            for it in line.uses:
+                if it in self.lines and self.lines[it] not in lines:
+                    self.own(it, line.name)
+        return lines
 
     def crate_files(self, name):
         """The files of a crate by their paths in it, but for its mutants."""
         return {path: it for path, it in self.files(f"crates/{name}").items() if path.split("/")[0] not in NOT_COPIED}
 
-    def program_files(self, name, copy):
-        """The files of a program, which is called `copy` in its sources and in its header for C. Its README speaks of tests that stay here."""
-        kept = {}
+    def program_files(self, name, program, copy):
+        """The files of a crate of a program, under the names of its copy. Its README speaks of tests that stay here, and its header
+        for C is written anew."""
+        names, kept = names_of(program, copy), {}
+        if name == program and program in WITH_FORM:
+            prefix = WITH_FORM[program][1]
+            names |= {f"{prefix}_": f"{copy}_", f"{prefix}_".upper(): f"{copy}_".upper()}
         for path, it in self.files(f"crates/{name}").items():
             first, *more = path.split("/")
-            if first in PROGRAM_FOLDERS and more and first != "data" or path.endswith(".h"):
-                kept[path] = re.sub(rf"\b{name}\b".encode(), copy.encode(), it)
+            if first in PROGRAM_FOLDERS and more and first != "data":
+                kept[path] = renamed(it, names)
             elif path in PROGRAM_FILES or first == "data":
                 kept[path] = it
         return kept

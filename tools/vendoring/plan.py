@@ -2,20 +2,28 @@
 import re
 from dataclasses import dataclass
 
-from .origin import LICENCES, Line, Refusal, is_product
+from .origin import LICENCES, Line, Refusal, is_product, names_of
 from .record import Record, hash_of
 
 NAMES = re.compile(r"[a-z][a-z0-9_]*$")
 
 
 @dataclass(frozen=True)
+class Copy:
+    """A crate that is the reader's from then on: its name, its line and its files."""
+
+    name: str
+    line: str
+    files: dict
+
+
+@dataclass(frozen=True)
 class Program:
-    """A program to begin with: its name, the program that it is a copy of, its line, its files and the command that runs it."""
+    """A program to begin with: its name, the program that it is a copy of, its crates, lowest first, and the command to run it."""
 
     name: str
     source: str
-    line: str
-    files: dict
+    copies: tuple
     run: str
 
 
@@ -35,15 +43,15 @@ def plan_of(origin, folder, more, program, name):
         known(origin, it, f"{it} is no crate of the product")
     for it in folder.record.asked:
         known(origin, it, f"{it}, which VENDORED-garde asks for, is a crate of the product no more")
-    source = origin.program(program) if program else None
-    listed = [it for line in (*folder.own_lines(), *filter(None, [source])) for it in line.uses]
+    sources = origin.program(program) if program else []
+    listed = [it for line in (*folder.own_lines(), *sources) for it in line.uses]
     listed = [it for it in listed if it in origin.lines and is_product(it) and it not in folder.own_names()]
     asked = tuple(sorted({"garde", *folder.record.asked, *more, *listed}))
     crates = origin.closure(asked)
-    lines = [*crates, *filter(None, [source])]
+    lines = [*crates, *sources]
     origin.refuse_changes(["crates.txt", *LICENCES, *(f"crates/{it.name}" for it in lines)])
-    copied = program_of(origin, folder, source, name or program) if source else None
-    refuse_names(folder, crates, lines)
+    copied = program_of(origin, folder, sources, name or program) if program else None
+    refuse_names(folder, crates, lines, [it.name for it in sources])
     files = {f"{it.name}/{path}": text for it in crates for path, text in origin.crate_files(it.name).items()}
     files.update(zip((f"garde/{it}" for it in LICENCES), origin.texts(LICENCES)))
     record = Record(origin.commit, origin.date, asked)
@@ -59,28 +67,39 @@ def known(origin, name, told):
         raise Refusal(f"{told}: those are {', '.join(filter(is_product, origin.lines))}")
 
 
-def program_of(origin, folder, source, name):
-    """The program to begin with, under its name."""
+def program_of(origin, folder, sources, name):
+    """The program to begin with, under its name. Its own line is the last one."""
+    program = sources[-1].name
     if not NAMES.match(name):
         raise Refusal(f"{name} cannot be the name of a crate: lower-case letters, digits and `_`, a letter first")
-    if is_product(name) or name in origin.lines[source.name].uses:
-        raise Refusal(f"{name} cannot be the name of a crate of yours: it is the name of one that the program stands on")
-    if folder.record.begun != name:
-        folder.refuse_taken(name, "yours already: choose another name for the program")
-    files = origin.program_files(source.name, name)
-    line = Line(name, source.options, source.uses).text()
+    names, used = names_of(program, name), {it for line in sources for it in line.uses}
+    copies = []
+    for source in sources:
+        copy = names[source.name]
+        if is_product(copy) or copy in used - set(names):
+            raise Refusal(f"{copy} cannot be the name of a crate of yours: it is the name of one that the program stands on")
+        if folder.record.begun != name:
+            folder.refuse_taken(copy, "yours already: choose another name for the program")
+        line = Line(copy, source.options, tuple(names.get(it, it) for it in source.uses)).text()
+        copies.append(Copy(copy, line, origin.program_files(source.name, program, name)))
+    return Program(name, program, tuple(copies), run_of(sources[-1], copies[-1].files))
+
+
+def run_of(line, files):
+    """The command that runs a program with these files."""
+    if "staticlib" in line.options:
+        return "rt lib"
     words = files["args"].decode().split() if "args" in files else []
-    run = " ".join(["rt try", *(["--", *words] if words else []), *(["< stdin"] if "stdin" in files else [])])
-    run = "rt lib" if "staticlib" in source.options else run
-    return Program(name, source.name, line, files, run)
+    return " ".join(["rt try", *(["--", *words] if words else []), *(["< stdin"] if "stdin" in files else [])])
 
 
-def refuse_names(folder, crates, lines):
-    """Refuses crates whose names the folder uses for others, or whose toolchain crates it does."""
+def refuse_names(folder, crates, lines, sources):
+    """Refuses crates whose names the folder uses for others, or whose toolchain crates it does. Sources of a program get other
+    names."""
     for it in crates:
         if it.name not in folder.record.lines:
             folder.refuse_taken(it.name, "a crate of that name is there, which is not a copy of ours")
-    copied, own = {it.name for it in crates}, folder.own_names()
+    copied, own = {*sources, *(it.name for it in crates)}, folder.own_names()
     for line in lines:
         for it in line.uses:
             if it not in copied and it in own:
