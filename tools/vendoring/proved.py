@@ -1,0 +1,113 @@
+"""The libraries that were proved in this clone: a copy of the same files takes them, and its first check does not prove them again."""
+import contextlib
+import fcntl
+import functools
+import importlib.util
+import io
+import os
+import pathlib
+import shutil
+import subprocess
+
+PART = ".vendored-rlib.part"
+
+
+def first_check(root, folder, plan, brings):
+    """Brings proved libraries along, and says in a line which ones a first check takes and which ones it proves."""
+    names = [it.name for it in plan.crates]
+    taken, why = brought(root, folder, names) if brings else ([], "--prove leaves out what is proved here")
+    left = [it for it in names if it not in taken]
+    takes = f"rt check takes {' '.join(taken)}, as proved in {root}"
+    if not left:
+        return takes
+    proves = f"rt check first proves {len(left)} of {len(names)} libraries, but for those that a check elsewhere on this machine has proved, "
+    proves += f"and prints a line `crate NAME: ..` as each is done: {' '.join(left)}"
+    return f"{takes}. {proves}" if taken else f"{proves} ({why})"
+
+
+def brought(root, folder, names):
+    """The crates, of these, lowest first, that are proved in the folder: there already, or here in `root` of the same files by the
+    same toolchain. Those that are proved here are given to it. Where there is none, says why."""
+    rtlib = module_of_rt()
+    if rtlib is None:
+        return [], "there is no command `rt` that says what was proved"
+    told, taken = io.StringIO(), []
+    try:
+        with contextlib.redirect_stderr(told):
+            here = crates_of(rtlib, root, "crates/", names)
+            there = crates_of(rtlib, folder.path.resolve(), folder.prefix, names)
+            for name in names:
+                if there[name].is_built() or gives(rtlib, here[name], there[name]):
+                    taken.append(name)
+    except SystemExit:
+        return [], " ".join(told.getvalue().split())
+    return taken, f"none of these files is proved in {root}"
+
+
+def module_of_rt():
+    """The module of the command `rt` by which it knows of what files a library was proved."""
+    try:
+        page = subprocess.run(["rt", "doc"], capture_output=True, text=True, check=True).stdout.strip()
+        spec = importlib.util.spec_from_file_location("rtlib", pathlib.Path(page).parent / "bin/rtlib.py")
+        module = importlib.util.module_from_spec(spec)
+        spec.loader.exec_module(module)
+        module.Crate.stamp = functools.cache(module.Crate.stamp)
+    except (OSError, subprocess.CalledProcessError, ImportError, AttributeError):
+        return None
+    return module
+
+
+def crates_of(rtlib, top, prefix, names):
+    """The crates of a repository as `rt` sees them, by their names."""
+    known = {}
+    for name in names:
+        place = f"{top}/{prefix}{name}"
+        known.setdefault(place, known.get(place) or rtlib.Crate(place, str(top), known))
+    return {it.name: it for it in known.values()}
+
+
+def gives(rtlib, here, there):
+    """Gives a crate the library that was proved here, and says whether it could: the files are the same, and it stands on the same
+    libraries as there, byte for byte."""
+    if not here.is_built() or here.stamp() != there.stamp():
+        return False
+    for one, other in zip(here.below(), there.below()):
+        if rtlib.sum_of(f"{one.rlib}/format") != rtlib.sum_of(f"{other.rlib}/format"):
+            return False
+    with at_rest(here.folder) as first, at_rest(there.folder) as second:
+        return first and second and linked(pathlib.Path(here.folder, "out"), pathlib.Path(there.folder, "out"))
+
+
+@contextlib.contextmanager
+def at_rest(folder):
+    """Keeps `rt` from working in a crate, and gives whether it does not already."""
+    held = os.open(folder, os.O_RDONLY)
+    try:
+        fcntl.flock(held, fcntl.LOCK_EX | fcntl.LOCK_NB)
+        yield True
+    except BlockingIOError:
+        yield False
+    finally:
+        os.close(held)
+
+
+def linked(source, out):
+    """Gives a library's files a second name, or copies them onto another disk: `rt` never writes into such a file."""
+    part = out / PART
+    shutil.rmtree(part, ignore_errors=True)
+    try:
+        shutil.copytree(source / "rlib", part, copy_function=link_or_copy)
+        shutil.rmtree(out / "rlib", ignore_errors=True)
+        part.rename(out / "rlib")
+        return True
+    except (OSError, shutil.Error):
+        return False
+    finally:
+        shutil.rmtree(part, ignore_errors=True)
+
+
+def link_or_copy(source, to):
+    try:
+        os.link(source, to)
+    except OSError:
+        shutil.copy2(source, to)
