@@ -31,16 +31,14 @@ def brought(root, folder, names):
     rtlib = module_of_rt()
     if rtlib is None:
         return [], "there is no command `rt` that says what was proved"
-    told, taken = io.StringIO(), []
+    told = io.StringIO()
     try:
         with contextlib.redirect_stderr(told):
             here = crates_of(rtlib, root, "crates/", names)
             there = crates_of(rtlib, folder.path.resolve(), folder.prefix, names)
-            for name in names:
-                if there[name].is_built() or gives(rtlib, here[name], there[name]):
-                    taken.append(name)
     except SystemExit:
         return [], " ".join(told.getvalue().split())
+    taken = [it for it in names if there[it].is_built() or gives(rtlib, here[it], there[it])]
     return taken, f"none of these files is proved in {root}"
 
 
@@ -51,6 +49,7 @@ def module_of_rt():
         spec = importlib.util.spec_from_file_location("rtlib", pathlib.Path(page).parent / "bin/rtlib.py")
         module = importlib.util.module_from_spec(spec)
         spec.loader.exec_module(module)
+        # It is asked for once for each way that leads to a crate, and reads all its files.
         module.Crate.stamp = functools.cache(module.Crate.stamp)
     except (OSError, subprocess.CalledProcessError, ImportError, AttributeError):
         return None
@@ -62,7 +61,8 @@ def crates_of(rtlib, top, prefix, names):
     known = {}
     for name in names:
         place = f"{top}/{prefix}{name}"
-        known.setdefault(place, known.get(place) or rtlib.Crate(place, str(top), known))
+        if place not in known:
+            known[place] = rtlib.Crate(place, str(top), known)
     return {it.name: it for it in known.values()}
 
 
