@@ -1,5 +1,5 @@
-/* check [LANGUAGE]: checks the order on standard input, writes the problem details of what is wrong to standard output, and ends
- * with the status of the check. Where the order, memory or a device fails it ends with 10.
+/* check [LANGUAGE]: checks the body on standard input, writes the problem details of what is wrong to standard output, and ends
+ * with the status of the check. Where memory or a device fails, or the library has another version, it ends with 10.
  */
 #include <stdio.h>
 #include <stdlib.h>

@@ -1,0 +1,119 @@
+package order_test
+
+import (
+	"errors"
+	"reflect"
+	"strings"
+	"sync"
+	"testing"
+
+	"example.com/order"
+)
+
+const (
+	good = `{"customer":"Ada","lines":[{"code":"P1","count":1},{"code":"P22","count":99}]}`
+	bad  = `{"customer":"","lines":[{"code":"X","count":0},{"code":"P","count":100}]}`
+)
+
+func TestFaults(t *testing.T) {
+	faults, err := order.Check([]byte(bad))
+	if err != nil || len(faults.List) != 4 || faults.More {
+		t.Fatal(faults, err)
+	}
+	want := order.Fault{
+		Pointer: "/lines/1/count",
+		Detail:  "greater than 99",
+		Code:    "range_greater_than",
+		Params:  map[string]string{"max": "99"},
+	}
+	if !reflect.DeepEqual(faults.List[3], want) {
+		t.Error(faults.List[3])
+	}
+}
+
+func TestNoFault(t *testing.T) {
+	faults, err := order.Check([]byte(good))
+	if err != nil || len(faults.List) != 0 || faults.More {
+		t.Error(faults, err)
+	}
+}
+
+func TestOptions(t *testing.T) {
+	faults, err := order.Check([]byte(bad), order.Most(1))
+	if err != nil || len(faults.List) != 1 || !faults.More {
+		t.Error(faults, err)
+	}
+	faults, err = order.Check([]byte(bad), order.Language("cs"))
+	if err != nil || faults.List[0].Detail != "délka je menší než 1" {
+		t.Error(faults, err)
+	}
+	for _, most := range []int{0, -1} {
+		if _, err = order.Check([]byte(bad), order.Most(most)); !errors.Is(err, order.ErrMost) {
+			t.Error(err)
+		}
+	}
+}
+
+func TestNotJSON(t *testing.T) {
+	for _, body := range [][]byte{nil, {}, []byte("nope"), []byte("{\"customer\":\"Ada\",\n  \"lines\":[,]}")} {
+		_, err := order.Check(body)
+		var found *order.NotJSONError
+		if !errors.As(err, &found) || !strings.Contains(found.Detail, " at line ") {
+			t.Errorf("%q: %v", body, err)
+		} else if !strings.Contains(string(found.Details), found.Detail) {
+			t.Errorf("%q: %s", body, found.Details)
+		}
+	}
+}
+
+func TestIsValid(t *testing.T) {
+	for body, want := range map[string]bool{good: true, bad: false, "": false, "nope": false} {
+		if found, err := order.IsValid([]byte(body)); err != nil || found != want {
+			t.Errorf("%q: %v, %v", body, found, err)
+		}
+	}
+}
+
+func TestProblem(t *testing.T) {
+	for body, want := range map[string]int{good: 200, bad: 422, "": 400} {
+		status, details, err := order.Problem([]byte(body))
+		if err != nil || status.HTTP() != want || (len(details) == 0) != (want == 200) {
+			t.Errorf("%q: %v, %s, %v", body, status, details, err)
+		}
+	}
+}
+
+// Details that are longer than the room of a first call are whole.
+func TestManyFaults(t *testing.T) {
+	lines := strings.Repeat(`{"code":"X","count":0},`, 40) + `{"code":"X","count":0}`
+	faults, err := order.Check([]byte(`{"customer":"","lines":[` + lines + `]}`))
+	if err != nil || len(faults.List) != 83 || faults.List[82].Pointer != "/lines/40/count" {
+		t.Error(len(faults.List), err)
+	}
+}
+
+// A checker gives the answers of single calls, in as many goroutines as there are checkers.
+func TestCheckers(t *testing.T) {
+	var all sync.WaitGroup
+	for i := 0; i < 16; i++ {
+		all.Add(1)
+		go func() {
+			defer all.Done()
+			checker, err := order.NewChecker(4096)
+			if err != nil {
+				t.Error(err)
+				return
+			}
+			defer checker.Close()
+			for j := 0; j < 1000; j++ {
+				body := []byte([]string{good, bad, "nope", ""}[j%4])
+				kept, keptErr := checker.Check(body)
+				fresh, freshErr := order.Check(body)
+				if !reflect.DeepEqual(kept, fresh) || !reflect.DeepEqual(keptErr, freshErr) {
+					t.Error(kept, keptErr, fresh, freshErr)
+				}
+			}
+		}()
+	}
+	all.Wait()
+}
