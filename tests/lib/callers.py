@@ -1,0 +1,68 @@
+"""The programs `check` of the callers, in a folder that `tools/bind` wrote."""
+import os
+import shutil
+import subprocess
+import sys
+
+WARNED = ("-std=c11", "-Wall", "-Wextra", "-Werror")
+# The commands that build and run the program of a language.
+TOOLS = {"c": ["cc"], "go": ["go", "cc"], "node": ["node", "npm", "cc"], "python": [], "rust": ["cargo", "cc"]}
+
+
+class Wrong(Exception):
+    """What a command says that builds a program."""
+
+
+def ran(*words, **how):
+    return subprocess.run(list(map(str, words)), capture_output=True, check=False, **how)
+
+
+def done(*words, **how):
+    """Runs a command that has to succeed."""
+    ended = ran(*words, **how)
+    if ended.returncode:
+        raise Wrong((ended.stdout + ended.stderr).decode(errors="replace").strip())
+
+
+def of_c(bound, prefix, room):
+    done("cc", *WARNED, "-O1", "-I", bound, bound / "c" / "check.c", bound / f"lib{prefix}.a", "-o", room / "check-c")
+    return [room / "check-c"]
+
+
+def of_rust(bound, prefix, room):
+    folder, strict = room / "rust", {**os.environ, "RUSTFLAGS": "-D warnings"}
+    manifest = bound / "rust" / "Cargo.toml"
+    done("cargo", "build", "--offline", "--example", "check", "--manifest-path", manifest, "--target-dir", folder, env=strict)
+    return [folder / "debug" / "examples" / "check"]
+
+
+def of_go(bound, prefix, room):
+    done("go", "vet", "./...", cwd=bound / "go")
+    done("go", "build", "-o", room / "check-go", "./cmd/check", cwd=bound / "go")
+    return [room / "check-go"]
+
+
+def of_python(bound, prefix, room):
+    done(sys.executable, "-m", "compileall", "-q", bound / "python")
+    return ["env", f"PYTHONPATH={bound / 'python' / 'src'}", sys.executable, bound / "python" / "check.py"]
+
+
+def of_node(bound, prefix, room):
+    done("npm", "install", "--offline", "--no-audit", "--no-fund", cwd=bound / "node")
+    return ["node", bound / "node" / "check.js"]
+
+
+def programs(bound, prefix, room):
+    """The programs of the callers that are there and whose tools are: the language of each, the words that run it, and what is
+    wrong with its build."""
+    for language, tools in TOOLS.items():
+        missing = [tool for tool in tools if not shutil.which(tool)]
+        if not (bound / language).is_dir():
+            continue
+        if missing:
+            print(f"callers/{language} is not tried: there is no {missing[0]}", file=sys.stderr)
+            continue
+        try:
+            yield language, globals()[f"of_{language}"](bound, prefix, room), ""
+        except Wrong as wrong:
+            yield language, [], f"callers/{language} is not built: {wrong}"
