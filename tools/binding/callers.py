@@ -30,10 +30,9 @@ def renamed(text, prefix):
 
 
 def sources():
-    """The files of the callers by their paths under callers/, but for what speaks of orders alone."""
+    """The files of the callers that git has, by their paths under callers/, but for what speaks of orders alone."""
     try:
-        words = ["git", "-C", CALLERS, "ls-files", "-z", "--cached", "--others", "--exclude-standard"]
-        listed = subprocess.run(words, capture_output=True, check=True).stdout.decode()
+        listed = subprocess.run(["git", "-C", CALLERS, "ls-files", "-z"], capture_output=True, check=True).stdout.decode()
     except (FileNotFoundError, subprocess.CalledProcessError):
         raise Refusal(f"{CALLERS} is in no clone of the repository, whose files git lists") from None
     paths = [pathlib.PurePath(path) for path in listed.split("\0")[:-1]]
