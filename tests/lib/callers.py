@@ -1,5 +1,6 @@
 """The programs `check` of the callers, in a folder that `tools/bind` wrote."""
 import os
+import re
 import shutil
 import subprocess
 import sys
@@ -7,6 +8,8 @@ import sys
 WARNED = ("-std=c11", "-Wall", "-Wextra", "-Werror")
 # The commands that build and run the program of a language.
 TOOLS = {"c": ["cc"], "go": ["go", "cc"], "node": ["node", "npm", "cc"], "python": [], "rust": ["cargo", "cc"]}
+# The words that print the version of a command, and the oldest one that will do.
+OLDEST = {"cargo": ("--version", (1, 85)), "go": ("version", (1, 19)), "node": ("--version", (18, 0))}
 
 
 class Wrong(Exception):
@@ -22,6 +25,15 @@ def done(*words, **how):
     ended = ran(*words, **how)
     if ended.returncode:
         raise Wrong((ended.stdout + ended.stderr).decode(errors="replace").strip())
+
+
+def lack(tool):
+    """Why a command does not serve, or an empty text."""
+    if not shutil.which(tool):
+        return f"there is no {tool}"
+    word, oldest = OLDEST.get(tool, ("", ()))
+    found = re.search(r"(\d+)\.(\d+)", ran(tool, word).stdout.decode()) if oldest else None
+    return f"{tool} is older than {'.'.join(map(str, oldest))}" if found and tuple(map(int, found.groups())) < oldest else ""
 
 
 def of_c(bound, prefix, room):
@@ -55,12 +67,10 @@ def of_node(bound, prefix, room):
 def programs(bound, prefix, room):
     """The programs of the callers that are there and whose tools are: the language of each, the words that run it, and what is
     wrong with its build."""
-    for language, tools in TOOLS.items():
-        missing = [tool for tool in tools if not shutil.which(tool)]
-        if not (bound / language).is_dir():
-            continue
-        if missing:
-            print(f"callers/{language} is not tried: there is no {missing[0]}", file=sys.stderr)
+    for language in filter(lambda it: (bound / it).is_dir(), TOOLS):
+        lacks = list(filter(None, map(lack, TOOLS[language])))
+        if lacks:
+            print(f"callers/{language} is not tried: {lacks[0]}", file=sys.stderr)
             continue
         try:
             yield language, globals()[f"of_{language}"](bound, prefix, room), ""

@@ -1,9 +1,9 @@
 //! Room that is kept from one body to the next, and the calls of the library.
 //!
 //! The head of `order.h` has four lines of what a caller owes. The numbers in the comments on
-//! safety are theirs. Line 4 is met by each call in the same way: this crate frees nothing that the
-//! library allocated, and only unsafe code makes calls from a signal handler or from a forked
-//! child.
+//! safety are theirs. Line 3 forbids copies of a checker: a move leaves no second one behind. Line 4
+//! is met by each call in the same way: this crate frees nothing that the library allocated, and
+//! only unsafe code makes calls from a signal handler or from a forked child.
 use crate::options::Options;
 use crate::problem::{OutOfMemory, Problem};
 use crate::raw;
