@@ -6,8 +6,6 @@ import subprocess
 import sys
 
 WARNED = ("-std=c11", "-Wall", "-Wextra", "-Werror")
-# The commands that build and run the program of a language.
-TOOLS = {"c": ["cc"], "go": ["go", "cc"], "node": ["node", "npm", "cc"], "python": [], "rust": ["cargo", "cc"]}
 # The words that print the version of a command, and the oldest one that will do.
 OLDEST = {"cargo": ("--version", (1, 85)), "go": ("version", (1, 19)), "node": ("--version", (18, 0))}
 
@@ -64,15 +62,24 @@ def of_node(bound, prefix, room):
     return ["node", bound / "node" / "check.js"]
 
 
+# How the program of a language is built, and the commands that build and run it.
+BUILDS = {
+    "c": (of_c, ["cc"]), "go": (of_go, ["go", "cc"]), "node": (of_node, ["node", "npm", "cc"]), "python": (of_python, []),
+    "rust": (of_rust, ["cargo", "cc"]),
+}
+
+
 def programs(bound, prefix, room):
     """The programs of the callers that are there and whose tools are: the language of each, the words that run it, and what is
     wrong with its build."""
-    for language in filter(lambda it: (bound / it).is_dir(), TOOLS):
-        lacks = list(filter(None, map(lack, TOOLS[language])))
+    for language, (build, tools) in BUILDS.items():
+        lacks = list(filter(None, map(lack, tools)))
+        if not (bound / language).is_dir():
+            continue
         if lacks:
             print(f"callers/{language} is not tried: {lacks[0]}", file=sys.stderr)
             continue
         try:
-            yield language, globals()[f"of_{language}"](bound, prefix, room), ""
+            yield language, build(bound, prefix, room), ""
         except Wrong as wrong:
             yield language, [], f"callers/{language} is not built: {wrong}"
