@@ -1,5 +1,6 @@
 """The archive of a static library and of the toolchain's part of it as one, and the shared library of it."""
 import pathlib
+import re
 import shutil
 import subprocess
 
@@ -7,18 +8,19 @@ from .exports import Refusal
 
 TOOLCHAIN = "liblibc_c.a"
 OBJECT = "whole.o"
+ERROR = re.compile(r"(\S+:\d+:\d+: )?(fatal )?error\b")
 
 
 def ran(*words, cwd=None):
-    """The output of a command. Where it fails, the last line that it printed says why."""
+    """The output of a command. Where it fails, the first line of an error says why, or else the last line that it printed."""
     try:
         done = subprocess.run(list(map(str, words)), cwd=cwd, stdout=subprocess.PIPE, stderr=subprocess.STDOUT, check=False)
     except FileNotFoundError:
         raise Refusal(f"there is no command `{words[0]}`") from None
     output = done.stdout.decode(errors="replace")
     if done.returncode:
-        lines = output.strip().splitlines() or [f"status {done.returncode}"]
-        raise Refusal(f"{' '.join(map(str, words[:2]))} failed: {lines[-1].strip()}")
+        lines = [line.strip() for line in output.strip().splitlines()] or [f"status {done.returncode}"]
+        raise Refusal(f"{' '.join(map(str, words[:2]))} failed: {next(filter(ERROR.match, lines), lines[-1])}")
     return output
 
 
