@@ -1,0 +1,61 @@
+"""The C functions of liborder.so, as its header declares them.
+
+ctypes releases the GIL while one of them runs. Arguments that are the same in each call are made once, as instances of their ctypes:
+ctypes passes an instance on as it is.
+"""
+from __future__ import annotations
+
+import ctypes
+import pathlib
+
+VERSION = 1
+VALID, FAULTS, NO_JSON, MEMORY = range(4)
+SIZE_MAX = ctypes.c_size_t(-1).value
+
+
+class CChecker(ctypes.Structure):
+    """The struct of a checker, which begins with all bytes 0."""
+
+    _fields_ = [("room", ctypes.c_void_p), ("has_room", ctypes.c_bool)]
+
+
+def _loaded() -> ctypes.CDLL:
+    """The library beside this file, if its interface is the one that is declared here."""
+    path = pathlib.Path(__file__).with_name("liborder.so")
+    try:
+        library = ctypes.CDLL(str(path))
+    except OSError as error:
+        raise ImportError(f"the library is not loaded: {error}", name=__package__, path=str(path)) from error
+    library.order_version.argtypes = ()
+    library.order_version.restype = ctypes.c_uint32
+    version = library.order_version()
+    if version != VERSION:
+        raise ImportError(f"the interface of {path} has version {version}, not {VERSION}", name=__package__, path=str(path))
+    return library
+
+
+_library = _loaded()
+
+is_valid = _library.order_is_valid
+is_valid.argtypes = (ctypes.c_char_p, ctypes.c_size_t)
+is_valid.restype = ctypes.c_uint8
+
+reserve = _library.order_reserve
+reserve.argtypes = (ctypes.c_void_p, ctypes.c_uint32)
+reserve.restype = ctypes.c_uint8
+
+# The checker; the body; the most faults; the language; the room for details; the length of the details.
+check_with = _library.order_check_with
+check_with.argtypes = (
+    ctypes.c_void_p,
+    *(ctypes.c_char_p, ctypes.c_size_t),
+    ctypes.c_size_t,
+    *(ctypes.c_char_p, ctypes.c_size_t),
+    *(ctypes.c_void_p, ctypes.c_size_t),
+    ctypes.c_void_p,
+)
+check_with.restype = ctypes.c_uint8
+
+free = _library.order_free
+free.argtypes = (ctypes.c_void_p,)
+free.restype = None

@@ -1,0 +1,100 @@
+"""What calls work in: a checker of the library, and memory for details.
+
+A call takes a room, and puts it back when it ends. So no two calls share one, be they in two threads, or in one thread where a signal
+handler or a finalizer of Python calls again. In a forked child the rooms are those that no call had.
+"""
+from __future__ import annotations
+
+import ctypes
+import operator
+from collections.abc import Callable
+from typing import Union
+
+from . import _library
+from ._library import MEMORY, SIZE_MAX, check_with
+
+Body = Union[bytes, bytearray, memoryview]
+"""The bytes of a body. `bytes` are read where they lie. Of others a copy is made, since another thread could change them."""
+
+ALL = ctypes.c_size_t(SIZE_MAX)
+VALID = 0, b""
+# Bytes that a room has for details at first, and at most where it is kept for calls to come.
+FIRST, KEPT = 16 * 1024, 1024 * 1024
+# Rooms that are kept.
+ROOMS = 64
+
+
+def copied(body: object) -> bytes:
+    """The bytes of a body that is no `bytes`."""
+    if isinstance(body, (bytearray, memoryview)):
+        return bytes(body)
+    raise TypeError(f"a body is bytes, not {type(body).__name__}")
+
+
+def _bounded(most: int) -> ctypes.c_size_t:
+    """A number of faults as C takes it."""
+    if operator.index(most) < 1:
+        raise ValueError(f"most is {most}, and has to be 1 or more")
+    return ctypes.c_size_t(min(most, SIZE_MAX))
+
+
+class Room:
+    """A checker and memory for details, for one call at a time. Both grow by need; the checker is freed with the room."""
+
+    __slots__ = ("_checker", "_checker_at", "_length", "_length_at", "_details", "_details_at", "_details_len", "size")
+
+    def __init__(self) -> None:
+        self._checker = _library.CChecker()
+        self._checker_at = ctypes.c_void_p(ctypes.addressof(self._checker))
+        self._length = ctypes.c_size_t()
+        self._length_at = ctypes.c_void_p(ctypes.addressof(self._length))
+        self._grow(FIRST)
+
+    def __del__(self, free: Callable[[ctypes.c_void_p], None] = _library.free) -> None:
+        free(self._checker_at)
+
+    def _grow(self, size: int) -> None:
+        details = ctypes.create_string_buffer(size)
+        self._details = memoryview(details)
+        self._details_at = ctypes.c_void_p(ctypes.addressof(details))
+        self._details_len = ctypes.c_size_t(size)
+        self.size = size
+
+    def reserve(self, length: int) -> None:
+        """Makes the room of the checker for bodies of this many bytes."""
+        if _library.reserve(self._checker_at, min(length, 2**32 - 1)) == MEMORY:
+            raise MemoryError("out of memory")
+
+    def check(self, body: Body, most: int | None, language: str) -> tuple[int, bytes]:
+        """The status of a body, and its problem details. It checks once more where they are longer than there was room for."""
+        if not isinstance(body, bytes):
+            body = copied(body)
+        wanted = ALL if most is None else _bounded(most)
+        tag = language.encode("utf-8", "replace")
+        status: int = check_with(
+            self._checker_at, body, len(body), wanted, tag, len(tag), self._details_at, self._details_len, self._length_at
+        )
+        if not status:
+            return VALID
+        if status == MEMORY:
+            raise MemoryError("out of memory")
+        length = self._length.value
+        if length > self.size:
+            self._grow(length)
+            return self.check(body, most, language)
+        return status, self._details[:length].tobytes()
+
+
+_rooms: list[Room] = []
+
+
+def check(body: Body, most: int | None, language: str) -> tuple[int, bytes]:
+    """What `Room.check` gives, in a room that is kept. The room of a large body, or of large details, is freed."""
+    try:
+        room = _rooms.pop()
+    except IndexError:
+        room = Room()
+    answer = room.check(body, most, language)
+    if len(body) <= KEPT and room.size <= KEPT and len(_rooms) < ROOMS:
+        _rooms.append(room)
+    return answer
