@@ -1,0 +1,83 @@
+/**
+ * Checks bodies in JSON by a library in C that was proved, and reports every fault. `index.d.ts` says what each function does.
+ */
+'use strict';
+
+const { isSharedArrayBuffer, isUint8Array } = require('node:util').types;
+const addon = require('./order_check.node');
+
+const FAULTS = 1;
+const NO_JSON = 2;
+const MEMORY = 3;
+// The room of a body, or of details, of more bytes is not kept.
+const KEPT = 1024 * 1024;
+const room = addon.newRoom();
+
+class NotJsonError extends SyntaxError {
+  constructor(message, details) {
+    super(message);
+    this.name = 'NotJsonError';
+    this.details = details;
+  }
+}
+
+/** The bytes as the library reads them: where they lie, or a copy where another thread could change them. */
+function bytesOf(body) {
+  if (!isUint8Array(body)) throw new TypeError('a body is a Buffer or a Uint8Array');
+  return isSharedArrayBuffer(body.buffer) ? Uint8Array.from(body) : body;
+}
+
+function outOfMemory() {
+  return Object.assign(new Error('out of memory'), { code: 'ERR_MEMORY_ALLOCATION_FAILED' });
+}
+
+/** What is wrong with a body, or null. */
+function asked(inRoom, body, { most = Infinity, language = '' } = {}) {
+  if (typeof most !== 'number') throw new TypeError('most is a number');
+  if (!(most >= 1 && (Number.isInteger(most) || most === Infinity))) throw new RangeError(`most is ${most}, and has to be 1, 2, ..`);
+  const answer = addon.check(inRoom, bytesOf(body), most, language);
+  if (answer === 0) return null;
+  if (answer === MEMORY) throw outOfMemory();
+  const [status, details] = answer;
+  return { status, httpStatus: status === FAULTS ? 422 : 400, details };
+}
+
+function faultsOf(found) {
+  const said = found === null ? { errors: [] } : JSON.parse(found.details);
+  if (found !== null && found.status === NO_JSON) throw new NotJsonError(said.detail, found.details);
+  return Object.defineProperty(said.errors, 'more', { value: said.detail !== undefined });
+}
+
+function check(body, options) {
+  return faultsOf(problem(body, options));
+}
+
+function problem(body, options) {
+  const found = asked(room, body, options);
+  if (body.length > KEPT || (found !== null && found.details.length > KEPT)) addon.emptyRoom(room);
+  return found;
+}
+
+function isValid(body) {
+  const status = addon.isValid(bytesOf(body));
+  if (status === MEMORY) throw outOfMemory();
+  return status === 0;
+}
+
+class Checker {
+  #room = addon.newRoom();
+
+  check(body, options) {
+    return faultsOf(this.problem(body, options));
+  }
+
+  problem(body, options) {
+    return asked(this.#room, body, options);
+  }
+
+  close() {
+    addon.emptyRoom(this.#room);
+  }
+}
+
+module.exports = { Checker, FAULTS, NO_JSON, NotJsonError, check, isValid, problem };

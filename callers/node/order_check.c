@@ -1,0 +1,180 @@
+/* The functions of order.h, for index.js. They keep no state of their own: a room is a value of JavaScript, so each thread of Node has
+ * its own. What index.js has not checked is checked here: a wrong argument throws, and reads nothing.
+ */
+#define NAPI_VERSION 8
+#include <node_api.h>
+#include <stdlib.h>
+
+#include "order.h"
+
+/* What a call works in: a checker, and memory for details. Both grow by need. */
+typedef struct {
+  order_checker checker;
+  uint8_t *details;
+  size_t size;
+} room;
+
+/* Bytes, which are never at NULL. */
+typedef struct {
+  const uint8_t *at;
+  size_t len;
+} bytes;
+
+/* The arguments of a check. */
+typedef struct {
+  room *room;
+  bytes body, language;
+  size_t most;
+  char tag[64];
+} asked;
+
+static const uint8_t *const NOTHING = (const uint8_t *)"";
+/* Bytes that a room has for details at first, and about what it holds in all. */
+static const size_t FIRST = 16 * 1024;
+static const int64_t HELD = 20 * 1024;
+
+static napi_value failed(napi_env env, const char *message) {
+  bool pending = false;
+  napi_is_exception_pending(env, &pending);
+  if (!pending) napi_throw_type_error(env, NULL, message);
+  return NULL;
+}
+
+static void empty(room *it) {
+  order_free(&it->checker);
+  free(it->details);
+  it->details = NULL;
+  it->size = 0;
+}
+
+/* V8 learns what a room holds, about, so that it collects rooms in time. */
+static void weigh(napi_env env, int64_t change) {
+  int64_t all = 0;
+  napi_adjust_external_memory(env, change, &all);
+}
+
+static void drop(napi_env env, void *given, void *hint) {
+  (void)hint;
+  empty(given);
+  free(given);
+  weigh(env, -HELD);
+}
+
+/* Makes memory for details of so many bytes. */
+static bool grow(room *it, size_t size) {
+  uint8_t *details = size <= it->size ? it->details : realloc(it->details, size);
+  if (!details) return false;
+  it->details = details;
+  it->size = size <= it->size ? it->size : size;
+  return true;
+}
+
+static bool room_of(napi_env env, napi_value value, room **found) {
+  return napi_get_value_external(env, value, (void **)found) == napi_ok;
+}
+
+static bool bytes_of(napi_env env, napi_value value, bytes *found) {
+  void *at = NULL;
+  if (napi_get_buffer_info(env, value, &at, &found->len) != napi_ok) return false;
+  found->at = at ? at : NOTHING;
+  return true;
+}
+
+/* A number of faults: all, where it is larger than C can say. */
+static bool most_of(napi_env env, napi_value value, size_t *found) {
+  double most = 0;
+  if (napi_get_value_double(env, value, &most) != napi_ok || !(most >= 1)) return false;
+  *found = most < 9007199254740992.0 ? (size_t)most : SIZE_MAX;
+  return true;
+}
+
+/* The tag of a language. One that is longer than any tag is cut, and is no tag then either. */
+static bool language_of(napi_env env, napi_value value, asked *it) {
+  it->language.at = (const uint8_t *)it->tag;
+  return napi_get_value_string_utf8(env, value, it->tag, sizeof it->tag, &it->language.len) == napi_ok;
+}
+
+/* Checks a body. Where the details are longer than there is room for, it asks again with more room. */
+static uint8_t checked(const asked *it, size_t *len) {
+  room *in = it->room;
+  *len = FIRST;
+  uint8_t status = ORDER_MEMORY;
+  do {
+    if (!grow(in, *len)) return ORDER_MEMORY;
+    status = order_check_with(&in->checker, it->body.at, it->body.len, it->most, it->language.at, it->language.len, in->details,
+                              in->size, len);
+  } while (*len > in->size);
+  return status;
+}
+
+/* newRoom(): a room, which is freed when it is no longer used. */
+static napi_value new_room(napi_env env, napi_callback_info info) {
+  (void)info;
+  napi_value made = NULL;
+  room *it = calloc(1, sizeof *it);
+  if (!it || napi_create_external(env, it, drop, NULL, &made) != napi_ok) {
+    free(it);
+    return failed(env, "no room is made");
+  }
+  weigh(env, HELD);
+  return made;
+}
+
+/* emptyRoom(room): frees what a room holds. */
+static napi_value empty_room(napi_env env, napi_callback_info info) {
+  napi_value word;
+  size_t count = 1;
+  room *it = NULL;
+  if (napi_get_cb_info(env, info, &count, &word, NULL, NULL) != napi_ok || !room_of(env, word, &it)) return failed(env, "no room");
+  empty(it);
+  return NULL;
+}
+
+/* The status, or an array of it and of the details where there are some. */
+static napi_value answer(napi_env env, uint8_t status, const room *in, size_t len) {
+  napi_value number, details, both;
+  if (napi_create_uint32(env, status, &number) != napi_ok) return failed(env, "no status");
+  if (status != ORDER_FAULTS && status != ORDER_NO_JSON) return number;
+  if (napi_create_buffer_copy(env, len, in->details, NULL, &details) != napi_ok) return failed(env, "no details");
+  if (napi_create_array_with_length(env, 2, &both) != napi_ok || napi_set_element(env, both, 0, number) != napi_ok ||
+      napi_set_element(env, both, 1, details) != napi_ok)
+    return failed(env, "no answer");
+  return both;
+}
+
+/* check(room, body, most, language): what `answer` says of the body. */
+static napi_value check(napi_env env, napi_callback_info info) {
+  napi_value words[4];
+  size_t count = 4, len = 0;
+  asked it;
+  if (napi_get_cb_info(env, info, &count, words, NULL, NULL) != napi_ok || !room_of(env, words[0], &it.room))
+    return failed(env, "no room");
+  if (!bytes_of(env, words[1], &it.body)) return failed(env, "a body is a Uint8Array");
+  if (!most_of(env, words[2], &it.most)) return failed(env, "most is a number from 1 on");
+  if (!language_of(env, words[3], &it)) return failed(env, "a language is a string");
+  uint8_t status = checked(&it, &len);
+  return answer(env, status, it.room, len);
+}
+
+/* isValid(body): the status. */
+static napi_value is_valid(napi_env env, napi_callback_info info) {
+  napi_value word, status;
+  size_t count = 1;
+  bytes body;
+  if (napi_get_cb_info(env, info, &count, &word, NULL, NULL) != napi_ok || !bytes_of(env, word, &body))
+    return failed(env, "a body is a Uint8Array");
+  if (napi_create_uint32(env, order_is_valid(body.at, body.len), &status) != napi_ok) return failed(env, "no status");
+  return status;
+}
+
+NAPI_MODULE_INIT() {
+  const napi_property_descriptor functions[] = {
+      {.utf8name = "newRoom", .method = new_room},
+      {.utf8name = "emptyRoom", .method = empty_room},
+      {.utf8name = "check", .method = check},
+      {.utf8name = "isValid", .method = is_valid},
+  };
+  if (order_version() != ORDER_VERSION) return failed(env, "the library has another version than its header");
+  if (napi_define_properties(env, exports, sizeof functions / sizeof *functions, functions) != napi_ok) return failed(env, "no functions");
+  return exports;
+}

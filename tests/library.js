@@ -1,0 +1,171 @@
+/**
+ * Tests the package of callers/node in the folder that the first word names, by the bodies of the folder that the second one names.
+ * tests/library-node runs it.
+ */
+'use strict';
+
+const assert = require('node:assert/strict');
+const { readFileSync, readdirSync } = require('node:fs');
+const { join } = require('node:path');
+const { setImmediate } = require('node:timers/promises');
+const test = require('node:test');
+const { Worker, isMainThread, parentPort, workerData } = require('node:worker_threads');
+
+const GOOD = Buffer.from('{"customer":"Ada","lines":[{"code":"P1","count":1}]}');
+const BAD = Buffer.from('{"customer":"","lines":[{"code":"X","count":0}],"x":1}');
+const LINE = '{"code":"P1","count":1}';
+const WRONG_LINE = '{"code":"X","count":"1"}';
+
+/** An order of so many lines. */
+function ofLines(count, line = LINE) {
+  return Buffer.from(`{"customer":"Ada","lines":[${Array(count).fill(line).join(',')}]}`);
+}
+
+function answers(library, bodies) {
+  return bodies.map((body) => String(library.problem(body)?.details));
+}
+
+const BODIES = [GOOD, BAD, Buffer.from('nope'), ofLines(40, WRONG_LINE), ofLines(500, WRONG_LINE)];
+
+/** What a worker does: it checks the bodies again and again, and compares. */
+function work({ folder, wanted }) {
+  const library = require(folder);
+  const checker = new library.Checker();
+  for (let round = 0; round < 50; round++) {
+    assert.deepEqual(answers(library, BODIES), wanted);
+    assert.deepEqual(answers(checker, BODIES), wanted);
+  }
+  parentPort.postMessage('done');
+}
+
+function worker(folder, wanted) {
+  return new Promise((resolve, reject) => {
+    const started = new Worker(__filename, { workerData: { folder, wanted } });
+    let said;
+    started.on('message', (message) => (said = message));
+    started.on('error', reject);
+    started.on('exit', () => resolve(said));
+  });
+}
+
+function testAll(folder, cases) {
+  const { Checker, FAULTS, NO_JSON, NotJsonError, check, isValid, problem } = require(folder);
+
+  test('stored bodies', () => {
+    const names = readdirSync(cases).filter((name) => name.endsWith('.json'));
+    assert.ok(names.length >= 10);
+    for (const name of names) {
+      const body = readFileSync(join(cases, name));
+      const found = problem(body, { language: name.includes('-cs.') ? 'cs' : '' });
+      assert.equal(found?.status ?? 0, Number(name[0]), name);
+      assert.deepEqual(found?.details ?? Buffer.alloc(0), readFileSync(join(cases, name.replace('.json', '.answer'))));
+      assert.equal(found?.httpStatus, { 1: 422, 2: 400 }[name[0]]);
+      assert.equal(isValid(body), found === null);
+    }
+  });
+
+  test('faults', () => {
+    const faults = check(BAD);
+    assert.deepEqual(faults.map((it) => it.pointer), ['/customer', '/lines/0/code', '/lines/0/count', '/x']);
+    assert.deepEqual(faults[2], { pointer: '/lines/0/count', detail: 'lower than 1', code: 'range_lower_than', params: { min: '1' } });
+    assert.equal(faults.more, false);
+    assert.deepEqual(check(GOOD), []);
+    assert.equal(check(GOOD).more, false);
+    assert.equal(problem(GOOD), null);
+  });
+
+  test('languages', () => {
+    assert.equal(check(BAD, { language: 'cs' })[0].detail, 'délka je menší než 1');
+    for (const language of ['', 'en', 'cs-CZ', 'č'.repeat(1000), '\ud800', undefined]) {
+      assert.equal(check(BAD, { language })[0].detail, 'length is lower than 1');
+    }
+    assert.throws(() => check(BAD, { language: 5 }), TypeError);
+  });
+
+  test('most', () => {
+    for (const most of [1, 2, 3]) {
+      assert.equal(check(BAD, { most }).length, most);
+      assert.equal(check(BAD, { most }).more, true);
+    }
+    for (const most of [4, 2 ** 31, 2 ** 53, 2 ** 64, 1e300, Infinity, undefined]) {
+      assert.equal(check(BAD, { most }).length, 4);
+      assert.equal(check(BAD, { most }).more, false);
+    }
+    for (const most of [0, -1, 1.5, NaN, -Infinity]) assert.throws(() => check(GOOD, { most }), RangeError);
+    for (const most of ['1', null, 1n]) assert.throws(() => check(GOOD, { most }), TypeError);
+  });
+
+  test('no JSON', () => {
+    const wanted = { name: 'NotJsonError', message: 'not JSON at line 2 column 1' };
+    assert.throws(() => check(Buffer.from('{"customer":\n,}')), wanted);
+    for (const body of [Buffer.alloc(0), new Uint8Array(0), new Uint8Array(new ArrayBuffer(0)), Buffer.from('\0'), Buffer.from('[')]) {
+      assert.throws(() => check(body), NotJsonError);
+      assert.equal(problem(body).status, NO_JSON);
+      assert.equal(JSON.parse(problem(body).details).status, 400);
+      assert.equal(isValid(body), false);
+    }
+    assert.match(String(problem(Buffer.alloc(100000, '[')).details), /deeper than 128/);
+  });
+
+  test('bodies of other types', () => {
+    const shared = new Uint8Array(new SharedArrayBuffer(BAD.length));
+    shared.set(BAD);
+    const inside = new Uint8Array(Buffer.concat([GOOD, BAD, GOOD]).buffer, 0);
+    const part = Buffer.concat([GOOD, BAD, GOOD]).subarray(GOOD.length, GOOD.length + BAD.length);
+    for (const body of [shared, part, Uint8Array.from(BAD)]) assert.deepEqual(check(body), check(BAD));
+    for (const body of [String(GOOD), null, undefined, 5, {}, [], new Uint16Array(4), new DataView(inside.buffer), inside.buffer]) {
+      for (const call of [check, problem, isValid]) assert.throws(() => call(body), TypeError);
+    }
+  });
+
+  test('details beyond the first room', () => {
+    for (const count of [10, 100, 1000, 20000]) {
+      const faults = check(ofLines(count, WRONG_LINE));
+      assert.equal(faults.length, 2 * count + (count > 50 ? 1 : 0));
+      assert.equal(faults.at(-1).pointer, `/lines/${count - 1}/count`);
+    }
+    assert.equal(check(BAD).length, 4);
+  });
+
+  test('50 megabytes', () => {
+    const body = ofLines(Math.floor(50e6 / (LINE.length + 1)));
+    assert.deepEqual(check(body).map((it) => it.code), ['length_greater_than']);
+    assert.equal(isValid(body), false);
+  });
+
+  test('a checker', () => {
+    const checker = new Checker();
+    for (const before of BODIES) {
+      for (const body of BODIES) {
+        checker.problem(before);
+        assert.deepEqual(checker.problem(body, { language: 'cs' }), problem(body, { language: 'cs' }));
+      }
+    }
+    checker.close();
+    checker.close();
+    assert.equal(checker.check(BAD).length, 4);
+    assert.equal(checker.problem(BAD).status, FAULTS);
+    assert.throws(() => Checker.prototype.check.call({}, GOOD), TypeError);
+  });
+
+  test('64 worker threads', async () => {
+    const wanted = answers({ problem }, BODIES);
+    const said = await Promise.all(Array.from({ length: 64 }, () => worker(folder, wanted)));
+    assert.deepEqual(new Set(said), new Set(['done']));
+  });
+
+  test('many calls take no more memory', async () => {
+    const round = async (rounds) => {
+      for (let at = 0; at < rounds; at++) {
+        for (let call = 0; call < 500; call++) problem(BAD), isValid(GOOD), new Checker().problem(BAD);
+        await setImmediate();
+      }
+      return process.memoryUsage.rss();
+    };
+    const before = await round(40);
+    assert.ok((await round(200)) - before < 64e6);
+  });
+}
+
+if (isMainThread) testAll(process.argv[2], process.argv[3]);
+else work(workerData);
