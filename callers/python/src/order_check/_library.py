@@ -1,8 +1,4 @@
-"""The C functions of liborder.so, as its header declares them.
-
-ctypes releases the GIL while one of them runs. Arguments that are the same in each call are made once, as instances of their ctypes:
-ctypes passes an instance on as it is.
-"""
+"""The C functions of liborder.so, as its header declares them. ctypes releases the GIL while one of them runs."""
 from __future__ import annotations
 
 import ctypes
@@ -41,21 +37,14 @@ is_valid.argtypes = (ctypes.c_char_p, ctypes.c_size_t)
 is_valid.restype = ctypes.c_uint8
 
 reserve = _library.order_reserve
-reserve.argtypes = (ctypes.c_void_p, ctypes.c_uint32)
+reserve.argtypes = (ctypes.POINTER(CChecker), ctypes.c_uint32)
 reserve.restype = ctypes.c_uint8
 
-# The checker; the body; the most faults; the language; the room for details; the length of the details.
-check_with = _library.order_check_with
-check_with.argtypes = (
-    ctypes.c_void_p,
-    *(ctypes.c_char_p, ctypes.c_size_t),
-    ctypes.c_size_t,
-    *(ctypes.c_char_p, ctypes.c_size_t),
-    *(ctypes.c_void_p, ctypes.c_size_t),
-    ctypes.c_void_p,
-)
-check_with.restype = ctypes.c_uint8
-
 free = _library.order_free
-free.argtypes = (ctypes.c_void_p,)
+free.argtypes = (ctypes.POINTER(CChecker),)
 free.restype = None
+
+# This one has no argtypes, which would convert nine arguments in each call, and take as long as checking a small body. Its one caller,
+# `Room.check`, hands it `bytes`, and else what `from_param` or `byref` gave, most of it once.
+check_with = _library.order_check_with
+check_with.restype = ctypes.c_uint8

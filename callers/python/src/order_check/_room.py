@@ -16,7 +16,9 @@ from ._library import MEMORY, SIZE_MAX, check_with
 Body = Union[bytes, bytearray, memoryview]
 """The bytes of a body. `bytes` are read where they lie. Of others a copy is made, since another thread could change them."""
 
-ALL = ctypes.c_size_t(SIZE_MAX)
+# A size as C takes it.
+size_of = ctypes.c_size_t.from_param
+ALL, NONE = size_of(SIZE_MAX), size_of(0)
 VALID = 0, b""
 # Bytes that a room has for details at first, and at most where it is kept for calls to come.
 FIRST, KEPT = 16 * 1024, 1024 * 1024
@@ -31,11 +33,11 @@ def copied(body: object) -> bytes:
     raise TypeError(f"a body is bytes, not {type(body).__name__}")
 
 
-def _bounded(most: int) -> ctypes.c_size_t:
+def bounded(most: int) -> object:
     """A number of faults as C takes it."""
     if operator.index(most) < 1:
         raise ValueError(f"most is {most}, and has to be 1 or more")
-    return ctypes.c_size_t(min(most, SIZE_MAX))
+    return size_of(min(most, SIZE_MAX))
 
 
 class Room:
@@ -45,19 +47,18 @@ class Room:
 
     def __init__(self) -> None:
         self._checker = _library.CChecker()
-        self._checker_at = ctypes.c_void_p(ctypes.addressof(self._checker))
+        self._checker_at = ctypes.byref(self._checker)
         self._length = ctypes.c_size_t()
-        self._length_at = ctypes.c_void_p(ctypes.addressof(self._length))
+        self._length_at = ctypes.byref(self._length)
         self._grow(FIRST)
 
-    def __del__(self, free: Callable[[ctypes.c_void_p], None] = _library.free) -> None:
+    def __del__(self, free: Callable[[object], None] = _library.free) -> None:
         free(self._checker_at)
 
     def _grow(self, size: int) -> None:
         details = ctypes.create_string_buffer(size)
         self._details = memoryview(details)
-        self._details_at = ctypes.c_void_p(ctypes.addressof(details))
-        self._details_len = ctypes.c_size_t(size)
+        self._details_at, self._details_len = ctypes.byref(details), size_of(size)
         self.size = size
 
     def reserve(self, length: int) -> None:
@@ -69,10 +70,13 @@ class Room:
         """The status of a body, and its problem details. It checks once more where they are longer than there was room for."""
         if not isinstance(body, bytes):
             body = copied(body)
-        wanted = ALL if most is None else _bounded(most)
-        tag = language.encode("utf-8", "replace")
+        tag, tag_len = b"", NONE
+        if language:
+            tag = language.encode("utf-8", "replace")
+            tag_len = size_of(len(tag))
+        wanted = ALL if most is None else bounded(most)
         status: int = check_with(
-            self._checker_at, body, len(body), wanted, tag, len(tag), self._details_at, self._details_len, self._length_at
+            self._checker_at, body, size_of(len(body)), wanted, tag, tag_len, self._details_at, self._details_len, self._length_at
         )
         if not status:
             return VALID
