@@ -167,8 +167,12 @@ def spoiled(dice, body):
 
 
 def some_body(dice):
-    """A body, valid or spoiled, as bytes."""
-    tree = account(dice)
+    """The body of an account, valid or spoiled, as bytes."""
+    return body_of(dice, account(dice))
+
+
+def body_of(dice, tree):
+    """The body of a tree as it is, or spoiled, as bytes."""
     for _ in range(dice.choice((0, 0, 1, 1, 2, 3, 12))):
         changed(dice, tree)
     if dice.random() < 0.2:

@@ -1,7 +1,8 @@
-"""The rules of crates/example_order/src/order.rt for other libraries of Python: models of pydantic 2, and a schema for jsonschema.
+"""The rules of crates/example_order/src/order.rt for other libraries of Python: models of pydantic 2, and a schema for
+jsonschema.
 
-A model with `Any` in its name has no upper bound of lines. pydantic stops at the first line beyond that bound, and so reports no fault
-behind it: where all lines are to be checked, a model without it stands beside the library.
+A model with `Any` in its name has no upper bound of lines. pydantic stops at the first line beyond that bound, and so reports
+no fault behind it: where all lines are to be checked, a model without it stands beside the library.
 """
 from typing import Annotated
 

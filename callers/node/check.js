@@ -1,6 +1,6 @@
 /**
- * check [LANGUAGE]: checks the body on standard input, writes the problem details of what is wrong to standard output, and ends with the
- * status of the check. Where memory runs out it ends with 3, and where anything else fails with 10.
+ * check [LANGUAGE]: checks the body on standard input, writes the problem details of what is wrong to standard output, and ends
+ * with the status of the check. Where memory runs out it ends with 3, and where anything else fails with 10.
  */
 'use strict';
 

@@ -1,9 +1,9 @@
 /**
  * Checks bodies in JSON by a library in C that was proved, and reports every fault.
  *
- * The functions are synchronous, and may be called by any number of worker threads. The bytes of a body are read where they lie, but for
- * those in shared memory, of which a copy is made. Each function throws an `Error` with the code `ERR_MEMORY_ALLOCATION_FAILED` where memory
- * runs out, and a `TypeError` where a body is no `Uint8Array`.
+ * The functions are synchronous, and may be called by any number of worker threads. The bytes of a body are read where they
+ * lie, but for those in shared memory, of which a copy is made. Each function throws an `Error` with the code
+ * `ERR_MEMORY_ALLOCATION_FAILED` where memory runs out, and a `TypeError` where a body is no `Uint8Array`.
  */
 
 /** A fault of a body. */
@@ -54,15 +54,15 @@ export class NotJsonError extends SyntaxError {
 /** The faults of a body. Throws a `NotJsonError` where the bytes are no JSON text. */
 export function check(body: Uint8Array, options?: Options): Faults;
 
-/** What is wrong with a body as problem details, or null where it is valid. Bytes that are no JSON text have a problem as well. */
+/** What is wrong with a body, or null where it is valid. Bytes that are no JSON text have a problem as well. */
 export function problem(body: Uint8Array, options?: Options): Problem | null;
 
 /** Whether a body is valid. Bytes that are no JSON text are not. Reading ends at the first fault. */
 export function isValid(body: Uint8Array): boolean;
 
 /**
- * Checks bodies in room of its own, which it keeps from one body to the next however large they are. The functions of the module keep
- * room too, but free that of a body, or of details, of more than 1 MiB.
+ * Checks bodies in room of its own, which it keeps from one body to the next however large they are. The functions of the
+ * module keep room too, but free that of a body, or of details, of more than 1 MiB.
  */
 export class Checker {
   /** Does what the function `check` does. */

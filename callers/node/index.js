@@ -34,7 +34,7 @@ function outOfMemory() {
 /** What is wrong with a body, or null. */
 function asked(inRoom, body, { most = Infinity, language = '' } = {}) {
   if (typeof most !== 'number') throw new TypeError('most is a number');
-  if (!(most >= 1 && (Number.isInteger(most) || most === Infinity))) throw new RangeError(`most is ${most}, and has to be 1, 2, ..`);
+  if (!(most === Infinity || Number.isInteger(most)) || most < 1) throw new RangeError(`most is ${most}, and not 1, 2, ..`);
   const answer = addon.check(inRoom, bytesOf(body), most, language);
   if (answer === 0) return null;
   if (answer === MEMORY) throw outOfMemory();

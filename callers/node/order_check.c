@@ -1,5 +1,5 @@
-/* The functions of order.h, for index.js. They keep no state of their own: a room is a value of JavaScript, so each thread of Node has
- * its own. What index.js has not checked is checked here: a wrong argument throws, and reads nothing.
+/* The functions of order.h, for index.js. They keep no state of their own: a room is a value of JavaScript, so each thread of
+ * Node has its own. What index.js has not checked is checked here: a wrong argument throws, and reads nothing.
  */
 #define NAPI_VERSION 8
 #include <node_api.h>
@@ -125,7 +125,8 @@ static napi_value empty_room(napi_env env, napi_callback_info info) {
   napi_value word;
   size_t count = 1;
   room *it = NULL;
-  if (napi_get_cb_info(env, info, &count, &word, NULL, NULL) != napi_ok || !room_of(env, word, &it)) return failed(env, "no room");
+  if (napi_get_cb_info(env, info, &count, &word, NULL, NULL) != napi_ok || !room_of(env, word, &it))
+    return failed(env, "no room");
   empty(it);
   return NULL;
 }
@@ -175,6 +176,7 @@ NAPI_MODULE_INIT() {
       {.utf8name = "isValid", .method = is_valid},
   };
   if (order_version() != ORDER_VERSION) return failed(env, "the library has another version than its header");
-  if (napi_define_properties(env, exports, sizeof functions / sizeof *functions, functions) != napi_ok) return failed(env, "no functions");
+  if (napi_define_properties(env, exports, sizeof functions / sizeof *functions, functions) != napi_ok)
+    return failed(env, "no functions");
   return exports;
 }

@@ -1,6 +1,7 @@
-"""The library of crates/use_library as programs in other languages link it: the archive that `rt lib` left there, or one that is named,
-and that of the toolchain beside it.
+"""The library of crates/use_library as programs in other languages link it: the archive that `rt lib` left there, or one that
+is named, and that of the toolchain beside it.
 """
+import importlib
 import pathlib
 import shutil
 import subprocess
@@ -37,6 +38,17 @@ def merged(made, folder=None):
     lines = [f"create {made}", *(f"addlib {it}" for it in archives(folder)), "save", "end"]
     subprocess.run(["ar", "-M"], input="\n".join(lines), text=True, check=True)
     return made
+
+
+def package(folder, so=None):
+    """The package of callers/python, from a copy in this folder, with the library that is linked, or with this one."""
+    copy = folder / "python"
+    made = shutil.ignore_patterns("*.so", "build", "*.egg-info", "__pycache__")
+    shutil.copytree(ROOT / "callers" / "python", copy, ignore=made)
+    library = copy / "src" / "order_check" / "liborder.so"
+    shutil.copy(so, library) if so else shared(library)
+    sys.path.insert(0, str(copy / "src"))
+    return importlib.import_module("order_check")
 
 
 def cases():

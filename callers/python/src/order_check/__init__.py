@@ -1,7 +1,7 @@
 """Checks bodies in JSON by a library in C that was proved, and reports every fault.
 
-`check` returns a list of faults, `problem` the bytes of problem details (RFC 9457), and `is_valid` says yes or no. Any number of threads
-may call them at the same time. They release the GIL while the library works.
+`check` returns a list of faults, `problem` the bytes of problem details (RFC 9457), and `is_valid` says yes or no. Any number
+of threads may call them at the same time. They release the GIL while the library works.
 """
 from __future__ import annotations
 
@@ -17,8 +17,8 @@ __all__ = ["Body", "Checker", "Fault", "Faults", "NotJson", "Problem", "Status",
 def check(body: Body, *, most: int | None = None, language: str = "") -> Faults:
     """Returns the faults of a body, which is none where it is valid.
 
-    `most` bounds how many there are, and `more` of the list says whether the body has others. `language` is the tag of the language of
-    the sentences; where the library does not know it they are English.
+    `most` bounds how many there are, and `more` of the list says whether the body has others. `language` is the tag of the
+    language of the sentences; where the library does not know it they are English.
 
     Raises `NotJson` where the bytes are no JSON text, `ValueError` where `most` is less than 1, and `MemoryError`.
     """
@@ -29,8 +29,8 @@ def check(body: Body, *, most: int | None = None, language: str = "") -> Faults:
 def problem(body: Body, *, most: int | None = None, language: str = "") -> Problem | None:
     """Returns what is wrong with a body as problem details, or None where it is valid.
 
-    Bytes that are no JSON text have a problem as well. The arguments are those of `check`. Raises `ValueError` where `most` is less than 1,
-    and `MemoryError`.
+    Bytes that are no JSON text have a problem as well. The arguments are those of `check`. Raises `ValueError` where `most` is
+    less than 1, and `MemoryError`.
     """
     status, details = _room.check(body, most, language)
     return Problem(Status(status), details) if status else None
@@ -49,8 +49,9 @@ def is_valid(body: Body) -> bool:
 class Checker:
     """Checks bodies in room of its own, which it keeps from one body to the next however large they are.
 
-    The functions of the module keep room too, but free that of a body, or of details, of more than 1 MiB. A checker serves one thread at a
-    time: a call during another one raises `RuntimeError`, as does one of a closed checker. Leaving its `with` closes it, and frees its room.
+    The functions of the module keep room too, but free that of a body, or of details, of more than 1 MiB. A checker serves one
+    thread at a time: a call during another one raises `RuntimeError`, as does one of a closed checker. Leaving its `with`
+    closes it, and frees its room.
     """
 
     def __init__(self, body_len: int = 0) -> None:

@@ -46,7 +46,7 @@ class Problem:
 
     @property
     def http_status(self) -> int:
-        """The status of an HTTP response with the details, which is their member `status`: 422, or 400 of what is no JSON text."""
+        """The status of an HTTP response with the details, which is their member `status`: 422, or 400 of no JSON text."""
         return 422 if self.status is Status.FAULTS else 400
 
 

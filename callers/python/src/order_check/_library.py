@@ -44,7 +44,7 @@ free = _library.order_free
 free.argtypes = (ctypes.POINTER(CChecker),)
 free.restype = None
 
-# This one has no argtypes, which would convert nine arguments in each call, and take as long as checking a small body. Its one caller,
-# `Room.check`, hands it `bytes`, and else what `from_param` or `byref` gave, most of it once.
+# This one has no argtypes, which would convert nine arguments in each call, and take as long as checking a small body. Its one
+# caller, `Room.check`, hands it `bytes`, and else what `from_param` or `byref` gave, most of it once.
 check_with = _library.order_check_with
 check_with.restype = ctypes.c_uint8

@@ -1,7 +1,7 @@
 """What calls work in: a checker of the library, and memory for details.
 
-A call takes a room, and puts it back when it ends. So no two calls share one, be they in two threads, or in one thread where a signal
-handler or a finalizer of Python calls again. In a forked child the rooms are those that no call had.
+A call takes a room, and puts it back when it ends. So no two calls share one, be they in two threads, or in one thread where a
+signal handler or a finalizer of Python calls again. In a forked child the rooms are those that no call had.
 """
 from __future__ import annotations
 
