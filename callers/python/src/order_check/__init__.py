@@ -62,6 +62,8 @@ class Checker:
         self._rooms = [room]
 
     def _check(self, body: Body, most: int | None, language: str) -> tuple[int, bytes]:
+        if not isinstance(body, bytes):
+            body = _room.copied(body)
         try:
             room = self._rooms.pop()
         except IndexError:

@@ -63,13 +63,13 @@ class Room:
 
     def reserve(self, length: int) -> None:
         """Makes the room of the checker for bodies of this many bytes."""
+        if length < 0:
+            raise ValueError(f"a body has no {length} bytes")
         if _library.reserve(self._checker_at, min(length, 2**32 - 1)) == MEMORY:
             raise MemoryError("out of memory")
 
-    def check(self, body: Body, most: int | None, language: str) -> tuple[int, bytes]:
+    def check(self, body: bytes, most: int | None, language: str) -> tuple[int, bytes]:
         """The status of a body, and its problem details. It checks once more where they are longer than there was room for."""
-        if not isinstance(body, bytes):
-            body = copied(body)
         tag, tag_len = b"", NONE
         if language:
             tag = language.encode("utf-8", "replace")
@@ -94,6 +94,8 @@ _rooms: list[Room] = []
 
 def check(body: Body, most: int | None, language: str) -> tuple[int, bytes]:
     """What `Room.check` gives, in a room that is kept. The room of a large body, or of large details, is freed."""
+    if not isinstance(body, bytes):
+        body = copied(body)
     try:
         room = _rooms.pop()
     except IndexError:
