@@ -62,7 +62,7 @@ export function isValid(body: Uint8Array): boolean;
 
 /**
  * Checks bodies in room of its own, which it keeps from one body to the next however large they are. The functions of the
- * module keep room too, but free that of a body, or of details, of more than 1 MiB.
+ * module keep room too, but free that of a body of more than 1 MiB, or of details of more than 4 MiB.
  */
 export class Checker {
   /** Does what the function `check` does. */

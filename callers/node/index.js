@@ -9,8 +9,9 @@ const addon = require('./order_check.node');
 const FAULTS = 1;
 const NO_JSON = 2;
 const MEMORY = 3;
-// The room of a body, or of details, of more bytes is not kept.
-const KEPT = 1024 * 1024;
+// The room of a larger body, or of larger details, is not kept: it holds some 5 to 12 bytes for each byte of the body.
+const KEPT_BODY = 1024 * 1024;
+const KEPT_DETAILS = 4 * KEPT_BODY;
 const room = addon.newRoom();
 
 class NotJsonError extends SyntaxError {
@@ -54,7 +55,7 @@ function check(body, options) {
 
 function problem(body, options) {
   const found = asked(room, body, options);
-  if (body.length > KEPT || (found !== null && found.details.length > KEPT)) addon.emptyRoom(room);
+  if (body.length > KEPT_BODY || (found !== null && found.details.length > KEPT_DETAILS)) addon.emptyRoom(room);
   return found;
 }
 

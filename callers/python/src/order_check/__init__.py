@@ -8,7 +8,7 @@ from __future__ import annotations
 import types
 
 from . import _library, _room
-from ._answers import Fault, Faults, NotJson, Problem, Status, faults_of
+from ._answers import STATUSES, Fault, Faults, NotJson, Problem, Status, faults_of
 from ._room import Body
 
 __all__ = ["Body", "Checker", "Fault", "Faults", "NotJson", "Problem", "Status", "check", "is_valid", "problem"]
@@ -33,7 +33,7 @@ def problem(body: Body, *, most: int | None = None, language: str = "") -> Probl
     less than 1, and `MemoryError`.
     """
     status, details = _room.check(body, most, language)
-    return Problem(Status(status), details) if status else None
+    return Problem(STATUSES[status], details) if status else None
 
 
 def is_valid(body: Body) -> bool:
@@ -49,9 +49,9 @@ def is_valid(body: Body) -> bool:
 class Checker:
     """Checks bodies in room of its own, which it keeps from one body to the next however large they are.
 
-    The functions of the module keep room too, but free that of a body, or of details, of more than 1 MiB. A checker serves one
-    thread at a time: a call during another one raises `RuntimeError`, as does one of a closed checker. Leaving its `with`
-    closes it, and frees its room.
+    The functions of the module keep room too, but free that of a body of more than 1 MiB, or of details of more than 4 MiB. A
+    checker serves one thread at a time: a call during another one raises `RuntimeError`, as does one of a closed checker.
+    Leaving its `with` closes it, and frees its room.
     """
 
     def __init__(self, body_len: int = 0) -> None:
@@ -81,7 +81,7 @@ class Checker:
     def problem(self, body: Body, *, most: int | None = None, language: str = "") -> Problem | None:
         """Does what the function `problem` does."""
         status, details = self._check(body, most, language)
-        return Problem(Status(status), details) if status else None
+        return Problem(STATUSES[status], details) if status else None
 
     def close(self) -> None:
         """Frees the room. A second call does nothing."""

@@ -35,6 +35,10 @@ class Status(enum.IntEnum):
     NO_JSON = 2
 
 
+# By their numbers, since a call of `Status` takes some time.
+STATUSES = {int(it): it for it in Status}
+
+
 @dataclasses.dataclass(frozen=True, slots=True)
 class Problem:
     """What is wrong with a body, for a service that hands it on."""
@@ -64,7 +68,7 @@ class NotJson(ValueError):
 
 def faults_of(status: int, details: bytes) -> Faults:
     """The faults that problem details have."""
-    said = json.loads(details)
+    said = json.loads(details.decode())
     if status == Status.NO_JSON:
         raise NotJson(said["detail"], details)
     faults = Faults([Fault(it["pointer"], it["detail"], it["code"], it["params"]) for it in said["errors"]])

@@ -20,10 +20,11 @@ Body = Union[bytes, bytearray, memoryview]
 size_of = ctypes.c_size_t.from_param
 ALL, NONE = size_of(SIZE_MAX), size_of(0)
 VALID = 0, b""
-# Bytes that a room has for details at first, and at most where it is kept for calls to come.
-FIRST, KEPT = 16 * 1024, 1024 * 1024
-# Rooms that are kept.
-ROOMS = 64
+# Bytes that a room has for details at first.
+FIRST = 16 * 1024
+# What is kept for calls to come: so many rooms, none of a larger body, for the checker of one holds some 5 to 12 bytes for each
+# byte of the body, and none of larger details.
+ROOMS, KEPT_BODY, KEPT_DETAILS = 16, 1024 * 1024, 4 * 1024 * 1024
 
 
 def copied(body: object) -> bytes:
@@ -101,6 +102,6 @@ def check(body: Body, most: int | None, language: str) -> tuple[int, bytes]:
     except IndexError:
         room = Room()
     answer = room.check(body, most, language)
-    if len(body) <= KEPT and room.size <= KEPT and len(_rooms) < ROOMS:
+    if len(body) <= KEPT_BODY and room.size <= KEPT_DETAILS and len(_rooms) < ROOMS:
         _rooms.append(room)
     return answer
