@@ -28,9 +28,7 @@ class Order(BaseModel):
     lines: Annotated[list[Line], FEW]
 
 
-class AnyOrder(BaseModel):
-    model_config = STRICT
-    customer: Customer
+class AnyOrder(Order):
     lines: Annotated[list[Line], ANY]
 
 
@@ -46,9 +44,8 @@ class OrderDict(TypedDict):
     lines: Annotated[list[LineDict], FEW]
 
 
-class AnyOrderDict(TypedDict):
+class AnyOrderDict(OrderDict):
     __pydantic_config__ = STRICT
-    customer: Customer
     lines: Annotated[list[LineDict], ANY]
 
 
