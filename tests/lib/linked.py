@@ -1,5 +1,6 @@
-"""The library of crates/use_library as programs in other languages link it: the archive that `rt lib` left there, or one that
-is named, and that of the toolchain beside it.
+"""The library of crates/use_library as programs in other languages link it: the archive of a folder that is named, or of the
+crate, and that of the toolchain beside it. `rt lib` leaves the archive in the crate. `rt ci` proves the crate and leaves none, so
+it is made here, over the libraries that `rt ci` built: the prover looks at the crate once more, and at nothing below it.
 """
 import importlib
 import pathlib
@@ -7,22 +8,39 @@ import shutil
 import subprocess
 import sys
 
+from lib import prover, repository
 from lib.repository import ROOT
 
 CRATE = ROOT / "crates" / "use_library"
 CASES = ROOT / "tests" / "called"
 
 
+def made(archive):
+    """Makes the archive of the crate where it is missing, or older than a source. Why it cannot be made, or an empty text."""
+    crates = [*repository.below("use_library"), "use_library"]
+    parts = [ROOT / "crates" / it / part for it in crates for part in ("src", "specs", "proofs")]
+    newest = max(file.stat().st_mtime for part in parts for file in part.rglob("*.*"))
+    if archive.is_file() and archive.stat().st_mtime >= newest:
+        return ""
+    missing = [it for it in crates[:-1] if not (ROOT / "crates" / it / "out" / "rlib").is_dir()]
+    if missing:
+        return f"{archive} is not there, or old: run rt ci, or rt lib in crates/use_library"
+    archive.parent.mkdir(exist_ok=True)
+    return prover.static_library("use_library", archive)
+
+
 def archives(folder=None):
-    """The two archives, in their order. They lie in a folder, or where `rt lib` and the toolchain have them."""
+    """The two archives, in their order. They lie in a folder, or in the crate and in the toolchain."""
     if folder:
         found = [pathlib.Path(folder) / name for name in ("libuse_library.a", "liblibc_c.a")]
     else:
         kit = pathlib.Path(shutil.which("rt") or "/rt").resolve().parent.parent
         found = [CRATE / "out" / "libuse_library.a", kit / "c" / "liblibc_c.a"]
+        if wrong := made(found[0]):
+            sys.exit(wrong)
     for it in found:
         if not it.is_file():
-            sys.exit(f"{it} is not there: run rt lib in crates/use_library")
+            sys.exit(f"{it} is not there")
     return found
 
 
