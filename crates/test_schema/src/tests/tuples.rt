@@ -45,7 +45,8 @@ where
     let [a, b, c, d, e, f, g, i, j, k, l, m, n, o, p, q] = *members;
     let all = all!(a, b, c, d, e, f, g, i, j, k, l, m, n, o, p, q);
     match read(alloc, &Object(Closed(all)), tree, h) {
-        Ok(parts!(a, b, c, d, e, f, g, i, j, k, l, m, n, o, p, q)) => {
+        Ok(values) => {
+            let parts!(a, b, c, d, e, f, g, i, j, k, l, m, n, o, p, q) = values;
             let values = ((a, b, c, d, e, f, g, i), (j, k, l, m, n, o, p, q));
             format!(in alloc; "{values:?}")
         }
