@@ -112,7 +112,8 @@ pub fn read_sign_up<'a, H: I18n + FormI18n>(
         )
     )));
     match read_json(alloc, fields, scratch, &form, h) {
-        Ok(parts!(name, _, _, age, _, topics, _)) => {
+        Ok(fields) => {
+            let parts!(name, _, _, age, _, topics, _) = fields;
             let age = age.unwrap();
             Ok(SignUp { name, age, topics })
         }
