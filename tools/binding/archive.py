@@ -19,8 +19,9 @@ def ran(*words, cwd=None):
         raise Refusal(f"there is no command `{words[0]}`") from None
     output = done.stdout.decode(errors="replace")
     if done.returncode:
-        lines = [line.strip() for line in output.strip().splitlines()] or [f"status {done.returncode}"]
-        raise Refusal(f"{' '.join(map(str, words[:2]))} failed: {next(filter(ERROR.match, lines), lines[-1])}")
+        lines = [line.strip() for line in output.strip().splitlines()] or ["it printed nothing"]
+        why = next(filter(ERROR.match, lines), lines[-1])
+        raise Refusal(f"{' '.join(map(str, words[:2]))} failed with status {done.returncode}: {why}")
     return output
 
 
