@@ -2,7 +2,6 @@
 pub use Rattle.garde_i18n.specs.Datum.{not_ascii, not_alphanumeric, not_set, ip}
 pub use Rattle.garde_i18n.specs.declared.reasons.IpKind.TheVariants.{Any}
 pub use Rattle.garde_i18n.specs.DefaultText.{default_text}
-pub use Rattle.garde_report.specs.Json.{report_json, report_json-no_float}
 pub use Rattle.garde_report.specs.Part.{index_part, key_part}
 pub use Rattle.garde_report.specs.Report.{Entry, report_text}
 pub use Rattle.garde_report.specs.Trace.{Trace, new_trace}

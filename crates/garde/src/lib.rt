@@ -20,7 +20,7 @@ pub use first_error::FirstError;
 pub use garde_i18n as i18n;
 pub use garde_i18n::{CodeI18n, DefaultI18n, I18n, with_i18n};
 pub use garde_report::{
-    Component, Error, Path, Report, Result, RuleError, Trail, error, json, rc_list, select, trail,
+    Component, Error, Path, Report, Result, RuleError, Trail, error, rc_list, select, trail,
 };
 pub use garde_rules as rules;
 pub use unvalidated::{IntoValidError, Unvalidated};

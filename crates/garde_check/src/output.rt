@@ -11,8 +11,8 @@ use crate::form::{Form, write_report};
 use crate::lines::Lines;
 use crate::outcome::{Outcome, RunError};
 use crate::user::User;
-use garde::json::JsonRefused;
 use garde::{DefaultI18n, FirstError, Report, Trail, Validate, ValidateError};
+use garde_json::JsonRefused;
 use serde_json::Value;
 use std::alloc::{AllocError, Global};
 

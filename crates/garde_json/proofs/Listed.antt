@@ -10,8 +10,8 @@ use Rattle.serde_json.specs.Data.{Data}
 use Rattle.serde_json.specs.View.{items_of}
 use Rattle.serde_json.specs.Written.{outline, items_outline}
 use Rattle.garde_tape.specs.Reading.{item_list, member_list}
-use Rattle.std.specs.Prelude.{IsOk, IfSome, codes}
-use Rattle.garde_report.specs.Json.{report_json}
+use Rattle.std.specs.Prelude.{codes}
+use Rattle.garde_json.specs.Json.{report_json}
 use Rattle.garde_report.specs.Part.{Part}
 use Rattle.garde_report.specs.Report.{Entry}
 use Rattle.garde_json.specs.First.{entries_json}

@@ -3,7 +3,7 @@ use Rattle.std.specs.Prelude.{List, Bool, true, false, codes, map}
 use Rattle.serde_json.specs.Data.{Data, array, boolean, object, member, no_members}
 use Rattle.serde_json.specs.View.{items_of}
 use Rattle.garde_report.specs.Report.{Entry}
-use Rattle.garde_report.specs.Json.{entry_json, report_json}
+use Rattle.garde_json.specs.Json.{entry_json, report_json}
 
 -- the array of the faults in order
 abbrev pub entries_json : List Entry → Data

@@ -5,9 +5,8 @@ use Rattle.json.specs.Json.{Json}
 use Rattle.serde_json.specs.Data.{Data, array}
 use Rattle.serde_json.specs.View.{items_of}
 use Rattle.serde_json.specs.Written.{outline}
-use Rattle.garde_report.specs.Part.{Part}
 use Rattle.garde_report.specs.Report.{Entry}
-use Rattle.garde_report.specs.Json.{part_json, path_json, error_json, entry_json, report_json}
+use Rattle.garde_json.specs.Json.{report_json}
 
 -- the array of the trees of a list
 abbrev pub array_tree : {X : Type 0} → (X → Data) → List X → Json

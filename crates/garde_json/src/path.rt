@@ -1,13 +1,13 @@
 //! Components and paths that are read from a text.
 ghost use Rattle.std.specs.Prelude.{◌≡◌, ◌≢◌, ◌<◌, ◌∷◌, [], ◌++◌, List, length, IfOk, IsOkAnd, MatchOption};
 ghost use Rattle.serde_json.specs.Written.{outline};
-ghost use Rattle.garde_report.specs.Json.{kind_text, part_json, path_json};
+ghost use Rattle.garde_json.specs.Json.{part_json, path_json};
 ghost use Rattle.garde_report.specs.Part.{Part, part};
 ghost use Rattle.garde_report.specs.declared.error.component.Kind.{Kind as AKind};
 ghost use Rattle.garde_json.specs.Form.{Reads};
 
 use crate::form::{pair, text_in};
-use garde_report::json::kind_name;
+use crate::kind::kind_named;
 use garde_report::rc_list::JoinError;
 use garde_report::{Component, Kind, Path, PathComponentKind};
 use garde_tape::Tree;
@@ -57,22 +57,6 @@ impl PathComponentKind for NoneText<'_> {
     }
 }
 
-fn kind_named(name: &str) -> Option<Kind>
-    ensures { MatchOption result ((kind : AKind) → kind_text kind ≢ name.now)
-        (λ kind. kind_text kind ≡ name.now) }
-{
-    if name == kind_name(Kind::Key) {
-        return Some(Kind::Key);
-    }
-    if name == kind_name(Kind::Index) {
-        return Some(Kind::Index);
-    }
-    if name == kind_name(Kind::None) {
-        return Some(Kind::None);
-    }
-    None
-}
-
 // The kind and the text of a component.
 fn component_in<'a>(tree: &Tree<'_, 'a>) -> Option<(Kind, &'a str)>
     ensures { MatchOption result ((p : Part) → tree.now ≢ outline (part_json p))
@@ -84,7 +68,7 @@ fn component_in<'a>(tree: &Tree<'_, 'a>) -> Option<(Kind, &'a str)>
 }
 
 // The path with one component more at the end.
-fn join(alloc: Global, path: &Path, kind: Kind, text: &str) -> Result<Path, AllocError>
+pub(crate) fn join(alloc: Global, path: &Path, kind: Kind, text: &str) -> Result<Path, AllocError>
     requires { length path.now < usize.MAX }
     ensures { IfOk result (λ longer. longer ≡ path.now ++ part kind text.now ∷ []) }
 {

@@ -2,15 +2,15 @@
 ghost use Rattle.std.specs.Prelude.{◌≡◌, ◌≢◌, ◌<◌, ◌∷◌, [], ◌++◌, ℕ, List, length, Some, Ok, Err, IfOk};
 ghost use Rattle.std.specs.Prelude.{IsOk, IsOkAnd, IfSome};
 ghost use Rattle.json.specs.Json.{document};
-ghost use Rattle.garde_report.specs.Json.{error_json, entry_json, report_json};
+ghost use Rattle.garde_json.specs.Json.{error_json, entry_json, report_json};
 ghost use Rattle.garde_report.specs.Report.{Entry};
 ghost use Rattle.garde_json.specs.First.{entries_json};
 ghost use Rattle.garde_json.specs.Form.{array_tree, Reads, report_tree};
-ghost use Rattle.garde_report.specs.declared.json.JsonRefused.{JsonRefused as Refused};
+ghost use Rattle.garde_json.specs.declared.refused.JsonRefused.{JsonRefused as Refused};
 
+use crate::JsonRefused;
 use crate::form::{pair, sole_member, text_in};
 use crate::path::path_in;
-use garde_report::json::JsonRefused;
 use garde_report::{Error, Path, Report};
 use garde_tape::{ParseError, Scratch, Tree, parse};
 use std::alloc::{AllocError, Global};

@@ -1,12 +1,12 @@
 //! Trees that are written token by token.
 ghost use Rattle.std.specs.Prelude.{◌≡◌, IfOk, OnOk, string_bytes};
 ghost use Rattle.serde_json.specs.Written.{compact_text};
-ghost use Rattle.garde_report.specs.Json.{part_json, path_json, error_json, entry_json, report_json};
+ghost use Rattle.garde_json.specs.Json.{part_json, path_json, error_json, entry_json, report_json};
 ghost use Rattle.garde_json.specs.First.{entries_json, first_json, told_json};
 ghost use Rattle.garde_json.specs.Tokens.{IsWritten};
 ghost use Rattle.garde_report.specs.Part.{part};
 
-use garde_report::json::kind_name;
+use crate::kind::kind_name;
 use garde_report::{Error, Kind, Path, Report};
 use json::Writer;
 use std::alloc::{AllocError, Global};

@@ -2,8 +2,6 @@
 use Rattle.std.specs.Prelude.{ℕ, List, codes}
 use Rattle.garde_report.specs.declared.rc_list.JoinError.{JoinError}
 use Rattle.garde_report.specs.declared.rc_list.JoinError.TheVariants as join
-use Rattle.garde_report.specs.declared.json.JsonRefused.{JsonRefused}
-use Rattle.garde_report.specs.declared.json.JsonRefused.TheVariants as json
 use Rattle.garde_report.specs.declared.error.rule_error.RuleError.{RuleError}
 use Rattle.garde_report.specs.declared.error.rule_error.RuleError.TheVariants as rule
 
@@ -11,11 +9,6 @@ use Rattle.garde_report.specs.declared.error.rule_error.RuleError.TheVariants as
 abbrev pub join_error_text : JoinError → List ℕ
 join_error_text join.Memory = codes "out of memory"
 join_error_text join.TooLong = codes "the list is full"
-
--- why nothing was read from a tree
-abbrev pub json_refused_text : JsonRefused → List ℕ
-json_refused_text json.Form = codes "the tree is not a report or a path"
-json_refused_text json.Memory = codes "out of memory"
 
 -- the message of a fault, or that memory ran out
 abbrev pub rule_error_text : RuleError → List ℕ

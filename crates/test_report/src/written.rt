@@ -1,9 +1,10 @@
 //! Reports that are written in JSON and read back, by trees and by texts.
 
 use crate::samples::{OrEnd, has_text};
-use garde_json::{report_from_json_text, report_to_json_text};
+use garde_json::{
+    JsonRefused, report_from_json, report_from_json_text, report_to_json, report_to_json_text,
+};
 use garde_report::Report;
-use garde_report::json::{JsonRefused, report_from_json, report_to_json};
 use serde_json::Value;
 use std::alloc::Global;
 use std::process::Abort;

@@ -7,7 +7,7 @@ ghost use Rattle.garde_check.specs.Request.{IsAge, age_json, texts_json, entries
 
 use super::{Address, Body};
 use crate::user::User;
-use garde::json::JsonRefused;
+use garde_json::JsonRefused;
 use serde_json::Value;
 use std::alloc::Global;
 use std::collections::BTreeMap;

@@ -5,7 +5,7 @@ use crate::body::{Address, Body};
 use crate::mode::Command;
 use crate::outcome::RunError;
 use crate::tests::OrEnd;
-use garde::json::JsonRefused;
+use garde_json::JsonRefused;
 use serde_json::Value;
 use std::alloc::Global;
 use std::collections::BTreeMap;

@@ -1,7 +1,7 @@
 //! Trees that spell no body, where there is no memory.
 
 use crate::body::Body;
-use garde::json::JsonRefused;
+use garde_json::JsonRefused;
 use serde_json::Value;
 use std::alloc::Global;
 use std::test::Fail;

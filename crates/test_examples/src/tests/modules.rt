@@ -1,15 +1,15 @@
-//! Each module that `garde` passes on from the crates below it.
+//! Each module that `garde` passes on from the crates below it, and `garde_json`.
 use super::login;
 use crate::tests::OrEnd;
 use example_types::login::Login;
 use garde::error::{Component, Kind, PathComponentKind};
 use garde::i18n::{DefaultI18n, IpKind};
-use garde::json::{report_from_json, report_to_json};
 use garde::rc_list::List;
 use garde::rules::ip;
 use garde::trail::Trail;
 use garde::validate::Validate;
 use garde::{Error, Path, Report, RuleError, Unvalidated, Valid, ValidateError, select, with_i18n};
+use garde_json::{report_from_json, report_to_json};
 use std::alloc::Global;
 use std::process::Abort;
 

@@ -2,8 +2,9 @@
 
 use crate::samples::{OrEnd, path_of, report_of};
 use crate::written::{has_lines, is_form, is_there_and_back};
-use garde_json::report_from_json_text;
-use garde_report::json::{JsonRefused, path_from_json, path_to_json, report_from_json};
+use garde_json::{
+    JsonRefused, path_from_json, path_to_json, report_from_json, report_from_json_text,
+};
 use garde_report::{Kind, Path};
 use serde_json::Value;
 use std::alloc::Global;

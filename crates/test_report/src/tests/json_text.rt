@@ -2,8 +2,7 @@
 
 use crate::samples::{OrEnd, report_of};
 use crate::written::{is_form, is_there_and_back};
-use garde_json::first_to_json_text;
-use garde_report::json::report_from_json;
+use garde_json::{first_to_json_text, report_from_json};
 use garde_report::{Kind, Report};
 use serde_json::Value;
 use std::alloc::Global;

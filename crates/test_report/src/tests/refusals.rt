@@ -1,7 +1,7 @@
 //! What each error prints.
 
 use crate::samples::{OrEnd, has_text};
-use garde_report::json::JsonRefused;
+use garde_json::JsonRefused;
 use garde_report::rc_list::JoinError;
 use garde_report::{Error, RuleError};
 use std::alloc::Global;

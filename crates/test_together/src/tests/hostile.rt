@@ -8,10 +8,10 @@ use super::user::User;
 use super::walks::{Four, eight, is_told, twelve, user, walked};
 use crate::tests::OrEnd;
 use garde::error::{Kind, PathComponentKind};
-use garde::json::{path_from_json, path_to_json};
 use garde::{
     Component, DefaultI18n, Error, I18n, Path, Report, Trail, Validate, ValidateError, select,
 };
+use garde_json::{path_from_json, path_to_json};
 use std::alloc::{AllocError, Global};
 use std::collections::{BTreeMap, HashMap};
 use std::process::Abort;

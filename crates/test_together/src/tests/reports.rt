@@ -2,9 +2,8 @@
 
 use super::told::reads;
 use garde::error::PathComponentKind;
-use garde::json::{JsonRefused, report_from_json, report_to_json};
 use garde::{Error, Path, Report};
-use garde_json::report_from_json_text;
+use garde_json::{JsonRefused, report_from_json, report_from_json_text, report_to_json};
 use serde_json::Value;
 use std::alloc::{AllocError, Global};
 use test_memory::{Met, Scarce};

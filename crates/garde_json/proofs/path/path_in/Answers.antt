@@ -1,5 +1,5 @@
 use Rattle.std.proofs.Common.{rules, [], ◌∷◌, ◌++◌}
-use Rattle.garde_report.specs.Json.{part_json, path_json}
+use Rattle.garde_json.specs.Json.{part_json, path_json}
 use Rattle.garde_report.specs.Part.{part}
 use Rattle.garde_json.proofs.Listed.{left_is, more_is, end_is, none_reads, grown}
 use Rattle.garde_json.proofs.path.path_in.Goals as goal

@@ -1,6 +1,6 @@
 use Rattle.std.proofs.Common.{◌≡◌, ◌++◌, List, length, Some}
 use Rattle.std.specs.Prelude.{IfOk}
-use Rattle.garde_report.specs.Json.{part_json}
+use Rattle.garde_json.specs.Json.{part_json}
 use Rattle.garde_report.specs.Part.{Part}
 use Rattle.garde_json.proofs.Listed.{list_of, trees}
 use Rattle.garde_json.proofs.path.path_in.Given as goal

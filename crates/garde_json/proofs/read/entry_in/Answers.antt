@@ -1,4 +1,4 @@
-use Rattle.std.proofs.Common.{◌≡◌, ◌∙◌}
+use Rattle.std.proofs.Common.{◌∙◌}
 use Rattle.json.specs.Json as json
 use Rattle.garde_json.proofs.Listed.{fault_made}
 use Rattle.garde_json.proofs.read.entry_in.Goals as goal

@@ -1,5 +1,5 @@
 use Rattle.std.proofs.Common.{rules, [], ◌∷◌, ◌++◌, sym, ◌∙◌}
-use Rattle.garde_report.specs.Json.{entry_json}
+use Rattle.garde_json.specs.Json.{entry_json}
 use Rattle.garde_json.specs.First.{entries_json}
 use Rattle.garde_json.proofs.Listed.{left_is, more_is, end_is, none_reads, grown_by, some_more, none_listed}
 use Rattle.garde_json.proofs.read.faults_in.Goals as goal

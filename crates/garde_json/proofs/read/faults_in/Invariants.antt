@@ -1,6 +1,6 @@
 use Rattle.std.proofs.Common.{◌≡◌, [], ◌++◌, List, length, Some}
 use Rattle.std.specs.Prelude.{IfOk, IsOk}
-use Rattle.garde_report.specs.Json.{entry_json}
+use Rattle.garde_json.specs.Json.{entry_json}
 use Rattle.garde_report.specs.Report.{Entry}
 use Rattle.garde_json.proofs.Listed.{list_of, trees}
 use Rattle.garde_json.proofs.read.faults_in.Given as goal

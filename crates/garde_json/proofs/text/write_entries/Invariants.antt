@@ -1,5 +1,5 @@
 use Rattle.std.proofs.Common.{◌≡◌, ◌++◌}
-use Rattle.garde_report.specs.Json.{entry_json}
+use Rattle.garde_json.specs.Json.{entry_json}
 use Rattle.garde_json.specs.First.{entries_json}
 use Rattle.garde_json.specs.Tokens.{tree_tokens, rest_tokens}
 use Rattle.garde_json.proofs.text.write_entries.Given as goal

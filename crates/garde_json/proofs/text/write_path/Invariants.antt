@@ -1,5 +1,5 @@
 use Rattle.std.proofs.Common.{◌≡◌, ◌++◌, length, reverse}
-use Rattle.garde_report.specs.Json.{part_json, path_json}
+use Rattle.garde_json.specs.Json.{part_json, path_json}
 use Rattle.garde_json.specs.Tokens.{tree_tokens, rest_tokens}
 use Rattle.garde_json.proofs.text.write_path.Given as goal
 

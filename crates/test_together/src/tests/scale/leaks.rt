@@ -5,7 +5,6 @@ use crate::tests::paths::{keys, longer};
 use crate::tests::reports::add;
 use crate::tests::rules::regex;
 use crate::tests::starved::document;
-use garde::json::{report_from_json, report_to_json};
 use garde::rc_list::List;
 use garde::rules::ascii;
 use garde::rules::pattern::regex::Regex;
@@ -14,7 +13,7 @@ use garde::{
     Component, Error, IntoValidError, Path, Report, RuleError, Trail, Unvalidated, Validate,
     ValidateError, select, with_i18n,
 };
-use garde_json::report_to_json_text;
+use garde_json::{report_from_json, report_to_json, report_to_json_text};
 use std::alloc::{AllocError, Global};
 use std::borrow::CowStr;
 use std::fmt::Display;

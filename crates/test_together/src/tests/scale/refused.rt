@@ -2,10 +2,9 @@
 use crate::tests::paths::{beneath, indexes};
 use crate::tests::reports::tree;
 use crate::tests::told::reads;
-use garde::json::{JsonRefused, report_from_json, report_to_json};
 use garde::rc_list::JoinError;
 use garde::{Error, Path, Report, RuleError};
-use garde_json::report_to_json_text;
+use garde_json::{JsonRefused, report_from_json, report_to_json, report_to_json_text};
 use std::alloc::{AllocError, Global};
 use std::borrow::CowStr;
 use std::fmt::Display;
