@@ -4,7 +4,7 @@ ghost use Rattle.example_import.specs.Row.{row_visits};
 use garde::fields::{
     Alphanumeric, Field, Fields, IfSome, Is, IsInMemory, Prefix, Required, Url, WithMessage,
 };
-use garde::{I18n, Report, Trail, Validate, length, range};
+use garde::{I18n, Report, Stated, Trail, Validate, length, range};
 use std::alloc::{AllocError, Global};
 
 /// An article: how many pieces of it there are, what one of them costs in cents, and its page.
@@ -18,11 +18,13 @@ pub struct Row {
     pub page: Option<String>,
 }
 
-impl Validate for Row {
+impl Stated for Row {
     type Context = ();
 
     ghost visits = { λ row _. row_visits row };
+}
 
+impl Validate for Row {
     fn validate_into<'a, H: I18n>(
         &'a self,
         alloc: Global,

@@ -2,7 +2,7 @@
 ghost use Rattle.garde.specs.Fields.{◌and◌, alphanumeric, ascii, chars_max, field, length_between, length_min, matches_text};
 
 use garde::fields::{Alphanumeric, Ascii, Field, Fields, Is, Matches};
-use garde::{I18n, Report, Trail, Validate, length};
+use garde::{I18n, Report, Stated, Trail, Validate, length};
 use std::alloc::{AllocError, Global};
 
 /// Who has an account.
@@ -16,7 +16,7 @@ pub struct Account {
     pub remember: bool,
 }
 
-impl Validate for Account {
+impl Stated for Account {
     type Context = ();
 
     ghost visits = { λ v _.
@@ -24,7 +24,9 @@ impl Validate for Account {
         and field "password" (length_min 15 v.password)
         and field "again" (matches_text "password" v.again v.password)
         and field "code" (alphanumeric v.code and chars_max 8 v.code) };
+}
 
+impl Validate for Account {
     fn validate_into<'a, H: I18n>(
         &'a self,
         alloc: Global,

@@ -10,7 +10,7 @@ use garde::fields::{
     Alphanumeric, Ascii, Dive, Field, Fields, IfSome, Is, IsInMemory, Item, Prefix, Transparent,
     Url,
 };
-use garde::{I18n, Report, Trail, Valid, Validate, length, range};
+use garde::{I18n, Report, Stated, Trail, Valid, Validate, length, range};
 use garde_schema::{
     Any, Build, Built, Either, FormI18n, Member, Nullish, Object, OneMember, ReadError, Scratch,
     Tagged, Text, TextRef, U8, U16, U64, Variant, Whole, read_json,
@@ -26,7 +26,7 @@ pub enum Payment<'t> {
     Cash,
 }
 
-impl<'t> Validate for Payment<'t> {
+impl<'t> Stated for Payment<'t> {
     type Context = ();
 
     ghost visits = { λ v _. elim v as (λ _. Visits) [
@@ -34,7 +34,9 @@ impl<'t> Validate for Payment<'t> {
       | Account holder ↦ field "holder" (optional (λ x. bytes.alphanumeric x) holder)
       | Cash ↦ none
     ] };
+}
 
+impl<'t> Validate for Payment<'t> {
     fn validate_into<'a, H: I18n>(
         &'a self,
         alloc: Global,
@@ -65,11 +67,13 @@ impl<'t> Validate for Payment<'t> {
 #[derive(Debug, Drop)]
 pub struct Number<'t>(pub TextRef<'t>);
 
-impl<'t> Validate for Number<'t> {
+impl<'t> Stated for Number<'t> {
     type Context = ();
 
     ghost visits = { λ v _. bytes.prefix (codes "B") v.0 };
+}
 
+impl<'t> Validate for Number<'t> {
     fn validate_into<'a, H: I18n>(
         &'a self,
         alloc: Global,
@@ -90,14 +94,16 @@ pub enum Origin<'t> {
     WebSite(TextRef<'t>),
 }
 
-impl<'t> Validate for Origin<'t> {
+impl<'t> Stated for Origin<'t> {
     type Context = ();
 
     ghost visits = { λ v _. elim v as (λ _. Visits) [
       | Shop till ↦ field "till" (range_max 99 till)
       | WebSite value ↦ item 0 (bytes.url value)
     ] };
+}
 
+impl<'t> Validate for Origin<'t> {
     fn validate_into<'a, H: I18n>(
         &'a self,
         alloc: Global,
@@ -126,15 +132,17 @@ pub struct Bill<'t> {
     pub origin: Option<Origin<'t>>,
 }
 
-impl<'t> Validate for Bill<'t> {
+impl<'t> Stated for Bill<'t> {
     type Context = ();
 
     ghost visits = { λ v ctx.
-        field "number" (⟦<Number<'t> as Validate>⟧.visits v.number ctx)
+        field "number" (⟦<Number<'t> as Stated>⟧.visits v.number ctx)
         and field "cents" (u64_min 1 v.cents)
-        and field "payment" (⟦<Payment<'t> as Validate>⟧.visits v.payment ctx)
-        and field "origin" (optional (λ x. ⟦<Origin<'t> as Validate>⟧.visits x ctx) v.origin) };
+        and field "payment" (⟦<Payment<'t> as Stated>⟧.visits v.payment ctx)
+        and field "origin" (optional (λ x. ⟦<Origin<'t> as Stated>⟧.visits x ctx) v.origin) };
+}
 
+impl<'t> Validate for Bill<'t> {
     fn validate_into<'a, H: I18n>(
         &'a self,
         alloc: Global,

@@ -3,7 +3,7 @@ ghost use Rattle.garde.specs.Fields.{◌and◌, each, field, found, length_max, 
 
 use crate::own::{CouponTermsRule, IsEven, IsInSeason, TagText};
 use garde::fields::{Adapt, Each, Field, Fields, Is, Prefix};
-use garde::{I18n, Report, Trail, Validate, length};
+use garde::{I18n, Report, Stated, Trail, Validate, length};
 use std::alloc::{AllocError, Global};
 
 /// What is asked of coupons.
@@ -24,13 +24,15 @@ pub struct Discount {
     pub further: Vec<u8>,
 }
 
-impl Validate for Discount {
+impl Stated for Discount {
     type Context = Season;
 
     ghost visits = { λ v season.
         field "percent" (found (⟦<IsInSeason<'static> as garde::fields::Rule<u8>>⟧.finds (record { 0 = reference_to season }) v.percent))
         and field "further" (each (λ x. found (⟦<IsInSeason<'static> as garde::fields::Rule<u8>>⟧.finds (record { 0 = reference_to season }) x)) v.further) };
+}
 
+impl Validate for Discount {
     fn validate_into<'a, H: I18n>(
         &'a self,
         alloc: Global,
@@ -56,14 +58,16 @@ pub struct Coupon {
     pub terms: bool,
 }
 
-impl Validate for Coupon {
+impl Stated for Coupon {
     type Context = ();
 
     ghost visits = { λ v _.
         field "number" (found (⟦<IsEven as garde::fields::Rule<u32>>⟧.finds (record {}) v.number))
         and field "tag" (prefix "t-" (⟦<TagText as garde::fields::View<Tag>>⟧.seen (record {}) v.tag) and length_max 6 (⟦<TagText as garde::fields::View<Tag>>⟧.seen (record {}) v.tag))
         and field "terms" (found (⟦<CouponTermsRule as garde::fields::Rule<bool>>⟧.finds (record {}) v.terms)) };
+}
 
+impl Validate for Coupon {
     fn validate_into<'a, H: I18n>(
         &'a self,
         alloc: Global,

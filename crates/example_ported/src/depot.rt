@@ -4,7 +4,7 @@ ghost use Rattle.garde.specs.Fields.{◌and◌, ascii, count_max, each_value, en
 ghost use Rattle.garde.specs.Author as bytes;
 
 use garde::fields::{Ascii, Dive, Each, Field, Fields, Is};
-use garde::{I18n, Report, Trail, Validate, length, range};
+use garde::{I18n, Report, Stated, Trail, Validate, length, range};
 use std::alloc::{AllocError, Global};
 use std::collections::{BTreeMap, HashMap, HashSet, LinkedList, VecDeque};
 use std::rc::Rc;
@@ -15,11 +15,13 @@ pub struct Door {
     pub width: u8,
 }
 
-impl Validate for Door {
+impl Stated for Door {
     type Context = ();
 
     ghost visits = { λ v _. field "width" (range_max 15 v.width) };
+}
 
+impl Validate for Door {
     fn validate_into<'a, H: I18n>(
         &'a self,
         alloc: Global,
@@ -46,7 +48,7 @@ pub struct Depot {
     pub doors: BTreeMap<String, Door>,
 }
 
-impl Validate for Depot {
+impl Stated for Depot {
     type Context = ();
 
     ghost visits = { λ v ctx.
@@ -56,9 +58,11 @@ impl Validate for Depot {
         and field "queue" (count_max 1 (length v.queue.items) and items (λ x. range_max 9 x) v.queue.items)
         and field "chain" (count_max 1 (length v.chain) and items (λ x. range_max 9 x) v.chain)
         and field "digits" (items (λ x. range_max 9 x) v.digits)
-        and field "gate" (⟦<Door as Validate>⟧.visits v.gate.value ctx)
-        and field "doors" (each_value (λ x. ⟦<Door as Validate>⟧.visits x ctx) v.doors) };
+        and field "gate" (⟦<Door as Stated>⟧.visits v.gate.value ctx)
+        and field "doors" (each_value (λ x. ⟦<Door as Stated>⟧.visits x ctx) v.doors) };
+}
 
+impl Validate for Depot {
     fn validate_into<'a, H: I18n>(
         &'a self,
         alloc: Global,

@@ -2,7 +2,7 @@
 ghost use Rattle.garde.specs.Fields.{◌and◌, field, length_min, range_max};
 
 use garde::fields::{Field, Fields, Is};
-use garde::{I18n, Report, Trail, Validate, length, range};
+use garde::{I18n, Report, Stated, Trail, Validate, length, range};
 use std::alloc::{AllocError, Global};
 
 /// A draft.
@@ -13,13 +13,15 @@ pub struct Draft {
     pub h: u8,
 }
 
-impl Validate for Draft {
+impl Stated for Draft {
     type Context = ();
 
     ghost visits = { λ v _.
         field "report" (length_min 1 v.report)
         and field "h" (range_max 9 v.h) };
+}
 
+impl Validate for Draft {
     fn validate_into<'a, H: I18n>(
         &'a self,
         alloc: Global,

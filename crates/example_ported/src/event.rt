@@ -3,7 +3,7 @@ ghost use Rattle.garde.specs.Fields.{◌and◌, ascii, field, item, length_max, 
 ghost use Rattle.example_ported.specs.declared.event.Event.TheVariants.{Move, Say, Wait, Pair, Stop, Mark};
 
 use garde::fields::{Ascii, Field, Fields, Is, Item};
-use garde::{I18n, Report, Trail, Validate, length, range};
+use garde::{I18n, Report, Stated, Trail, Validate, length, range};
 use std::alloc::{AllocError, Global};
 
 /// What happens.
@@ -29,7 +29,7 @@ pub enum Event {
     Mark(u8),
 }
 
-impl Validate for Event {
+impl Stated for Event {
     type Context = ();
 
     ghost visits = { λ v _. elim v as (λ _. Visits) [
@@ -40,7 +40,9 @@ impl Validate for Event {
       | Stop ↦ none
       | Mark _ ↦ none
     ] };
+}
 
+impl Validate for Event {
     fn validate_into<'a, H: I18n>(
         &'a self,
         alloc: Global,

@@ -4,7 +4,7 @@ ghost use Rattle.garde.specs.Author as bytes;
 ghost use Rattle.example_ported.specs.declared.generic.Choice.TheVariants.{Part, Name, Neither};
 
 use garde::fields::{Ascii, Dive, Each, Field, Fields, IfSome, Is, Item};
-use garde::{I18n, Report, Trail, Validate, range};
+use garde::{I18n, Report, Stated, Trail, Validate, range};
 use std::alloc::{AllocError, Global};
 
 /// Two parts under one context.
@@ -14,13 +14,15 @@ pub struct Couple<A, B> {
     pub right: Vec<B>,
 }
 
-impl<A: Validate, B: Validate<Context = A::Context>> Validate for Couple<A, B> {
+impl<A: Stated, B: Stated<Context = A::Context>> Stated for Couple<A, B> {
     type Context = A::Context;
 
     ghost visits = { λ v ctx.
         field "left" (A.visits v.left ctx)
         and field "right" (each (λ x. B.visits x ctx) v.right) };
+}
 
+impl<A: Validate, B: Validate<Context = A::Context>> Validate for Couple<A, B> {
     fn validate_into<'a, H: I18n>(
         &'a self,
         alloc: Global,
@@ -44,11 +46,13 @@ pub struct Plain<T> {
     pub part: Option<T>,
 }
 
-impl<T: Validate<Context = ()>> Validate for Plain<T> {
+impl<T: Stated<Context = ()>> Stated for Plain<T> {
     type Context = ();
 
     ghost visits = { λ v ctx. field "part" (optional (λ x. T.visits x ctx) v.part) };
+}
 
+impl<T: Validate<Context = ()>> Validate for Plain<T> {
     fn validate_into<'a, H: I18n>(
         &'a self,
         alloc: Global,
@@ -70,7 +74,7 @@ pub enum Choice<'a, T> {
     Neither,
 }
 
-impl<'t, T: Validate> Validate for Choice<'t, T> {
+impl<'t, T: Stated> Stated for Choice<'t, T> {
     type Context = T::Context;
 
     ghost visits = { λ v ctx. elim v as (λ _. Visits) [
@@ -78,7 +82,9 @@ impl<'t, T: Validate> Validate for Choice<'t, T> {
       | Name name ↦ field "name" (bytes.ascii name.now)
       | Neither ↦ none
     ] };
+}
 
+impl<'t, T: Validate> Validate for Choice<'t, T> {
     fn validate_into<'a, H: I18n>(
         &'a self,
         alloc: Global,
@@ -105,11 +111,13 @@ pub struct Grid<const N: usize> {
     pub cells: [u8; N],
 }
 
-impl<const N: usize> Validate for Grid<N> {
+impl<const N: usize> Stated for Grid<N> {
     type Context = ();
 
     ghost visits = { λ v _. field "cells" (items (λ x. range_max 9 x) v.cells) };
+}
 
+impl<const N: usize> Validate for Grid<N> {
     fn validate_into<'a, H: I18n>(
         &'a self,
         alloc: Global,
@@ -130,11 +138,13 @@ pub struct Labelled<T> {
     pub label: String,
 }
 
-impl<T> Validate for Labelled<T> {
+impl<T> Stated for Labelled<T> {
     type Context = ();
 
     ghost visits = { λ v _. field "label" (ascii v.label) };
+}
 
+impl<T> Validate for Labelled<T> {
     fn validate_into<'a, H: I18n>(
         &'a self,
         alloc: Global,

@@ -2,7 +2,7 @@
 ghost use Rattle.garde.specs.Fields.{◌and◌, ascii, each, each_of_option, field, items_max, length_min, optional, range_between, range_max, required, url};
 
 use garde::fields::{Ascii, Each, Field, Fields, IfSome, Is, IsInMemory, Required, Url};
-use garde::{I18n, Report, Trail, Validate, length, range};
+use garde::{I18n, Report, Stated, Trail, Validate, length, range};
 use std::alloc::{AllocError, Global};
 
 /// Who comes.
@@ -15,7 +15,7 @@ pub struct Guest {
     pub seats: Option<Vec<Option<u8>>>,
 }
 
-impl Validate for Guest {
+impl Stated for Guest {
     type Context = ();
 
     ghost visits = { λ v _.
@@ -24,7 +24,9 @@ impl Validate for Guest {
         and field "site" (optional (λ x. url x) v.site)
         and field "motto" (each_of_option (λ x. ascii x) v.motto)
         and field "seats" (optional (λ x. items_max 2 x) v.seats and each_of_option (λ x. each (λ y. optional (λ z. range_max 9 z) y) x) v.seats) };
+}
 
+impl Validate for Guest {
     fn validate_into<'a, H: I18n>(
         &'a self,
         alloc: Global,

@@ -6,7 +6,7 @@ ghost use Rattle.garde.specs.Author as bytes;
 
 use crate::own::IsShort;
 use garde::fields::{Alphanumeric, Ascii, Contains, Each, Field, Fields, IfSome, Is, Prefix};
-use garde::{I18n, Report, Trail, Validate, length};
+use garde::{I18n, Report, Stated, Trail, Validate, length};
 use std::alloc::{AllocError, Global};
 use std::borrow::CowStr;
 
@@ -20,7 +20,7 @@ pub struct Label<'a> {
     pub mark: &'a str,
 }
 
-impl<'t> Validate for Label<'t> {
+impl<'t> Stated for Label<'t> {
     type Context = ();
 
     ghost visits = { λ v _.
@@ -29,7 +29,9 @@ impl<'t> Validate for Label<'t> {
         and field "code" (optional (λ x. bytes.contains (codes "-") x.now and count_min 2 (bytes.grapheme_count x.now)) v.code)
         and field "text" (bytes.alphanumeric (cow_str_bytes v.text))
         and field "mark" (found (⟦<IsShort as garde::fields::Rule<&'t str>>⟧.finds (record {}) v.mark)) };
+}
 
+impl<'t> Validate for Label<'t> {
     fn validate_into<'a, H: I18n>(
         &'a self,
         alloc: Global,

@@ -3,7 +3,7 @@ ghost use Rattle.std.specs.Prelude.{is_some, ◌&&◌, ◌||◌};
 ghost use Rattle.garde.specs.Fields.{◌and◌, ascii, each, field, items_min, length_between, length_max, length_min, nat_le, not, optional, prefix, range_max, required, when};
 
 use garde::fields::{Ascii, Each, Field, Fields, IfSome, Is, Prefix, Required, When};
-use garde::{I18n, Report, Trail, Validate, length, range};
+use garde::{I18n, Report, Stated, Trail, Validate, length, range};
 use std::alloc::{AllocError, Global};
 
 /// What a printer takes.
@@ -26,7 +26,7 @@ pub struct Page {
     pub number: u16,
 }
 
-impl Validate for Page {
+impl Stated for Page {
     type Context = Press;
 
     ghost visits = { λ v press.
@@ -37,7 +37,9 @@ impl Validate for Page {
         and field "source" (when (is_some v.content) (length_min 1 v.source))
         and field "volume" (when (nat_le 10 v.number) (ascii v.volume) and length_min 1 v.volume)
         and field "number" (range_max 99 v.number) };
+}
 
+impl Validate for Page {
     fn validate_into<'a, H: I18n>(
         &'a self,
         alloc: Global,

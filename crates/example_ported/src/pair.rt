@@ -2,7 +2,7 @@
 ghost use Rattle.garde.specs.Fields.{◌and◌, field, length_max, matches, nat_eq, option_eq, optional, range_between, text_eq};
 
 use garde::fields::{Field, Fields, IfSome, Is, Matches};
-use garde::{I18n, Report, Trail, Validate, length, range};
+use garde::{I18n, Report, Stated, Trail, Validate, length, range};
 use std::alloc::{AllocError, Global};
 
 /// Who changes an account.
@@ -14,7 +14,7 @@ pub struct Pair {
     pub pin_again: u32,
 }
 
-impl Validate for Pair {
+impl Stated for Pair {
     type Context = ();
 
     ghost visits = { λ v _.
@@ -22,7 +22,9 @@ impl Validate for Pair {
         and field "mail_again" (matches "mail" (option_eq text_eq v.mail_again v.mail))
         and field "pin" (range_between 1000 9999 v.pin)
         and field "pin_again" (matches "pin" (nat_eq v.pin_again v.pin)) };
+}
 
+impl Validate for Pair {
     fn validate_into<'a, H: I18n>(
         &'a self,
         alloc: Global,

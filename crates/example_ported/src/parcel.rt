@@ -4,7 +4,7 @@ ghost use Rattle.garde.specs.Fields.{◌and◌, byte_count, char_count, codes, c
 ghost use Rattle.garde.specs.Author as bytes;
 
 use garde::fields::{Alphanumeric, Ascii, Dive, Each, Field, Fields, IfSome, Is, Prefix, Required};
-use garde::{I18n, Report, Trail, Valid, Validate, length, range};
+use garde::{I18n, Report, Stated, Trail, Valid, Validate, length, range};
 use garde_schema::{
     Build, Built, Checked, Closed, Entries, Flag, FormI18n, Items, ListUnder, MapUnder, Member,
     Nullish, Object, OneOf, ReadError, Scratch, Text, TextRef, U8, U16, U32, Under, Whole,
@@ -29,13 +29,15 @@ pub struct Thing<'t> {
     pub fragile: bool,
 }
 
-impl<'t> Validate for Thing<'t> {
+impl<'t> Stated for Thing<'t> {
     type Context = ();
 
     ghost visits = { λ v _.
         field "name" (bytes.ascii v.name and count_between 2 20 (byte_count v.name))
         and field "pieces" (range_between 1 99 v.pieces) };
+}
 
+impl<'t> Validate for Thing<'t> {
     fn validate_into<'a, H: I18n>(
         &'a self,
         alloc: Global,
@@ -70,7 +72,7 @@ pub struct Parcel<'t> {
     pub labels: Entries<'t, TextRef<'t>>,
 }
 
-impl<'t> Validate for Parcel<'t> {
+impl<'t> Stated for Parcel<'t> {
     type Context = ();
 
     ghost visits = { λ v ctx.
@@ -78,10 +80,12 @@ impl<'t> Validate for Parcel<'t> {
         and field "sent_to" (count_between 1 80 (char_count v.sent_to))
         and field "phone" (optional (λ x. bytes.prefix (codes "+") x and count_max 16 (byte_count x)) v.phone)
         and field "weight" (required v.weight and optional (λ x. range_max 30000 x) v.weight)
-        and field "things" (count_between 1 50 (length v.things) and items (λ x. ⟦<Thing<'t> as Validate>⟧.visits x ctx) v.things)
+        and field "things" (count_between 1 50 (length v.things) and items (λ x. ⟦<Thing<'t> as Stated>⟧.visits x ctx) v.things)
         and field "marks" (count_max 5 (length v.marks) and items (λ x. bytes.alphanumeric x) v.marks)
         and field "labels" (count_max 3 (length v.labels)) };
+}
 
+impl<'t> Validate for Parcel<'t> {
     fn validate_into<'a, H: I18n>(
         &'a self,
         alloc: Global,

@@ -3,7 +3,7 @@ ghost use Rattle.garde.specs.Fields.{◌and◌, Any, chars_max, contains, field,
 
 use garde::fields::{Contains, Field, Fields, Ip, Is, IsInMemory, Prefix, Suffix, Url};
 use garde::i18n::IpKind;
-use garde::{I18n, Report, Trail, Validate, length};
+use garde::{I18n, Report, Stated, Trail, Validate, length};
 use std::alloc::{AllocError, Global};
 
 /// A place on the network.
@@ -20,7 +20,7 @@ pub struct Place {
     pub title: String,
 }
 
-impl Validate for Place {
+impl Stated for Place {
     type Context = ();
 
     ghost visits = { λ v _.
@@ -33,7 +33,9 @@ impl Validate for Place {
         and field "sign" (graphemes_between 1 3 v.sign)
         and field "short" (utf16_max 2 v.short)
         and field "title" (length_min 2 v.title and chars_max 4 v.title) };
+}
 
+impl Validate for Place {
     fn validate_into<'a, H: I18n>(
         &'a self,
         alloc: Global,

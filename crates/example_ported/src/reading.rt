@@ -2,7 +2,7 @@
 ghost use Rattle.garde.specs.Fields.{◌and◌, field, i16_min, i64_max, minus, pos, range_between, range_equal, range_max, signed_between, signed_equal, u8_min};
 
 use garde::fields::{Field, Fields, Is};
-use garde::{I18n, Report, Trail, Validate, range};
+use garde::{I18n, Report, Stated, Trail, Validate, range};
 use std::alloc::{AllocError, Global};
 
 /// What an instrument shows.
@@ -18,7 +18,7 @@ pub struct Reading {
     pub drift: i8,
 }
 
-impl Validate for Reading {
+impl Stated for Reading {
     type Context = ();
 
     ghost visits = { λ v _.
@@ -30,7 +30,9 @@ impl Validate for Reading {
         and field "depth" (i64_max (minus 1) v.depth)
         and field "tilt" (signed_between (minus 10) (pos 10) v.tilt)
         and field "drift" (signed_equal (pos 0) v.drift) };
+}
 
+impl Validate for Reading {
     fn validate_into<'a, H: I18n>(
         &'a self,
         alloc: Global,

@@ -2,7 +2,7 @@
 ghost use Rattle.garde.specs.Fields.{◌and◌, alphanumeric, ascii, each, each_numbered, each_of_set, each_value, field, items_between, items_min, length_equal, length_max, length_min, map_max, range_between, set_min};
 
 use garde::fields::{Alphanumeric, Ascii, Each, Field, Fields, Is};
-use garde::{I18n, Report, Trail, Validate, length, range};
+use garde::{I18n, Report, Stated, Trail, Validate, length, range};
 use std::alloc::{AllocError, Global};
 use std::collections::{BTreeMap, BTreeSet};
 
@@ -16,7 +16,7 @@ pub struct Shop {
     pub rows: Vec<Vec<String>>,
 }
 
-impl Validate for Shop {
+impl Stated for Shop {
     type Context = ();
 
     ghost visits = { λ v _.
@@ -25,7 +25,9 @@ impl Validate for Shop {
         and field "shelves" (each_numbered (λ x. alphanumeric x) v.shelves)
         and field "marks" (set_min 1 v.marks and each_of_set (λ x. length_max 8 x) v.marks)
         and field "rows" (each (λ x. items_min 1 x and each (λ y. ascii y and length_equal 1 y) x) v.rows) };
+}
 
+impl Validate for Shop {
     fn validate_into<'a, H: I18n>(
         &'a self,
         alloc: Global,

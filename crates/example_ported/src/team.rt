@@ -2,7 +2,7 @@
 ghost use Rattle.garde.specs.Fields.{◌and◌, ascii, chars_between, each, each_of_option, field, items_between, optional, u8_min};
 
 use garde::fields::{Ascii, Dive, Each, Field, Fields, IfSome, Is};
-use garde::{I18n, Report, Trail, Validate, length, range};
+use garde::{I18n, Report, Stated, Trail, Validate, length, range};
 use std::alloc::{AllocError, Global};
 
 /// What is asked of a member.
@@ -27,13 +27,15 @@ pub struct Member {
     pub title: String,
 }
 
-impl Validate for Member {
+impl Stated for Member {
     type Context = Terms;
 
     ghost visits = { λ v terms.
         field "years" (u8_min terms.age v.age)
         and field "title" (chars_between 1 terms.title v.title) };
+}
 
+impl Validate for Member {
     fn validate_into<'a, H: I18n>(
         &'a self,
         alloc: Global,
@@ -65,16 +67,18 @@ pub struct Team {
     pub reserve: Option<Member>,
 }
 
-impl Validate for Team {
+impl Stated for Team {
     type Context = League;
 
     ghost visits = { λ v league.
-        field "members" (items_between 1 league.most v.members and each (λ x. ⟦<Member as Validate>⟧.visits x league.members) v.members)
-        and field "captain" (⟦<Member as Validate>⟧.visits v.captain.value league.members)
-        and field "coach" (optional (λ x. ⟦<Member as Validate>⟧.visits x league.members) v.coach)
-        and field "home" (⟦<Ground as Validate>⟧.visits v.ground tt)
-        and field "reserve" (each_of_option (λ x. ⟦<Member as Validate>⟧.visits x league.members) v.reserve) };
+        field "members" (items_between 1 league.most v.members and each (λ x. ⟦<Member as Stated>⟧.visits x league.members) v.members)
+        and field "captain" (⟦<Member as Stated>⟧.visits v.captain.value league.members)
+        and field "coach" (optional (λ x. ⟦<Member as Stated>⟧.visits x league.members) v.coach)
+        and field "home" (⟦<Ground as Stated>⟧.visits v.ground tt)
+        and field "reserve" (each_of_option (λ x. ⟦<Member as Stated>⟧.visits x league.members) v.reserve) };
+}
 
+impl Validate for Team {
     fn validate_into<'a, H: I18n>(
         &'a self,
         alloc: Global,
@@ -114,11 +118,13 @@ pub struct Ground {
     pub town: String,
 }
 
-impl Validate for Ground {
+impl Stated for Ground {
     type Context = ();
 
     ghost visits = { λ v _. field "town" (ascii v.town) };
+}
 
+impl Validate for Ground {
     fn validate_into<'a, H: I18n>(
         &'a self,
         alloc: Global,
@@ -139,13 +145,15 @@ pub struct Cup {
     pub winner: Option<Team>,
 }
 
-impl Validate for Cup {
+impl Stated for Cup {
     type Context = League;
 
     ghost visits = { λ v ctx.
-        field "teams" (each (λ x. ⟦<Team as Validate>⟧.visits x ctx) v.teams)
-        and field "winner" (optional (λ x. ⟦<Team as Validate>⟧.visits x ctx) v.winner) };
+        field "teams" (each (λ x. ⟦<Team as Stated>⟧.visits x ctx) v.teams)
+        and field "winner" (optional (λ x. ⟦<Team as Stated>⟧.visits x ctx) v.winner) };
+}
 
+impl Validate for Cup {
     fn validate_into<'a, H: I18n>(
         &'a self,
         alloc: Global,

@@ -3,7 +3,7 @@ ghost use Rattle.garde.specs.Fields.{◌and◌, ascii, each, field, optional, pa
 
 use garde::fields::{Ascii, Dive, Each, Field, Fields, IfSome, Is, IsInMemory, Pattern};
 use garde::rules::pattern::regex::Regex;
-use garde::{I18n, Report, Trail, Validate, range};
+use garde::{I18n, Report, Stated, Trail, Validate, range};
 use std::alloc::{AllocError, Global};
 
 /// The compiled patterns of visitors.
@@ -20,13 +20,15 @@ pub struct Visitor {
     pub phone: Option<String>,
 }
 
-impl Validate for Visitor {
+impl Stated for Visitor {
     type Context = Patterns;
 
     ghost visits = { λ v patterns.
         field "mail" (ascii v.mail and pattern patterns.mail v.mail)
         and field "phone" (optional (λ x. pattern patterns.phone x) v.phone) };
+}
 
+impl Validate for Visitor {
     fn validate_into<'a, H: I18n>(
         &'a self,
         alloc: Global,
@@ -65,14 +67,16 @@ pub struct BadgePatterns {
     pub colors: Regex,
 }
 
-impl Validate for Badge {
+impl Stated for Badge {
     type Context = BadgePatterns;
 
     ghost visits = { λ v ctx.
         field "number" (pattern ctx.number v.number)
         and field "colors" (each (λ x. pattern ctx.colors x) v.colors)
-        and field "desk" (⟦<Desk as Validate>⟧.visits v.desk tt) };
+        and field "desk" (⟦<Desk as Stated>⟧.visits v.desk tt) };
+}
 
+impl Validate for Badge {
     fn validate_into<'a, H: I18n>(
         &'a self,
         alloc: Global,
@@ -101,11 +105,13 @@ pub struct Desk {
     pub floor: u8,
 }
 
-impl Validate for Desk {
+impl Stated for Desk {
     type Context = ();
 
     ghost visits = { λ v _. field "floor" (range_max 9 v.floor) };
+}
 
+impl Validate for Desk {
     fn validate_into<'a, H: I18n>(
         &'a self,
         alloc: Global,

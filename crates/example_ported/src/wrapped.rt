@@ -2,18 +2,20 @@
 ghost use Rattle.garde.specs.Fields.{◌and◌, ascii, each, field, item, length_max, length_min, none, range_max};
 
 use garde::fields::{Ascii, Dive, Each, Field, Fields, Is, Item, Transparent};
-use garde::{I18n, Report, Trail, Validate, length, range};
+use garde::{I18n, Report, Stated, Trail, Validate, length, range};
 use std::alloc::{AllocError, Global};
 
 /// A name that adds no component.
 #[derive(Drop)]
 pub struct Nickname(pub String);
 
-impl Validate for Nickname {
+impl Stated for Nickname {
     type Context = ();
 
     ghost visits = { λ v _. length_min 3 v.0 };
+}
 
+impl Validate for Nickname {
     fn validate_into<'a, H: I18n>(
         &'a self,
         alloc: Global,
@@ -33,11 +35,13 @@ pub struct Code {
     pub text: String,
 }
 
-impl Validate for Code {
+impl Stated for Code {
     type Context = ();
 
     ghost visits = { λ v _. ascii v.text and length_max 4 v.text };
+}
 
+impl Validate for Code {
     fn validate_into<'a, H: I18n>(
         &'a self,
         alloc: Global,
@@ -55,11 +59,13 @@ impl Validate for Code {
 #[derive(Drop)]
 pub struct Numbered(pub String);
 
-impl Validate for Numbered {
+impl Stated for Numbered {
     type Context = ();
 
     ghost visits = { λ v _. item 0 (length_min 3 v.0) };
+}
 
+impl Validate for Numbered {
     fn validate_into<'a, H: I18n>(
         &'a self,
         alloc: Global,
@@ -77,11 +83,13 @@ impl Validate for Numbered {
 #[derive(Drop)]
 pub struct Triple(pub String, pub u8, pub u8);
 
-impl Validate for Triple {
+impl Stated for Triple {
     type Context = ();
 
     ghost visits = { λ v _. item 0 (ascii v.0) and item 2 (range_max 9 v.2) };
+}
 
+impl Validate for Triple {
     fn validate_into<'a, H: I18n>(
         &'a self,
         alloc: Global,
@@ -106,13 +114,15 @@ pub struct Holder<T> {
     pub label: String,
 }
 
-impl<T: Validate> Validate for Holder<T> {
+impl<T: Stated> Stated for Holder<T> {
     type Context = T::Context;
 
     ghost visits = { λ v ctx.
         field "value" (T.visits v.value ctx)
         and field "label" (length_min 1 v.label) };
+}
 
+impl<T: Validate> Validate for Holder<T> {
     fn validate_into<'a, H: I18n>(
         &'a self,
         alloc: Global,
@@ -134,11 +144,13 @@ impl<T: Validate> Validate for Holder<T> {
 #[derive(Drop)]
 pub struct Boxes<T>(pub Vec<Box<T>>);
 
-impl<T: Validate> Validate for Boxes<T> {
+impl<T: Stated> Stated for Boxes<T> {
     type Context = T::Context;
 
     ghost visits = { λ v ctx. each (λ x. T.visits x.value ctx) v.0 };
+}
 
+impl<T: Validate> Validate for Boxes<T> {
     fn validate_into<'a, H: I18n>(
         &'a self,
         alloc: Global,
@@ -156,11 +168,13 @@ impl<T: Validate> Validate for Boxes<T> {
 #[derive(Clone, Copy)]
 pub struct Nothing;
 
-impl Validate for Nothing {
+impl Stated for Nothing {
     type Context = ();
 
     ghost visits = { λ v _. none };
+}
 
+impl Validate for Nothing {
     fn validate_into<'a, H: I18n>(
         &'a self,
         alloc: Global,

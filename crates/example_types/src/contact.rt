@@ -3,7 +3,7 @@
 ghost use Rattle.garde.specs.Fields.{◌and◌, asks, either, field, is_some, items_max, matches, option_eq, required_if, text_eq, text_is, unique};
 
 use garde::fields::{Asks, Field, Fields, Is, Matches, RequiredIf, Same, Unique};
-use garde::{I18n, Report, Trail, Validate, length};
+use garde::{I18n, Report, Stated, Trail, Validate, length};
 use std::alloc::{AllocError, Global};
 
 /// A link, with the title that it is shown under.
@@ -36,7 +36,7 @@ pub struct Contact {
     pub links: Vec<Link>,
 }
 
-impl Validate for Contact {
+impl Stated for Contact {
     type Context = ();
 
     ghost visits = { λ v _.
@@ -45,7 +45,9 @@ impl Validate for Contact {
         and field "again" (matches "email" (option_eq text_eq v.again v.email))
         and field "links" (items_max 9 v.links
         and unique "there is a link of this title" (λ one other. text_eq one.title other.title) v.links) };
+}
 
+impl Validate for Contact {
     fn validate_into<'a, H: I18n>(
         &'a self,
         alloc: Global,

@@ -3,7 +3,7 @@ ghost use Rattle.garde.specs.Fields.{Visits, field, item, signed_between, minus,
 ghost use Rattle.example_types.specs.declared.data.Data.TheVariants.{Struct, Tuple};
 
 use garde::fields::{Field, Fields, Is, check_under};
-use garde::{Component, I18n, Report, Trail, Validate, range};
+use garde::{Component, I18n, Report, Stated, Trail, Validate, range};
 use std::alloc::{AllocError, Global};
 
 /// A number from -10 to 10, with a name or with a place.
@@ -15,14 +15,16 @@ pub enum Data {
     Tuple(i32),
 }
 
-impl Validate for Data {
+impl Stated for Data {
     type Context = ();
 
     ghost visits = { λ v _. elim v as (λ _. Visits) [
       | Struct number ↦ field "field" (signed_between (minus 10) (pos 10) number)
       | Tuple number ↦ item 0 (signed_between (minus 10) (pos 10) number)
     ] };
+}
 
+impl Validate for Data {
     fn validate_into<'a, H: I18n>(
         &'a self,
         alloc: Global,

@@ -5,7 +5,7 @@ ghost use Rattle.garde.specs.Author.{ascii, entries, key_part, key_place, string
 use garde::error::Component;
 use garde::fields::{Ascii, Is, check_under};
 use garde::rules::inner::{self, Inner};
-use garde::{I18n, Report, Trail, Validate};
+use garde::{I18n, Report, Stated, Trail, Validate};
 use std::alloc::{AllocError, Global};
 
 /// Rows in the order in which they came, each under its key.
@@ -45,11 +45,13 @@ pub struct Ledger {
     pub owners: Pairs<String>,
 }
 
-impl Validate for Ledger {
+impl Stated for Ledger {
     type Context = ();
 
     ghost visits = { λ v _. entries (λ k. key_part (string_bytes k)) (λ owner. ascii (string_bytes owner)) v.owners.rows.items };
+}
 
+impl Validate for Ledger {
     fn validate_into<'a, H: I18n>(
         &'a self,
         alloc: Global,

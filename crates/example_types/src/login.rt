@@ -2,7 +2,7 @@
 ghost use Rattle.garde.specs.Fields.{◌and◌, field, ascii, length_between, length_min};
 
 use garde::fields::{Ascii, Field, Fields, Is};
-use garde::{I18n, Report, Trail, Validate, length};
+use garde::{I18n, Report, Stated, Trail, Validate, length};
 use std::alloc::{AllocError, Global};
 
 /// Who logs in: a name of 3 to 25 bytes of ASCII, and a password of 15 bytes at least.
@@ -14,13 +14,15 @@ pub struct Login {
     pub remember: bool,
 }
 
-impl Validate for Login {
+impl Stated for Login {
     type Context = ();
 
     ghost visits = { λ v _.
         field "username" (ascii v.username and length_between 3 25 v.username)
         and field "password" (length_min 15 v.password) };
+}
 
+impl Validate for Login {
     fn validate_into<'a, H: I18n>(
         &'a self,
         alloc: Global,

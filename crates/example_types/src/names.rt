@@ -4,7 +4,7 @@ ghost use Rattle.garde.specs.Author.{Visited, ascii, under, codes, field, each_o
 
 use garde::fields::{Ascii, Check, Field, Fields, Is, Length, Required, check_under};
 use garde::rules::inner;
-use garde::{I18n, Report, Trail, Validate};
+use garde::{I18n, Report, Stated, Trail, Validate};
 use std::alloc::{AllocError, Global};
 
 /// One name at least, each of them set, of ASCII and not empty.
@@ -13,14 +13,16 @@ pub struct Names {
     pub items: Vec<Option<String>>,
 }
 
-impl Validate for Names {
+impl Stated for Names {
     type Context = ();
 
     ghost visits = { λ v _.
         field (codes "items") (length_in 1 (2 ^ 64 - 1) (length v.items.items)
         and items (λ name. required name) v.items.items
         and items (λ name. each_of_option (λ text. ascii (string_bytes text) and length_in 1 (2 ^ 64 - 1) (length (string_bytes text))) name) v.items.items) };
+}
 
+impl Validate for Names {
     fn validate_into<'a, H: I18n>(
         &'a self,
         alloc: Global,

@@ -2,7 +2,7 @@
 ghost use Rattle.garde.specs.Fields.{◌and◌, field, ascii, length_between, chars_between, range_between, each, optional};
 
 use garde::fields::{Ascii, Each, Field, Fields, IfSome, Is};
-use garde::{I18n, Report, Trail, Validate, all, length, range};
+use garde::{I18n, Report, Stated, Trail, Validate, all, length, range};
 use std::alloc::{AllocError, Global};
 
 /// What is sent, to whom and where.
@@ -17,7 +17,7 @@ pub struct Order {
     pub parcels: u32,
 }
 
-impl Validate for Order {
+impl Stated for Order {
     type Context = ();
 
     ghost visits = { λ v _.
@@ -28,7 +28,9 @@ impl Validate for Order {
         and field "lines" (each (λ line. length_between 1 80 line) v.lines)
         and field "note" (optional (λ text. chars_between 1 200 text) v.note)
         and field "parcels" (range_between 1 20 v.parcels) };
+}
 
+impl Validate for Order {
     fn validate_into<'a, H: I18n>(
         &'a self,
         alloc: Global,

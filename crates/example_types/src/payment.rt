@@ -6,7 +6,7 @@ ghost use Rattle.garde.specs.Phones.{TooLong};
 use garde::fields::{CreditCard, Field, Fields, Is, PhoneNumber};
 use garde::i18n::{InvalidCreditCard, InvalidPhoneNumber};
 use garde::rules::{credit_card, phone_number};
-use garde::{I18n, Report, Trail, Validate};
+use garde::{I18n, Report, Stated, Trail, Validate};
 use std::alloc::{AllocError, Global};
 
 /// A card's number, of 16 bytes.
@@ -48,13 +48,15 @@ pub struct Payment {
     pub phone: PhoneText,
 }
 
-impl Validate for Payment {
+impl Stated for Payment {
     type Context = ();
 
     ghost visits = { λ v _.
         field "card" (credit_card (⟦<CardText as credit_card::CreditCard>⟧.answer v.card))
         and field "phone" (phone_number (⟦<PhoneText as phone_number::PhoneNumber>⟧.answer v.phone)) };
+}
 
+impl Validate for Payment {
     fn validate_into<'a, H: I18n>(
         &'a self,
         alloc: Global,

@@ -3,7 +3,7 @@ ghost use Rattle.garde.specs.Fields.{◌and◌, field, ascii, chars_max, require
 ghost use Rattle.garde.specs.Finds as rules;
 
 use garde::fields::{Ascii, Field, Fields, IfSome, Is, IsInMemory, Required, Url};
-use garde::{I18n, Report, Trail, Validate, length, range};
+use garde::{I18n, Report, Stated, Trail, Validate, length, range};
 use std::alloc::{AllocError, Global};
 
 /// What people say of themselves. A name has to be there.
@@ -15,7 +15,7 @@ pub struct Profile {
     pub page: Option<String>,
 }
 
-impl Validate for Profile {
+impl Stated for Profile {
     type Context = ();
 
     ghost visits = { λ v _.
@@ -23,7 +23,9 @@ impl Validate for Profile {
         and field "age" (of_option (λ age. rules.u8_min 18 age) v.age)
         and field "motto" (optional (λ motto. ascii motto and chars_max 40 motto) v.motto)
         and field "page" (may_allocate (of_option (λ page. rules.url page) v.page)) };
+}
 
+impl Validate for Profile {
     fn validate_into<'a, H: I18n>(
         &'a self,
         alloc: Global,

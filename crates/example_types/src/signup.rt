@@ -6,7 +6,7 @@ use garde::fields::{
     Field, Fields, IfSome, Is, Matches, Required, Rule, Suffix, When, WithMessage,
 };
 use garde::rules::ip::{is_ipv4, is_ipv6};
-use garde::{I18n, Report, RuleError, Trail, Validate, length, range};
+use garde::{I18n, Report, RuleError, Stated, Trail, Validate, length, range};
 use std::alloc::{AllocError, Global};
 use std::borrow::CowStr;
 
@@ -44,7 +44,7 @@ fn is_address(host: &str) -> bool
     is_ipv4(host) || is_ipv6(host)
 }
 
-impl Validate for Signup {
+impl Stated for Signup {
     type Context = ();
 
     ghost visits = { λ v _.
@@ -54,7 +54,9 @@ impl Validate for Signup {
         and field "age" (required v.age and optional (λ age. range_between 18 120 age) v.age)
         and field "host" (when (not (either (is_ipv4 v.host) (is_ipv6 v.host))) (suffix ".org" v.host))
         and field "terms" (asks "accept the terms" v.terms) };
+}
 
+impl Validate for Signup {
     fn validate_into<'a, H: I18n>(
         &'a self,
         alloc: Global,

@@ -2,7 +2,7 @@
 ghost use Rattle.garde.specs.Fields.{◌and◌, not, nat_eq, nat_lt, remainder, field, asks, message_unless};
 
 use garde::fields::{Field, Fields, Is, Rule};
-use garde::{I18n, Report, RuleError, Trail, Validate};
+use garde::{I18n, Report, RuleError, Stated, Trail, Validate};
 use std::alloc::{AllocError, Global};
 use std::borrow::CowStr;
 
@@ -45,13 +45,15 @@ pub struct Stay {
     pub departure: u32,
 }
 
-impl Validate for Stay {
+impl Stated for Stay {
     type Context = ();
 
     ghost visits = { λ v _.
         field "arrival" (asks "closed on Mondays" (not (nat_eq (remainder v.arrival 7) 0)))
         and field "departure" (asks "leave after you arrive" (nat_lt v.arrival v.departure)) };
+}
 
+impl Validate for Stay {
     fn validate_into<'a, H: I18n>(
         &'a self,
         alloc: Global,

@@ -2,7 +2,7 @@
 ghost use Rattle.garde.specs.Fields.{◌and◌, field, ascii, length_max, range_between, map_between, each_value, each_numbered, each_signed, set_max, each_of_set};
 
 use garde::fields::{Ascii, Each, Field, Fields, Is};
-use garde::{I18n, Report, Trail, Validate, length, range};
+use garde::{I18n, Report, Stated, Trail, Validate, length, range};
 use std::alloc::{AllocError, Global};
 use std::collections::{BTreeMap, BTreeSet};
 
@@ -16,7 +16,7 @@ pub struct Stock {
     pub marks: BTreeSet<String>,
 }
 
-impl Validate for Stock {
+impl Stated for Stock {
     type Context = ();
 
     ghost visits = { λ v _.
@@ -24,7 +24,9 @@ impl Validate for Stock {
         and field "shelves" (map_between 1 9 v.shelves and each_numbered (λ name. ascii name) v.shelves)
         and field "floors" (each_signed (λ name. length_max 20 name) v.floors)
         and field "marks" (set_max 9 v.marks and each_of_set (λ mark. length_max 8 mark) v.marks) };
+}
 
+impl Validate for Stock {
     fn validate_into<'a, H: I18n>(
         &'a self,
         alloc: Global,

@@ -2,7 +2,7 @@
 ghost use Rattle.garde.specs.Fields.{◌and◌, field, ascii, length_min, items_min, each};
 
 use garde::fields::{Ascii, Each, Field, Fields, Is};
-use garde::{I18n, Report, Trail, Validate, length};
+use garde::{I18n, Report, Stated, Trail, Validate, length};
 use std::alloc::{AllocError, Global};
 
 /// Rows of one cell at least, each of ASCII and not empty.
@@ -11,13 +11,15 @@ pub struct Table {
     pub rows: Vec<Vec<String>>,
 }
 
-impl Validate for Table {
+impl Stated for Table {
     type Context = ();
 
     ghost visits = { λ v _. field "rows"
         (each (λ row. items_min 1 row
         and each (λ cell. ascii cell and length_min 1 cell) row) v.rows) };
+}
 
+impl Validate for Table {
     fn validate_into<'a, H: I18n>(
         &'a self,
         alloc: Global,

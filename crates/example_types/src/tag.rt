@@ -2,7 +2,7 @@
 ghost use Rattle.garde.specs.Author.{codes, length, ◌and◌, field, ascii, length_in, items};
 
 use garde::fields::{Ascii, Each, Field, Fields, Is};
-use garde::{I18n, Report, Trail, Validate, length};
+use garde::{I18n, Report, Stated, Trail, Validate, length};
 use std::alloc::{AllocError, Global};
 
 /// A name, and other names for the same.
@@ -12,13 +12,15 @@ pub struct Tag<'t> {
     pub also: &'t [&'t str],
 }
 
-impl<'t> Validate for Tag<'t> {
+impl<'t> Stated for Tag<'t> {
     type Context = ();
 
     ghost visits = { λ v _.
         field (codes "name") (ascii v.name.now and length_in 1 9 (length v.name.now))
         and field (codes "also") (items (λ name. ascii name.now) v.also.now) };
+}
 
+impl<'t> Validate for Tag<'t> {
     fn validate_into<'a, H: I18n>(
         &'a self,
         alloc: Global,

@@ -2,7 +2,7 @@
 ghost use Rattle.garde.specs.Fields.{◌and◌, field, ascii, length_between, chars_between, u8_min, items_between, each, optional};
 
 use garde::fields::{Ascii, Dive, Each, Field, Fields, IfSome, Is};
-use garde::{I18n, Report, Trail, Validate, length, range};
+use garde::{I18n, Report, Stated, Trail, Validate, length, range};
 use std::alloc::{AllocError, Global};
 
 /// What a league asks of its teams.
@@ -21,13 +21,15 @@ pub struct Member {
     pub age: u8,
 }
 
-impl Validate for Member {
+impl Stated for Member {
     type Context = League;
 
     ghost visits = { λ v league.
         field "nickname" (chars_between 1 20 v.nickname)
         and field "age" (u8_min league.least_age v.age) };
+}
 
+impl Validate for Member {
     fn validate_into<'a, H: I18n>(
         &'a self,
         alloc: Global,
@@ -54,16 +56,18 @@ pub struct Team {
     pub motto: Option<String>,
 }
 
-impl Validate for Team {
+impl Stated for Team {
     type Context = League;
 
     ghost visits = { λ v league.
         field "name" (ascii v.name and length_between 3 25 v.name)
         and field "members" (items_between 1 league.most_members v.members
-        and each (λ member. ⟦<Member as Validate>⟧.visits member league) v.members)
-        and field "captain" (⟦<Member as Validate>⟧.visits v.captain league)
+        and each (λ member. ⟦<Member as Stated>⟧.visits member league) v.members)
+        and field "captain" (⟦<Member as Stated>⟧.visits v.captain league)
         and field "motto" (optional (λ text. chars_between 1 40 text) v.motto) };
+}
 
+impl Validate for Team {
     fn validate_into<'a, H: I18n>(
         &'a self,
         alloc: Global,

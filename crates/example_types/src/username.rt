@@ -2,18 +2,20 @@
 ghost use Rattle.garde.specs.Fields.{field, item, length_min};
 
 use garde::fields::{Check, Dive, Field, Fields, Is, check_under};
-use garde::{Component, I18n, Report, Trail, Validate, length};
+use garde::{Component, I18n, Report, Stated, Trail, Validate, length};
 use std::alloc::{AllocError, Global};
 
 /// A name that is transparent: its faults stand where the name stands.
 #[derive(Debug, Drop)]
 pub struct Username(pub String);
 
-impl Validate for Username {
+impl Stated for Username {
     type Context = ();
 
     ghost visits = { λ v _. length_min 3 v.0 };
+}
 
+impl Validate for Username {
     fn validate_into<'a, H: I18n>(
         &'a self,
         alloc: Global,
@@ -31,11 +33,13 @@ impl Validate for Username {
 #[derive(Debug, Drop)]
 pub struct NumberedUsername(pub String);
 
-impl Validate for NumberedUsername {
+impl Stated for NumberedUsername {
     type Context = ();
 
     ghost visits = { λ v _. item 0 (length_min 3 v.0) };
+}
 
+impl Validate for NumberedUsername {
     fn validate_into<'a, H: I18n>(
         &'a self,
         alloc: Global,
@@ -56,11 +60,13 @@ pub struct User<N> {
     pub username: N,
 }
 
-impl<N: Validate> Validate for User<N> {
+impl<N: Stated> Stated for User<N> {
     type Context = N::Context;
 
     ghost visits = { λ v c. field "username" (N.visits v.username c) };
+}
 
+impl<N: Validate> Validate for User<N> {
     fn validate_into<'a, H: I18n>(
         &'a self,
         alloc: Global,

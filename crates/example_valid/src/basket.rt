@@ -3,7 +3,7 @@ ghost use Rattle.std.specs.Prelude.{◌≡◌, slice_get};
 ghost use Rattle.garde.specs.Fields.{Some, field, items_between};
 
 use garde::fields::{Field, Fields, Is};
-use garde::{I18n, Report, Trail, Valid, Validate, length};
+use garde::{I18n, Report, Stated, Trail, Valid, Validate, length};
 use std::alloc::{AllocError, Global};
 
 /// The names of 1 to 50 articles.
@@ -12,11 +12,13 @@ pub struct Basket {
     pub articles: Vec<String>,
 }
 
-impl Validate for Basket {
+impl Stated for Basket {
     type Context = ();
 
     ghost visits = { λ v _. field "articles" (items_between 1 50 v.articles) };
+}
 
+impl Validate for Basket {
     fn validate_into<'a, H: I18n>(
         &'a self,
         alloc: Global,

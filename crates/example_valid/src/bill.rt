@@ -3,7 +3,7 @@ ghost use Rattle.std.specs.Prelude.{◌≡◌, ◌/◌};
 ghost use Rattle.garde.specs.Fields.{field, range_between};
 
 use garde::fields::{Field, Fields, Is};
-use garde::{I18n, Report, Trail, Valid, Validate, range};
+use garde::{I18n, Report, Stated, Trail, Valid, Validate, range};
 use std::alloc::{AllocError, Global};
 
 /// What is to be paid in cents, by 1 to 40 guests.
@@ -13,11 +13,13 @@ pub struct Bill {
     pub guests: u32,
 }
 
-impl Validate for Bill {
+impl Stated for Bill {
     type Context = ();
 
     ghost visits = { λ v _. field "guests" (range_between 1 40 v.guests) };
+}
 
+impl Validate for Bill {
     fn validate_into<'a, H: I18n>(
         &'a self,
         alloc: Global,

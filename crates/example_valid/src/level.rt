@@ -3,7 +3,7 @@ ghost use Rattle.std.specs.Prelude.{◌≡◌};
 ghost use Rattle.garde.specs.Fields.{field, range_max};
 
 use garde::fields::{Field, Fields, Is};
-use garde::{I18n, Report, Trail, Valid, Validate, range};
+use garde::{I18n, Report, Stated, Trail, Valid, Validate, range};
 use std::alloc::{AllocError, Global};
 
 /// How loud something is played, in percent.
@@ -12,11 +12,13 @@ pub struct Level {
     pub percent: u32,
 }
 
-impl Validate for Level {
+impl Stated for Level {
     type Context = ();
 
     ghost visits = { λ v _. field "percent" (range_max 200 v.percent) };
+}
 
+impl Validate for Level {
     fn validate_into<'a, H: I18n>(
         &'a self,
         alloc: Global,

@@ -4,7 +4,7 @@ ghost use Rattle.garde.specs.Fields.{◌and◌, Some, field, items_between, each
 
 use crate::basket::Basket;
 use garde::fields::{Dive, Each, Field, Fields, Is};
-use garde::{I18n, Report, Trail, Valid, Validate, length};
+use garde::{I18n, Report, Stated, Trail, Valid, Validate, length};
 use std::alloc::{AllocError, Global};
 
 /// From 1 to 20 values.
@@ -13,12 +13,14 @@ pub struct Page<T> {
     pub entries: Vec<T>,
 }
 
-impl<T: Validate> Validate for Page<T> {
+impl<T: Stated> Stated for Page<T> {
     type Context = T::Context;
 
     ghost visits = { λ v c.
         field "entries" (items_between 1 20 v.entries and each (λ entry. T.visits entry c) v.entries) };
+}
 
+impl<T: Validate> Validate for Page<T> {
     fn validate_into<'a, H: I18n>(
         &'a self,
         alloc: Global,

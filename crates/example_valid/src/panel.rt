@@ -3,7 +3,7 @@ ghost use Rattle.std.specs.Prelude.{◌≡◌, ◌<◌, IfSome, length, slice_in
 ghost use Rattle.garde.specs.Fields.{field, range_max};
 
 use garde::fields::{Field, Fields, Is};
-use garde::{I18n, Report, Trail, ValidUnder, Validate, range};
+use garde::{I18n, Report, Stated, Trail, ValidUnder, Validate, range};
 use std::alloc::{AllocError, Global};
 
 /// A panel, whose channels are numbered from 0 to this.
@@ -19,11 +19,13 @@ pub struct Reading {
     pub volts: u32,
 }
 
-impl Validate for Reading {
+impl Stated for Reading {
     type Context = Panel;
 
     ghost visits = { λ v panel. field "channel" (range_max panel.last v.channel) };
+}
 
+impl Validate for Reading {
     fn validate_into<'a, H: I18n>(
         &'a self,
         alloc: Global,

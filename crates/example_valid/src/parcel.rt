@@ -3,7 +3,7 @@ ghost use Rattle.std.specs.Prelude.{◌≡◌};
 ghost use Rattle.garde.specs.Fields.{Some, field, required};
 
 use garde::fields::{Field, Fields, Is, Required};
-use garde::{I18n, Report, Trail, Valid, Validate};
+use garde::{I18n, Report, Stated, Trail, Valid, Validate};
 use std::alloc::{AllocError, Global};
 
 /// A parcel with a recipient. Who sends it may be left out.
@@ -13,11 +13,13 @@ pub struct Parcel {
     pub recipient: Option<String>,
 }
 
-impl Validate for Parcel {
+impl Stated for Parcel {
     type Context = ();
 
     ghost visits = { λ v _. field "recipient" (required v.recipient) };
+}
 
+impl Validate for Parcel {
     fn validate_into<'a, H: I18n>(
         &'a self,
         alloc: Global,

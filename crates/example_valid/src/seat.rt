@@ -3,7 +3,7 @@ ghost use Rattle.std.specs.Prelude.{◌≡◌, slice_index};
 ghost use Rattle.garde.specs.Fields.{field, range_max};
 
 use garde::fields::{Field, Fields, Is};
-use garde::{I18n, Report, Trail, Valid, Validate, range};
+use garde::{I18n, Report, Stated, Trail, Valid, Validate, range};
 use std::alloc::{AllocError, Global};
 
 /// A seat in one of eight rows.
@@ -12,11 +12,13 @@ pub struct Seat {
     pub row: usize,
 }
 
-impl Validate for Seat {
+impl Stated for Seat {
     type Context = ();
 
     ghost visits = { λ v _. field "row" (range_max 7 v.row) };
+}
 
+impl Validate for Seat {
     fn validate_into<'a, H: I18n>(
         &'a self,
         alloc: Global,

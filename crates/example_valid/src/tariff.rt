@@ -4,7 +4,7 @@ ghost use Rattle.std.specs.BTreeMap.{get_by_text};
 ghost use Rattle.garde.specs.Fields.{Some, codes, field, asks, message_unless};
 
 use garde::fields::{Field, Fields, Is, Rule};
-use garde::{I18n, Report, RuleError, Trail, Valid, Validate};
+use garde::{I18n, Report, RuleError, Stated, Trail, Valid, Validate};
 use std::alloc::{AllocError, Global};
 use std::borrow::CowStr;
 use std::collections::BTreeMap;
@@ -36,12 +36,14 @@ pub struct Tariff {
     pub prices: BTreeMap<String, u32>,
 }
 
-impl Validate for Tariff {
+impl Stated for Tariff {
     type Context = ();
 
     ghost visits = { λ v _.
         field "prices" (asks "name the standard price" (is_some (get_by_text v.prices (codes "standard")))) };
+}
 
+impl Validate for Tariff {
     fn validate_into<'a, H: I18n>(
         &'a self,
         alloc: Global,

@@ -3,5 +3,5 @@ pub use Rattle.garde.proofs.Visiting.{visited_none, visited_then, visited_stop, 
 pub use Rattle.garde.proofs.Calls.{visited_calls, visited_option_calls, visited_keyed_calls, visited_text_calls, visited_component_calls, visited_poppable, component_items_item}
 pub use Rattle.garde.proofs.Nesting.{smaller_in, visited_level, visited_within}
 pub use Rattle.garde.proofs.Known.{known_of, none_bears_of, known_alone, known_level, known_within}
-pub use Rattle.garde.proofs.Stated.{as_stated, part, ◌also◌}
+pub use Rattle.garde.proofs.Agreeing.{as_stated, part, ◌also◌}
 pub use Rattle.garde.proofs.FirstItems.{apart_of, unique_of}

@@ -15,6 +15,6 @@ pub mod Quiet
 pub mod Among
 mod Rest
 pub mod FirstItems
-pub mod Stated
+pub mod Agreeing
 mod Answering
 mod Firsts

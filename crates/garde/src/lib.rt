@@ -10,6 +10,7 @@ mod many;
 mod no_text;
 pub mod recursive;
 pub mod samples;
+mod stated;
 mod unvalidated;
 mod valid;
 mod valid_under;
@@ -23,6 +24,7 @@ pub use garde_report::{
     Component, Error, Path, Report, Result, RuleError, Trail, error, rc_list, select, trail,
 };
 pub use garde_rules as rules;
+pub use stated::Stated;
 pub use unvalidated::{IntoValidError, Unvalidated};
 pub use valid::Valid;
 pub use valid_under::ValidUnder;

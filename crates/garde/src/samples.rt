@@ -4,7 +4,7 @@ ghost use Rattle.garde.specs.Author.{codes, length, string_bytes, ◌and◌, opt
 use crate::fields::{
     Adapt, Ascii, Field, Fields, IfSome, Is, Length, Prefix, Required, View, When,
 };
-use crate::{I18n, Report, Trail, Validate};
+use crate::{I18n, Report, Stated, Trail, Validate};
 use std::alloc::{AllocError, Global};
 
 /// A document, which says itself what is asked of its content.
@@ -38,7 +38,7 @@ impl View<Tag> for TagText {
     }
 }
 
-impl Validate for Document {
+impl Stated for Document {
     type Context = ();
 
     ghost visits = { λ v _.
@@ -47,7 +47,9 @@ impl Validate for Document {
         and when v.check_length (optional (λ text. length_in 10 100 (length (string_bytes text))) v.content)
         and required v.content)
         and field (codes "tag") (prefix (codes "t-") (string_bytes v.tag.0)) };
+}
 
+impl Validate for Document {
     fn validate_into<'a, H: I18n>(
         &'a self,
         alloc: Global,

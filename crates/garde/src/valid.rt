@@ -1,7 +1,7 @@
 //! Values that were validated.
 ghost use Rattle.std.specs.Prelude.{◌≡◌, IfOk, IsOk};
 
-use crate::validate::Validate;
+use crate::stated::Stated;
 use std::alloc::AllocError;
 use std::marker::Model;
 use std::ops::Deref;
@@ -11,9 +11,9 @@ use std::ops::Deref;
 /// `Unvalidated` makes one by a walk, `known` makes one of a value whose rules hold by a proof, and
 /// `clone` of another.
 #[derive(Debug, Drop)]
-pub struct Valid<T: Validate>(T);
+pub struct Valid<T: Stated>(T);
 
-impl<T: Validate> Model for Valid<T> {
+impl<T: Stated> Model for Valid<T> {
     ghost use Rattle.garde.specs.Validated.{IsValid};
 
     ghost Value = { T };
@@ -23,7 +23,7 @@ impl<T: Validate> Model for Valid<T> {
     ghost invariant = { λ valid. IsValid T.visits valid.0 };
 }
 
-impl<T: Validate> Valid<T> {
+impl<T: Stated> Valid<T> {
     ghost use Rattle.garde.specs.Validated.{IsValid};
     ghost use Rattle.garde.specs.Visits.{Known};
 
@@ -54,7 +54,7 @@ impl<T: Validate> Valid<T> {
     }
 }
 
-impl<T: Validate + Clone> Valid<T> {
+impl<T: Stated + Clone> Valid<T> {
     /// Another such value. It may be called where each clone of the value is equal to it.
     pub fn clone(&self) -> Result<Valid<T>, AllocError>
         requires { (copy : T) → T.is_clone self.now copy → copy ≡ self.now }
@@ -66,7 +66,7 @@ impl<T: Validate + Clone> Valid<T> {
 }
 
 /// The value, of which some context found no fault.
-impl<T: Validate> Deref for Valid<T> {
+impl<T: Stated> Deref for Valid<T> {
     ghost use Rattle.garde.specs.Validated.{IsValid};
 
     type Target = T;

@@ -1,16 +1,16 @@
 //! Values that were validated under a context which is kept.
-use crate::validate::Validate;
+use crate::stated::Stated;
 use std::marker::Model;
 use std::ops::Deref;
 
 /// A value with the context under which it has no fault. A contract sees the value and the context.
 #[derive(Drop)]
-pub struct ValidUnder<'c, T: Validate> {
+pub struct ValidUnder<'c, T: Stated> {
     value: T,
     context: &'c T::Context,
 }
 
-impl<'c, T: Validate> Model for ValidUnder<'c, T> {
+impl<'c, T: Stated> Model for ValidUnder<'c, T> {
     ghost use Rattle.garde.specs.Visits.{Known};
 
     ghost Value = { T × T.Context };
@@ -20,7 +20,7 @@ impl<'c, T: Validate> Model for ValidUnder<'c, T> {
     ghost invariant = { λ under. Known (T.visits under.value under.context.now) };
 }
 
-impl<'c, T: Validate> ValidUnder<'c, T> {
+impl<'c, T: Stated> ValidUnder<'c, T> {
     ghost use Rattle.std.specs.Prelude.{◌≡◌};
     ghost use Rattle.garde.specs.Visits.{Known};
 
@@ -54,7 +54,7 @@ impl<'c, T: Validate> ValidUnder<'c, T> {
 }
 
 /// The value, of which the context found no fault.
-impl<'c, T: Validate> Deref for ValidUnder<'c, T> {
+impl<'c, T: Stated> Deref for ValidUnder<'c, T> {
     ghost use Rattle.std.specs.Prelude.{◌≡◌};
     ghost use Rattle.garde.specs.Visits.{Known};
 

@@ -4,10 +4,11 @@ ghost use Rattle.garde_i18n.specs.DefaultText.{default_text};
 ghost use Rattle.garde_report.specs.Trace.{new_trace};
 ghost use Rattle.garde.specs.Answers.{Headline, Answers, AnswersOn, NeedsNoMemory};
 ghost use Rattle.garde.specs.Answers.{AnswersFirst, AnswersFirstOn, Decides};
-ghost use Rattle.garde.specs.Visits.{Visits, Visited, Known};
+ghost use Rattle.garde.specs.Visits.{Visited, Known};
 
 pub use crate::first_error::FirstError;
 use crate::no_text::NoText;
+pub use crate::stated::Stated;
 pub use crate::unvalidated::{IntoValidError, Unvalidated};
 pub use crate::valid::Valid;
 pub use crate::valid_under::ValidUnder;
@@ -18,16 +19,10 @@ use std::alloc::{AllocError, Global};
 
 /// A value that can be validated.
 ///
-/// An implementation states by `visits` which faults a value has at which paths, and
-/// `validate_into` is proved to report just these. The other calls come with it. `garde::fields`
-/// lets an author state and write both as one expression.
-pub trait Validate {
-    /// What the rules of the type may ask for, as bounds that are known only at run time.
-    type Context;
-
-    /// The visits of a value under a context: its trees of faults.
-    ghost visits: { Self → Self.Context → Visits };
-
+/// The type states by `Stated::visits` which faults a value has at which paths, and `validate_into`
+/// is proved to report just these. The other calls come with it. `garde::fields` lets an author
+/// state and write both as one expression.
+pub trait Validate: Stated {
     /// Appends the faults of the value to the report, each at a path that begins with the
     /// components of the trail.
     ///
@@ -45,7 +40,7 @@ pub trait Validate {
         report: &mut Report,
         h: &H,
     ) -> Result<(), AllocError>
-        ensures { Visited (visits self.now ctx.now) (H.text h.now)
+        ensures { Visited (Self.visits self.now ctx.now) (H.text h.now)
             trail.old trail.new report.old report.new result };
 
     /// Validates under the default context, with the texts of `DefaultI18n`.
@@ -53,11 +48,11 @@ pub trait Validate {
     where
         Self::Context: Default + Drop,
         ensures answer { (c : Self.Context) × Self.Context.is_default c
-            × Answers (visits self.now c) default_text result }
+            × Answers (Self.visits self.now c) default_text result }
         ensures sure { ((c : Self.Context) → Self.Context.is_default c
-            → NeedsNoMemory (visits self.now c) 0) → IsOk result }
+            → NeedsNoMemory (Self.visits self.now c) 0) → IsOk result }
         ensures known { (c : Self.Context) × Self.Context.is_default c
-            × OnOk result (Known (visits self.now c)) }
+            × OnOk result (Known (Self.visits self.now c)) }
     {
         let ctx = Self::Context::default();
         self.validate_with(alloc, &ctx)
@@ -65,9 +60,9 @@ pub trait Validate {
 
     /// Validates under a context, with the texts of `DefaultI18n`.
     final fn validate_with(&self, alloc: Global, ctx: &Self::Context) -> Result<(), ValidateError>
-        ensures answer { Answers (visits self.now ctx.now) default_text result }
-        ensures sure { NeedsNoMemory (visits self.now ctx.now) 0 → IsOk result }
-        ensures known { OnOk result (Known (visits self.now ctx.now)) }
+        ensures answer { Answers (Self.visits self.now ctx.now) default_text result }
+        ensures sure { NeedsNoMemory (Self.visits self.now ctx.now) 0 → IsOk result }
+        ensures known { OnOk result (Known (Self.visits self.now ctx.now)) }
     {
         self.validate_with_i18n(alloc, ctx, &DefaultI18n)
     }
@@ -79,9 +74,9 @@ pub trait Validate {
         ctx: &Self::Context,
         h: &H,
     ) -> Result<(), ValidateError>
-        ensures answer { Answers (visits self.now ctx.now) (H.text h.now) result }
-        ensures sure { NeedsNoMemory (visits self.now ctx.now) 0 → IsOk result }
-        ensures known { OnOk result (Known (visits self.now ctx.now)) }
+        ensures answer { Answers (Self.visits self.now ctx.now) (H.text h.now) result }
+        ensures sure { NeedsNoMemory (Self.visits self.now ctx.now) 0 → IsOk result }
+        ensures known { OnOk result (Known (Self.visits self.now ctx.now)) }
     {
         let mut trail = Trail::new(alloc);
         self.validate_on(alloc, ctx, &mut trail, h)
@@ -105,12 +100,12 @@ pub trait Validate {
         h: &H,
     ) -> Result<(), ValidateError>
         ensures headline { trail.old ≡ new_trace
-            → Headline (visits self.now ctx.now) (H.text h.now) trail.new.nodes result }
-        ensures on { AnswersOn (visits self.now ctx.now) (H.text h.now)
+            → Headline (Self.visits self.now ctx.now) (H.text h.now) trail.new.nodes result }
+        ensures on { AnswersOn (Self.visits self.now ctx.now) (H.text h.now)
             trail.old trail.new result }
-        ensures sure { NeedsNoMemory (visits self.now ctx.now) (length trail.old.components)
+        ensures sure { NeedsNoMemory (Self.visits self.now ctx.now) (length trail.old.components)
             → IsOk result }
-        ensures known { OnOk result (Known (visits self.now ctx.now)) }
+        ensures known { OnOk result (Known (Self.visits self.now ctx.now)) }
     {
         let mut report = Report::new(alloc);
         match self.validate_into(alloc, ctx, trail, &mut report, h) {
@@ -139,9 +134,9 @@ pub trait Validate {
         most: usize,
         h: &H,
     ) -> Result<(), FirstError>
-        ensures answer { AnswersFirst (visits self.now ctx.now) (H.text h.now) most result }
-        ensures sure { NeedsNoMemory (visits self.now ctx.now) 0 → IsOk result }
-        ensures known { OnOk result (Known (visits self.now ctx.now)) }
+        ensures answer { AnswersFirst (Self.visits self.now ctx.now) (H.text h.now) most result }
+        ensures sure { NeedsNoMemory (Self.visits self.now ctx.now) 0 → IsOk result }
+        ensures known { OnOk result (Known (Self.visits self.now ctx.now)) }
     {
         let mut trail = Trail::new(alloc);
         self.validate_first_on(alloc, ctx, most, &mut trail, h)
@@ -162,11 +157,11 @@ pub trait Validate {
         trail: &mut Trail<'a>,
         h: &H,
     ) -> Result<(), FirstError>
-        ensures on { AnswersFirstOn (visits self.now ctx.now) (H.text h.now) most
+        ensures on { AnswersFirstOn (Self.visits self.now ctx.now) (H.text h.now) most
             trail.old trail.new result }
-        ensures sure { NeedsNoMemory (visits self.now ctx.now) (length trail.old.components)
+        ensures sure { NeedsNoMemory (Self.visits self.now ctx.now) (length trail.old.components)
             → IsOk result }
-        ensures known { OnOk result (Known (visits self.now ctx.now)) }
+        ensures known { OnOk result (Known (Self.visits self.now ctx.now)) }
     {
         let mut report = Report::new(alloc);
         let before = trail.limit(most.saturating_add(1));
@@ -189,9 +184,9 @@ pub trait Validate {
     /// returned for the same reasons as `ValidateError::Memory`: so of a value with a fault it may
     /// be returned too, since the first fault goes into a report.
     final fn is_valid(&self, alloc: Global, ctx: &Self::Context) -> Result<bool, AllocError>
-        ensures answer { Decides (visits self.now ctx.now) result }
-        ensures sure { NeedsNoMemory (visits self.now ctx.now) 0 → result ≡ Ok true }
-        ensures known { IfOk result (λ yes. IsTrue yes → Known (visits self.now ctx.now)) }
+        ensures answer { Decides (Self.visits self.now ctx.now) result }
+        ensures sure { NeedsNoMemory (Self.visits self.now ctx.now) 0 → result ≡ Ok true }
+        ensures known { IfOk result (λ yes. IsTrue yes → Known (Self.visits self.now ctx.now)) }
     {
         match self.validate_first(alloc, ctx, 0, &NoText) {
             Ok(()) => Ok(true),

@@ -9,7 +9,7 @@ use garde::fields::{
     Transparent,
 };
 use garde::i18n::IpKind;
-use garde::{I18n, Report, Trail, Validate};
+use garde::{I18n, Report, Stated, Trail, Validate};
 use std::alloc::{AllocError, Global};
 use std::collections::BTreeMap;
 
@@ -17,11 +17,13 @@ use std::collections::BTreeMap;
 #[derive(Drop)]
 pub struct Address(pub String);
 
-impl Validate for Address {
+impl Stated for Address {
     type Context = ();
 
     ghost visits = { λ address _. address_visits address };
+}
 
+impl Validate for Address {
     fn validate_into<'a, H: I18n>(
         &'a self,
         alloc: Global,
@@ -48,11 +50,13 @@ pub struct Body {
     pub addresses: BTreeMap<String, Address>,
 }
 
-impl Validate for Body {
+impl Stated for Body {
     type Context = ();
 
     ghost visits = { λ body _. body_visits body };
+}
 
+impl Validate for Body {
     fn validate_into<'a, H: I18n>(
         &'a self,
         alloc: Global,

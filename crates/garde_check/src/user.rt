@@ -2,7 +2,7 @@
 ghost use Rattle.garde_check.specs.User.{user_visits};
 
 use garde::fields::{Ascii, Field, Fields, Is, Length};
-use garde::{I18n, Report, Trail, Validate};
+use garde::{I18n, Report, Stated, Trail, Validate};
 use std::alloc::{AllocError, Global};
 
 /// A user, whose name has 3 to 25 bytes, all of them ASCII.
@@ -12,11 +12,13 @@ pub struct User {
     pub username: String,
 }
 
-impl Validate for User {
+impl Stated for User {
     type Context = ();
 
     ghost visits = { λ user _. user_visits user };
+}
 
+impl Validate for User {
     fn validate_into<'a, H: I18n>(
         &'a self,
         alloc: Global,

@@ -3,7 +3,7 @@ ghost use Rattle.std.specs.Prelude.{refl};
 ghost use Rattle.garde.specs.Author.{Known, codes, ◌and◌, field, prefix, unsigned_in};
 
 use garde::fields::{Field, Fields, Is, Prefix};
-use garde::{I18n, Report, Trail, Validate, range};
+use garde::{I18n, Report, Stated, Trail, Validate, range};
 use garde_schema::{Build, TextRef};
 use std::alloc::{AllocError, Global};
 use std::marker::PhantomData;
@@ -37,14 +37,16 @@ impl<'t> Build for MakeLine<'t> {
     }
 }
 
-impl<'t> Validate for Line<'t> {
+impl<'t> Stated for Line<'t> {
     type Context = ();
 
     ghost visits = { λ v _.
         field (codes "code") (prefix (codes "P") v.code)
         and field (codes "count") (unsigned_in 1 99 v.count)
         and field (codes "cents") (unsigned_in 1 9999 v.cents) };
+}
 
+impl<'t> Validate for Line<'t> {
     fn validate_into<'a, H: I18n>(
         &'a self,
         alloc: Global,
@@ -66,7 +68,7 @@ impl<'t> Validate for Line<'t> {
 /// What a line costs in cents. That of a valid line is no more than fits.
 #[tactic(auto, unfolding(garde::specs::Fields::Known))]
 pub fn cost(line: &Line<'_>) -> u32
-    requires { Known (⟦<Line<'static> as Validate>⟧.visits line.now tt) }
+    requires { Known (⟦<Line<'static> as Stated>⟧.visits line.now tt) }
 {
     line.count * line.cents
 }

@@ -5,7 +5,7 @@ ghost use Rattle.use_order.specs.declared.order.Delivery.TheVariants.{Counter, P
 
 use crate::line::Line;
 use garde::fields::{Dive, Each, Field, Fields, IfSome, Is, Required, When};
-use garde::{I18n, Report, Trail, Valid, Validate, length};
+use garde::{I18n, Report, Stated, Trail, Valid, Validate, length};
 use garde_schema::{Build, Items, Rules, TextRef};
 use std::alloc::{AllocError, Global};
 use std::marker::PhantomData;
@@ -105,7 +105,7 @@ impl<A, L> Rules<((Delivery, A), Items<L>)> for FewAtTheCounter {
     }
 }
 
-impl<'t> Validate for Order<'t> {
+impl<'t> Stated for Order<'t> {
     type Context = ();
 
     ghost visits = { λ v _.
@@ -114,8 +114,10 @@ impl<'t> Validate for Order<'t> {
         and optional (λ address. length_in 5 200 (char_count address)) v.address)
         and field (codes "lines") (length_in 1 50 (length v.lines)
         and when (elim v.delivery as (λ _. Bool) [ Counter ↦ true | _ ↦ false ]) (length_in 0 3 (length v.lines))
-        and items (λ line. ⟦<Line<'static> as Validate>⟧.visits line tt) v.lines) };
+        and items (λ line. ⟦<Line<'static> as Stated>⟧.visits line tt) v.lines) };
+}
 
+impl<'t> Validate for Order<'t> {
     fn validate_into<'a, H: I18n>(
         &'a self,
         alloc: Global,

@@ -2,7 +2,7 @@
 ghost use Rattle.garde.specs.Author.{codes, length, ◌and◌, field, items, length_in, unsigned_in};
 
 use garde::fields::{Dive, Each, Field, Fields, Is};
-use garde::{I18n, Report, Trail, Validate, length, range};
+use garde::{I18n, Report, Stated, Trail, Validate, length, range};
 use garde_schema::Items;
 use std::alloc::{AllocError, Global};
 
@@ -13,14 +13,16 @@ pub struct Page<T> {
     pub entries: Items<T>,
 }
 
-impl<T: Validate> Validate for Page<T> {
+impl<T: Stated> Stated for Page<T> {
     type Context = T::Context;
 
     ghost visits = { λ v c.
         field (codes "number") (unsigned_in 1 4294967295 v.number)
         and field (codes "entries") (length_in 0 20 (length v.entries)
         and items (λ entry. T.visits entry c) v.entries) };
+}
 
+impl<T: Validate> Validate for Page<T> {
     fn validate_into<'a, H: I18n>(
         &'a self,
         alloc: Global,

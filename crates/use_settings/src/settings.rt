@@ -4,7 +4,7 @@ ghost use Rattle.garde.specs.Fields.{◌and◌, IsAtMost, V4, each, field, ip, i
 use clap::ArgMatches;
 use garde::fields::{Each, Field, Fields, IfSome, Ip, Is, Required, Suffix, When};
 use garde::i18n::IpKind;
-use garde::{I18n, Report, Trail, Valid, Validate, length, range};
+use garde::{I18n, Report, Stated, Trail, Valid, Validate, length, range};
 use std::alloc::{AllocError, Global};
 
 /// What is to be copied, and how.
@@ -47,14 +47,16 @@ impl Settings {
     }
 }
 
-impl Validate for Settings {
+impl Stated for Settings {
     type Context = ();
 
     ghost visits = { λ v _.
         field "--jobs" (range_between 1 16 v.jobs)
         and field "--remote" (when v.upload (required v.remote) and optional (λ remote. ip V4 remote) v.remote)
         and field "FILE" (items_between 1 3 v.files and each (λ file. suffix ".csv" file) v.files) };
+}
 
+impl Validate for Settings {
     fn validate_into<'a, H: I18n>(
         &'a self,
         alloc: Global,

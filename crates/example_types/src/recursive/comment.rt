@@ -6,7 +6,7 @@ ghost use Rattle.example_types.specs.declared.recursive.comment.Comment.{out-Com
 
 use garde::fields::{Field, Fields, Is};
 use garde::recursive::{Recursive, walk};
-use garde::{I18n, Report, Trail, Validate, length};
+use garde::{I18n, Report, Stated, Trail, Validate, length};
 use std::alloc::{AllocError, Global};
 
 /// A comment and the replies to it, each with a text of 1 to 280 characters.
@@ -47,11 +47,13 @@ impl Recursive for Comment {
     }
 }
 
-impl Validate for Comment {
+impl Stated for Comment {
     type Context = ();
 
     ghost visits = { nest_visits ⟦<Comment as Recursive>⟧.nest };
+}
 
+impl Validate for Comment {
     fn validate_into<'a, H: I18n>(
         &'a self,
         alloc: Global,

@@ -3,7 +3,7 @@ ghost use Rattle.garde.specs.Author.{Visited, item};
 ghost use Rattle.example_types.specs.ExprVisits.{expr_visits};
 
 use garde::fields::{Field, Fields, Is};
-use garde::{Component, I18n, Report, Trail, Validate, range};
+use garde::{Component, I18n, Report, Stated, Trail, Validate, range};
 use std::alloc::{AllocError, Global};
 
 /// An expression whose numbers are at least -10 and at most 10.
@@ -17,11 +17,13 @@ pub enum Expr {
     Add(Box<Expr>, Box<Expr>),
 }
 
-impl Validate for Expr {
+impl Stated for Expr {
     type Context = ();
 
     ghost visits = { λ v _. expr_visits v };
+}
 
+impl Validate for Expr {
     fn validate_into<'a, H: I18n>(
         &'a self,
         alloc: Global,

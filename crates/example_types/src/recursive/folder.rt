@@ -6,7 +6,7 @@ ghost use Rattle.example_types.specs.declared.recursive.folder.Folder.{out-Folde
 
 use garde::fields::{Field, Fields, Is};
 use garde::recursive::{Recursive, walk};
-use garde::{I18n, Report, Trail, Validate, length};
+use garde::{I18n, Report, Stated, Trail, Validate, length};
 use std::alloc::{AllocError, Global};
 
 /// A folder and the folders in it, each with a name of 1 to 9 bytes.
@@ -46,11 +46,13 @@ impl Recursive for Folder {
     }
 }
 
-impl Validate for Folder {
+impl Stated for Folder {
     type Context = ();
 
     ghost visits = { nest_visits ⟦<Folder as Recursive>⟧.nest };
+}
 
+impl Validate for Folder {
     fn validate_into<'a, H: I18n>(
         &'a self,
         alloc: Global,

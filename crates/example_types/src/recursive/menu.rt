@@ -6,7 +6,7 @@ ghost use Rattle.example_types.specs.declared.recursive.menu.Menu.{out-Menu, siz
 
 use garde::fields::{Field, Fields, Is};
 use garde::recursive::{Recursive, walk};
-use garde::{I18n, Report, Trail, Validate, length};
+use garde::{I18n, Report, Stated, Trail, Validate, length};
 use std::alloc::{AllocError, Global};
 use std::collections::BTreeMap;
 
@@ -47,11 +47,13 @@ impl Recursive for Menu {
     }
 }
 
-impl Validate for Menu {
+impl Stated for Menu {
     type Context = ();
 
     ghost visits = { nest_visits ⟦<Menu as Recursive>⟧.nest };
+}
 
+impl Validate for Menu {
     fn validate_into<'a, H: I18n>(
         &'a self,
         alloc: Global,

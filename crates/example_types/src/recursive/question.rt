@@ -7,7 +7,7 @@ ghost use Rattle.example_types.specs.declared.recursive.question.Kind.TheVariant
 
 use garde::fields::{Field, Fields, Is, When};
 use garde::recursive::{Recursive, walk};
-use garde::{I18n, Report, Trail, Validate, length};
+use garde::{I18n, Report, Stated, Trail, Validate, length};
 use std::alloc::{AllocError, Global};
 
 /// What an entry of a survey is.
@@ -67,11 +67,13 @@ impl Recursive for Entry {
     }
 }
 
-impl Validate for Entry {
+impl Stated for Entry {
     type Context = ();
 
     ghost visits = { nest_visits ⟦<Entry as Recursive>⟧.nest };
+}
 
+impl Validate for Entry {
     fn validate_into<'a, H: I18n>(
         &'a self,
         alloc: Global,

@@ -6,7 +6,7 @@ ghost use Rattle.example_types.specs.declared.recursive.tree.Tree.{out-Tree, siz
 
 use garde::fields::{Dive, Field, Fields};
 use garde::recursive::{Recursive, walk};
-use garde::{I18n, Report, Trail, Validate};
+use garde::{I18n, Report, Stated, Trail, Validate};
 use std::alloc::{AllocError, Global};
 
 /// A value and the trees under it.
@@ -46,11 +46,13 @@ impl<T: Validate> Recursive for Tree<T> {
     }
 }
 
-impl<T: Validate> Validate for Tree<T> {
+impl<T: Stated> Stated for Tree<T> {
     type Context = T::Context;
 
     ghost visits = { nest_visits ⟦<Tree<T> as Recursive>⟧.nest };
+}
 
+impl<T: Validate> Validate for Tree<T> {
     fn validate_into<'a, H: I18n>(
         &'a self,
         alloc: Global,

@@ -2,6 +2,7 @@
 ghost use Rattle.garde.specs.Visits.{items};
 
 use crate::fields::{Check, Dive, Each};
+use crate::stated::Stated;
 use crate::validate::Validate;
 use garde_i18n::I18n;
 use garde_report::{Report, Trail};
@@ -9,11 +10,13 @@ use std::alloc::{AllocError, Global};
 use std::collections::{LinkedList, VecDeque};
 
 /// Each item in order, under its index.
-impl<T: Validate> Validate for Vec<T> {
+impl<T: Stated> Stated for Vec<T> {
     type Context = T::Context;
 
     ghost visits = { λ v c. items (λ x. T.visits x c) v.items };
+}
 
+impl<T: Validate> Validate for Vec<T> {
     fn validate_into<'a, H: I18n>(
         &'a self,
         alloc: Global,
@@ -27,11 +30,13 @@ impl<T: Validate> Validate for Vec<T> {
 }
 
 /// Each item in order, under its index.
-impl<T: Validate> Validate for &[T] {
+impl<T: Stated> Stated for &[T] {
     type Context = T::Context;
 
     ghost visits = { λ v c. items (λ x. T.visits x c) v.now };
+}
 
+impl<T: Validate> Validate for &[T] {
     fn validate_into<'a, H: I18n>(
         &'a self,
         alloc: Global,
@@ -45,11 +50,13 @@ impl<T: Validate> Validate for &[T] {
 }
 
 /// Each item in order, under its index.
-impl<T: Validate, const N: usize> Validate for [T; N] {
+impl<T: Stated, const N: usize> Stated for [T; N] {
     type Context = T::Context;
 
     ghost visits = { λ v c. items (λ x. T.visits x c) v };
+}
 
+impl<T: Validate, const N: usize> Validate for [T; N] {
     fn validate_into<'a, H: I18n>(
         &'a self,
         alloc: Global,
@@ -63,11 +70,13 @@ impl<T: Validate, const N: usize> Validate for [T; N] {
 }
 
 /// Each item in order, under its index.
-impl<T: Validate> Validate for VecDeque<T> {
+impl<T: Stated> Stated for VecDeque<T> {
     type Context = T::Context;
 
     ghost visits = { λ v c. items (λ x. T.visits x c) v.items };
+}
 
+impl<T: Validate> Validate for VecDeque<T> {
     fn validate_into<'a, H: I18n>(
         &'a self,
         alloc: Global,
@@ -81,11 +90,13 @@ impl<T: Validate> Validate for VecDeque<T> {
 }
 
 /// Each item in order, under its index.
-impl<T: Validate> Validate for LinkedList<T> {
+impl<T: Stated> Stated for LinkedList<T> {
     type Context = T::Context;
 
     ghost visits = { λ v c. items (λ x. T.visits x c) v };
+}
 
+impl<T: Validate> Validate for LinkedList<T> {
     fn validate_into<'a, H: I18n>(
         &'a self,
         alloc: Global,

@@ -3,6 +3,7 @@ ghost use Rattle.std.specs.BinaryHeap.{heap_items};
 ghost use Rattle.garde.specs.Visits.{items, items_in_any_order};
 
 use crate::fields::{Check, Dive, Each};
+use crate::stated::Stated;
 use crate::validate::Validate;
 use garde_i18n::I18n;
 use garde_report::{Report, Trail};
@@ -11,11 +12,13 @@ use std::collections::{BTreeSet, BinaryHeap, HashSet};
 use std::hash::{BuildHasher, Hash};
 
 /// Each item in the order of the set, under its index.
-impl<T: Validate + Ord> Validate for BTreeSet<T> {
+impl<T: Stated + Ord> Stated for BTreeSet<T> {
     type Context = T::Context;
 
     ghost visits = { λ v c. items (λ x. T.visits x c) v.keys };
+}
 
+impl<T: Validate + Ord> Validate for BTreeSet<T> {
     fn validate_into<'a, H: I18n>(
         &'a self,
         alloc: Global,
@@ -29,11 +32,13 @@ impl<T: Validate + Ord> Validate for BTreeSet<T> {
 }
 
 /// Each item once in some order, under its index in that order.
-impl<T: Validate + Eq + Hash, S: BuildHasher> Validate for HashSet<T, S> {
+impl<T: Stated + Eq + Hash, S: BuildHasher> Stated for HashSet<T, S> {
     type Context = T::Context;
 
     ghost visits = { λ v c. items_in_any_order (λ x. T.visits x c) v.keys };
+}
 
+impl<T: Validate + Eq + Hash, S: BuildHasher> Validate for HashSet<T, S> {
     fn validate_into<'a, H: I18n>(
         &'a self,
         alloc: Global,
@@ -47,11 +52,13 @@ impl<T: Validate + Eq + Hash, S: BuildHasher> Validate for HashSet<T, S> {
 }
 
 /// Each item once in some order, under its index in that order.
-impl<T: Validate + Ord> Validate for BinaryHeap<T> {
+impl<T: Stated + Ord> Stated for BinaryHeap<T> {
     type Context = T::Context;
 
     ghost visits = { λ v c. items_in_any_order (λ x. T.visits x c) (heap_items v) };
+}
 
+impl<T: Validate + Ord> Validate for BinaryHeap<T> {
     fn validate_into<'a, H: I18n>(
         &'a self,
         alloc: Global,

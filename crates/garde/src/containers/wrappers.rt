@@ -3,6 +3,7 @@ ghost use Rattle.std.specs.Cow.{cow_value};
 ghost use Rattle.garde.specs.Visits.{none, optional};
 
 use crate::fields::Fields;
+use crate::stated::Stated;
 use crate::validate::Validate;
 use garde_i18n::I18n;
 use garde_report::{Report, Trail};
@@ -11,11 +12,13 @@ use std::borrow::Cow;
 use std::rc::Rc;
 
 /// The value that is referred to, with no component of its own.
-impl<T: Validate> Validate for &T {
+impl<T: Stated> Stated for &T {
     type Context = T::Context;
 
     ghost visits = { λ v. T.visits v.now };
+}
 
+impl<T: Validate> Validate for &T {
     fn validate_into<'a, H: I18n>(
         &'a self,
         alloc: Global,
@@ -29,11 +32,13 @@ impl<T: Validate> Validate for &T {
 }
 
 /// The value that is referred to, with no component of its own.
-impl<T: Validate> Validate for &mut T {
+impl<T: Stated> Stated for &mut T {
     type Context = T::Context;
 
     ghost visits = { λ v. T.visits v.now };
+}
 
+impl<T: Validate> Validate for &mut T {
     fn validate_into<'a, H: I18n>(
         &'a self,
         alloc: Global,
@@ -47,11 +52,13 @@ impl<T: Validate> Validate for &mut T {
 }
 
 /// The value in the box, with no component of its own.
-impl<T: Validate> Validate for Box<T> {
+impl<T: Stated> Stated for Box<T> {
     type Context = T::Context;
 
     ghost visits = { λ v. T.visits v.value };
+}
 
+impl<T: Validate> Validate for Box<T> {
     fn validate_into<'a, H: I18n>(
         &'a self,
         alloc: Global,
@@ -65,11 +72,13 @@ impl<T: Validate> Validate for Box<T> {
 }
 
 /// The shared value, with no component of its own.
-impl<T: Validate> Validate for Rc<T> {
+impl<T: Stated> Stated for Rc<T> {
     type Context = T::Context;
 
     ghost visits = { λ v. T.visits v.value };
+}
 
+impl<T: Validate> Validate for Rc<T> {
     fn validate_into<'a, H: I18n>(
         &'a self,
         alloc: Global,
@@ -83,11 +92,13 @@ impl<T: Validate> Validate for Rc<T> {
 }
 
 /// The value that is borrowed or owned, with no component of its own.
-impl<T: Validate + Clone> Validate for Cow<'_, T> {
+impl<T: Stated + Clone> Stated for Cow<'_, T> {
     type Context = T::Context;
 
     ghost visits = { λ v. T.visits (cow_value v) };
+}
 
+impl<T: Validate + Clone> Validate for Cow<'_, T> {
     fn validate_into<'a, H: I18n>(
         &'a self,
         alloc: Global,
@@ -104,12 +115,14 @@ impl<T: Validate + Clone> Validate for Cow<'_, T> {
 }
 
 /// The value that there is, with no component of its own. No value has no fault.
-#[tactic(auto, unfolding(crate::specs::Visits::optional))]
-impl<T: Validate> Validate for Option<T> {
+impl<T: Stated> Stated for Option<T> {
     type Context = T::Context;
 
     ghost visits = { λ v c. optional (λ x. T.visits x c) v };
+}
 
+#[tactic(auto, unfolding(crate::specs::Visits::optional))]
+impl<T: Validate> Validate for Option<T> {
     fn validate_into<'a, H: I18n>(
         &'a self,
         alloc: Global,
@@ -126,11 +139,13 @@ impl<T: Validate> Validate for Option<T> {
 }
 
 /// Nothing is visited, and there is no fault.
-impl Validate for () {
+impl Stated for () {
     type Context = ();
 
     ghost visits = { λ _ _. none };
+}
 
+impl Validate for () {
     fn validate_into<'a, H: I18n>(
         &'a self,
         alloc: Global,

@@ -2,7 +2,7 @@
 ghost use Rattle.garde.specs.Author.{codes, field, unsigned_in};
 
 use garde::rules::range;
-use garde::{Component, I18n, Report, Trail, Validate};
+use garde::{Component, I18n, Report, Stated, Trail, Validate};
 use std::alloc::{AllocError, Global};
 
 /// A number of at least 1.
@@ -11,11 +11,13 @@ pub struct Badge {
     pub number: u8,
 }
 
-impl Validate for Badge {
+impl Stated for Badge {
     type Context = ();
 
     ghost visits = { λ v _. field (codes "number") (unsigned_in 1 255 v.number) };
+}
 
+impl Validate for Badge {
     fn validate_into<'a, H: I18n>(
         &'a self,
         alloc: Global,

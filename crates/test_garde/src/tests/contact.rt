@@ -3,7 +3,7 @@ ghost use Rattle.garde.specs.Author.{Visits, codes, string_bytes, none, field, a
 ghost use Rattle.test_garde.specs.declared.tests.contact.Contact.TheVariants.{Mail, Silent};
 
 use garde::fields::{Ascii, Field, Fields, Is};
-use garde::{I18n, Report, Trail, Validate};
+use garde::{I18n, Report, Stated, Trail, Validate};
 use std::alloc::{AllocError, Global};
 
 /// How someone is reached.
@@ -13,14 +13,16 @@ pub enum Contact {
     Silent,
 }
 
-impl Validate for Contact {
+impl Stated for Contact {
     type Context = ();
 
     ghost visits = { λ v _. elim v as (λ _. Visits) [
       | Mail text ↦ field (codes "mail") (ascii (string_bytes text))
       | Silent ↦ none
     ] };
+}
 
+impl Validate for Contact {
     fn validate_into<'a, H: I18n>(
         &'a self,
         alloc: Global,

@@ -2,7 +2,7 @@
 ghost use Rattle.garde.specs.Author.{codes, ◌and◌, field};
 
 use garde::fields::{Dive, Field, Fields};
-use garde::{I18n, Report, Trail, Validate};
+use garde::{I18n, Report, Stated, Trail, Validate};
 use std::alloc::{AllocError, Global};
 
 /// Two values of one type.
@@ -12,12 +12,14 @@ pub struct Couple<T> {
     pub right: T,
 }
 
-impl<T: Validate> Validate for Couple<T> {
+impl<T: Stated> Stated for Couple<T> {
     type Context = T::Context;
 
     ghost visits = { λ v c.
         field (codes "left") (T.visits v.left c) and field (codes "right") (T.visits v.right c) };
+}
 
+impl<T: Validate> Validate for Couple<T> {
     fn validate_into<'a, H: I18n>(
         &'a self,
         alloc: Global,

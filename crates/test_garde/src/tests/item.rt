@@ -3,7 +3,7 @@ ghost use Rattle.std.specs.Prelude.{◌-◌, ◌^◌};
 ghost use Rattle.garde.specs.Author.{codes, length, string_bytes, ◌and◌, items, field, ascii, length_in, unsigned_in};
 
 use garde::fields::{Ascii, Dive, Each, Field, Fields, Is, Length, Range};
-use garde::{I18n, Report, Trail, Validate};
+use garde::{I18n, Report, Stated, Trail, Validate};
 use std::alloc::{AllocError, Global};
 
 /// A number of at most 4, under the key `id`.
@@ -12,11 +12,13 @@ pub struct Identifier {
     pub id: u64,
 }
 
-impl Validate for Identifier {
+impl Stated for Identifier {
     type Context = ();
 
     ghost visits = { λ v _. field (codes "id") (unsigned_in 0 4 v.id) };
+}
 
+impl Validate for Identifier {
     fn validate_into<'a, H: I18n>(
         &'a self,
         alloc: Global,
@@ -45,13 +47,15 @@ pub struct Item {
     pub identifiers: Vec<Identifier>,
 }
 
-impl Validate for Item {
+impl Stated for Item {
     type Context = ();
 
     ghost visits = { λ v c.
         field (codes "name") (ascii (string_bytes v.name) and length_in 10 (2 ^ 64 - 1) (length (string_bytes v.name)))
-        and field (codes "identifiers") (items (λ part. ⟦<Identifier as Validate>⟧.visits part c) v.identifiers.items) };
+        and field (codes "identifiers") (items (λ part. ⟦<Identifier as Stated>⟧.visits part c) v.identifiers.items) };
+}
 
+impl Validate for Item {
     fn validate_into<'a, H: I18n>(
         &'a self,
         alloc: Global,

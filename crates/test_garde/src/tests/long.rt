@@ -3,7 +3,7 @@ ghost use Rattle.std.specs.Prelude.{◌-◌, ◌^◌};
 ghost use Rattle.garde.specs.Author.{codes, length, string_bytes, field, length_in};
 
 use garde::fields::{Field, Fields, Is, Length};
-use garde::{I18n, Report, Trail, Validate};
+use garde::{I18n, Report, Stated, Trail, Validate};
 use std::alloc::{AllocError, Global};
 
 /// A text of 5 bytes at least, under the key `s`.
@@ -12,11 +12,13 @@ pub struct Long {
     pub s: String,
 }
 
-impl Validate for Long {
+impl Stated for Long {
     type Context = ();
 
     ghost visits = { λ v _. field (codes "s") (length_in 5 (2 ^ 64 - 1) (length (string_bytes v.s))) };
+}
 
+impl Validate for Long {
     fn validate_into<'a, H: I18n>(
         &'a self,
         alloc: Global,

@@ -9,7 +9,7 @@ use crate::tests::user::User;
 use crate::tests::{OrEnd, prints_as};
 use garde::fields::{Dive, check_part};
 use garde::laws::items_in_parts;
-use garde::{DefaultI18n, Report, Trail, Validate};
+use garde::{DefaultI18n, Report, Stated, Trail, Validate};
 use std::alloc::{AllocError, Global};
 use std::process::Abort;
 
@@ -17,7 +17,7 @@ use std::process::Abort;
 fn report_of_part(alloc: Global, first: usize, part: &[User]) -> Result<Report, AllocError>
     requires { first + length part.now < 2 ^ 64 }
     ensures { IfOk result (λ report. (t : Tree)
-        × (entries index_part (λ user. ⟦<User as Validate>⟧.visits user tt) (enumerate_from first part.now)).trees t
+        × (entries index_part (λ user. ⟦<User as Stated>⟧.visits user tt) (enumerate_from first part.now)).trees t
         × (report ≡ flat default_text [] t)) }
 {
     let mut trail = Trail::new(alloc);
@@ -49,7 +49,7 @@ fn joined(first: Report, second: Report) -> Result<Report, AllocError>
 fn report_of_parts(alloc: Global, first: &[User], second: &[User]) -> Result<Report, AllocError>
     requires { length first.now + length second.now < 2 ^ 64 }
     ensures { IfOk result (λ report. (t : Tree)
-        × (items (λ user. ⟦<User as Validate>⟧.visits user tt) (first.now ++ second.now)).trees t
+        × (items (λ user. ⟦<User as Stated>⟧.visits user tt) (first.now ++ second.now)).trees t
         × (report ≡ flat default_text [] t)) }
 {
     items_in_parts::<User, Dive<'_, ()>>();

@@ -7,7 +7,7 @@ use garde::fields::{
     Suffix, Url,
 };
 use garde::i18n::IpKind;
-use garde::{I18n, Report, Trail, Validate};
+use garde::{I18n, Report, Stated, Trail, Validate};
 use std::alloc::{AllocError, Global};
 
 /// A tag, an address, a host, a site and a temperature.
@@ -21,7 +21,7 @@ pub struct Profile {
     pub degrees: i32,
 }
 
-impl Validate for Profile {
+impl Stated for Profile {
     type Context = ();
 
     ghost visits = { λ v _.
@@ -34,7 +34,9 @@ impl Validate for Profile {
         and field (codes "host") (ip Any (string_bytes v.host))
         and field (codes "site") (url (string_bytes v.site))
         and field (codes "degrees") (signed_in (negsuc 9) (pos 10) v.degrees) };
+}
 
+impl Validate for Profile {
     fn validate_into<'a, H: I18n>(
         &'a self,
         alloc: Global,

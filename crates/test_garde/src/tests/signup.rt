@@ -4,7 +4,7 @@ ghost use Rattle.garde.specs.Author.{codes, length, string_bytes, ◌and◌, ite
 
 use garde::fields::{Ascii, Dive, Each, Field, Fields, Is, Length};
 use garde::rules::Rule;
-use garde::{I18n, Report, RuleError, Trail, Validate};
+use garde::{I18n, Report, RuleError, Stated, Trail, Validate};
 use std::alloc::{AllocError, Global};
 use std::borrow::CowStr;
 
@@ -46,14 +46,16 @@ pub struct Address {
     pub code: String,
 }
 
-impl Validate for Address {
+impl Stated for Address {
     type Context = Limits;
 
     ghost visits = { λ v c.
         field (codes "street") (ascii (string_bytes v.street))
         and field (codes "city") (length_in 1 c.most (length (string_bytes v.city)))
         and field (codes "code") (length_in 5 5 (length (string_bytes v.code))) };
+}
 
+impl Validate for Address {
     fn validate_into<'a, H: I18n>(
         &'a self,
         alloc: Global,
@@ -88,15 +90,17 @@ pub struct Signup {
     pub address: Address,
 }
 
-impl Validate for Signup {
+impl Stated for Signup {
     type Context = Limits;
 
     ghost visits = { λ v c.
         field (codes "name") (ascii (string_bytes v.name) and length_in 3 25 (length (string_bytes v.name)))
         and field (codes "password") (found (if nat_lt (length (string_bytes v.password)) 12 then Some (own (codes "weak")) else None))
         and field (codes "tags") (length_in 0 c.most (length v.tags.items) and items (λ tag. ascii (string_bytes tag)) v.tags.items)
-        and field (codes "address") (⟦<Address as Validate>⟧.visits v.address c) };
+        and field (codes "address") (⟦<Address as Stated>⟧.visits v.address c) };
+}
 
+impl Validate for Signup {
     fn validate_into<'a, H: I18n>(
         &'a self,
         alloc: Global,

@@ -4,7 +4,7 @@ ghost use Rattle.garde.specs.Author.{codes, found, own};
 
 use garde::fields::{Check, Is};
 use garde::rules::Rule;
-use garde::{I18n, Report, RuleError, Trail, Validate};
+use garde::{I18n, Report, RuleError, Stated, Trail, Validate};
 use std::alloc::{AllocError, Global};
 use std::borrow::CowStr;
 
@@ -32,11 +32,13 @@ impl Rule<Span> for InOrder {
     }
 }
 
-impl Validate for Span {
+impl Stated for Span {
     type Context = ();
 
     ghost visits = { λ span _. found (if nat_lt span.to span.from then Some (own (codes "backwards")) else None) };
+}
 
+impl Validate for Span {
     fn validate_into<'a, H: I18n>(
         &'a self,
         alloc: Global,

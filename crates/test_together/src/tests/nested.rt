@@ -4,7 +4,7 @@ ghost use Rattle.garde.specs.Author.{codes, length, string_bytes, ◌and◌, fie
 
 use garde::fields::{Dive, Field, Fields, Is, IsInMemory, Length, Pattern, Range, Required};
 use garde::rules::pattern::regex::Regex;
-use garde::{I18n, Report, Trail, Validate};
+use garde::{I18n, Report, Stated, Trail, Validate};
 use std::alloc::{AllocError, Global};
 
 /// A person.
@@ -15,14 +15,16 @@ pub struct Person {
     pub phone: Option<String>,
 }
 
-impl Validate for Person {
+impl Stated for Person {
     type Context = ();
 
     ghost visits = { λ v _.
         field (codes "name") (length_in 3 20 (length (string_bytes v.name)))
         and field (codes "age") (unsigned_in 18 120 v.age)
         and field (codes "phone") (required v.phone) };
+}
 
+impl Validate for Person {
     fn validate_into<'a, H: I18n>(
         &'a self,
         alloc: Global,
@@ -56,14 +58,16 @@ pub struct Home {
     pub zip_code: String,
 }
 
-impl Validate for Home {
+impl Stated for Home {
     type Context = Regex;
 
     ghost visits = { λ v c.
         field (codes "street") (length_in 5 (2 ^ 64 - 1) (length (string_bytes v.street)))
         and field (codes "city") (length_in 2 (2 ^ 64 - 1) (length (string_bytes v.city)))
         and field (codes "zip_code") (pattern c (string_bytes v.zip_code)) };
+}
 
+impl Validate for Home {
     fn validate_into<'a, H: I18n>(
         &'a self,
         alloc: Global,
@@ -108,14 +112,16 @@ pub struct Account {
     pub bio: String,
 }
 
-impl Validate for Account {
+impl Stated for Account {
     type Context = Regex;
 
     ghost visits = { λ v c.
-        field (codes "user") (⟦<Person as Validate>⟧.visits v.user tt)
-        and field (codes "address") (⟦<Home as Validate>⟧.visits v.address c)
+        field (codes "user") (⟦<Person as Stated>⟧.visits v.user tt)
+        and field (codes "address") (⟦<Home as Stated>⟧.visits v.address c)
         and field (codes "bio") (length_in 10 (2 ^ 64 - 1) (length (string_bytes v.bio))) };
+}
 
+impl Validate for Account {
     fn validate_into<'a, H: I18n>(
         &'a self,
         alloc: Global,

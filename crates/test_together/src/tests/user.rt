@@ -2,7 +2,7 @@
 ghost use Rattle.garde.specs.Author.{codes, length, string_bytes, ◌and◌, field, ascii, length_in};
 
 use garde::fields::{Ascii, Field, Fields, Is, Length};
-use garde::{I18n, Report, Trail, Validate};
+use garde::{I18n, Report, Stated, Trail, Validate};
 use std::alloc::{AllocError, Global};
 
 /// A user, whose name has 3 to 25 bytes, all of them ASCII.
@@ -11,13 +11,15 @@ pub struct User {
     pub username: String,
 }
 
-impl Validate for User {
+impl Stated for User {
     type Context = ();
 
     ghost visits = { λ user _.
         field (codes "username")
         (ascii (string_bytes user.username) and length_in 3 25 (length (string_bytes user.username))) };
+}
 
+impl Validate for User {
     fn validate_into<'a, H: I18n>(
         &'a self,
         alloc: Global,

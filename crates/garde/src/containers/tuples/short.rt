@@ -2,17 +2,20 @@
 ghost use Rattle.garde.specs.Visits.{item, ◌and◌};
 
 use super::{Item, Items};
+use crate::stated::Stated;
 use crate::validate::Validate;
 use garde_i18n::I18n;
 use garde_report::{Report, Trail};
 use std::alloc::{AllocError, Global};
 
 /// Each item in order, under its index.
-impl<A: Validate> Validate for (A,) {
+impl<A: Stated> Stated for (A,) {
     type Context = A::Context;
 
     ghost visits = { λ v c. item 0 (A.visits v.0 c) };
+}
 
+impl<A: Validate> Validate for (A,) {
     fn validate_into<'a, H: I18n>(
         &'a self,
         alloc: Global,
@@ -26,11 +29,13 @@ impl<A: Validate> Validate for (A,) {
 }
 
 /// Each item in order, under its index.
-impl<A: Validate, B: Validate<Context = A::Context>> Validate for (A, B) {
+impl<A: Stated, B: Stated<Context = A::Context>> Stated for (A, B) {
     type Context = A::Context;
 
     ghost visits = { λ v c. item 0 (A.visits v.0 c) and item 1 (B.visits v.1 c) };
+}
 
+impl<A: Validate, B: Validate<Context = A::Context>> Validate for (A, B) {
     fn validate_into<'a, H: I18n>(
         &'a self,
         alloc: Global,
@@ -44,13 +49,16 @@ impl<A: Validate, B: Validate<Context = A::Context>> Validate for (A, B) {
 }
 
 /// Each item in order, under its index.
-impl<A: Validate, B: Validate<Context = A::Context>, C: Validate<Context = A::Context>> Validate
+impl<A: Stated, B: Stated<Context = A::Context>, C: Stated<Context = A::Context>> Stated
     for (A, B, C) {
     type Context = A::Context;
 
     ghost visits = { λ v c.
         item 0 (A.visits v.0 c) and item 1 (B.visits v.1 c) and item 2 (C.visits v.2 c) };
+}
 
+impl<A: Validate, B: Validate<Context = A::Context>, C: Validate<Context = A::Context>> Validate
+    for (A, B, C) {
     fn validate_into<'a, H: I18n>(
         &'a self,
         alloc: Global,
@@ -65,17 +73,24 @@ impl<A: Validate, B: Validate<Context = A::Context>, C: Validate<Context = A::Co
 
 /// Each item in order, under its index.
 impl<
-    A: Validate,
-    B: Validate<Context = A::Context>,
-    C: Validate<Context = A::Context>,
-    D: Validate<Context = A::Context>,
-> Validate for (A, B, C, D) {
+    A: Stated,
+    B: Stated<Context = A::Context>,
+    C: Stated<Context = A::Context>,
+    D: Stated<Context = A::Context>,
+> Stated for (A, B, C, D) {
     type Context = A::Context;
 
     ghost visits = { λ v c.
         item 0 (A.visits v.0 c) and item 1 (B.visits v.1 c) and item 2 (C.visits v.2 c)
         and item 3 (D.visits v.3 c) };
+}
 
+impl<
+    A: Validate,
+    B: Validate<Context = A::Context>,
+    C: Validate<Context = A::Context>,
+    D: Validate<Context = A::Context>,
+> Validate for (A, B, C, D) {
     fn validate_into<'a, H: I18n>(
         &'a self,
         alloc: Global,
@@ -90,18 +105,26 @@ impl<
 
 /// Each item in order, under its index.
 impl<
+    A: Stated,
+    B: Stated<Context = A::Context>,
+    C: Stated<Context = A::Context>,
+    D: Stated<Context = A::Context>,
+    E: Stated<Context = A::Context>,
+> Stated for (A, B, C, D, E) {
+    type Context = A::Context;
+
+    ghost visits = { λ v c.
+        item 0 (A.visits v.0 c) and item 1 (B.visits v.1 c) and item 2 (C.visits v.2 c)
+        and item 3 (D.visits v.3 c) and item 4 (E.visits v.4 c) };
+}
+
+impl<
     A: Validate,
     B: Validate<Context = A::Context>,
     C: Validate<Context = A::Context>,
     D: Validate<Context = A::Context>,
     E: Validate<Context = A::Context>,
 > Validate for (A, B, C, D, E) {
-    type Context = A::Context;
-
-    ghost visits = { λ v c.
-        item 0 (A.visits v.0 c) and item 1 (B.visits v.1 c) and item 2 (C.visits v.2 c)
-        and item 3 (D.visits v.3 c) and item 4 (E.visits v.4 c) };
-
     fn validate_into<'a, H: I18n>(
         &'a self,
         alloc: Global,
@@ -116,6 +139,21 @@ impl<
 
 /// Each item in order, under its index.
 impl<
+    A: Stated,
+    B: Stated<Context = A::Context>,
+    C: Stated<Context = A::Context>,
+    D: Stated<Context = A::Context>,
+    E: Stated<Context = A::Context>,
+    F: Stated<Context = A::Context>,
+> Stated for (A, B, C, D, E, F) {
+    type Context = A::Context;
+
+    ghost visits = { λ v c.
+        item 0 (A.visits v.0 c) and item 1 (B.visits v.1 c) and item 2 (C.visits v.2 c)
+        and item 3 (D.visits v.3 c) and item 4 (E.visits v.4 c) and item 5 (F.visits v.5 c) };
+}
+
+impl<
     A: Validate,
     B: Validate<Context = A::Context>,
     C: Validate<Context = A::Context>,
@@ -123,12 +161,6 @@ impl<
     E: Validate<Context = A::Context>,
     F: Validate<Context = A::Context>,
 > Validate for (A, B, C, D, E, F) {
-    type Context = A::Context;
-
-    ghost visits = { λ v c.
-        item 0 (A.visits v.0 c) and item 1 (B.visits v.1 c) and item 2 (C.visits v.2 c)
-        and item 3 (D.visits v.3 c) and item 4 (E.visits v.4 c) and item 5 (F.visits v.5 c) };
-
     fn validate_into<'a, H: I18n>(
         &'a self,
         alloc: Global,

@@ -3,7 +3,7 @@ ghost use Rattle.garde.specs.Fields.{◌and◌, field, pattern, url};
 
 use garde::fields::{Adapt, Field, Fields, IsInMemory, Pattern, Url, View};
 use garde::rules::pattern::regex::Regex;
-use garde::{I18n, Report, Trail, Validate};
+use garde::{I18n, Report, Stated, Trail, Validate};
 use std::alloc::{AllocError, Global};
 
 /// A text that is seen by a view.
@@ -34,14 +34,16 @@ pub struct Parcel {
     pub label: Label,
 }
 
-impl Validate for Parcel {
+impl Stated for Parcel {
     type Context = Regex;
 
     ghost visits = { λ v c.
         field "link" (url v.link)
         and field "code" (pattern c v.code)
         and field "label" (pattern c v.label.text) };
+}
 
+impl Validate for Parcel {
     fn validate_into<'a, H: I18n>(
         &'a self,
         alloc: Global,

@@ -10,7 +10,7 @@ use crate::tests::told::{prints, tells_all};
 use garde::fields::{Field, Fields, Is, Length, Matches, Rule};
 use garde::rules::length::HasSimpleLength;
 use garde::rules::{adapt, inner, prefix};
-use garde::{Component, DefaultI18n, I18n, Report, RuleError, Trail, Validate};
+use garde::{Component, DefaultI18n, I18n, Report, RuleError, Stated, Trail, Validate};
 use std::alloc::{AllocError, Global};
 use std::borrow::CowStr;
 use std::process::Abort;
@@ -60,7 +60,7 @@ struct Account {
     again: String,
 }
 
-impl Validate for Account {
+impl Stated for Account {
     type Context = Bank;
 
     ghost visits = { λ v bank.
@@ -68,7 +68,9 @@ impl Validate for Account {
         and field "password"
         (found (if nat_lt (byte_count (string_bytes v.password)) bank.least then Some (own (codes "weak")) else None))
         and field "again" (matches_text "password" v.again v.password) };
+}
 
+impl Validate for Account {
     fn validate_into<'a, H: I18n>(
         &'a self,
         alloc: Global,
