@@ -1,16 +1,11 @@
-"""The makers of values: what `Built` makes a value of a type of."""
+"""How values are made: what `Built` makes a value of a type of."""
 import textwrap
 
 from .layout import WIDTH, Angles, Call, Literal, Word, arm, call, statement
 
-MAKER = """/// Makes a value of the type `{name}` of what its form reads.
-#[derive(Clone, Copy)]
-{vis}struct Make{name}{life}{holds};
-
-impl{life} Build for Make{name}{life} {{
+MAKER = """/// A value of the type `{name}` is made of what its form reads.
+impl{life} FromParts for {made} {{
 {parts}
-
-    type Made = {made};
 
 {builds}
 
@@ -18,7 +13,7 @@ impl{life} Build for Make{name}{life} {{
 
 {kept}
 
-    fn build(&self, parts: Self::Parts) -> Self::Made {{
+    fn from_parts(parts: Self::Parts) -> Self {{
 {body}
     }}
 }}"""
@@ -92,10 +87,10 @@ def wrapped(name, head, text):
 
 def ghost_cases(name, cases):
     """A ghost member by cases."""
-    line = f"    ghost {name} = {{ λ _. elim [ {' | '.join(cases)} ] }};"
+    line = f"    ghost {name} = {{ elim [ {' | '.join(cases)} ] }};"
     if len(line) <= WIDTH:
         return line
-    return "\n".join([f"    ghost {name} = {{ λ _. elim [", *(f"      | {it}" for it in cases), "    ] };"])
+    return "\n".join([f"    ghost {name} = {{ elim [", *(f"      | {it}" for it in cases), "    ] };"])
 
 
 class Makers:
@@ -111,23 +106,22 @@ class Makers:
         return "<'t>" if item.params else ""
 
     def value(self, item):
-        """The maker as code."""
-        if item.params:
-            self.writer.uses.others.add("std::marker::PhantomData")
-        return call(f"Make{item.name}", "PhantomData") if item.params else Word(f"Make{item.name}")
+        """What names the type for `Built`."""
+        self.writer.uses.others.add("std::marker::PhantomData")
+        life = "<'_>" if item.params else ""
+        return Word(f"PhantomData::<&{item.name}{life}>")
 
     def text(self, item):
-        """The maker of a type."""
-        self.schema.use("Build")
+        """How a value of a type is made."""
+        self.schema.use("FromParts")
         self.writer.uses.prelude.add("refl")
         self.writer.item = item
         halves = self.of_enum(item) if item.kind == "enum" else self.of_struct(item)
         parts, builds, parts_of, kept, body = halves
-        holds = f"({item.vis}PhantomData<&'t str>)" if item.params else ""
         written = statement(parts, 4, "type Parts = ", ";")
         return MAKER.format(
-            name=item.name, vis=item.vis, life=self.life(item), holds=holds, parts=written, made=self.type_name(item), builds=builds,
-            parts_of=parts_of, kept=kept, body=body,
+            name=item.name, life=self.life(item), parts=written, made=self.type_name(item), builds=builds, parts_of=parts_of,
+            kept=kept, body=body,
         )
 
     def types(self, variant):
@@ -138,10 +132,10 @@ class Makers:
         variant = item.variants[0]
         names = [it.name or str(at) for at, it in enumerate(variant.fields)]
         rows = [f"{name} = {place}" for name, place in zip(names, places(nested(names), "parts"))]
-        builds = ghost("builds", "λ _ parts. record", "{ " + "; ".join(rows) + " }", [f"{it};" for it in rows])
+        builds = ghost("builds", "λ parts. record", "{ " + "; ".join(rows) + " }", [f"{it};" for it in rows])
         given = tuple_text(nested([f"v.{it}" for it in names]))
-        parts_of = wrapped("parts_of", "λ _ v.", given)
-        return self.types(variant), builds, parts_of, "    ghost kept = { λ _ _. refl };", self.body(item, variant)
+        parts_of = wrapped("parts_of", "λ v.", given)
+        return self.types(variant), builds, parts_of, "    ghost kept = { λ _. refl };", self.body(item, variant)
 
     def body(self, item, variant):
         """What a struct is made by."""

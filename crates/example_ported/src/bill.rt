@@ -12,8 +12,8 @@ use garde::fields::{
 };
 use garde::{I18n, Report, Stated, Trail, Valid, Validate, length, range};
 use garde_schema::{
-    Any, Build, Built, Either, FormI18n, Member, Nullish, Object, OneMember, ReadError, Scratch,
-    Tagged, Text, TextRef, U8, U16, U64, Variant, Whole, read_json,
+    Any, Built, Either, FormI18n, FromParts, Member, Nullish, Object, OneMember, ReadError,
+    Scratch, Tagged, Text, TextRef, U8, U16, U64, Variant, Whole, read_json,
 };
 use std::alloc::{AllocError, Global};
 use std::marker::PhantomData;
@@ -167,30 +167,25 @@ impl<'t> Validate for Bill<'t> {
     }
 }
 
-/// Makes a value of the type `Payment` of what its form reads.
-#[derive(Clone, Copy)]
-pub struct MakePayment<'t>(pub PhantomData<&'t str>);
-
-impl<'t> Build for MakePayment<'t> {
+/// A value of the type `Payment` is made of what its form reads.
+impl<'t> FromParts for Payment<'t> {
     type Parts = Either<(TextRef<'t>, u16), Either<Option<TextRef<'t>>, ()>>;
 
-    type Made = Payment<'t>;
-
-    ghost builds = { λ _. elim [
+    ghost builds = { elim [
       | Left parts ↦ Card parts.0 parts.1
       | Right (Left parts) ↦ Account parts
       | Right (Right _) ↦ Cash
     ] };
 
-    ghost parts_of = { λ _. elim [
+    ghost parts_of = { elim [
       | Card card_no year ↦ Left (card_no, year)
       | Account holder ↦ Right (Left holder)
       | Cash ↦ Right (Right tt)
     ] };
 
-    ghost kept = { λ _. elim [ Left _ ↦ refl | Right (Left _) ↦ refl | Right (Right _) ↦ refl ] };
+    ghost kept = { elim [ Left _ ↦ refl | Right (Left _) ↦ refl | Right (Right _) ↦ refl ] };
 
-    fn build(&self, parts: Self::Parts) -> Self::Made {
+    fn from_parts(parts: Self::Parts) -> Self {
         match parts {
             Either::Left((card_no, year)) => Payment::Card { card_no, year },
             Either::Right(Either::Left(holder)) => Payment::Account { holder },
@@ -199,42 +194,32 @@ impl<'t> Build for MakePayment<'t> {
     }
 }
 
-/// Makes a value of the type `Number` of what its form reads.
-#[derive(Clone, Copy)]
-pub struct MakeNumber<'t>(pub PhantomData<&'t str>);
-
-impl<'t> Build for MakeNumber<'t> {
+/// A value of the type `Number` is made of what its form reads.
+impl<'t> FromParts for Number<'t> {
     type Parts = TextRef<'t>;
 
-    type Made = Number<'t>;
+    ghost builds = { λ parts. record { 0 = parts } };
 
-    ghost builds = { λ _ parts. record { 0 = parts } };
+    ghost parts_of = { λ v. v.0 };
 
-    ghost parts_of = { λ _ v. v.0 };
+    ghost kept = { λ _. refl };
 
-    ghost kept = { λ _ _. refl };
-
-    fn build(&self, parts: Self::Parts) -> Self::Made {
+    fn from_parts(parts: Self::Parts) -> Self {
         Number(parts)
     }
 }
 
-/// Makes a value of the type `Origin` of what its form reads.
-#[derive(Clone, Copy)]
-pub struct MakeOrigin<'t>(pub PhantomData<&'t str>);
-
-impl<'t> Build for MakeOrigin<'t> {
+/// A value of the type `Origin` is made of what its form reads.
+impl<'t> FromParts for Origin<'t> {
     type Parts = Either<u8, TextRef<'t>>;
 
-    type Made = Origin<'t>;
+    ghost builds = { elim [ Left parts ↦ Shop parts | Right parts ↦ WebSite parts ] };
 
-    ghost builds = { λ _. elim [ Left parts ↦ Shop parts | Right parts ↦ WebSite parts ] };
+    ghost parts_of = { elim [ Shop till ↦ Left till | WebSite value ↦ Right value ] };
 
-    ghost parts_of = { λ _. elim [ Shop till ↦ Left till | WebSite value ↦ Right value ] };
+    ghost kept = { elim [ Left _ ↦ refl | Right _ ↦ refl ] };
 
-    ghost kept = { λ _. elim [ Left _ ↦ refl | Right _ ↦ refl ] };
-
-    fn build(&self, parts: Self::Parts) -> Self::Made {
+    fn from_parts(parts: Self::Parts) -> Self {
         match parts {
             Either::Left(till) => Origin::Shop { till },
             Either::Right(value) => Origin::WebSite(value),
@@ -242,27 +227,22 @@ impl<'t> Build for MakeOrigin<'t> {
     }
 }
 
-/// Makes a value of the type `Bill` of what its form reads.
-#[derive(Clone, Copy)]
-pub struct MakeBill<'t>(pub PhantomData<&'t str>);
-
-impl<'t> Build for MakeBill<'t> {
+/// A value of the type `Bill` is made of what its form reads.
+impl<'t> FromParts for Bill<'t> {
     type Parts = (Number<'t>, u64, Payment<'t>, Option<Origin<'t>>);
 
-    type Made = Bill<'t>;
-
-    ghost builds = { λ _ parts. record {
+    ghost builds = { λ parts. record {
       number = parts.0;
       cents = parts.1;
       payment = parts.2;
       origin = parts.3;
     } };
 
-    ghost parts_of = { λ _ v. (v.number, v.cents, v.payment, v.origin) };
+    ghost parts_of = { λ v. (v.number, v.cents, v.payment, v.origin) };
 
-    ghost kept = { λ _ _. refl };
+    ghost kept = { λ _. refl };
 
-    fn build(&self, parts: Self::Parts) -> Self::Made {
+    fn from_parts(parts: Self::Parts) -> Self {
         let (number, cents, payment, origin) = parts;
         Bill {
             number,
@@ -281,7 +261,7 @@ pub fn read_bill<'a, H: I18n + FormI18n>(
     scratch: &'a mut Scratch,
     h: &H,
 ) -> Result<Valid<Bill<'a>>, ReadError> {
-    let number_form = Built(Text(Is(Prefix("B"))), MakeNumber(PhantomData));
+    let number_form = Built(Text(Is(Prefix("B"))), PhantomData::<&Number<'_>>);
     let payment_form = Built(
         Tagged(
             "kind",
@@ -299,7 +279,7 @@ pub fn read_bill<'a, H: I18n + FormI18n>(
                 ),
             ),
         ),
-        MakePayment(PhantomData),
+        PhantomData::<&Payment<'_>>,
     );
     let origin_form = Built(
         OneMember(
@@ -312,7 +292,7 @@ pub fn read_bill<'a, H: I18n + FormI18n>(
             ),
             PhantomData,
         ),
-        MakeOrigin(PhantomData),
+        PhantomData::<&Origin<'_>>,
     );
     let bill_form = Built(
         Object((
@@ -321,7 +301,7 @@ pub fn read_bill<'a, H: I18n + FormI18n>(
             Member("payment", payment_form),
             Nullish("origin", origin_form),
         )),
-        MakeBill(PhantomData),
+        PhantomData::<&Bill<'_>>,
     );
     match read_json(alloc, bytes, scratch, &bill_form, h) {
         Ok(value) => Ok(Valid::known(value, &())),

@@ -6,7 +6,7 @@ ghost use Rattle.garde.specs.Author as bytes;
 use garde::fields::{Alphanumeric, Ascii, Dive, Each, Field, Fields, IfSome, Is, Prefix, Required};
 use garde::{I18n, Report, Stated, Trail, Valid, Validate, length, range};
 use garde_schema::{
-    Build, Built, Checked, Closed, Entries, Flag, FormI18n, Items, ListUnder, MapUnder, Member,
+    Built, Checked, Closed, Entries, Flag, FormI18n, FromParts, Items, ListUnder, MapUnder, Member,
     Nullish, Object, OneOf, ReadError, Scratch, Text, TextRef, U8, U16, U32, Under, Whole,
     WithDefault, read_json,
 };
@@ -135,22 +135,17 @@ impl<'t> Validate for Parcel<'t> {
     }
 }
 
-/// Makes a value of the type `Thing` of what its form reads.
-#[derive(Clone, Copy)]
-pub struct MakeThing<'t>(pub PhantomData<&'t str>);
-
-impl<'t> Build for MakeThing<'t> {
+/// A value of the type `Thing` is made of what its form reads.
+impl<'t> FromParts for Thing<'t> {
     type Parts = (TextRef<'t>, u8, bool);
 
-    type Made = Thing<'t>;
+    ghost builds = { λ parts. record { name = parts.0; pieces = parts.1; fragile = parts.2 } };
 
-    ghost builds = { λ _ parts. record { name = parts.0; pieces = parts.1; fragile = parts.2 } };
+    ghost parts_of = { λ v. (v.name, v.pieces, v.fragile) };
 
-    ghost parts_of = { λ _ v. (v.name, v.pieces, v.fragile) };
+    ghost kept = { λ _. refl };
 
-    ghost kept = { λ _ _. refl };
-
-    fn build(&self, parts: Self::Parts) -> Self::Made {
+    fn from_parts(parts: Self::Parts) -> Self {
         let (name, pieces, fragile) = parts;
         Thing {
             name,
@@ -160,11 +155,8 @@ impl<'t> Build for MakeThing<'t> {
     }
 }
 
-/// Makes a value of the type `Parcel` of what its form reads.
-#[derive(Clone, Copy)]
-pub struct MakeParcel<'t>(pub PhantomData<&'t str>);
-
-impl<'t> Build for MakeParcel<'t> {
+/// A value of the type `Parcel` is made of what its form reads.
+impl<'t> FromParts for Parcel<'t> {
     type Parts = (
         u32,
         TextRef<'t>,
@@ -178,9 +170,7 @@ impl<'t> Build for MakeParcel<'t> {
         ),
     );
 
-    type Made = Parcel<'t>;
-
-    ghost builds = { λ _ parts. record {
+    ghost builds = { λ parts. record {
       number = parts.0;
       sent_to = parts.1;
       phone = parts.2;
@@ -191,12 +181,12 @@ impl<'t> Build for MakeParcel<'t> {
       labels = parts.5.2;
     } };
 
-    ghost parts_of = { λ _ v.
+    ghost parts_of = { λ v.
         (v.number, v.sent_to, v.phone, v.weight, v.speed, (v.things, v.marks, v.labels)) };
 
-    ghost kept = { λ _ _. refl };
+    ghost kept = { λ _. refl };
 
-    fn build(&self, parts: Self::Parts) -> Self::Made {
+    fn from_parts(parts: Self::Parts) -> Self {
         let (number, sent_to, phone, weight, speed, (things, marks, labels)) = parts;
         Parcel {
             number,
@@ -230,7 +220,7 @@ pub fn read_parcel<'a, H: I18n + FormI18n>(
             WithDefault("pieces", Whole(U8, Is(range!(min = 1, max = 99))), 1),
             WithDefault("fragile", Flag, false),
         ))),
-        MakeThing(PhantomData),
+        PhantomData::<&Thing<'_>>,
     );
     let parcel_form = Built(
         Object(Closed((
@@ -254,7 +244,7 @@ pub fn read_parcel<'a, H: I18n + FormI18n>(
                 Member("labels", MapUnder(Is(length!(max = 3)), Text(()))),
             ),
         ))),
-        MakeParcel(PhantomData),
+        PhantomData::<&Parcel<'_>>,
     );
     match read_json(alloc, bytes, scratch, &parcel_form, h) {
         Ok(value) => Ok(Valid::known(value, &())),

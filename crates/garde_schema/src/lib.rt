@@ -46,7 +46,7 @@ mod whole;
 mod with_codes;
 mod with_default;
 
-pub use built::{Build, Built};
+pub use built::{Built, FromParts};
 pub use checked::{Checked, Under};
 pub use closed::Closed;
 pub use count::Count;
@@ -67,7 +67,7 @@ pub use list_under::ListUnder;
 pub use map::{Entries, Map};
 pub use map_under::MapUnder;
 pub use member::Member;
-pub use nested::{BuildNested, Nested};
+pub use nested::{FromNested, Nested};
 pub use nullable::Nullable;
 pub use nullish::Nullish;
 pub use number_rules::NumberRules;

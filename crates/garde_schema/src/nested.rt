@@ -16,65 +16,62 @@ use crate::items::Items;
 use garde::{I18n, Report, Trail};
 use garde_tape::Tree;
 use std::alloc::{AllocError, Global};
+use std::marker::PhantomData;
 use walk::read_level;
 use way::Way;
 
-/// What makes a value that holds values of its own type. A value that has texts of the tape is made by
-/// a type that names how long the tape is borrowed, as for `Build`.
-pub trait BuildNested {
+/// A type of yours, whose values hold values of the same type.
+pub trait FromNested: Drop {
     /// The value of the object's own members.
     type Own: Drop;
 
-    /// The type of the value that is made.
-    type Made: Drop;
-
     /// The value that is made of these, and of the values of the objects in the object.
-    ghost builds: { Self → Self.Own → List Self.Made → Self.Made };
+    ghost builds: { Self.Own → List Self → Self };
 
     /// The parts of which a value was made.
-    ghost parts_of: { Self → Self.Made → Self.Own × List Self.Made };
+    ghost parts_of: { Self → Self.Own × List Self };
 
     /// Makes the value.
-    fn build(&self, own: Self::Own, below: Items<Self::Made>) -> Self::Made
-        ensures { result ≡ builds self.now own below };
+    fn from_nested(own: Self::Own, below: Items<Self>) -> Self
+        ensures { result ≡ builds own below };
 
     /// The parts of a value that was made are those that it was made of.
-    ghost kept: { (maker : Self) → (own : Self.Own) → (below : List Self.Made)
-        → parts_of maker (builds maker own below) ≡ (own, below) };
+    ghost kept: { (own : Self.Own) → (below : List Self)
+        → parts_of (builds own below) ≡ (own, below) };
 }
 
-/// An object that holds a list of objects of the same form: the name of the member with the list, the
-/// other members, and what makes a value of theirs and of the values of the objects in the list.
+/// An object that holds a list of objects of the same form, of each of which a value of the type `T` is
+/// made: the name of the member with the list, and the other members.
 ///
-/// A tree of folders is read by `Nested("folders", Member("name", ..), MakeFolder)`, where `MakeFolder`
-/// is a type of yours that implements `BuildNested`. The list has to be there, and may be empty. The
-/// faults of an object's own members and of its list come before those of the objects in it. What the
-/// rules ask is known of the value and of each value in it. `Closed` around it lets no other member in,
-/// at any level.
+/// A tree of folders is read by `Nested("folders", Member("name", ..), PhantomData)`, where `T` is
+/// `Folder`: a type of yours that implements `FromNested`. The list has to be there, and may be empty.
+/// The faults of an object's own members and of its list come before those of the objects in it. What
+/// the rules ask is known of the value and of each value in it. `Closed` around it lets no other member
+/// in, at any level.
 ///
 /// It is read by calls as deep as the objects nest. A text that nests deeper than 128 is not parsed.
 #[derive(Clone, Copy, Debug)]
-pub struct Nested<'a, M, B>(pub &'a str, pub M, pub B);
+pub struct Nested<'a, M, T>(pub &'a str, pub M, pub PhantomData<&'a T>);
 
 // Reads an object of the form, closed or not.
-fn read_nested<'t, 'a, B: BuildNested, M: Members<'a, Out = B::Own>, H: I18n + FormI18n>(
+fn read_nested<'t, 'a, T: FromNested, M: Members<'a, Out = T::Own>, H: I18n + FormI18n>(
     alloc: Global,
-    form: &Nested<'a, M, B>,
+    form: &Nested<'a, M, T>,
     closed: bool,
     tree: &Tree<'t, 'a>,
     trail: &mut Trail<'a>,
     report: &mut Report,
     h: &H,
-) -> Result<Option<B::Made>, AllocError>
+) -> Result<Option<T>, AllocError>
     ensures answer { Visited (nested_visits form.now.0.now closed (M.visits form.now.1)
         (M.names form.now.1) (H.form_text h.now) tree.now)
         (H.text h.now) trail.old trail.new report.old report.new (forget result) }
     ensures value { IfOk result (λ out.
-        out ≡ nested_value form.now.0.now (M.value form.now.1) (B.builds form.now.2) tree.now) }
+        out ≡ nested_value form.now.0.now (M.value form.now.1) T.builds tree.now) }
     ensures sound { OnOk result (Sound (nested_visits form.now.0.now closed (M.visits form.now.1)
         (M.names form.now.1) (H.form_text h.now) tree.now)
-        (Kept (M.keeps form.now.1) (B.parts_of form.now.2))
-        (nested_value form.now.0.now (M.value form.now.1) (B.builds form.now.2) tree.now)) }
+        (Kept (M.keeps form.now.1) T.parts_of)
+        (nested_value form.now.0.now (M.value form.now.1) T.builds tree.now)) }
 {
     let way = Way {
         alloc,
@@ -86,15 +83,15 @@ fn read_nested<'t, 'a, B: BuildNested, M: Members<'a, Out = B::Own>, H: I18n + F
     read_level(alloc, &way, way.tree, trail, report)
 }
 
-impl<'a, B: BuildNested, M: Members<'a, Out = B::Own>> Form<'a> for Nested<'a, M, B> {
-    type Out = B::Made;
+impl<'a, T: FromNested, M: Members<'a, Out = T::Own>> Form<'a> for Nested<'a, M, T> {
+    type Out = T;
 
     ghost visits = { λ form texts j.
         nested_visits form.0.now false (M.visits form.1) (M.names form.1) texts j };
 
-    ghost value = { λ form j. nested_value form.0.now (M.value form.1) (B.builds form.2) j };
+    ghost value = { λ form j. nested_value form.0.now (M.value form.1) T.builds j };
 
-    ghost keeps = { λ form out. Kept (M.keeps form.1) (B.parts_of form.2) out };
+    ghost keeps = { λ form out. Kept (M.keeps form.1) T.parts_of out };
 
     fn read<'t, H: I18n + FormI18n>(
         &self,
@@ -103,21 +100,21 @@ impl<'a, B: BuildNested, M: Members<'a, Out = B::Own>> Form<'a> for Nested<'a, M
         trail: &mut Trail<'a>,
         report: &mut Report,
         h: &H,
-    ) -> Result<Option<B::Made>, AllocError> {
+    ) -> Result<Option<T>, AllocError> {
         read_nested(alloc, self, false, tree, trail, report, h)
     }
 }
 
 /// No member but those of the form, in the object and in each object in it.
-impl<'a, B: BuildNested, M: Members<'a, Out = B::Own>> Form<'a> for Closed<Nested<'a, M, B>> {
-    type Out = B::Made;
+impl<'a, T: FromNested, M: Members<'a, Out = T::Own>> Form<'a> for Closed<Nested<'a, M, T>> {
+    type Out = T;
 
     ghost visits = { λ form texts j.
         nested_visits form.0.0.now true (M.visits form.0.1) (M.names form.0.1) texts j };
 
-    ghost value = { λ form j. nested_value form.0.0.now (M.value form.0.1) (B.builds form.0.2) j };
+    ghost value = { λ form j. nested_value form.0.0.now (M.value form.0.1) T.builds j };
 
-    ghost keeps = { λ form out. Kept (M.keeps form.0.1) (B.parts_of form.0.2) out };
+    ghost keeps = { λ form out. Kept (M.keeps form.0.1) T.parts_of out };
 
     fn read<'t, H: I18n + FormI18n>(
         &self,
@@ -126,7 +123,7 @@ impl<'a, B: BuildNested, M: Members<'a, Out = B::Own>> Form<'a> for Closed<Neste
         trail: &mut Trail<'a>,
         report: &mut Report,
         h: &H,
-    ) -> Result<Option<B::Made>, AllocError> {
+    ) -> Result<Option<T>, AllocError> {
         read_nested(alloc, &self.0, true, tree, trail, report, h)
     }
 }

@@ -4,7 +4,7 @@ ghost use Rattle.garde.specs.Visits.{Visited};
 ghost use Rattle.garde_schema.specs.Forms.{both, forget, Sound};
 ghost use Rattle.garde_schema.specs.Nested.{below, first_visits, last_visits, list_in, made_of, own_value};
 
-use super::BuildNested;
+use super::FromNested;
 use super::level::Begun;
 use crate::closed::check_members;
 use crate::fault::{FormFault, Wanted};
@@ -97,15 +97,11 @@ pub(super) fn check_rest<'t, 'a, M: Members<'a>, H: I18n + FormI18n>(
 }
 
 // The value that is made of both, where both are there.
-pub(super) fn made<B: BuildNested>(
-    maker: &B,
-    own: Option<B::Own>,
-    values: Option<Items<B::Made>>,
-) -> Option<B::Made>
-    ensures { result ≡ made_of (B.builds maker.now) own values }
+pub(super) fn made<T: FromNested>(own: Option<T::Own>, values: Option<Items<T>>) -> Option<T>
+    ensures { result ≡ made_of T.builds own values }
 {
     match (own, values) {
-        (Some(own), Some(values)) => Some(maker.build(own, values)),
+        (Some(own), Some(values)) => Some(T::from_nested(own, values)),
         _ => None,
     }
 }

@@ -6,7 +6,7 @@ ghost use Rattle.garde_schema.specs.Nested.{first_visits, last_visits, made_of, 
 
 use super::level::{Begun, Level};
 use super::steps::{begin, check_rest, made};
-use super::{BuildNested, Nested};
+use super::{FromNested, Nested};
 use crate::form::Members;
 use crate::handler::FormI18n;
 use crate::items::Items;
@@ -17,25 +17,25 @@ use std::alloc::{AllocError, Global};
 
 /// The form, whether it is closed, the handler, and the tree that the walk begins at.
 #[derive(Drop)]
-pub(super) struct Way<'t, 'r, 'f, 'h, 'a, M, B, H> {
+pub(super) struct Way<'t, 'r, 'f, 'h, 'a, M, T, H> {
     pub(super) alloc: Global,
-    pub(super) form: &'f Nested<'a, M, B>,
+    pub(super) form: &'f Nested<'a, M, T>,
     pub(super) closed: bool,
     pub(super) h: &'h H,
     pub(super) tree: &'r Tree<'t, 'a>,
 }
 
-impl<'t, 'r, 'f, 'h, 'a: 't, B: BuildNested, M: Members<'a, Out = B::Own>, H: I18n + FormI18n> Level
-    for Way<'t, 'r, 'f, 'h, 'a, M, B, H> {
+impl<'t, 'r, 'f, 'h, 'a: 't, T: FromNested, M: Members<'a, Out = T::Own>, H: I18n + FormI18n> Level
+    for Way<'t, 'r, 'f, 'h, 'a, M, T, H> {
     type Tree = Tree<'t, 'a>;
 
     type Trees = TreeItems<'t, 'a>;
 
     type Trail = Trail<'a>;
 
-    type Own = B::Own;
+    type Own = T::Own;
 
-    type Made = B::Made;
+    type Made = T;
 
     ghost json = { λ tree. tree };
 
@@ -57,16 +57,16 @@ impl<'t, 'r, 'f, 'h, 'a: 't, B: BuildNested, M: Members<'a, Out = B::Own>, H: I1
 
     ghost keeps = { λ way own. M.keeps way.form.now.1 own };
 
-    ghost builds = { λ way own values. B.builds way.form.now.2 own values };
+    ghost builds = { λ way own values. T.builds own values };
 
-    ghost parts_of = { λ way made. B.parts_of way.form.now.2 made };
+    ghost parts_of = { λ way made. T.parts_of made };
 
     fn begin(
         &self,
         tree: &Tree<'t, 'a>,
         trail: &mut Trail<'a>,
         report: &mut Report,
-    ) -> Result<Begun<B::Own, TreeItems<'t, 'a>>, AllocError> {
+    ) -> Result<Begun<T::Own, TreeItems<'t, 'a>>, AllocError> {
         begin(
             self.alloc,
             self.form.0,
@@ -97,18 +97,18 @@ impl<'t, 'r, 'f, 'h, 'a: 't, B: BuildNested, M: Members<'a, Out = B::Own>, H: I1
     fn finish(
         &self,
         tree: &Tree<'t, 'a>,
-        own: Option<B::Own>,
-        values: Option<Items<B::Made>>,
+        own: Option<T::Own>,
+        values: Option<Items<T>>,
         trail: &mut Trail<'a>,
         report: &mut Report,
-    ) -> Result<Option<B::Made>, AllocError>
+    ) -> Result<Option<T>, AllocError>
         ensures answer { Visited (last_visits self.now.closed self.now.form.now.0.now
             (M.names self.now.form.now.1) (H.form_text self.now.h.now) tree.now)
             (H.text self.now.h.now) trail.old trail.new report.old report.new (forget result) }
         ensures value { IfOk result (λ out.
-            out ≡ made_of (B.builds self.now.form.now.2) own values) }
+            out ≡ made_of T.builds own values) }
     {
-        let Nested(name, members, maker) = self.form;
+        let Nested(name, members, _) = self.form;
         let told = check_rest(
             self.alloc,
             self.closed,
@@ -119,8 +119,8 @@ impl<'t, 'r, 'f, 'h, 'a: 't, B: BuildNested, M: Members<'a, Out = B::Own>, H: I1
             report,
             self.h,
         );
-        with(told, made(maker, own, values))
+        with(told, made(own, values))
     }
 
-    ghost kept = { λ way own values. B.kept way.form.now.2 own values };
+    ghost kept = { λ way own values. T.kept own values };
 }

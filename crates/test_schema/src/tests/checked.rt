@@ -6,7 +6,8 @@ use super::told::{Case as Form, compare, told};
 use garde::fields::{Ascii, Is, Prefix, Rule};
 use garde::{I18n, RuleError, range};
 use garde_schema::{
-    Build, Built, Checked, Closed, FormI18n, List, Member, Object, Text, TextRef, U32, Under, Whole,
+    Built, Checked, Closed, FormI18n, FromParts, List, Member, Object, Text, TextRef, U32, Under,
+    Whole,
 };
 use garde_tape::Tree;
 use std::alloc::{AllocError, Global};
@@ -43,22 +44,16 @@ struct Line<'a> {
     cents: u32,
 }
 
-// Makes a line of what its members are.
-#[derive(Drop)]
-struct MakeLine<'a>(PhantomData<&'a str>);
-
-impl<'a> Build for MakeLine<'a> {
+impl<'a> FromParts for Line<'a> {
     type Parts = (TextRef<'a>, u32, u32);
 
-    type Made = Line<'a>;
+    ghost builds = { λ parts. record { code = parts.0; count = parts.1; cents = parts.2 } };
 
-    ghost builds = { λ _ parts. record { code = parts.0; count = parts.1; cents = parts.2 } };
+    ghost parts_of = { λ line. (line.code, line.count, line.cents) };
 
-    ghost parts_of = { λ _ line. (line.code, line.count, line.cents) };
+    ghost kept = { λ _. refl };
 
-    ghost kept = { λ _ _. refl };
-
-    fn build(&self, parts: (TextRef<'a>, u32, u32)) -> Line<'a> {
+    fn from_parts(parts: (TextRef<'a>, u32, u32)) -> Line<'a> {
         let (code, count, cents) = parts;
         Line { code, count, cents }
     }
@@ -74,7 +69,8 @@ fn lines<H: I18n + FormI18n>(
         Member("count", Whole(U32, Is(range!(min = 1, max = 99)))),
         Member("cents", Whole(U32, Is(range!(max = 9999)))),
     )));
-    told(alloc, tree, &List(Built(line, MakeLine(PhantomData))), h)
+    let form = List(Built(line, PhantomData::<&Line<'_>>));
+    told(alloc, tree, &form, h)
 }
 
 #[test]

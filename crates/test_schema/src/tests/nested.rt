@@ -8,7 +8,7 @@ use super::told::{Case as Form, check_many, compare, told, told_of};
 use garde::fields::{Ascii, Is};
 use garde::{DefaultI18n, I18n, length, range};
 use garde_schema::{
-    BuildNested, Closed, FormI18n, Items, Member, Nested, Optional, Text, TextRef, U16, Whole,
+    Closed, FormI18n, FromNested, Items, Member, Nested, Optional, Text, TextRef, U16, Whole,
 };
 use garde_tape::Tree;
 use std::alloc::{AllocError, Global};
@@ -43,22 +43,16 @@ struct Folder<'a> {
     folders: Items<Folder<'a>>,
 }
 
-// Makes a folder of what its members are, and of the folders in it.
-#[derive(Drop)]
-struct MakeFolder<'a>(PhantomData<&'a str>);
-
-impl<'a> BuildNested for MakeFolder<'a> {
+impl<'a> FromNested for Folder<'a> {
     type Own = (TextRef<'a>, Option<u16>);
 
-    type Made = Folder<'a>;
-
-    ghost builds = { λ _ own below.
+    ghost builds = { λ own below.
         roll-Folder (record { name = own.0; size = own.1; folders = below }) };
 
-    ghost parts_of = { λ _ folder.
+    ghost parts_of = { λ folder.
         (((out-Folder folder).name, (out-Folder folder).size), (out-Folder folder).folders) };
 
-    fn build(&self, own: (TextRef<'a>, Option<u16>), below: Items<Folder<'a>>) -> Folder<'a>
+    fn from_nested(own: (TextRef<'a>, Option<u16>), below: Items<Folder<'a>>) -> Folder<'a>
         ensures { result ≡ roll-Folder
             (record { name = own.entry.0; size = own.entry.1; folders = below.entry }) }
     {
@@ -70,7 +64,7 @@ impl<'a> BuildNested for MakeFolder<'a> {
         }
     }
 
-    ghost kept = { λ _ _ _. Prim.search (rules, the_lemmas) };
+    ghost kept = { λ _ _. Prim.search (rules, the_lemmas) };
 }
 
 fn closed<H: I18n + FormI18n>(
@@ -82,7 +76,7 @@ fn closed<H: I18n + FormI18n>(
         Member("name", Text((Is(Ascii), Is(length!(min = 1, max = 9))))),
         Optional("size", Whole(U16, Is(range!(max = 1000)))),
     );
-    let form = Closed(Nested("folders", members, MakeFolder(PhantomData)));
+    let form = Closed(Nested("folders", members, PhantomData::<&Folder<'_>>));
     told(alloc, tree, &form, h)
 }
 
@@ -143,7 +137,7 @@ fn open<H: I18n + FormI18n>(
     h: &H,
 ) -> Result<String, AllocError> {
     let members = (Member("name", Text(())), Optional("size", Whole(U16, ())));
-    let form = Nested("folders", members, MakeFolder(PhantomData));
+    let form = Nested("folders", members, PhantomData::<&Folder<'_>>);
     told(alloc, tree, &form, h)
 }
 
