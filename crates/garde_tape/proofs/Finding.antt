@@ -1,24 +1,10 @@
 -- One walk over the members finds how many have a name, and the value of the last of them.
-use Rattle.std.proofs.Common.{◌≡◌, ℕ, ◌+◌, List, [], ◌∷◌, cond, Option, Some, None, option_map, refl, sym, ap, ◌∙◌, zero-add}
+use Rattle.std.proofs.Common.{◌≡◌, ℕ, List, cond, Option, Some, None, option_map, refl, sym, ap, ◌∙◌, zero-add}
 use Rattle.std.specs.Str.{bytes_eq}
 use Rattle.json.specs.Json.{Json, null, boolean, number, string, array, object, Members, no_members, member}
-use Rattle.json.specs.Find.{later_or, get_member, as_object}
+use Rattle.json.specs.Find.{later_or, get, get_member, as_object}
 use Rattle.garde_tape.specs.Reading.{member_list}
-use Rattle.garde_tape.specs.declared.found.Found.{Found}
-use Rattle.garde_tape.specs.Look.{times_in, answer_of, find_answer}
-
--- the value of the last member of the name among these
-abbrev pub get_in : List ℕ → List (List ℕ × Json) → Option Json
-get_in name [] = None
-get_in name (m ∷ ms) = later_or (get_in name ms) (cond (bytes_eq m.0 name) (Some m.1) None)
-
-abbrev pub one_if_some : Option Json → ℕ
-one_if_some None = 0
-one_if_some (Some j) = 1
-
--- what is found once the members before these had the first value, if any
-abbrev pub answer_from : List ℕ → Option Json → List (List ℕ × Json) → Found
-answer_from name first ms = answer_of (one_if_some first + times_in name ms) (later_or (get_in name ms) first)
+use Rattle.garde_tape.specs.Look.{times_in, answer_of, find_answer, get_in, answer_from}
 
 pub get_in-list : (name : List ℕ) (ms : Members) → get_member name ms ≡ get_in name (member_list ms)
 get_in-list name no_members = refl

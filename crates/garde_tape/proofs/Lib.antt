@@ -1,3 +1,4 @@
+pub mod Fields
 pub mod Finding
 pub mod Marks
 pub mod Nesting

@@ -2,6 +2,8 @@ pub mod Reading
 pub mod Number
 pub mod Read
 pub mod Code
+pub mod Texts
+pub mod Source
 pub mod Look
 pub mod Place
 pub mod Input

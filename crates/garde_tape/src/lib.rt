@@ -1,10 +1,13 @@
-//! A JSON text as a tree that borrows from it. A contract sees the JSON value, and the tokens of the
-//! text only where it says when memory may run out.
+//! A JSON text, or texts that stand by themselves, as a tree that borrows from them. A contract sees
+//! the JSON value, and the tokens of a JSON text only where it says when memory may run out.
 //!
-//! The tree stands on `json::Tape`: one list of tokens over the text, with its texts borrowed.
+//! The tree of a JSON text stands on `json::Tape`: one list of tokens over the text, with its texts
+//! borrowed.
 #![tactic(auto)]
 
 mod fault;
+mod field;
+mod find;
 mod found;
 mod input;
 mod items;
@@ -14,9 +17,14 @@ mod number;
 mod parse_error;
 mod place;
 mod read;
+mod source;
 mod surrogate;
+mod tape_items;
+mod tape_members;
+mod tape_tree;
 mod tree;
 
+pub use field::FieldValue;
 pub use found::Found;
 pub use input::json_has_no_mark;
 pub use items::TreeItems;

@@ -1,37 +1,43 @@
 //! A value of a tree.
 ghost use Rattle.std.specs.Prelude.{◌≡◌, ◌<◌, ◌^◌, length, option_map, option_and_then};
 ghost use Rattle.std.specs.Prelude.{IfSome, unwrap_or, false};
+ghost use Rattle.json.specs.Json.{string, array, object};
 ghost use Rattle.json.specs.Find.{get, as_str, as_number, as_bool, is_null, as_array, as_object};
 ghost use Rattle.garde_tape.specs.Reading.{json_of, item_list, member_list};
 ghost use Rattle.garde_tape.specs.Number.{unsigned_of, signed_of, has_minus, is_whole_text};
 ghost use Rattle.garde_tape.specs.Look.{find_answer, kind_of};
+ghost use Rattle.garde_tape.specs.Texts.{text_items, field_members};
 
+use crate::field::FieldValue;
+use crate::find::{find_field, find_member, get_field};
 use crate::found::Found;
 use crate::items::TreeItems;
 use crate::kind::Kind;
 use crate::members::TreeMembers;
 use crate::number;
-use json::{Element, Tape};
+use crate::source::{ItemSource, MemberSource, Source};
+use crate::tape_tree::TapeTree;
+use json::Tape;
 use std::marker::Model;
 
-/// A value of a JSON text: the whole one, or one inside it. A contract sees the JSON value itself.
+/// A JSON value that borrows what it is read from: a JSON text, or texts that stand by themselves. A
+/// contract sees the JSON value itself.
 #[derive(Drop)]
 pub struct Tree<'t, 'a> {
-    pub(crate) element: Element<'t, 'a>,
+    pub(crate) source: Source<'t, 'a>,
 }
 
 impl<'t, 'a> Model for Tree<'t, 'a> {
     ghost use Rattle.json.specs.Json.{Json};
-    ghost use Rattle.garde_tape.specs.Reading.{json_of, HasTree};
     ghost use Rattle.garde_tape.specs.Code.{json_code};
 
     ghost Value = { Json };
 
     ghost coded = { json_code };
 
-    ghost view = { λ a. json_of a.element };
+    ghost use Rattle.garde_tape.specs.Source.{source_json};
 
-    ghost invariant = { λ a. HasTree a.element };
+    ghost view = { λ a. source_json a.source };
 }
 
 impl<'t, 'a> Tree<'t, 'a> {
@@ -39,10 +45,36 @@ impl<'t, 'a> Tree<'t, 'a> {
     pub fn root(tape: &'t Tape<'a>) -> Tree<'t, 'a>
         ensures { result ≡ json_of tape.now }
     {
-        // It fits a `usize`, so there are fewer than 2^64 tokens.
-        let _len = tape.len();
         Tree {
-            element: tape.root(),
+            source: Source::Tape(TapeTree::root(tape)),
+        }
+    }
+
+    /// A text by itself.
+    pub fn text(text: &'a str) -> Tree<'t, 'a>
+        ensures { result ≡ string text.now }
+    {
+        Tree {
+            source: Source::Text(text),
+        }
+    }
+
+    /// The list of these texts.
+    pub fn texts(texts: &'t [&'a str]) -> Tree<'t, 'a>
+        ensures { result ≡ array (text_items texts.now) }
+    {
+        Tree {
+            source: Source::Texts(texts),
+        }
+    }
+
+    /// The object with a member for each pair of a name and a value, in their order. A name may come
+    /// twice.
+    pub fn fields(fields: &'t [(&'a str, FieldValue<'t, 'a>)]) -> Tree<'t, 'a>
+        ensures { result ≡ object (field_members fields.now) }
+    {
+        Tree {
+            source: Source::Fields(fields),
         }
     }
 
@@ -50,14 +82,21 @@ impl<'t, 'a> Tree<'t, 'a> {
     pub fn as_str(&self) -> Option<&'a str>
         ensures { option_map (λ s. s.now) result ≡ as_str self.now }
     {
-        self.element.as_str()
+        match &self.source {
+            Source::Tape(tree) => tree.as_str(),
+            Source::Text(text) => Some(*text),
+            _ => None,
+        }
     }
 
     /// The number as it is written, where this is one.
     pub fn as_number(&self) -> Option<&'a str>
         ensures { option_map (λ s. s.now) result ≡ as_number self.now }
     {
-        self.element.as_number()
+        match &self.source {
+            Source::Tape(tree) => tree.as_number(),
+            _ => None,
+        }
     }
 
     /// The whole number without a sign, where this is one that fits 64 bits. It is written by digits
@@ -107,14 +146,20 @@ impl<'t, 'a> Tree<'t, 'a> {
     pub fn as_bool(&self) -> Option<bool>
         ensures { result ≡ as_bool self.now }
     {
-        self.element.as_bool()
+        match &self.source {
+            Source::Tape(tree) => tree.as_bool(),
+            _ => None,
+        }
     }
 
     /// Whether this is `null`.
     pub fn is_null(&self) -> bool
         ensures { result ≡ is_null self.now }
     {
-        self.element.is_null()
+        match &self.source {
+            Source::Tape(tree) => tree.is_null(),
+            _ => false,
+        }
     }
 
     /// What this is.
@@ -144,9 +189,21 @@ impl<'t, 'a> Tree<'t, 'a> {
         ensures value { result ≡ option_map item_list (as_array self.now) }
         ensures bound { IfSome result (λ items. length items < 2 ^ 64) }
     {
-        match self.element.items() {
-            Some(items) => Some(TreeItems { items }),
-            None => None,
+        match &self.source {
+            Source::Tape(tree) => match tree.items() {
+                Some(items) => Some(TreeItems {
+                    source: ItemSource::Tape(items),
+                }),
+                None => None,
+            },
+            Source::Texts(texts) => {
+                // It fits a `usize`, so there are fewer than 2^64 texts.
+                let _len = texts.len();
+                Some(TreeItems {
+                    source: ItemSource::Texts(*texts),
+                })
+            }
+            _ => None,
         }
     }
 
@@ -155,9 +212,21 @@ impl<'t, 'a> Tree<'t, 'a> {
         ensures value { result ≡ option_map member_list (as_object self.now) }
         ensures bound { IfSome result (λ members. length members < 2 ^ 64) }
     {
-        match self.element.members() {
-            Some(members) => Some(TreeMembers { members }),
-            None => None,
+        match &self.source {
+            Source::Tape(tree) => match tree.members() {
+                Some(members) => Some(TreeMembers {
+                    source: MemberSource::Tape(members),
+                }),
+                None => None,
+            },
+            Source::Fields(fields) => {
+                // It fits a `usize`, so there are fewer than 2^64 fields.
+                let _len = fields.len();
+                Some(TreeMembers {
+                    source: MemberSource::Fields(*fields),
+                })
+            }
+            _ => None,
         }
     }
 
@@ -165,32 +234,31 @@ impl<'t, 'a> Tree<'t, 'a> {
     pub fn get(&self, name: &str) -> Option<Tree<'t, 'a>>
         ensures { result ≡ get name.now self.now }
     {
-        match self.element.get(name) {
-            Some(element) => Some(Tree { element }),
-            None => None,
+        match &self.source {
+            Source::Tape(tree) => match tree.get(name) {
+                Some(tree) => Some(Tree {
+                    source: Source::Tape(tree),
+                }),
+                None => None,
+            },
+            Source::Fields(fields) => get_field(fields, name),
+            _ => None,
         }
     }
 
     /// The member of that name, if just one has it. A name that no member has is missing, as is any
     /// name in a value that is no object. A name that comes twice is repeated.
+    #[inline]
     pub fn find(&self, name: &str) -> Found<'t, 'a>
         ensures { result ≡ find_answer name.now self.now }
     {
-        let Some(mut members) = self.members() else {
-            return Found::Missing;
-        };
-        let mut first = None;
-        while let Some((key, value)) = members.next() {
-            if key == name {
-                if first.is_some() {
-                    return Found::Repeated;
-                }
-                first = Some(value);
-            }
-        }
-        match first {
-            Some(value) => Found::Once(value),
-            None => Found::Missing,
+        match &self.source {
+            Source::Tape(tree) => match tree.members() {
+                Some(members) => find_member(members, name),
+                None => Found::Missing,
+            },
+            Source::Fields(fields) => find_field(fields, name),
+            _ => Found::Missing,
         }
     }
 }
