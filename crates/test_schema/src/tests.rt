@@ -14,6 +14,7 @@ mod nested;
 mod nulls;
 mod numbers;
 mod only_members;
+mod own_texts;
 mod reports;
 mod signup;
 mod sizes;

@@ -31,7 +31,7 @@ fn draw_members(out: &mut String, tree: &Tree<'_, '_>) -> Result<(), AllocError>
 }
 
 // A value: its kind, and what stands in it, of an object and of a list one level deep.
-fn drawn(alloc: Global, tree: &Tree<'_, '_>) -> Result<String, AllocError> {
+pub(super) fn drawn(alloc: Global, tree: &Tree<'_, '_>) -> Result<String, AllocError> {
     let mut out = format!(in alloc; "{:?}", tree.kind())?;
     if let Some(text) = tree.as_str() {
         write!(out, " {text:?}")?;

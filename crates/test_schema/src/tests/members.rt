@@ -12,7 +12,7 @@ fn seen(value: &Tree<'_, '_>) -> &'static str {
     }
 }
 
-fn found(tree: &Tree<'_, '_>, name: &str) -> &'static str {
+pub(super) fn found(tree: &Tree<'_, '_>, name: &str) -> &'static str {
     match tree.find(name) {
         Found::Missing => "missing",
         Found::Once(value) => seen(&value),
@@ -20,7 +20,7 @@ fn found(tree: &Tree<'_, '_>, name: &str) -> &'static str {
     }
 }
 
-fn got(tree: &Tree<'_, '_>, name: &str) -> &'static str {
+pub(super) fn got(tree: &Tree<'_, '_>, name: &str) -> &'static str {
     match tree.get(name) {
         None => "missing",
         Some(value) => seen(&value),

@@ -1,0 +1,69 @@
+//! Texts, lists of texts and fields as trees, held against the trees of JSON texts.
+
+use super::OrEnd;
+use super::bodies::drawn;
+use super::members::{found, got};
+use garde_tape::{FieldValue, Scratch, Tree, parse};
+use std::alloc::Global;
+
+// What a tree is, and what is found in it under a name, with the last value there.
+fn seen(
+    alloc: Global,
+    tree: &Tree<'_, '_>,
+    name: &str,
+) -> Option<(String, &'static str, &'static str)> {
+    let drawn = drawn(alloc, tree).ok()?;
+    Some((drawn, found(tree, name), got(tree, name)))
+}
+
+// The same of a JSON text.
+fn seen_in(alloc: Global, text: &str, name: &str) -> Option<(String, &'static str, &'static str)> {
+    let mut scratch = Scratch::new(alloc);
+    let tape = parse(alloc, text, &mut scratch).ok()?;
+    seen(alloc, &Tree::root(&tape), name)
+}
+
+// A tree by itself, and the text that spells it.
+fn tell_same(rt: &HostRuntime, tree: &Tree<'_, '_>, text: &str) {
+    for name in ["a", "b", ""] {
+        let own = seen(rt.alloc(), tree, name).or_end(rt);
+        let parsed = seen_in(rt.alloc(), text, name).or_end(rt);
+        assert_eq!(rt; own, parsed, "{text}, {name}");
+    }
+}
+
+#[test]
+fn reads_texts_as_the_json_that_spells_them(rt: HostRuntime) {
+    tell_same(&rt, &Tree::text(""), "\"\"");
+    tell_same(&rt, &Tree::text("it"), "\"it\"");
+    tell_same(&rt, &Tree::text("1"), "\"1\"");
+    tell_same(&rt, &Tree::text("a\"\n\u{e9}"), "\"a\\\"\\n\\u00e9\"");
+    tell_same(&rt, &Tree::texts(&[]), "[]");
+    tell_same(&rt, &Tree::texts(&["it"]), "[\"it\"]");
+    tell_same(&rt, &Tree::texts(&["", "a", "a"]), "[\"\",\"a\",\"a\"]");
+}
+
+#[test]
+fn reads_fields_as_the_json_that_spells_them(rt: HostRuntime) {
+    let it = FieldValue::Text("it");
+    let other = FieldValue::Text("");
+    let list = ["it", ""];
+    let list = FieldValue::Texts(&list);
+    tell_same(&rt, &Tree::fields(&[]), "{}");
+    tell_same(&rt, &Tree::fields(&[("a", it)]), "{\"a\":\"it\"}");
+    tell_same(
+        &rt,
+        &Tree::fields(&[("b", other), ("a", it), ("", list)]),
+        "{\"b\":\"\",\"a\":\"it\",\"\":[\"it\",\"\"]}",
+    );
+    tell_same(
+        &rt,
+        &Tree::fields(&[("a", it), ("ab", it), ("a", other)]),
+        "{\"a\":\"it\",\"ab\":\"it\",\"a\":\"\"}",
+    );
+    tell_same(
+        &rt,
+        &Tree::fields(&[("a", other), ("a", list), ("a", it)]),
+        "{\"a\":\"\",\"a\":[\"it\",\"\"],\"a\":\"it\"}",
+    );
+}
