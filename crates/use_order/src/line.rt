@@ -2,10 +2,8 @@
 ghost use Rattle.std.specs.Prelude.{refl};
 ghost use Rattle.garde.specs.Author.{Known, codes, ◌and◌, field, prefix, unsigned_in};
 
-use garde::fields::{Field, Fields, Is, Prefix};
-use garde::{I18n, Report, Stated, Trail, Validate, range};
+use garde::Stated;
 use garde_schema::{Build, TextRef};
-use std::alloc::{AllocError, Global};
 use std::marker::PhantomData;
 
 /// So many pieces of an article, each at so many cents.
@@ -44,25 +42,6 @@ impl<'t> Stated for Line<'t> {
         field (codes "code") (prefix (codes "P") v.code)
         and field (codes "count") (unsigned_in 1 99 v.count)
         and field (codes "cents") (unsigned_in 1 9999 v.cents) };
-}
-
-impl<'t> Validate for Line<'t> {
-    fn validate_into<'a, H: I18n>(
-        &'a self,
-        alloc: Global,
-        _ctx: &(),
-        trail: &mut Trail<'a>,
-        report: &mut Report,
-        h: &H,
-    ) -> Result<(), AllocError> {
-        let Self { code, count, cents } = self;
-        (
-            Field("code", code, Is(Prefix("P"))),
-            Field("count", count, Is(range!(min = 1, max = 99))),
-            Field("cents", cents, Is(range!(min = 1, max = 9999))),
-        )
-            .visit_of(self, alloc, trail, report, h)
-    }
 }
 
 /// What a line costs in cents. That of a valid line is no more than fits.

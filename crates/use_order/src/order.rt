@@ -4,8 +4,8 @@ ghost use Rattle.garde.specs.Author.{codes, length, ◌and◌, char_count, field
 ghost use Rattle.use_order.specs.declared.order.Delivery.TheVariants.{Counter, Post};
 
 use crate::line::Line;
-use garde::fields::{Dive, Each, Field, Fields, IfSome, Is, Required, When};
-use garde::{I18n, Report, Stated, Trail, Valid, Validate, length};
+use garde::fields::{Is, Required, When};
+use garde::{I18n, Report, Stated, Trail, Valid, length};
 use garde_schema::{Build, Items, Rules, TextRef};
 use std::alloc::{AllocError, Global};
 use std::marker::PhantomData;
@@ -115,34 +115,6 @@ impl<'t> Stated for Order<'t> {
         and field (codes "lines") (length_in 1 50 (length v.lines)
         and when (elim v.delivery as (λ _. Bool) [ Counter ↦ true | _ ↦ false ]) (length_in 0 3 (length v.lines))
         and items (λ line. ⟦<Line<'static> as Stated>⟧.visits line tt) v.lines) };
-}
-
-impl<'t> Validate for Order<'t> {
-    fn validate_into<'a, H: I18n>(
-        &'a self,
-        alloc: Global,
-        ctx: &(),
-        trail: &mut Trail<'a>,
-        report: &mut Report,
-        h: &H,
-    ) -> Result<(), AllocError> {
-        let Self {
-            customer,
-            delivery,
-            address,
-            lines,
-        } = self;
-        let posted = When(matches!(delivery, Delivery::Post), Is(Required));
-        let long = IfSome(Is(length!(chars, min = 5, max = 200)));
-        let some = Is(length!(min = 1, max = 50));
-        let few = When(matches!(delivery, Delivery::Counter), Is(length!(max = 3)));
-        (
-            Field("customer", customer, Is(length!(chars, min = 1, max = 80))),
-            Field("address", address, (posted, long)),
-            Field("lines", lines, (some, few, Each(Dive(ctx)))),
-        )
-            .visit_of(self, alloc, trail, report, h)
-    }
 }
 
 /// The first line. A valid order has one.
