@@ -1,44 +1,36 @@
 //! Looking members and fields up by name.
-ghost use Rattle.std.specs.Prelude.{◌≡◌, None, option_map};
-ghost use Rattle.garde_tape.specs.Look.{get_in, first_named, found_in, answer_from};
+ghost use Rattle.std.specs.Prelude.{◌≡◌, None};
+ghost use Rattle.garde_tape.specs.Look.{get_in, answer_from};
 ghost use Rattle.garde_tape.specs.Texts.{field_list};
 
 use crate::field::FieldValue;
 use crate::found::Found;
 use crate::source::Source;
 use crate::tape_members::TapeMembers;
-use crate::tape_tree::TapeTree;
 use crate::tree::Tree;
 
-// Takes members up to the first of that name, and gives its value.
-#[inline(always)]
-fn take_named<'t, 'a>(left: &mut TapeMembers<'t, 'a>, name: &str) -> Option<TapeTree<'t, 'a>>
-    ensures { option_map (λ tree. (tree, left.new)) result ≡ first_named name.now left.old }
-{
-    while let Some((key, tree)) = left.take_member() {
-        if key == name {
-            return Some(tree);
-        }
-    }
-    None
-}
-
-// The member of that name among these, if just one has it. A schema asks for each member by it: so
-// it stands in its caller, and the walk over fields out of the way.
+// The member of that name among these, if just one has it. A read asks for each member this way, so
+// it stands in its caller, and the walk over fields does not.
 #[inline(always)]
 pub(crate) fn find_member<'t, 'a>(all: TapeMembers<'t, 'a>, name: &str) -> Found<'t, 'a>
-    ensures { result ≡ found_in name.now all.entry }
+    ensures { result ≡ answer_from name.now None all.entry }
 {
-    let mut left = all;
-    let Some(tree) = take_named(&mut left, name) else {
-        return Found::Missing;
-    };
-    if take_named(&mut left, name).is_some() {
-        return Found::Repeated;
+    let mut members = all;
+    let mut first = None;
+    while let Some((key, tree)) = members.take_member() {
+        if key == name {
+            if first.is_some() {
+                return Found::Repeated;
+            }
+            first = Some(tree);
+        }
     }
-    Found::Once(Tree {
-        source: Source::Tape(tree),
-    })
+    match first {
+        Some(tree) => Found::Once(Tree {
+            source: Source::Tape(tree),
+        }),
+        None => Found::Missing,
+    }
 }
 
 // The same among fields.
