@@ -2,9 +2,9 @@
 ghost use Rattle.std.specs.Prelude.{IfOk};
 ghost use Rattle.garde.specs.Author.{Known, unsigned_in};
 
-use crate::limit::{InOrder, Limit, MakeLimit};
-use crate::logging::{FileForDebug, LEVELS, Logging, MakeLogging};
-use crate::server::{IsHost, MakeServer, MakeTls, Server};
+use crate::limit::{InOrder, Limit};
+use crate::logging::{FileForDebug, LEVELS, Logging};
+use crate::server::{IsHost, Server, Tls};
 use garde::fields::{Is, Suffix};
 use garde::rules::pattern::regex::Regex;
 use garde::{I18n, length, range};
@@ -42,7 +42,7 @@ pub fn read_config<'a, H: I18n + FormI18n>(
         Member("port", Whole(U16, Is(range!(min = 1)))),
         Member("workers", Whole(U16, Is(range!(min = 1, max = 64)))),
         Member("connections", Whole(U16, ())),
-        Nullish("tls", Built(tls, MakeTls(PhantomData))),
+        Nullish("tls", Built(tls, PhantomData::<&Tls<'_>>)),
     )));
     let logging = (
         Member("level", OneOf(&LEVELS)),
@@ -51,10 +51,13 @@ pub fn read_config<'a, H: I18n + FormI18n>(
     let logging = Object(Closed(Checked(logging, Under("file", FileForDebug))));
     let limit = (Member("min", Whole(U32, ())), Member("max", Whole(U32, ())));
     let limit = Object(Closed(Checked(limit, Under("max", InOrder))));
-    let limits = MapUnder(Is(length!(min = 1, max = 100)), Built(limit, MakeLimit));
+    let limits = MapUnder(
+        Is(length!(min = 1, max = 100)),
+        Built(limit, PhantomData::<&Limit>),
+    );
     let form = Object(Closed((
-        Member("server", Built(server, MakeServer(PhantomData))),
-        Member("logging", Built(logging, MakeLogging(PhantomData))),
+        Member("server", Built(server, PhantomData::<&Server<'_>>)),
+        Member("logging", Built(logging, PhantomData::<&Logging<'_>>)),
         Member("limits", limits),
     )));
     match read_json(alloc, bytes, scratch, &form, h) {

@@ -4,7 +4,7 @@ ghost use Rattle.garde.specs.Author.{unsigned_in};
 
 use garde::fields::Is;
 use garde::{I18n, Report, Trail, range};
-use garde_schema::{Build, Rules};
+use garde_schema::{FromParts, Rules};
 use std::alloc::{AllocError, Global};
 
 /// What a resource may take.
@@ -15,22 +15,16 @@ pub struct Limit {
     pub max: u32,
 }
 
-/// Makes it of its members.
-#[derive(Clone, Copy)]
-pub struct MakeLimit;
-
-impl Build for MakeLimit {
+impl FromParts for Limit {
     type Parts = (u32, u32);
 
-    type Made = Limit;
+    ghost builds = { λ parts. record { min = parts.0; max = parts.1 } };
 
-    ghost builds = { λ _ parts. record { min = parts.0; max = parts.1 } };
+    ghost parts_of = { λ limit. (limit.min, limit.max) };
 
-    ghost parts_of = { λ _ limit. (limit.min, limit.max) };
+    ghost kept = { λ _. refl };
 
-    ghost kept = { λ _ _. refl };
-
-    fn build(&self, parts: (u32, u32)) -> Limit {
+    fn from_parts(parts: (u32, u32)) -> Limit {
         let (min, max) = parts;
         Limit { min, max }
     }

@@ -5,9 +5,8 @@ ghost use Rattle.use_config.specs.declared.logging.Level.TheVariants.{Debug};
 
 use garde::fields::{Is, Required, When};
 use garde::{I18n, Report, Trail};
-use garde_schema::{Build, Rules, TextRef};
+use garde_schema::{FromParts, Rules, TextRef};
 use std::alloc::{AllocError, Global};
-use std::marker::PhantomData;
 
 /// How much is logged.
 #[derive(Clone, Copy)]
@@ -31,22 +30,16 @@ pub struct Logging<'t> {
     pub file: Option<TextRef<'t>>,
 }
 
-/// Makes it of its members.
-#[derive(Drop)]
-pub struct MakeLogging<'t>(pub PhantomData<&'t str>);
-
-impl<'t> Build for MakeLogging<'t> {
+impl<'t> FromParts for Logging<'t> {
     type Parts = (Level, Option<TextRef<'t>>);
 
-    type Made = Logging<'t>;
+    ghost builds = { λ parts. record { level = parts.0; file = parts.1 } };
 
-    ghost builds = { λ _ parts. record { level = parts.0; file = parts.1 } };
+    ghost parts_of = { λ logging. (logging.level, logging.file) };
 
-    ghost parts_of = { λ _ logging. (logging.level, logging.file) };
+    ghost kept = { λ _. refl };
 
-    ghost kept = { λ _ _. refl };
-
-    fn build(&self, parts: (Level, Option<TextRef<'t>>)) -> Logging<'t> {
+    fn from_parts(parts: (Level, Option<TextRef<'t>>)) -> Logging<'t> {
         let (level, file) = parts;
         Logging { level, file }
     }

@@ -7,9 +7,8 @@ use garde::fields::{IsInMemory, Pattern, When};
 use garde::rules::ip::{is_ipv4, is_ipv6};
 use garde::rules::pattern::regex::Regex;
 use garde::{I18n, Report, Trail};
-use garde_schema::{Build, Rules, TextRef};
+use garde_schema::{FromParts, Rules, TextRef};
 use std::alloc::{AllocError, Global};
-use std::marker::PhantomData;
 
 /// What the name of a host is like.
 pub const NAME: &str = "^[a-z0-9-]+([.][a-z0-9-]+)*$";
@@ -21,22 +20,16 @@ pub struct Tls<'t> {
     pub key: TextRef<'t>,
 }
 
-/// Makes it of its members.
-#[derive(Drop)]
-pub struct MakeTls<'t>(pub PhantomData<&'t str>);
-
-impl<'t> Build for MakeTls<'t> {
+impl<'t> FromParts for Tls<'t> {
     type Parts = (TextRef<'t>, TextRef<'t>);
 
-    type Made = Tls<'t>;
+    ghost builds = { λ parts. record { certificate = parts.0; key = parts.1 } };
 
-    ghost builds = { λ _ parts. record { certificate = parts.0; key = parts.1 } };
+    ghost parts_of = { λ tls. (tls.certificate, tls.key) };
 
-    ghost parts_of = { λ _ tls. (tls.certificate, tls.key) };
+    ghost kept = { λ _. refl };
 
-    ghost kept = { λ _ _. refl };
-
-    fn build(&self, parts: (TextRef<'t>, TextRef<'t>)) -> Tls<'t> {
+    fn from_parts(parts: (TextRef<'t>, TextRef<'t>)) -> Tls<'t> {
         let (certificate, key) = parts;
         Tls { certificate, key }
     }
@@ -53,16 +46,10 @@ pub struct Server<'t> {
     pub tls: Option<Tls<'t>>,
 }
 
-/// Makes it of its members.
-#[derive(Drop)]
-pub struct MakeServer<'t>(pub PhantomData<&'t str>);
-
-impl<'t> Build for MakeServer<'t> {
+impl<'t> FromParts for Server<'t> {
     type Parts = (TextRef<'t>, u16, u16, u16, Option<Tls<'t>>);
 
-    type Made = Server<'t>;
-
-    ghost builds = { λ _ parts. record {
+    ghost builds = { λ parts. record {
       host = parts.0;
       port = parts.1;
       workers = parts.2;
@@ -70,12 +57,12 @@ impl<'t> Build for MakeServer<'t> {
       tls = parts.4;
     } };
 
-    ghost parts_of = { λ _ server.
+    ghost parts_of = { λ server.
         (server.host, server.port, server.workers, server.connections, server.tls) };
 
-    ghost kept = { λ _ _. refl };
+    ghost kept = { λ _. refl };
 
-    fn build(&self, parts: (TextRef<'t>, u16, u16, u16, Option<Tls<'t>>)) -> Server<'t> {
+    fn from_parts(parts: (TextRef<'t>, u16, u16, u16, Option<Tls<'t>>)) -> Server<'t> {
         let (host, port, workers, connections, tls) = parts;
         Server {
             host,

@@ -1,7 +1,7 @@
 //! The form of a page of orders in JSON.
 
-use crate::line::MakeLine;
-use crate::order::{AddressByPost, Delivery, FewAtTheCounter, MakeOrder, Order};
+use crate::line::Line;
+use crate::order::{AddressByPost, Delivery, FewAtTheCounter, Order};
 use crate::page::Page;
 use garde::fields::{Is, Prefix};
 use garde::{I18n, Valid, length, range};
@@ -34,7 +34,7 @@ pub fn read_orders<'a, H: I18n + FormI18n>(
             Member("count", Whole(U32, Is(range!(min = 1, max = 99)))),
             Member("cents", Whole(U32, Is(range!(min = 1, max = 9999)))),
         ))),
-        MakeLine(PhantomData),
+        PhantomData::<&Line<'_>>,
     );
     let destination = (
         Member("delivery", OneOf(&DELIVERIES)),
@@ -47,7 +47,7 @@ pub fn read_orders<'a, H: I18n + FormI18n>(
             Member("customer", Text(Is(length!(chars, min = 1, max = 80)))),
             Checked((destination, lines), Under("lines", FewAtTheCounter)),
         ))),
-        MakeOrder(PhantomData),
+        PhantomData::<&Order<'_>>,
     );
     let page = Object(Closed((
         Member("number", Whole(U32, Is(range!(min = 1)))),

@@ -3,8 +3,7 @@ ghost use Rattle.std.specs.Prelude.{refl};
 ghost use Rattle.garde.specs.Author.{Known, codes, ◌and◌, field, prefix, unsigned_in};
 
 use garde::Stated;
-use garde_schema::{Build, TextRef};
-use std::marker::PhantomData;
+use garde_schema::{FromParts, TextRef};
 
 /// So many pieces of an article, each at so many cents.
 #[derive(Drop)]
@@ -14,22 +13,16 @@ pub struct Line<'t> {
     pub cents: u32,
 }
 
-/// Makes a line of its members.
-#[derive(Drop)]
-pub struct MakeLine<'t>(pub PhantomData<&'t str>);
-
-impl<'t> Build for MakeLine<'t> {
+impl<'t> FromParts for Line<'t> {
     type Parts = (TextRef<'t>, u32, u32);
 
-    type Made = Line<'t>;
+    ghost builds = { λ parts. record { code = parts.0; count = parts.1; cents = parts.2 } };
 
-    ghost builds = { λ _ parts. record { code = parts.0; count = parts.1; cents = parts.2 } };
+    ghost parts_of = { λ line. (line.code, line.count, line.cents) };
 
-    ghost parts_of = { λ _ line. (line.code, line.count, line.cents) };
+    ghost kept = { λ _. refl };
 
-    ghost kept = { λ _ _. refl };
-
-    fn build(&self, parts: (TextRef<'t>, u32, u32)) -> Line<'t> {
+    fn from_parts(parts: (TextRef<'t>, u32, u32)) -> Line<'t> {
         let (code, count, cents) = parts;
         Line { code, count, cents }
     }

@@ -6,9 +6,8 @@ ghost use Rattle.use_order.specs.declared.order.Delivery.TheVariants.{Counter, P
 use crate::line::Line;
 use garde::fields::{Is, Required, When};
 use garde::{I18n, Report, Stated, Trail, Valid, length};
-use garde_schema::{Build, Items, Rules, TextRef};
+use garde_schema::{FromParts, Items, Rules, TextRef};
 use std::alloc::{AllocError, Global};
-use std::marker::PhantomData;
 
 /// How an order comes to its customer.
 #[derive(Clone, Copy)]
@@ -27,30 +26,24 @@ pub struct Order<'t> {
     pub lines: Items<Line<'t>>,
 }
 
-/// Makes an order of its members.
-#[derive(Drop)]
-pub struct MakeOrder<'t>(pub PhantomData<&'t str>);
-
 /// How an order comes to its customer, and the address.
 pub type Destination<'t> = (Delivery, Option<TextRef<'t>>);
 
-impl<'t> Build for MakeOrder<'t> {
+impl<'t> FromParts for Order<'t> {
     type Parts = (TextRef<'t>, (Destination<'t>, Items<Line<'t>>));
 
-    type Made = Order<'t>;
-
-    ghost builds = { λ _ parts. record {
+    ghost builds = { λ parts. record {
       customer = parts.0;
       delivery = parts.1.0.0;
       address = parts.1.0.1;
       lines = parts.1.1;
     } };
 
-    ghost parts_of = { λ _ order. (order.customer, ((order.delivery, order.address), order.lines)) };
+    ghost parts_of = { λ order. (order.customer, ((order.delivery, order.address), order.lines)) };
 
-    ghost kept = { λ _ _. refl };
+    ghost kept = { λ _. refl };
 
-    fn build(&self, parts: (TextRef<'t>, (Destination<'t>, Items<Line<'t>>))) -> Order<'t> {
+    fn from_parts(parts: (TextRef<'t>, (Destination<'t>, Items<Line<'t>>))) -> Order<'t> {
         let (customer, ((delivery, address), lines)) = parts;
         Order {
             customer,
