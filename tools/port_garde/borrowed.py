@@ -59,6 +59,16 @@ class Borrowed:
         own = is_text(kind) or is_path(kind, "BTreeMap", "HashMap", "TextRef", "Entries") or (kind.kind == "path" and kind.name in known)
         return own or any(self.borrows(it, known) for it in kind.args)
 
+    def unwalked(self):
+        """The names of the types that a form reads, but for those that stand in a type with a walk."""
+        found = set(self.items)
+        walked = [it for it in self.source.items if is_ported(it) and it.name not in found]
+        while walked:
+            held = {name for field in fields_of(walked.pop()) for name in type_names(field.type)} & found
+            walked += [self.items[name] for name in held]
+            found -= held
+        return found
+
     def turn(self):
         """Puts the types of the source in their new form, and notes what no form reads."""
         for at, item in enumerate(self.source.items):

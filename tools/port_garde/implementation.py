@@ -1,4 +1,6 @@
-"""The implementation of `Validate` for a type."""
+"""The implementations of `Stated` and of `Validate` for a type."""
+import re
+
 from .layout import WIDTH, Call, Literal, Method, Word, arm, call, statement
 from .scope import Place, Scope, Seen
 from .source import Param, all_rules, read_type, type_names
@@ -15,8 +17,7 @@ STATED = (
     "record deriving module where use mod pub package open as unfoldable abbrev axiom unfold unfolding ruleset mutual "
     "infix infixl infixr elim let in do coe fcoe tcoe hcom com"
 ).split()
-HEAD = """
-    fn validate_into<'a, H: I18n>(
+HEAD = """    fn validate_into<'a, H: I18n>(
         &'a self,
         alloc: Global,
         {context},
@@ -28,7 +29,7 @@ HEAD = """
 
 
 class Implementation:
-    """The implementation of `Validate` for one type."""
+    """The implementations for one type: of `Stated`, and of `Validate` where the type `is_walked`."""
 
     def __init__(self, writer, item):
         self.writer, self.item = writer, item
@@ -63,8 +64,8 @@ class Implementation:
         fields = [it for variant in self.item.variants for it in variant.fields if name in type_names(it.type)]
         return any(rule.name == "dive" for it in fields for rule in all_rules(it.attributes.rules))
 
-    def text(self):
-        """The whole implementation."""
+    def text(self, is_walked=True):
+        """The whole implementations."""
         item, writer = self.item, self.writer
         if item.attributes.skip or item.attributes.rules or item.attributes.adapter or item.attributes.rename:
             writer.notes.refuse(item.line, f"`{item.name}` has an attribute that stands at fields alone")
@@ -73,18 +74,24 @@ class Implementation:
         if item.name in writer.patterns:
             context = f"{item.name}Patterns"
         name = name if self.asks_context else f"_{name}"
-        params, names = writer.params_text(self.params(), True), writer.params_text(item.params, False, True)
-        lines = [f"impl{params} Validate for {item.name}{names} {{"]
-        lines += [f"    type Context = {context};", "", self.visits(stated)]
-        return "\n".join(lines) + "\n" + HEAD.format(context=f"{name}: &{context}") + body + "\n    }\n}"
+        first = "\n".join([self.head("Stated"), f"    type Context = {context};", "", self.visits(stated), "}"])
+        if not is_walked:
+            return first
+        return f"{first}\n\n{self.head('Validate')}\n" + HEAD.format(context=f"{name}: &{context}") + body + "\n    }\n}"
 
-    def params(self):
-        """The parameters with their bounds: those that fields dive into validate themselves, under the one context."""
+    def head(self, trait):
+        """The first line of the implementation of a trait."""
+        params, names = self.writer.params_text(self.params(trait), True), self.writer.params_text(self.item.params, False, True)
+        return f"impl{params} {trait} for {self.item.name}{names} {{"
+
+    def params(self, trait):
+        """The parameters with their bounds: those that fields dive into implement the trait too, under the one context."""
         params, context = [], self.context[0]
         for it in self.item.params:
+            bounds = re.sub(r"\bValidate\b", trait, it.bounds)
             if self.is_dived(it):
-                it = Param(it.kind, it.name, "Validate" if context == f"{it.name}::Context" else f"Validate<Context = {context}>")
-            params.append(it)
+                bounds = trait if context == f"{it.name}::Context" else f"{trait}<Context = {context}>"
+            params.append(Param(it.kind, it.name, bounds))
         return tuple(params)
 
     def visits(self, stated):

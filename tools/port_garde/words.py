@@ -121,7 +121,7 @@ class Checks:
         if kind.kind != "path" or kind.name in (*SIMPLE, *HELD, "BTreeMap", "HashMap"):
             raise Refusal(rule.line, f"`dive` into the type `{self.writer.type_text(kind, True)}`")
         self.writer.dives_into(kind.name, rule)
-        owner = kind.name if kind.name in self.scope.params else f"⟦<{self.writer.type_text(kind)} as Validate>⟧"
+        owner = kind.name if kind.name in self.scope.params else f"⟦<{self.writer.type_text(kind)} as Stated>⟧"
         return call(self.field("Dive"), lent), f"{owner}.visits {name} {context}"
 
     def context_of(self, rule):

@@ -19,7 +19,7 @@ IMPORTS.update({name: f"garde_schema::{name}" for name in ("TextRef", "Items", "
 IMPORTS.update({"Rc": "std::rc::Rc", "Regex": "garde::rules::pattern::regex::Regex"})
 # The crates whose names are imported as the output has them.
 WRITTEN = ("std", "core", "alloc", "garde", "regex", "serde", "serde_derive")
-GARDE = {"I18n", "Report", "Trail", "Validate", "AllocError", "Global", "Rule", "View", "RuleError"}
+GARDE = {"I18n", "Report", "Stated", "Trail", "Validate", "AllocError", "Global", "Rule", "View", "RuleError"}
 RULE = """{docs}
 #[derive(Clone, Copy)]
 {vis}struct {name}{life}{holds};
@@ -48,11 +48,12 @@ impl{bound} View<{kind}> for {name} {{
 
 class Writer:
     """Writes what stands for a source. `module` is the path of what is written, `own` that of the rules of one's own, and
-    `left_out` are the derives and attributes that are left out without a word."""
+    `left_out` are the derives and attributes that are left out without a word. With `walks` types that a form reads have a walk too."""
 
-    def __init__(self, source, module=None, own=None, left_out=(), schema=False):
+    def __init__(self, source, module=None, own=None, left_out=(), schema=False, walks=True):
         self.source, self.module, self.own = source, module, own
         self.borrowed = Borrowed(source, left_out) if schema else None
+        self.unwalked = set() if walks or not schema else self.borrowed.unwalked()
         self.derives = Derives(source, left_out)
         self.uses = Uses()
         self.patterns, self.skeletons, self.closures, self.copied = {}, {}, {}, {}
@@ -106,9 +107,20 @@ class Writer:
         self.renamed = {"'a": free_lifetime(item.params)}
         if not is_ported(item):
             return [self.declaration(item)]
-        implementation = Implementation(self, item).text()
+        implementation = self.implementation(item)
         patterns = [self.pattern_struct(item)] if item.name in self.patterns else []
         return [self.declaration(item), *patterns, implementation]
+
+    def implementation(self, item):
+        """The implementations for a type. What only a walk imports is not imported for one without."""
+        if item.name not in self.unwalked:
+            self.uses.others |= {f"garde::{name}" for name in ("I18n", "Report", "Trail", "Validate")}
+            self.uses.others |= {f"std::alloc::{name}" for name in ("AllocError", "Global")}
+            return Implementation(self, item).text()
+        fields, others = set(self.uses.fields), set(self.uses.others)
+        text = Implementation(self, item).text(is_walked=False)
+        self.uses.fields, self.uses.others = fields, others
+        return text
 
     def refuse_names(self):
         """Refuses types whose names are imported, and variants whose names stand for something else in a statement."""
@@ -360,9 +372,7 @@ class Writer:
     def use_lines(self):
         """What the code imports."""
         paths = {f"garde::fields::{name}" for name in self.uses.fields} | self.uses.others | self.crate_imports()
-        if any(map(is_ported, self.source.items)):
-            paths |= {f"garde::{name}" for name in ("I18n", "Report", "Trail", "Validate")}
-            paths |= {f"std::alloc::{name}" for name in ("AllocError", "Global")}
+        paths |= {"garde::Stated"} if any(map(is_ported, self.source.items)) else set()
         if self.own:
             paths |= {f"{self.own}::{name}" for name in self.skeletons}
         elif self.skeletons:

@@ -1,5 +1,5 @@
 //! A parcel as it comes in a request, with the form that reads it.
-//@ --schema
+//@ --schema --no-walk
 use garde::Validate;
 use serde::Deserialize;
 use std::collections::BTreeMap;

@@ -3,14 +3,14 @@ ghost use Rattle.std.specs.Prelude.{length, refl};
 ghost use Rattle.garde.specs.Fields.{◌and◌, byte_count, char_count, codes, count_between, count_max, field, items, optional, range_between, range_max, required, u32_min};
 ghost use Rattle.garde.specs.Author as bytes;
 
-use garde::fields::{Alphanumeric, Ascii, Dive, Each, Field, Fields, IfSome, Is, Prefix, Required};
-use garde::{I18n, Report, Stated, Trail, Valid, Validate, length, range};
+use garde::fields::{Alphanumeric, Ascii, Is, Prefix, Required};
+use garde::{I18n, Stated, Valid, length, range};
 use garde_schema::{
     Built, Checked, Closed, Entries, Flag, FormI18n, FromParts, Items, ListUnder, MapUnder, Member,
     Nullish, Object, OneOf, ReadError, Scratch, Text, TextRef, U8, U16, U32, Under, Whole,
     WithDefault, read_json,
 };
-use std::alloc::{AllocError, Global};
+use std::alloc::Global;
 use std::marker::PhantomData;
 
 /// How fast it goes.
@@ -37,28 +37,6 @@ impl<'t> Stated for Thing<'t> {
         and field "pieces" (range_between 1 99 v.pieces) };
 }
 
-impl<'t> Validate for Thing<'t> {
-    fn validate_into<'a, H: I18n>(
-        &'a self,
-        alloc: Global,
-        _ctx: &(),
-        trail: &mut Trail<'a>,
-        report: &mut Report,
-        h: &H,
-    ) -> Result<(), AllocError> {
-        let Self {
-            name,
-            pieces,
-            fragile: _,
-        } = self;
-        (
-            Field("name", name, (Is(Ascii), Is(length!(min = 2, max = 20)))),
-            Field("pieces", pieces, Is(range!(min = 1, max = 99))),
-        )
-            .visit_of(self, alloc, trail, report, h)
-    }
-}
-
 /// A parcel.
 #[derive(Debug, Drop)]
 pub struct Parcel<'t> {
@@ -83,56 +61,6 @@ impl<'t> Stated for Parcel<'t> {
         and field "things" (count_between 1 50 (length v.things) and items (λ x. ⟦<Thing<'t> as Stated>⟧.visits x ctx) v.things)
         and field "marks" (count_max 5 (length v.marks) and items (λ x. bytes.alphanumeric x) v.marks)
         and field "labels" (count_max 3 (length v.labels)) };
-}
-
-impl<'t> Validate for Parcel<'t> {
-    fn validate_into<'a, H: I18n>(
-        &'a self,
-        alloc: Global,
-        ctx: &(),
-        trail: &mut Trail<'a>,
-        report: &mut Report,
-        h: &H,
-    ) -> Result<(), AllocError> {
-        let Self {
-            number,
-            sent_to,
-            phone,
-            weight,
-            speed: _,
-            things,
-            marks,
-            labels,
-        } = self;
-        (
-            Field("number", number, Is(range!(min = 1))),
-            Field("sent_to", sent_to, Is(length!(chars, min = 1, max = 80))),
-            Field(
-                "phone",
-                phone,
-                IfSome((Is(Prefix("+")), Is(length!(max = 16)))),
-            ),
-            Field(
-                "weight",
-                weight,
-                (Is(Required), IfSome(Is(range!(max = 30000)))),
-            ),
-            Field(
-                "things",
-                things,
-                (Is(length!(min = 1, max = 50)), Each(Dive(ctx))),
-            ),
-            (
-                Field(
-                    "marks",
-                    marks,
-                    (Is(length!(max = 5)), Each(Is(Alphanumeric))),
-                ),
-                Field("labels", labels, Is(length!(max = 3))),
-            ),
-        )
-            .visit_of(self, alloc, trail, report, h)
-    }
 }
 
 /// A value of the type `Thing` is made of what its form reads.

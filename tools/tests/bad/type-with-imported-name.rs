@@ -5,3 +5,9 @@ pub struct Report { //~ the name `Report` is one that the port imports
     #[garde(skip)]
     pub name: u8,
 }
+
+#[derive(Validate)]
+pub struct Stated { //~ the name `Stated` is one that the port imports
+    #[garde(skip)]
+    pub name: u8,
+}
