@@ -9,7 +9,7 @@ HEAD = """fn validate_into<'a, H: I18n>(
         &'a self,
         alloc: Global,
     ) -> Result<(), AllocError> """
-TOWN = f"""use garde::Validate;
+TOWN = f"""use garde::{{Stated, Validate}};
 
 pub fn is_near(town: &Town) -> bool
     ensures {{ result ≡ v.near }}
@@ -21,7 +21,7 @@ pub fn is_far(town: &Town) -> bool {{
     !town.near
 }}
 
-impl Validate for Town {{
+impl Stated for Town {{
     type Context = ();
 
     ghost visits = {{ λ v _.
@@ -29,7 +29,9 @@ impl Validate for Town {{
             v.name) -- of the town
         and field "post" (when v.near (length_max 40 v.post))
         and item 2 (length_in 1 2 (v.lines)) }};
+}}
 
+impl Validate for Town {{
     {HEAD}{{
         let near = is_near(self);
         let long = Is(length!(
@@ -41,25 +43,38 @@ impl Validate for Town {{
 }}
 """
 TOWN_SAYS = [
-    'src/a/town.rt:17: field `name`: `visits` asks `length_min 3 v.name`, the code checks `long` with `long = Is(length!(min = 4))` (line 31)',
+    'src/a/town.rt:17: field `name`: `visits` asks `length_min 3 v.name`, the code checks `long` with `long = Is(length!(min = 4))` (line 33)',
     'src/a/town.rt:19: field `post`: `visits` asks `when v.near (length_max 40 v.post)`, the code checks `When(near, Is(length!(max = 41)))` of `city` '
-    "with `near = is_near(self)` (line 30)",
-    "src/a/town.rt:20: field 2: `visits` asks `length_in 1 2 (v.lines)`, the code checks `Is(length!(max = 2))` (line 30)",
+    "with `near = is_near(self)` (line 32)",
+    "src/a/town.rt:20: field 2: `visits` asks `length_in 1 2 (v.lines)`, the code checks `Is(length!(max = 2))` (line 32)",
 ]
-PLACE = f"""use garde::Validate;
+PLACE = f"""use garde::{{Stated, Validate}};
 
-impl Validate for Place {{
-    ghost visits = {{ λ v _. field "x" (length_min 1 v.x) }};
-
+impl garde::Validate for Place {{
     {HEAD}{{
         let wide = Is(length!(min = 2));
         wide.check(alloc, &self.x, trail, report, h)
+    }}
+}}
+
+impl Stated for Place {{
+    ghost visits = {{ λ v _. field "x" (length_min 1 v.x) }};
+}}
+
+impl Stated for Road {{
+    ghost visits = {{ λ v _. field "x" (length_min 1 v.x) }};
+}}
+
+impl Validate for Path {{
+    {HEAD}{{
+        Ok(())
     }}
 }}
 """
 FILES = {"src/lib.rt": "mod a;\n", "src/a/town.rt": TOWN, "src/b/town.rt": TOWN, "src/a/place.rt": PLACE}
 ERRORS = ["src/a/town.rt:3:5: error: one", "specs/Words.antt:2:1: error[name]: two", "src/a/town.rt:900:1: error: of a part"]
 NAMES = "a::place::Place, a::town::Town, b::town::Town"
+STATED_ALONE = "has `impl Stated` and no `impl Validate`, so there is no code to compare: a form of it is compared where `Valid::known` stands"
 
 
 def all_open(it):
@@ -77,7 +92,7 @@ def faults_of_types(folder):
         (town, all_open(town), 1, TOWN_SAYS),
         (town, lambda *_: ERRORS, 2, [does_not_compile, *ERRORS[:2]]),
         (town, lambda *_: ERRORS[2:], 2, [parts_do_not, *ERRORS[2:]]),
-        (place, all_open(place), 1, ["src/a/place.rt:4: field `x`: `visits` asks `length_min 1 v.x`, the code checks `wide` with `wide = Is(length!(min = 2))` (line 11)"]),
+        (place, all_open(place), 1, ["src/a/place.rt:14: field `x`: `visits` asks `length_min 1 v.x`, the code checks `wide` with `wide = Is(length!(min = 2))` (line 9)"]),
     ):
         said = explain(it, check)
         if (said.status, said.lines) != (status, says):
@@ -103,6 +118,8 @@ def faults_of_names(folder):
         ("own", f"no type of the name `own` with `impl Validate`: it has {NAMES}"),
         ("", f"no type of the name `` with `impl Validate`: it has {NAMES}"),
         ("a::Town", f"no type of the name `a::Town` with `impl Validate`: it has {NAMES}"),
+        ("Path", f"no type of the name `Path` with `impl Validate`: it has {NAMES}"),
+        ("Road", f"src/a/place.rt:18: `Road` {STATED_ALONE}"),
         *((name, None) for name in ("Place", "place::Place", "crate::b::town::Town", "towns::b::town::Town", "::a::town::Town")),
     ):
         try:

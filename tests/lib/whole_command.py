@@ -12,6 +12,8 @@ from lib import stand_in
 from lib.repository import ROOT
 
 WHY = ROOT / "tools/why"
+# the types of `example_valid`
+VALID = "basket::Basket, bill::Bill, level::Level, page::Page, panel::Reading, parcel::Parcel, seat::Seat, tariff::Tariff"
 # a library that was never built, and a type above it
 LOW = {"crates.txt": "low:\nhigh: low\n", "crates/low/src/lib.rt": "#![tactic(auto)]\n"}
 
@@ -100,15 +102,16 @@ def faults_of_words(mistake):
 
 
 def unknown_type(crate, name):
-    """What the command says of a type that is not there. `use_order` has these three."""
-    return f"why: {crate.name}: no type of the name `{name}` with `impl Validate`: it has line::Line, order::Order, page::Page\n"
+    """What the command says of a type of `example_valid` that is not there."""
+    return f"why: {crate.name}: no type of the name `{name}` with `impl Validate`: it has {VALID}\n"
 
 
 def faults_without_library(mistake):
     """What is wrong with the answer where a library below the crate cannot be built."""
     with tempfile.TemporaryDirectory(prefix="why-test-") as name:
         room = pathlib.Path(name)
-        for file, text in {**LOW, "crates/high/src/line.rt": mistake.texts["src/line.rt"]}.items():
+        high = {f"crates/high/{path}": text for path, text in mistake.texts.items()}
+        for file, text in {**LOW, **high}.items():
             (room / file).parent.mkdir(parents=True, exist_ok=True)
             (room / file).write_text(text, encoding="utf-8")
         run = Run(room, room / "crates/high", "", lib=1)

@@ -32,7 +32,7 @@ UNFIT = re.compile(r"the method `visit(?:_of)?` exists for .*, but its bounds ar
 
 
 class Type:
-    """A type with both halves of its implementation, part by part."""
+    """A type with what it states and its code, part by part."""
 
     def __init__(self, place):
         self.place, self.stated, self.coded = place, read_stated(place), read_coded(place)

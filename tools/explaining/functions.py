@@ -52,7 +52,7 @@ class Functions:
     def text(self):
         """The text of the file with the functions. The lines that it had stay where they are."""
         text, items = self.place.plain.text, self.place.plain.items.items
-        first = next((it.head for it in items if it.kind in ("use", "ghost use")), self.place.block.start)
+        first = next((it.head for it in items if it.kind in ("use", "ghost use")), min(self.place.stated.start, self.place.block.start))
         use = f"{self.use} " if self.use else ""
         return f"{text[:first]}{use}{text[first:]}\n{''.join(self.texts)}"
 
@@ -72,10 +72,10 @@ class Functions:
         kept, items = place.plain.kept, place.plain.items
         found = TRAIT.search(place.plain.blank, block.head)
         head = kept[block.head : found.start()] + trait + kept[found.end() : block.body]
-        others = [it for it in block.members if it not in (place.visits, place.code)]
+        others = [it for it in (*place.stated.members, *block.members) if it not in (place.visits, place.code)]
         uses = self.uses(others)
         lines = [f"    {USE.replace(WORDS, self.words)}"] if uses and not any(map(NAMED.match, uses)) else []
-        lines += [f"    {kept[it.head : it.end]}" for it in others]
+        lines += dict.fromkeys(f"    {kept[it.head : it.end]}" for it in others)
         lines += [f"    ghost visits = {{ λ {self.stated.names}. {self.visits(pair)} }};"]
         before = items.attributes(place.code) if "#" in items.attributes(place.code) else ""
         lines += [f"    {before}{kept[place.code.head : place.code.body]}{self.body(pair)}"]

@@ -1,4 +1,4 @@
-"""Where a type implements `Validate`: its crate, its file, its module, and the two halves of the implementation."""
+"""Where a type implements `Stated` and `Validate`: its crate, its file, its module, and the two implementations."""
 import pathlib
 import re
 from dataclasses import dataclass
@@ -8,6 +8,7 @@ from lib import paths
 from .spans import Plain, Span
 
 TRAIT = re.compile(r"(?:\w+\s*::\s*)*\bValidate(?=\s+for\b)")
+STATED = re.compile(r"\bStated\s+for\b")
 
 
 class Unknown(Exception):
@@ -16,14 +17,16 @@ class Unknown(Exception):
 
 @dataclass(frozen=True)
 class Place:
-    """A type that implements `Validate`: the folder of its crate, its file there, and the items of the implementation."""
+    """A type that implements `Validate`: the folder of its crate, its file there, the two blocks, and an item of each. A type that
+    states its rules alone has no block of code."""
 
     folder: pathlib.Path
     file: str
     plain: Plain
-    block: object
+    stated: object
     visits: object
-    code: object
+    block: object = None
+    code: object = None
 
     @property
     def crate(self):
@@ -38,7 +41,7 @@ class Place:
     @property
     def type_name(self):
         """The name of the type, as the prover has it."""
-        return paths.name_of_block(self.plain.items, self.block).removesuffix("Validate")
+        return paths.name_of_block(self.plain.items, self.stated).removesuffix("Stated")
 
     @property
     def is_bounded(self):
@@ -60,25 +63,33 @@ class Place:
         return Span(self.plain, start, end)
 
 
-def places(folder):
-    """The types of a crate that implement `Validate`."""
+def stating(folder):
+    """The types of a crate that state their rules, with the code where they have one."""
     found = []
     for path in sorted(folder.glob("src/**/*.rt")):
         text = path.read_text(encoding="utf-8", errors="replace")
-        if "Validate" in text:
+        if STATED.search(text):
             plain = Plain(text)
-            blocks = [it for it in plain.items.items if it.kind == "impl" and TRAIT.search(plain.items.header(it))]
+            blocks = [it for it in plain.items.items if it.kind == "impl" and STATED.search(plain.items.header(it))]
             found += [it for it in (place(folder, path, plain, block) for block in blocks) if it]
     return found
 
 
-def place(folder, path, plain, block):
-    """An implementation, or None where it lacks one of its halves."""
-    visits = [it for it in block.members if it.kind == "ghost" and it.name == "visits"]
-    code = [it for it in block.members if it.kind == "fn" and it.name == "validate_into"]
-    if len(visits) != 1 or len(code) != 1:
+def place(folder, path, plain, stated):
+    """A type that states its rules, or None where the block lacks them."""
+    visits = [it for it in stated.members if it.kind == "ghost" and it.name == "visits"]
+    name = paths.name_of_block(plain.items, stated).removesuffix("Stated")
+    blocks = [it for it in plain.items.items if it.kind == "impl" and TRAIT.search(plain.items.header(it))]
+    blocks = [it for it in blocks if paths.name_of_block(plain.items, it) == f"{name}Validate"]
+    code = [(block, it) for block in blocks for it in block.members if it.kind == "fn" and it.name == "validate_into"]
+    if len(visits) != 1 or len(code) > 1:
         return None
-    return Place(folder, str(path.relative_to(folder)), plain, block, visits[0], code[0])
+    return Place(folder, str(path.relative_to(folder)), plain, stated, visits[0], *(code[0] if code else ()))
+
+
+def places(folder):
+    """The types of a crate that implement both traits."""
+    return [it for it in stating(folder) if it.code]
 
 
 def find(folder, name):
@@ -86,11 +97,15 @@ def find(folder, name):
     folder = folder.resolve()
     if not (folder / "src").is_dir():
         raise Unknown(f"{folder}: there is no crate in it: it has no folder `src`")
-    every = places(folder)
+    every = stating(folder)
     wanted = [it for it in name.split("::") if it not in ("", "crate", folder.name)]
     fit = [it for it in every if it.name().split("::")[-len(wanted) :] == wanted] if wanted else []
+    coded = [it for it in fit if it.code]
+    if len(coded) == 1:
+        return coded[0]
     if len(fit) == 1:
-        return fit[0]
-    known = ", ".join(it.name() for it in every) or "none"
-    said = "several types" if fit else "no type"
+        text = "has `impl Stated` and no `impl Validate`, so there is no code to compare"
+        raise Unknown(f"{fit[0].file}:{fit[0].visits_line}: `{fit[0].type_name}` {text}: a form of it is compared where `Valid::known` stands")
+    known = ", ".join(it.name() for it in every if it.code) or "none"
+    said = "several types" if coded else "no type"
     raise Unknown(f"{folder.name}: {said} of the name `{name}` with `impl Validate`: it has {known}")
