@@ -45,7 +45,8 @@ def clauses(function, kind="ensures"):
 
 
 def words(function, clause):
-    """The words of a clause: those of definitions, those of its own trait, those of a parameter, and those of the prelude."""
+    """The words of a clause: those of definitions, those of its own trait and of the traits above, those of a parameter, and those
+    of the prelude."""
     known, head = imported(function.text.text), function.text.header(function.item).partition("->")[0]
     bound = {it for names in BOUND.findall(clause) for name in names for it in name.split()} | set(PARAMETER.findall(head))
     defined, own, handed, prelude = [], [], [], []
@@ -57,6 +58,8 @@ def words(function, clause):
             (prelude if path.endswith(".Prelude") else defined).append(rest[0] if is_module and rest else first)
         elif not rest and first in ghosts() - bound:
             own.append(first)
+        elif first == "Self" and rest and rest[-1] in ghosts():
+            own.append(rest[-1])
         elif rest and first[0].isupper() and rest[-1] in ghosts():
             handed.append(rest[-1])
     return defined, own, handed, prelude
