@@ -6,6 +6,7 @@ from .makers import Makers
 from .names import of_field, of_variant, others_of_variant
 from .scope import Scope, Seen, is_option, is_path, is_text
 from .source import is_ported
+from .spelled import Spellings
 from .words import Checks, together
 
 MOST = 6
@@ -36,6 +37,7 @@ class Schema:
         self.writer, self.borrowed, self.items = writer, writer.borrowed, writer.borrowed.items
         self.turned = {it.name: it for it in writer.source.items}
         self.makers = Makers(self)
+        self.spellings = Spellings(self, writer.checked) if writer.checked else None
 
     def use(self, *names):
         """Imports names of `garde_schema`, and gives the first one."""
@@ -43,9 +45,11 @@ class Schema:
         return names[0]
 
     def texts(self):
-        """The makers and the functions that read."""
+        """The makers and the functions that read; or of a body, the statements and the implementation by which a library reads it."""
         made = [it for it in self.items.values() if not is_named(it)]
         makers = [self.makers.text(self.turned[it.name]) for it in made]
+        if self.spellings:
+            return [*makers, *self.spellings.texts()]
         return [*makers, *(self.reader(it) for it in made if not self.is_held(it))]
 
     def is_held(self, item):
@@ -56,9 +60,7 @@ class Schema:
         """The function that reads values of a type."""
         self.use("read_json", "FormI18n", "ReadError", "Scratch")
         self.writer.uses.others |= {"std::alloc::Global", "garde::I18n"}
-        name, made = snake(item.name), self.makers.type_name(self.turned[item.name])
-        made = made.replace("'t", "'a")
-        forms = "\n".join(statement(self.form_of_type(it), 4, f"let {snake(it.name)}_form = ", ";") for it in self.order(item))
+        (name, made), forms = self.names_of(item), self.forms(item, 4)
         docs = f"/// Reads a value of the type `{item.name}` in JSON, or reports every fault of its form"
         docs += " and of its rules." if is_ported(item) else "."
         if not is_ported(item):
@@ -68,6 +70,14 @@ class Schema:
         tactic = "#[tactic(auto, unfolding(garde::specs::Fields::Known))]\n"
         read = VALID.format(name=name)
         return READ.format(docs=docs, tactic=tactic, vis=item.vis, name=name, kind=f"Valid<{made}>", forms=forms, read=read)
+
+    def names_of(self, item):
+        """What a type is called in the names of others, and the type as what reads it has it."""
+        return snake(item.name), self.makers.type_name(self.turned[item.name]).replace("'t", "'a")
+
+    def forms(self, item, indent):
+        """The forms of a type and of those that it holds."""
+        return "\n".join(statement(self.form_of_type(it), indent, f"let {snake(it.name)}_form = ", ";") for it in self.order(item))
 
     def order(self, item):
         """The types that a type holds, each behind those that it holds, and the type itself."""

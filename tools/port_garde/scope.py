@@ -24,6 +24,8 @@ class Uses:
     bytes: bool = False
     cow: bool = False
     sides: bool = False
+    finds: bool = False
+    spelled: set = field(default_factory=set)
     rules: dict = field(default_factory=dict)
 
 

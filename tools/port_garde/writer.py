@@ -48,12 +48,13 @@ impl{bound} View<{kind}> for {name} {{
 
 class Writer:
     """Writes what stands for a source. `module` is the path of what is written, `own` that of the rules of one's own, and
-    `left_out` are the derives and attributes that are left out without a word. With `walks` types that a form reads have a walk too."""
+    `left_out` are the derives and attributes that are left out without a word. With `walks` types that a form reads have a walk too.
+    `checked` is the type that a static library checks: then they have none."""
 
-    def __init__(self, source, module=None, own=None, left_out=(), schema=False, walks=True):
-        self.source, self.module, self.own = source, module, own
-        self.borrowed = Borrowed(source, left_out) if schema else None
-        self.unwalked = set() if walks or not schema else self.borrowed.unwalked()
+    def __init__(self, source, module=None, own=None, left_out=(), schema=False, walks=True, checked=None):
+        self.source, self.module, self.own, self.checked = source, module, own, checked
+        self.borrowed = Borrowed(source, left_out) if schema or checked else None
+        self.unwalked = self.borrowed.unwalked() if checked or schema and not walks else set()
         self.derives = Derives(source, left_out)
         self.uses = Uses()
         self.patterns, self.skeletons, self.closures, self.copied = {}, {}, {}, {}
@@ -94,7 +95,12 @@ class Writer:
 
     def schema_texts(self, rust):
         """The makers and the readers of the types, by their forms."""
-        texts = Schema(self).texts()
+        schema = Schema(self)
+        if schema.spellings:
+            schema.spellings.refuse()
+        texts = [] if self.notes.faults else schema.texts()
+        if self.notes.faults:
+            return []
         for line, reason in lost_of_names(rust, self.borrowed.items.values(), texts):
             self.notes.refuse(line, reason)
         return texts
@@ -138,7 +144,7 @@ class Writer:
     def stated_variants(self, item):
         """The variants that statements name."""
         made = self.borrowed and item.name in self.borrowed.items and any(it.fields for it in item.variants)
-        return item.variants if item.kind == "enum" and (is_ported(item) or made) else ()
+        return item.variants if item.kind == "enum" and (is_ported(item) or made or self.checked) else ()
 
     # Types.
 
@@ -359,6 +365,8 @@ class Writer:
         if uses.words:
             lines.append(f"ghost use Rattle.garde.specs.Fields.{{{', '.join(sorted(uses.words, key=word_order))}}};")
         lines += ["ghost use Rattle.garde.specs.Author as bytes;"] if uses.bytes else []
+        lines += ["ghost use Rattle.garde.specs.Finds as finds;"] if uses.finds else []
+        lines += [f"ghost use Rattle.garde_library.specs.Spelling.{{{', '.join(sorted(uses.spelled))}}};"] if uses.spelled else []
         lines += ["ghost use Rattle.garde_schema.specs.declared.either.Either.TheVariants.{Left, Right};"] if uses.sides else []
         lines += [self.variants_use(it) for it in self.source.items if self.stated_variants(it)]
         return "\n".join(lines)

@@ -1,18 +1,20 @@
 -- Languages, the messages in each, and what is answered to the bytes of an order.
-use Rattle.std.specs.Prelude.{ℕ, List, codes, if◌then◌else◌}
+use Rattle.std.specs.Prelude.{◌≡◌, ℕ, List, codes, if◌then◌else◌}
 use Rattle.std.specs.Str.{bytes_eq}
 use Rattle.garde.specs.Handlers.{Datum, default_text}
+use Rattle.garde.specs.Author.{Visits}
 use Rattle.garde_problem.specs.CodedText.{datum_message}
 use Rattle.garde_schema.specs.Forms.{FormTexts}
 use Rattle.garde_schema.specs.FormCode.{form_message}
 use Rattle.garde_schema.specs.FormText.{default_form_text}
 use Rattle.garde_library.specs.declared.status.Status.{Status}
+use Rattle.garde_library.specs.declared.status.Status.TheVariants.{Valid}
 use Rattle.garde_library.specs.Checked.{IsChecked, IsVerdict}
+use Rattle.garde_library.specs.Spelling.{Spelling, SpellsValid}
 use Rattle.example_order.specs.declared.language.Language.{Language}
 use Rattle.example_order.specs.declared.language.Language.TheVariants.{English, Czech}
-use Rattle.example_order.specs.declared.order.TheConstants.{TITLE}
+use Rattle.example_order.specs.declared.body.TheConstants.{TITLE}
 use Rattle.example_order.specs.CzechText.{czech_text, czech_form_text}
-use Rattle.example_order.specs.Order.{order_visits}
 
 -- the language of a tag: Czech of `cs`, and English of any other and of none
 abbrev pub language_of : List ℕ → Language
@@ -28,11 +30,14 @@ abbrev pub form_texts : Language → FormTexts
 form_texts English fault = form_message (λ f. default_form_text f) fault
 form_texts Czech fault = form_message (λ f. czech_form_text f) fault
 
--- these bytes were handed the answer to the bytes of an order
-abbrev pub IsCheckedIn : Language → ℕ → List ℕ → List ℕ → List ℕ → ℕ → Status → Type 0
-IsCheckedIn language most body old new len status =
-    IsChecked (λ j. order_visits (form_texts language) j) (rule_texts language) most TITLE.now body old new len status
+-- These bytes were handed the answer to the bytes of a body, of which this is spelled under these rules. Valid are only bytes that spell
+-- a value without a fault.
+abbrev pub IsCheckedIn : {A C : Type 0} → Spelling A → (A → C → Visits) → Language → ℕ → List ℕ → List ℕ → List ℕ → ℕ → Status → Type 0
+IsCheckedIn spelling rules language most body old new len status =
+    IsChecked (λ j. spelling.visits (form_texts language) j) (rule_texts language) most TITLE.now body old new len status
+    × (status ≡ Valid → SpellsValid spelling rules body)
 
--- the status tells whether the bytes are those of an order without a fault
-abbrev pub IsOrder : List ℕ → Status → Type 0
-IsOrder body status = IsVerdict (λ j. order_visits default_form_text j) default_text body status
+-- the status tells whether the bytes are those of a body without a fault
+abbrev pub IsOrder : {A C : Type 0} → Spelling A → (A → C → Visits) → List ℕ → Status → Type 0
+IsOrder spelling rules body status =
+    IsVerdict (λ j. spelling.visits default_form_text j) default_text body status × (status ≡ Valid → SpellsValid spelling rules body)

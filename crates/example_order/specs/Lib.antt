@@ -1,3 +1,2 @@
 pub mod CzechText
 pub mod Language
-pub mod Order

@@ -2,10 +2,12 @@
 //! bytes of one.
 #![tactic(auto)]
 
+mod body;
+mod check;
 mod czech;
 mod language;
-mod order;
 
+pub use body::Body;
+pub use check::{check_order, is_order};
 pub use czech::Czech;
 pub use language::Language;
-pub use order::{check_order, is_order};

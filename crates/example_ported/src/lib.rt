@@ -4,6 +4,7 @@
 pub mod account;
 pub mod bill;
 pub mod coupon;
+pub mod delivery;
 pub mod depot;
 pub mod draft;
 pub mod event;

@@ -1,8 +1,9 @@
 //! What is answered to bytes.
-ghost use Rattle.std.specs.Prelude.{◌≡◌};
+ghost use Rattle.std.specs.Prelude.{◌≡◌, IsOk};
 ghost use Rattle.garde_tape.specs.Input.{without_mark};
 ghost use Rattle.garde_schema.specs.FirstRead.{AnswersFirstBytes};
 ghost use Rattle.garde_library.specs.Checked.{IsChecked, IsHanded, IsOutOfMemory, IsTold, IsVerdict, status_of};
+ghost use Rattle.garde_library.specs.declared.status.Status.TheVariants.{Valid};
 
 use crate::details::details_of;
 use crate::status::Status;
@@ -11,7 +12,7 @@ use garde_schema::{FirstReadError, Form, FormI18n, Scratch, read_json_first};
 use std::alloc::Global;
 
 /// Hands over a text: as much of it as there is room for, and how long it is.
-fn hand_over(text: &[u8], out: &mut [u8], len: &mut usize)
+pub(crate) fn hand_over(text: &[u8], out: &mut [u8], len: &mut usize)
     ensures { IsHanded text.now out.old out.new len.new }
 {
     *len = text.len();
@@ -28,8 +29,9 @@ pub fn out_of_memory(out: &mut [u8], len: &mut usize) -> Status
 }
 
 /// The status of the result of reading.
-fn status_of(read: &Result<(), FirstReadError>) -> Status
-    ensures { result ≡ status_of read.now }
+pub(crate) fn status_of(read: &Result<(), FirstReadError>) -> Status
+    ensures told { result ≡ status_of read.now }
+    ensures valid { result ≡ Valid → IsOk read.now }
 {
     match read {
         Ok(()) => Status::Valid,
@@ -58,14 +60,15 @@ fn read<'a, F: Form<'a>, H: I18n + FormI18n>(
 }
 
 /// Hands over the details of the result of reading.
-fn tell(
+pub(crate) fn tell(
     alloc: Global,
     title: &str,
     read: &Result<(), FirstReadError>,
     out: &mut [u8],
     len: &mut usize,
 ) -> Status
-    ensures { IsTold title.now read.now out.old out.new len.new result }
+    ensures told { IsTold title.now read.now out.old out.new len.new result }
+    ensures valid { result ≡ Valid → IsOk read.now }
 {
     match details_of(alloc, title, read) {
         Ok(text) => {

@@ -3,11 +3,15 @@
 #![tactic(auto)]
 
 mod answer;
+mod body;
 mod details;
 mod loose;
 mod room;
+mod spelled;
 mod status;
 
 pub use answer::{check_json, is_valid_json, out_of_memory};
+pub use body::{check_body, is_valid_body};
 pub use room::Room;
+pub use spelled::{ReadBody, Spelled};
 pub use status::Status;

@@ -17,8 +17,9 @@ ghost use Rattle.std.specs.Prelude.{◌≡◌};
 ghost use Rattle.example_order.specs.Language.{IsCheckedIn, IsOrder, language_of};
 ghost use Rattle.use_library.specs.Codes.{IsCode};
 
-use example_order::{Language, check_order, is_order};
-use garde_library::{Room, Status, out_of_memory};
+use example_order::{Body, Language, check_order, is_order};
+use garde::Stated;
+use garde_library::{Room, Spelled, Status, out_of_memory};
 use garde_schema::Scratch;
 use std::alloc::Global;
 
@@ -47,8 +48,9 @@ pub extern "C" fn order_check(
     out: &mut [u8],
     len: &mut usize,
 ) -> u8
-    ensures { IsCode (λ s. IsCheckedIn (language_of language.now) most body.now
-        out.old out.new len.new s) result }
+    ensures { IsCode (λ s. IsCheckedIn
+        ⟦<Body<'static> as Spelled>⟧.spelled ⟦<Body<'static> as Stated>⟧.visits
+        (language_of language.now) most body.now out.old out.new len.new s) result }
 {
     let mut scratch = Scratch::new(alloc);
     let language = Language::of(language);
@@ -60,7 +62,9 @@ pub extern "C" fn order_check(
 /// ORDER_NO_JSON or ORDER_MEMORY. Reading ends at the first fault.
 #[unsafe(no_mangle)]
 pub extern "C" fn order_is_valid(alloc: Global, body: &[u8]) -> u8
-    ensures { IsCode (λ s. IsOrder body.now s) result }
+    ensures { IsCode (λ s. IsOrder
+        ⟦<Body<'static> as Spelled>⟧.spelled ⟦<Body<'static> as Stated>⟧.visits
+        body.now s) result }
 {
     let mut scratch = Scratch::new(alloc);
     is_order(alloc, body, &mut scratch) as u8
@@ -88,8 +92,9 @@ pub extern "C" fn order_check_with(
     out: &mut [u8],
     len: &mut usize,
 ) -> u8
-    ensures { IsCode (λ s. IsCheckedIn (language_of language.now) most body.now
-        out.old out.new len.new s) result }
+    ensures { IsCode (λ s. IsCheckedIn
+        ⟦<Body<'static> as Spelled>⟧.spelled ⟦<Body<'static> as Stated>⟧.visits
+        (language_of language.now) most body.now out.old out.new len.new s) result }
 {
     let language = Language::of(language);
     let Ok(mut scratch) = checker.take_or_new(alloc) else {

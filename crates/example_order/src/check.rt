@@ -1,0 +1,47 @@
+//! What is answered to the bytes of an order, in the language that is asked for.
+ghost use Rattle.example_order.specs.Language.{IsCheckedIn, IsOrder};
+
+use crate::body::{Body, TITLE};
+use crate::czech::Czech;
+use crate::language::Language;
+use garde::{DefaultI18n, Stated};
+use garde_library::{Spelled, Status, check_body, is_valid_body};
+use garde_problem::WithCodes;
+use garde_schema::Scratch;
+use std::alloc::Global;
+
+/// Checks the bytes of an order. `out` gets the problem details of what is wrong, cut where it ends,
+/// and `len` says how long they are as a whole: `garde_library::check_body` says more. Sentences are in this
+/// language, beside codes.
+pub fn check_order(
+    alloc: Global,
+    body: &[u8],
+    scratch: &mut Scratch,
+    most: usize,
+    language: Language,
+    out: &mut [u8],
+    len: &mut usize,
+) -> Status
+    ensures { IsCheckedIn ⟦<Body<'static> as Spelled>⟧.spelled ⟦<Body<'static> as Stated>⟧.visits
+        language most body.now out.old out.new len.new result }
+{
+    match language {
+        Language::English => {
+            let h = WithCodes(DefaultI18n);
+            check_body::<Body<'_>, _>(alloc, body, scratch, most, &h, TITLE, out, len)
+        }
+        Language::Czech => {
+            let h = WithCodes(Czech);
+            check_body::<Body<'_>, _>(alloc, body, scratch, most, &h, TITLE, out, len)
+        }
+    }
+}
+
+/// Whether the bytes are those of an order without a fault, or how they are not. Reading ends at the
+/// first fault.
+pub fn is_order(alloc: Global, body: &[u8], scratch: &mut Scratch) -> Status
+    ensures { IsOrder ⟦<Body<'static> as Spelled>⟧.spelled ⟦<Body<'static> as Stated>⟧.visits
+        body.now result }
+{
+    is_valid_body::<Body<'_>, _>(alloc, body, scratch, &DefaultI18n)
+}

@@ -1,0 +1,292 @@
+//! A delivery, as a body that a static library checks.
+ghost use Rattle.std.specs.Prelude.{[], length, refl, ◌∷◌};
+ghost use Rattle.garde.specs.Fields.{◌and◌, byte_count, char_count, codes, count_between, count_max, false, field, item, items, minus, none, optional, pos, range_between, range_max, required, signed_between, u32_min};
+ghost use Rattle.garde.specs.Author as bytes;
+ghost use Rattle.garde.specs.Finds as finds;
+ghost use Rattle.garde_library.specs.Spelling.{a_flag, a_list, a_list_of, a_map_of, a_name, a_number, a_text, an_object, closed, i16_numbers, made, member, nullish, or_null, ruled, six, three, u16_numbers, u32_numbers, u64_numbers, u8_numbers, with_default};
+ghost use Rattle.example_ported.specs.declared.delivery.Hours.TheVariants.{AnyTime, Morning};
+
+use garde::fields::{Alphanumeric, Ascii, Is, Prefix, Required};
+use garde::{I18n, Stated, Valid, length, range};
+use garde_library::{ReadBody, Spelled};
+use garde_schema::{
+    Built, Checked, Closed, Entries, FirstReadError, Flag, FormI18n, FromParts, I16, Items, List,
+    ListUnder, MapUnder, Member, Nullable, Nullish, Object, OneOf, Scratch, Text, TextRef, U8, U16,
+    U32, U64, Under, Whole, WithDefault, read_json_first,
+};
+use std::alloc::Global;
+use std::marker::PhantomData;
+
+/// When it comes.
+#[derive(Clone, Copy, Debug, Default, PartialEq)]
+pub enum Hours {
+    #[default]
+    AnyTime,
+    Morning,
+}
+
+/// Where it stands.
+#[derive(Debug, Drop)]
+pub struct Floor(pub i16);
+
+impl Stated for Floor {
+    type Context = ();
+
+    ghost visits = { λ v _. item 0 (signed_between (minus 3) (pos 40) v.0) };
+}
+
+/// A box of it.
+#[derive(Debug, Drop)]
+pub struct Crate<'t> {
+    pub name: TextRef<'t>,
+    pub pieces: u8,
+    pub fragile: bool,
+    pub weight: u64,
+    pub marks: Items<TextRef<'t>>,
+    pub seen: Items<Option<bool>>,
+}
+
+impl<'t> Stated for Crate<'t> {
+    type Context = ();
+
+    ghost visits = { λ v _.
+        field "name" (bytes.ascii v.name and count_between 2 20 (byte_count v.name))
+        and field "pieces" (range_between 1 99 v.pieces)
+        and field "marks" (count_max 5 (length v.marks) and items (λ x. bytes.alphanumeric x) v.marks) };
+}
+
+/// A delivery.
+#[derive(Debug, Drop)]
+pub struct Delivery<'t> {
+    pub number: u32,
+    pub sent_to: TextRef<'t>,
+    pub phone: Option<TextRef<'t>>,
+    pub weight: Option<u16>,
+    pub hours: Hours,
+    pub floor: Floor,
+    pub crates: Items<Crate<'t>>,
+    pub labels: Entries<'t, TextRef<'t>>,
+}
+
+impl<'t> Stated for Delivery<'t> {
+    type Context = ();
+
+    ghost visits = { λ v ctx.
+        field "number" (u32_min 1 v.number)
+        and field "sent_to" (count_between 1 80 (char_count v.sent_to))
+        and field "phone" (optional (λ x. bytes.prefix (codes "+") x and count_max 16 (byte_count x)) v.phone)
+        and field "weight" (required v.weight and optional (λ x. range_max 30000 x) v.weight)
+        and field "floor" (⟦<Floor as Stated>⟧.visits v.floor ctx)
+        and field "crates" (count_between 1 50 (length v.crates) and items (λ x. ⟦<Crate<'t> as Stated>⟧.visits x ctx) v.crates)
+        and field "labels" (count_max 3 (length v.labels)) };
+}
+
+/// A value of the type `Floor` is made of what its form reads.
+impl FromParts for Floor {
+    type Parts = i16;
+
+    ghost builds = { λ parts. record { 0 = parts } };
+
+    ghost parts_of = { λ v. v.0 };
+
+    ghost kept = { λ _. refl };
+
+    fn from_parts(parts: Self::Parts) -> Self {
+        Floor(parts)
+    }
+}
+
+/// A value of the type `Crate` is made of what its form reads.
+impl<'t> FromParts for Crate<'t> {
+    type Parts = (
+        TextRef<'t>,
+        u8,
+        bool,
+        u64,
+        Items<TextRef<'t>>,
+        Items<Option<bool>>,
+    );
+
+    ghost builds = { λ parts. record {
+      name = parts.0;
+      pieces = parts.1;
+      fragile = parts.2;
+      weight = parts.3;
+      marks = parts.4;
+      seen = parts.5;
+    } };
+
+    ghost parts_of = { λ v. (v.name, v.pieces, v.fragile, v.weight, v.marks, v.seen) };
+
+    ghost kept = { λ _. refl };
+
+    fn from_parts(parts: Self::Parts) -> Self {
+        let (name, pieces, fragile, weight, marks, seen) = parts;
+        Crate {
+            name,
+            pieces,
+            fragile,
+            weight,
+            marks,
+            seen,
+        }
+    }
+}
+
+/// A value of the type `Delivery` is made of what its form reads.
+impl<'t> FromParts for Delivery<'t> {
+    type Parts = (
+        u32,
+        TextRef<'t>,
+        Option<TextRef<'t>>,
+        Option<u16>,
+        Hours,
+        (Floor, Items<Crate<'t>>, Entries<'t, TextRef<'t>>),
+    );
+
+    ghost builds = { λ parts. record {
+      number = parts.0;
+      sent_to = parts.1;
+      phone = parts.2;
+      weight = parts.3;
+      hours = parts.4;
+      floor = parts.5.0;
+      crates = parts.5.1;
+      labels = parts.5.2;
+    } };
+
+    ghost parts_of = { λ v.
+        (v.number, v.sent_to, v.phone, v.weight, v.hours, (v.floor, v.crates, v.labels)) };
+
+    ghost kept = { λ _. refl };
+
+    fn from_parts(parts: Self::Parts) -> Self {
+        let (number, sent_to, phone, weight, hours, (floor, crates, labels)) = parts;
+        Delivery {
+            number,
+            sent_to,
+            phone,
+            weight,
+            hours,
+            floor,
+            crates,
+            labels,
+        }
+    }
+}
+
+impl Spelled for Hours {
+    ghost spelled = { a_name (("any_time", AnyTime) ∷ ("morning", Morning) ∷ ("am", Morning) ∷ []) };
+}
+
+impl Spelled for Floor {
+    ghost spelled = { made (λ parts. record { 0 = parts })
+        (a_number i16_numbers (finds.signed_between (minus 3) (pos 40) ∷ [])) };
+}
+
+impl<'t> Spelled for Crate<'t> {
+    ghost spelled = { made (λ parts. record {
+      name = parts.0;
+      pieces = parts.1;
+      fragile = parts.2;
+      weight = parts.3;
+      marks = parts.4;
+      seen = parts.5;
+    }) (an_object (closed (six
+        (member "name" (a_text (λ v. bytes.ascii v and count_between 2 20 (byte_count v))))
+        (with_default "pieces" (a_number u8_numbers (finds.range_between 1 99 ∷ [])) 1)
+        (with_default "fragile" a_flag false)
+        (member "weight" (a_number u64_numbers []))
+        (member "marks" (a_list_of (λ v. count_max 5 v) (a_text (λ v. bytes.alphanumeric v))))
+        (member "seen" (a_list (or_null a_flag)))))) };
+}
+
+impl<'t> Spelled for Delivery<'t> {
+    ghost spelled = { made (λ parts. record {
+      number = parts.0;
+      sent_to = parts.1;
+      phone = parts.2;
+      weight = parts.3;
+      hours = parts.4;
+      floor = parts.5.0;
+      crates = parts.5.1;
+      labels = parts.5.2;
+    }) (an_object (closed (six
+        (member "number" (a_number u32_numbers (finds.u32_min 1 ∷ [])))
+        (member "sentTo" (a_text (λ v. count_between 1 80 (char_count v))))
+        (nullish "phone" (a_text (λ v. bytes.prefix (codes "+") v and count_max 16 (byte_count v))))
+        (ruled
+        (nullish "grams" (a_number u16_numbers (finds.range_max 30000 ∷ [])))
+        (λ v. field "grams" (required v)))
+        (with_default "hours" ⟦<Hours as Spelled>⟧.spelled AnyTime)
+        (three
+        (member "floor" ⟦<Floor as Spelled>⟧.spelled)
+        (member "crates" (a_list_of (λ v. count_between 1 50 v) ⟦<Crate<'t> as Spelled>⟧.spelled))
+        (member "labels" (a_map_of (λ v. count_max 3 v) (a_text (λ _. none)))))))) };
+}
+
+/// The title of the problem details.
+pub const TITLE: &str = "the delivery has faults";
+
+/// What the library checks.
+pub type Body<'a> = Delivery<'a>;
+
+#[tactic(auto, unfolding(garde::specs::Fields::Known))]
+impl<'a> ReadBody<'a> for Delivery<'a> {
+    fn read_body<H: I18n + FormI18n>(
+        alloc: Global,
+        bytes: &'a [u8],
+        scratch: &'a mut Scratch,
+        most: usize,
+        h: &H,
+    ) -> Result<Valid<Delivery<'a>>, FirstReadError> {
+        let hours_form = OneOf(&[
+            ("any_time", Hours::AnyTime),
+            ("morning", Hours::Morning),
+            ("am", Hours::Morning),
+        ]);
+        let floor_form = Built(
+            Whole(I16, Is(range!(min = -3, max = 40))),
+            PhantomData::<&Floor>,
+        );
+        let crate_form = Built(
+            Object(Closed((
+                Member("name", Text((Is(Ascii), Is(length!(min = 2, max = 20))))),
+                WithDefault("pieces", Whole(U8, Is(range!(min = 1, max = 99))), 1),
+                WithDefault("fragile", Flag, false),
+                Member("weight", Whole(U64, ())),
+                Member(
+                    "marks",
+                    ListUnder(Is(length!(max = 5)), Text(Is(Alphanumeric))),
+                ),
+                Member("seen", List(Nullable(Flag))),
+            ))),
+            PhantomData::<&Crate<'_>>,
+        );
+        let delivery_form = Built(
+            Object(Closed((
+                Member("number", Whole(U32, Is(range!(min = 1)))),
+                Member("sentTo", Text(Is(length!(chars, min = 1, max = 80)))),
+                Nullish("phone", Text((Is(Prefix("+")), Is(length!(max = 16))))),
+                Checked(
+                    Nullish("grams", Whole(U16, Is(range!(max = 30000)))),
+                    Under("grams", Is(Required)),
+                ),
+                WithDefault("hours", hours_form, Hours::AnyTime),
+                (
+                    Member("floor", floor_form),
+                    Member(
+                        "crates",
+                        ListUnder(Is(length!(min = 1, max = 50)), crate_form),
+                    ),
+                    Member("labels", MapUnder(Is(length!(max = 3)), Text(()))),
+                ),
+            ))),
+            PhantomData::<&Delivery<'_>>,
+        );
+        match read_json_first(alloc, bytes, scratch, &delivery_form, most, h) {
+            Ok(value) => Ok(Valid::known(value, &())),
+            Err(error) => Err(error),
+        }
+    }
+}

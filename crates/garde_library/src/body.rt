@@ -1,0 +1,74 @@
+//! What is answered to the bytes of a body.
+ghost use Rattle.std.specs.Prelude.{◌≡◌, IfOk};
+ghost use Rattle.garde_tape.specs.Input.{without_mark};
+ghost use Rattle.garde_schema.specs.FirstRead.{AnswersFirstBytes};
+ghost use Rattle.garde_library.specs.Checked.{IsChecked, IsVerdict};
+ghost use Rattle.garde_library.specs.Spelling.{SpellsValid};
+ghost use Rattle.garde_library.specs.declared.status.Status.TheVariants.{Valid};
+
+use crate::answer::{hand_over, status_of, tell};
+use crate::spelled::ReadBody;
+use crate::status::Status;
+use garde::I18n;
+use garde_schema::{FirstReadError, FormI18n, Scratch};
+use std::alloc::Global;
+
+/// Reads a body, and lets the value go.
+fn read<'a, B: ReadBody<'a>, H: I18n + FormI18n>(
+    alloc: Global,
+    bytes: &'a [u8],
+    scratch: &'a mut Scratch,
+    most: usize,
+    h: &H,
+) -> Result<(), FirstReadError>
+    ensures answer { AnswersFirstBytes (λ j. B.spelled.visits (H.form_text h.now) j) (H.text h.now)
+        most (without_mark bytes.now) result }
+    ensures valid { IfOk result (λ _. SpellsValid B.spelled B.visits bytes.now) }
+{
+    match B::read_body(alloc, bytes, scratch, most, h) {
+        Ok(body) => {
+            let _ = body.into_inner();
+            Ok(())
+        }
+        Err(error) => Err(error),
+    }
+}
+
+/// Checks the bytes of a body. It answers as `check_json` does, and `Status::Valid` only where the
+/// bytes spell a value of the type without a fault.
+pub fn check_body<'a, B: ReadBody<'a>, H: I18n + FormI18n>(
+    alloc: Global,
+    bytes: &'a [u8],
+    scratch: &'a mut Scratch,
+    most: usize,
+    h: &H,
+    title: &str,
+    out: &mut [u8],
+    len: &mut usize,
+) -> Status
+    ensures answer { IsChecked (λ j. B.spelled.visits (H.form_text h.now) j) (H.text h.now)
+        most title.now bytes.now out.old out.new len.new result }
+    ensures valid { result ≡ Valid → SpellsValid B.spelled B.visits bytes.now }
+{
+    if most == 0 {
+        hand_over(b"", out, len);
+        return Status::WrongArgument;
+    }
+    let read = read::<B, H>(alloc, bytes, scratch, most, h);
+    tell(alloc, title, &read, out, len)
+}
+
+/// Whether the bytes of a body have a fault, or how they are not read. Reading ends at the first fault.
+pub fn is_valid_body<'a, B: ReadBody<'a>, H: I18n + FormI18n>(
+    alloc: Global,
+    bytes: &'a [u8],
+    scratch: &'a mut Scratch,
+    h: &H,
+) -> Status
+    ensures answer { IsVerdict (λ j. B.spelled.visits (H.form_text h.now) j) (H.text h.now)
+        bytes.now result }
+    ensures valid { result ≡ Valid → SpellsValid B.spelled B.visits bytes.now }
+{
+    let read = read::<B, H>(alloc, bytes, scratch, 0, h);
+    status_of(&read)
+}

@@ -1,0 +1,258 @@
+"""What JSON spells of the types of a source, as `garde_library` states it, and the implementations by which a static library checks
+the bytes of one of them."""
+from dataclasses import dataclass
+
+from .borrowed import fields_of, is_map, is_named, within_option
+from .derives import options
+from .layout import WIDTH
+from .makers import nested, places
+from .names import of_field
+from .scope import SIGNED, Scope, Seen, is_option, is_path, is_text
+from .source import is_ported
+from .tokens import Refusal
+from .words import Checks
+
+# What begins a further line of a statement.
+NEXT = "\n" + " " * 8
+SEVERAL = {2: "two", 3: "three", 4: "four", 5: "five", 6: "six"}
+BODY = """/// The title of the problem details.
+pub const TITLE: &str = "the {words} has faults";
+
+/// What the library checks.
+pub type Body<'a> = {made};
+
+#[tactic(auto, unfolding(garde::specs::Fields::Known))]
+impl<'a> ReadBody<'a> for {made} {{
+    fn read_body<H: I18n + FormI18n>(
+        alloc: Global,
+        bytes: &'a [u8],
+        scratch: &'a mut Scratch,
+        most: usize,
+        h: &H,
+    ) -> Result<Valid<{made}>, FirstReadError> {{
+{forms}
+        match read_json_first(alloc, bytes, scratch, &{name}_form, most, h) {{
+            Ok(value) => Ok(Valid::known(value, &())),
+            Err(error) => Err(error),
+        }}
+    }}
+}}"""
+
+
+@dataclass(frozen=True)
+class Said:
+    """A word of the statement with what it is given."""
+
+    head: str
+    parts: tuple = ()
+
+
+class Record(Said):
+    """What makes a value of its parts, by these rows."""
+
+    def __init__(self, rows):
+        super().__init__(f"(λ parts. record {{ {'; '.join(rows)} }})")
+        object.__setattr__(self, "rows", rows)
+
+
+def said(head, *parts):
+    return Said(head, tuple(it if isinstance(it, Said) else Said(it) for it in parts))
+
+
+def flat(tree):
+    """The statement on one line."""
+    return " ".join([tree.head, *map(bracketed, tree.parts)])
+
+
+def bracketed(tree):
+    return f"({flat(tree)})" if tree.parts else tree.head
+
+
+def lay(tree, column, after):
+    """The statement from a column on. Of what does not fit, each part stands on a line of its own, all of them under one indent."""
+    if column + len(flat(tree)) + after <= WIDTH or not tree.parts:
+        return flat(tree)
+    *front, last = tree.parts
+    if front and isinstance(front[0], Record):
+        return lay_made(tree.head, front[0], last, column, after)
+    if not any(it.parts for it in front):
+        head = " ".join([tree.head, *map(flat, front)])
+        return f"{head} {lay_bracketed(last, column + len(head) + 1, after)}"
+    return tree.head + "".join(NEXT + lay_bracketed(it, len(NEXT) - 1, after) for it in tree.parts)
+
+
+def lay_made(head, make, one, column, after):
+    """What is made of a value: the rows of the maker stand in a line, or each in its own."""
+    text = f"{head} {make.head}"
+    if column + len(text) <= WIDTH:
+        return f"{text}{NEXT}{lay_bracketed(one, len(NEXT) - 1, after)}"
+    rows = "".join(f"\n      {it};" for it in make.rows)
+    return f"{head} (λ parts. record {{{rows}\n    }}) {lay_bracketed(one, len('    }) '), after)}"
+
+
+def lay_bracketed(tree, column, after):
+    return f"({lay(tree, column + 1, after + 1)})" if tree.parts else tree.head
+
+
+class Spellings:
+    """The statements of a source, of whose types `body` is the one that a library checks."""
+
+    def __init__(self, schema, body):
+        self.schema, self.writer, self.body = schema, schema.writer, body
+        self.items, self.turned = schema.items, schema.turned
+
+    def word(self, name):
+        """A word of the statement, which is imported."""
+        self.writer.uses.spelled.add(name)
+        return name
+
+    def refuse(self):
+        """Notes what no statement says of the type that is checked."""
+        notes, item = self.writer.notes, self.items.get(self.body)
+        if item is None or not is_ported(item):
+            notes.refuse(item.line if item else 1, f"the body `{self.body}`: there is no type of that name which derives `Deserialize` and `Validate`")
+            return
+        for it in self.schema.order(item):
+            if it.kind == "enum" and not is_named(it):
+                notes.refuse(it.line, f"`{it.name}`, an enum whose variants have fields, which `--body` does not state")
+            if it.name in ("Body", "Spelled", "ReadBody"):
+                notes.refuse(it.line, f"the name `{it.name}`, which `--body` writes")
+
+    def texts(self):
+        """The statements of the types, each behind those that it holds, and the implementation by which a body is read."""
+        self.writer.uses.others.add("garde_library::Spelled")
+        item = self.items[self.body]
+        try:
+            return [*(self.statement(it) for it in self.schema.order(item)), self.reader(item)]
+        except Refusal as refusal:
+            self.writer.notes.faults.append(refusal)
+            return []
+
+    def reader(self, item):
+        """The implementation by which bodies are read."""
+        self.schema.use("read_json_first", "FormI18n", "FirstReadError", "Scratch")
+        self.writer.uses.others |= {"std::alloc::Global", "garde::I18n", "garde::Valid", "garde_library::ReadBody"}
+        name, made = self.schema.names_of(item)
+        return BODY.format(words=name.replace("_", " "), made=made, name=name, forms=self.schema.forms(item, 8))
+
+    def statement(self, item):
+        """What JSON spells of a type."""
+        self.writer.item = item
+        turned = self.turned[item.name]
+        life = "<'t>" if turned.params else ""
+        whole = "ghost spelled = { " + lay(self.of_type(item), len("    ghost spelled = { "), len(" };")) + " };"
+        return f"impl{life} Spelled for {item.name}{life} {{\n    {whole}\n}}"
+
+    # Types.
+
+    def of_type(self, item):
+        if is_named(item):
+            rows = [f'("{name}", {it.name})' for it in item.variants for name in self.schema.names(it, item)]
+            self.writer.uses.prelude |= {"◌∷◌", "[]"}
+            return said(self.word("a_name"), Said(f"({' ∷ '.join(rows)} ∷ [])"))
+        variant = item.variants[0]
+        names = [it.name or str(at) for at, it in enumerate(variant.fields)]
+        rows = [f"{name} = {place}" for name, place in zip(names, places(nested(names), "parts"))]
+        return said(self.word("made"), Record(rows), self.of_struct(variant, item))
+
+    def of_struct(self, variant, item):
+        if variant.shape != "named" or "transparent" in options(item):
+            return self.value(variant.fields[0].type, variant.fields[0].attributes.rules)
+        members = self.together([self.member(it, variant, item) for it in variant.fields])
+        if "deny_unknown_fields" in options(item):
+            members = said(self.word("closed"), members)
+        return said(self.word("an_object"), members)
+
+    def together(self, members):
+        """Members in turn, of which the last word holds the rest, as the form has them."""
+        if len(members) == 1:
+            return members[0]
+        if len(members) > max(SEVERAL):
+            members = [*members[: max(SEVERAL) - 1], self.together(members[max(SEVERAL) - 1 :])]
+        return said(self.word(SEVERAL[len(members)]), *members)
+
+    # Members.
+
+    def member(self, it, variant, item):
+        self.writer.spot = it.name
+        name, kind, rules = f'"{of_field(it, variant, item)}"', it.type, it.attributes.rules
+        if is_option(kind):
+            found = said(self.word("nullish"), name, self.value(kind.args[0], within_option(rules)))
+            if not any(rule.name == "required" for rule in rules):
+                return found
+            self.writer.uses.words |= {"field", "required"}
+            return said(self.word("ruled"), found, f"(λ v. field {name} (required v))")
+        default = self.writer.borrowed.default(it, item)
+        if default is None:
+            return said(self.word("member"), name, self.value(kind, rules))
+        return said(self.word("with_default"), name, self.value(kind, rules), self.default(default, kind))
+
+    def default(self, code, kind):
+        """The value that stands for a missing member, as it is stated."""
+        if is_text(kind):
+            self.writer.uses.words.add("codes")
+            return '(codes "")'
+        if is_path(kind, *SIGNED):
+            word = "minus" if code.startswith("-") else "pos"
+            self.writer.uses.words.add(word)
+            return f"({word} {code.lstrip('-')})"
+        if code in ("true", "false"):
+            self.writer.uses.words.add(code)
+        return code.rpartition("::")[2]
+
+    # Values.
+
+    def value(self, kind, rules):
+        """What JSON spells of a value under rules."""
+        if is_option(kind):
+            return said(self.word("or_null"), self.value(kind.args[0], within_option(rules)))
+        if is_path(kind, "Vec") or is_map(kind):
+            return self.several(kind, rules)
+        if kind.name in self.items:
+            name = self.writer.type_text(self.writer.borrowed.type_of(kind), True)
+            return self.ruled(Said(f"⟦<{name} as Spelled>⟧.spelled"), kind, [it for it in rules if it.name != "dive"])
+        if is_text(kind):
+            return said(self.word("a_text"), self.asked(kind, rules))
+        if is_path(kind, "bool"):
+            return self.ruled(Said(self.word("a_flag")), kind, rules)
+        found = [self.found(kind, it) for it in rules]
+        self.writer.uses.prelude |= {"[]"} | ({"◌∷◌"} if found else set())
+        return said(self.word("a_number"), self.word(f"{kind.name}_numbers"), f"({' ∷ '.join(found)} ∷ [])" if found else "[]")
+
+    def several(self, kind, rules):
+        """A list or a map: rules of how many there are, and what each of them is."""
+        word, whole = ("a_list", []) if kind.name == "Vec" else ("a_map", list(rules))
+        inside = []
+        for it in [] if whole else rules:
+            if it.name == "inner":
+                inside += it.rules
+            else:
+                (inside if it.name == "dive" else whole).append(it)
+        one = self.value(kind.args[-1], inside)
+        if not whole:
+            return said(self.word(word), one)
+        return said(self.word(f"{word}_of"), self.asked(kind, whole).replace("(length v)", "v"), one)
+
+    def ruled(self, one, kind, rules):
+        return said(self.word("a_ruled"), one, self.asked(kind, rules)) if rules else one
+
+    def asked(self, kind, rules):
+        """What rules ask of a value."""
+        _, text = self.checks(kind, rules)
+        if not rules:
+            self.writer.uses.words.add("none")
+        return f"(λ {'v' if rules else '_'}. {text or 'none'})"
+
+    def found(self, kind, rule):
+        """What a rule finds in a number, whose bound is that of the numbers beyond the type."""
+        if rule.name not in ("range", "custom"):
+            raise Refusal(rule.line, f"`{rule.name}` of a number, which `--body` does not state")
+        _, text = self.checks(kind, [rule])
+        if rule.name == "custom":
+            return f"(λ v. {text.removeprefix('found (').removesuffix(')')})"
+        self.writer.uses.finds = True
+        return f"finds.{text.removesuffix(' v')}"
+
+    def checks(self, kind, rules):
+        scope = Scope("ctx", {}, set(), True)
+        return Checks(scope, self.writer.uses, self.writer).of(list(rules), Seen(self.writer.borrowed.type_of(kind), "v"))
