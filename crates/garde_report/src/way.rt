@@ -118,8 +118,7 @@ fn make_room<T: Copy>(depth: usize, near: &[T; 8], far: &mut Vec<T>) -> Result<(
         return copy_near(near, far);
     }
     far.truncate(depth);
-    far.reserve(1)?;
-    Ok(())
+    far.reserve(1)
 }
 
 // Puts the near items where the far ones are, with room for one more.
@@ -129,6 +128,5 @@ fn copy_near<T: Copy>(near: &[T; 8], far: &mut Vec<T>) -> Result<(), AllocError>
 {
     far.clear();
     far.extend_from_slice(near)?;
-    far.reserve(1)?;
-    Ok(())
+    far.reserve(1)
 }

@@ -67,8 +67,10 @@ impl<T> Chain<T> {
         ensures { MatchOption result (self.now ≡ [])
             (λ both. self.now ≡ both.1.now ++ both.0.now ∷ []) }
     {
-        let node = self.last.as_ref()?;
-        Some((&node.value, &node.before))
+        match &self.last {
+            Some(node) => Some((&node.value, &node.before)),
+            None => None,
+        }
     }
 }
 

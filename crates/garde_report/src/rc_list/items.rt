@@ -36,8 +36,7 @@ impl<'a, T> Iterator for Iter<'a, T> {
     ghost remaining = { item_count (λ rest. rest) };
 
     fn next(&mut self) -> Option<&'a T> {
-        let last = self.rest.pop_last()?;
-        Some(last)
+        self.rest.pop_last()
     }
 
     fn size_hint(&self) -> (usize, Option<usize>)
