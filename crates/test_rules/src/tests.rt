@@ -1,5 +1,5 @@
-//! Tests of the rules: each holds the answers on a table of values against texts that are written
-//! out.
+//! Tests of the rules, and of reports: each holds the answers on a table of values against texts that
+//! are written out.
 mod addresses;
 mod conditions;
 mod engines;
@@ -10,6 +10,7 @@ mod numbers;
 mod options;
 mod patterns;
 mod ranges;
+mod report;
 mod texts;
 mod urls;
 mod values;

@@ -1,8 +1,9 @@
 //! Paths, errors and reports.
 
-use crate::samples::{
-    OrEnd, compared, four_faults, has_text, hash_of, path_of, path_of_one, path_to, printed,
-    report_of, shows,
+use crate::tests::OrEnd;
+use crate::tests::report::samples::{
+    compared, four_faults, has_text, hash_of, path_of, path_of_one, path_to, printed, report_of,
+    shows,
 };
 use garde_report::{Error, Kind, NoKey, Path, PathComponentKind, Report, RuleError, select};
 use std::alloc::Global;

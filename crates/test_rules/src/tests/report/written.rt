@@ -1,6 +1,7 @@
 //! Reports that are written in JSON and read back, by trees and by texts.
 
-use crate::samples::{OrEnd, has_text};
+use crate::tests::OrEnd;
+use crate::tests::report::samples::has_text;
 use garde_json::{
     JsonRefused, report_from_json, report_from_json_text, report_to_json, report_to_json_text,
 };
@@ -18,7 +19,7 @@ fn is_report(read: Result<Report, JsonRefused>, report: &Report) -> bool {
 }
 
 /// Whether a report was read, and prints these lines.
-pub(crate) fn has_lines(
+pub fn has_lines(
     rt: &impl Abort,
     alloc: Global,
     read: Result<Report, JsonRefused>,
@@ -31,7 +32,7 @@ pub(crate) fn has_lines(
 }
 
 /// Whether the form was rejected in place of a report.
-pub(crate) fn is_form(read: Result<Report, JsonRefused>) -> bool {
+pub fn is_form(read: Result<Report, JsonRefused>) -> bool {
     read.err() == Some(JsonRefused::Form)
 }
 
@@ -50,19 +51,14 @@ fn is_read_of(rt: &impl Abort, alloc: Global, report: &Report, text: &str) -> bo
 }
 
 /// Whether both writers give this text of a report, and each reader the report again.
-pub(crate) fn is_there_and_back(
-    rt: &impl Abort,
-    alloc: Global,
-    report: &Report,
-    text: &str,
-) -> bool {
+pub fn is_there_and_back(rt: &impl Abort, alloc: Global, report: &Report, text: &str) -> bool {
     has_tree(rt, alloc, report, text)
         && is_read_of(rt, alloc, report, text)
         && report_to_json_text(alloc, report).or_end(rt).as_str() == text
 }
 
 /// Whether each reader gives a report of its text again, which is that of its tree.
-pub(crate) fn is_read_back(rt: &impl Abort, alloc: Global, report: &Report) -> bool {
+pub fn is_read_back(rt: &impl Abort, alloc: Global, report: &Report) -> bool {
     let text = report_to_json_text(alloc, report).or_end(rt);
     has_tree(rt, alloc, report, text.as_str()) && is_read_of(rt, alloc, report, text.as_str())
 }

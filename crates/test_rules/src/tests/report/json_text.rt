@@ -1,7 +1,8 @@
 //! Reports as text, beside the text of their trees.
 
-use crate::samples::{OrEnd, report_of};
-use crate::written::{is_form, is_there_and_back};
+use crate::tests::OrEnd;
+use crate::tests::report::samples::report_of;
+use crate::tests::report::written::{is_form, is_there_and_back};
 use garde_json::{first_to_json_text, report_from_json};
 use garde_report::{Kind, Report};
 use serde_json::Value;

@@ -1,5 +1,6 @@
 //! Values of the tests.
 
+use crate::tests::OrEnd;
 use garde_report::rc_list::List;
 use garde_report::{Component, Error, Kind, Path, PathComponentKind, Report, Trail};
 use std::alloc::Global;
@@ -8,23 +9,8 @@ use std::fmt::{Debug, Display};
 use std::hash::{DefaultHasher, Hash, Hasher};
 use std::process::Abort;
 
-/// The value of an Ok, where a test asks nothing of the error.
-pub(crate) trait OrEnd<T> {
-    /// The value, or the end of the test.
-    fn or_end(self, rt: &impl Abort) -> T;
-}
-
-impl<T: Drop, E: Drop> OrEnd<T> for Result<T, E> {
-    fn or_end(self, rt: &impl Abort) -> T {
-        match self {
-            Ok(value) => value,
-            Err(_) => rt.abort(),
-        }
-    }
-}
-
 /// The list of these items, the first of them appended first.
-pub(crate) fn list_of(rt: &impl Abort, alloc: Global, items: &[char]) -> List<char> {
+pub fn list_of(rt: &impl Abort, alloc: Global, items: &[char]) -> List<char> {
     let mut list = List::new();
     for item in items {
         list = list.append(alloc, *item).or_end(rt);
@@ -33,7 +19,7 @@ pub(crate) fn list_of(rt: &impl Abort, alloc: Global, items: &[char]) -> List<ch
 }
 
 /// The path of components of these kinds and texts.
-pub(crate) fn path_of(rt: &impl Abort, alloc: Global, components: &[(Kind, &str)]) -> Path {
+pub fn path_of(rt: &impl Abort, alloc: Global, components: &[(Kind, &str)]) -> Path {
     let mut trail = Trail::new(alloc);
     for (kind, text) in components {
         trail.push(Component::text(*kind, text)).or_end(rt);
@@ -42,7 +28,7 @@ pub(crate) fn path_of(rt: &impl Abort, alloc: Global, components: &[(Kind, &str)
 }
 
 /// The path of one component.
-pub(crate) fn path_of_one<C: PathComponentKind + Drop>(
+pub fn path_of_one<C: PathComponentKind + Drop>(
     rt: &impl Abort,
     alloc: Global,
     component: C,
@@ -51,7 +37,7 @@ pub(crate) fn path_of_one<C: PathComponentKind + Drop>(
 }
 
 /// The path of the indexes below this number, by joins.
-pub(crate) fn path_to(rt: &impl Abort, alloc: Global, size: usize) -> Path {
+pub fn path_to(rt: &impl Abort, alloc: Global, size: usize) -> Path {
     let mut path = Path::empty();
     for index in 0..size {
         path = path.join(alloc, index).or_end(rt);
@@ -60,7 +46,7 @@ pub(crate) fn path_to(rt: &impl Abort, alloc: Global, size: usize) -> Path {
 }
 
 /// The path of these keys.
-pub(crate) fn keys(rt: &impl Abort, alloc: Global, keys: &[&str]) -> Path {
+pub fn keys(rt: &impl Abort, alloc: Global, keys: &[&str]) -> Path {
     let mut path = Path::empty();
     for key in keys {
         path = path.join(alloc, *key).or_end(rt);
@@ -69,23 +55,13 @@ pub(crate) fn keys(rt: &impl Abort, alloc: Global, keys: &[&str]) -> Path {
 }
 
 /// Adds a fault with this message, at the path.
-pub(crate) fn append(
-    rt: &impl Abort,
-    alloc: Global,
-    report: &mut Report,
-    path: Path,
-    message: &str,
-) {
+pub fn append(rt: &impl Abort, alloc: Global, report: &mut Report, path: Path, message: &str) {
     let error = Error::new(alloc, message).or_end(rt);
     report.append(path, error).or_end(rt)
 }
 
 /// A report of these faults.
-pub(crate) fn report_of(
-    rt: &impl Abort,
-    alloc: Global,
-    faults: &[(&[(Kind, &str)], &str)],
-) -> Report {
+pub fn report_of(rt: &impl Abort, alloc: Global, faults: &[(&[(Kind, &str)], &str)]) -> Report {
     let mut report = Report::new(alloc);
     for (components, message) in faults {
         let path = path_of(rt, alloc, components);
@@ -103,7 +79,7 @@ static FOUR: [(&[&str], &str); 4] = [
 ];
 
 /// The report of four faults, two of them at one path.
-pub(crate) fn four_faults(rt: &impl Abort, alloc: Global) -> Report {
+pub fn four_faults(rt: &impl Abort, alloc: Global) -> Report {
     let mut report = Report::new(alloc);
     for (path, message) in &FOUR {
         append(rt, alloc, &mut report, keys(rt, alloc, path), message);
@@ -112,32 +88,32 @@ pub(crate) fn four_faults(rt: &impl Abort, alloc: Global) -> Report {
 }
 
 /// The text of a value.
-pub(crate) fn printed<T: Display>(rt: &impl Abort, alloc: Global, value: &T) -> String {
+pub fn printed<T: Display>(rt: &impl Abort, alloc: Global, value: &T) -> String {
     format!(in alloc; "{value}").or_end(rt)
 }
 
 /// The text of a value for a programmer.
-pub(crate) fn shown<T: Debug>(rt: &impl Abort, alloc: Global, value: &T) -> String {
+pub fn shown<T: Debug>(rt: &impl Abort, alloc: Global, value: &T) -> String {
     format!(in alloc; "{value:?}").or_end(rt)
 }
 
 /// Whether a value prints this text.
-pub(crate) fn has_text<T: Display>(rt: &impl Abort, alloc: Global, value: &T, text: &str) -> bool {
+pub fn has_text<T: Display>(rt: &impl Abort, alloc: Global, value: &T, text: &str) -> bool {
     printed(rt, alloc, value).as_str() == text
 }
 
 /// Whether a value shows a programmer this text.
-pub(crate) fn shows<T: Debug>(rt: &impl Abort, alloc: Global, value: &T, text: &str) -> bool {
+pub fn shows<T: Debug>(rt: &impl Abort, alloc: Global, value: &T, text: &str) -> bool {
     shown(rt, alloc, value).as_str() == text
 }
 
 /// How a value compares with another, and whether it equals it.
-pub(crate) fn compared<T: Ord>(value: &T, other: &T) -> (Ordering, bool) {
+pub fn compared<T: Ord>(value: &T, other: &T) -> (Ordering, bool) {
     (value.cmp(other), value == other)
 }
 
 /// What a hasher gives of a value.
-pub(crate) fn hash_of<T: Hash>(value: &T) -> u64 {
+pub fn hash_of<T: Hash>(value: &T) -> u64 {
     let mut state = DefaultHasher::new();
     value.hash(&mut state);
     state.finish()

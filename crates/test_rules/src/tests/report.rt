@@ -1,0 +1,15 @@
+//! Tests of lists, paths, errors, reports and the trail, of reports as JSON, and of what `garde_problem` prints.
+
+mod ample;
+mod errors;
+mod json;
+mod json_read;
+mod json_text;
+mod laws;
+mod lists;
+mod numbers;
+mod problems;
+mod refusals;
+mod samples;
+mod trails;
+mod written;
