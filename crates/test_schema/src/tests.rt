@@ -5,6 +5,7 @@ mod bounds;
 mod checked;
 mod enums;
 mod first;
+mod form;
 mod forms;
 mod json;
 mod lists;
@@ -15,17 +16,28 @@ mod nulls;
 mod numbers;
 mod only_members;
 mod own_texts;
+mod parsed;
 mod reports;
+mod rows;
 mod signup;
 mod sizes;
 mod texts;
 mod told;
+mod toml;
 mod tuples;
 mod unions;
 mod unneeded;
 mod wide_numbers;
 
 use std::process::Abort;
+
+/// Whether a text was made, and is this one.
+fn is_text<E: Drop>(made: Result<String, E>, text: &str) -> bool {
+    match made {
+        Ok(made) => made.as_str() == text,
+        Err(_) => false,
+    }
+}
 
 /// The value, where a test asks nothing of its being missing.
 trait OrEnd<T> {

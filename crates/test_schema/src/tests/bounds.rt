@@ -2,7 +2,7 @@
 ghost use Rattle.std.specs.Prelude.{◌==◌, ◌%◌};
 ghost use Rattle.garde.specs.Fields.{message_unless};
 
-use super::OrEnd;
+use super::is_text;
 use garde::fields::{Is, Rule, When};
 use garde::{DefaultI18n, I18n, RuleError, all, range};
 use garde_schema::{NumberRules, Scratch, U8, Whole, read_json};
@@ -81,21 +81,24 @@ const ROWS: &[(usize, &str, &str)] = &[
 #[test]
 fn tells_the_first_bound_that_a_number_is_beyond(rt: HostRuntime) {
     for (count, below, above) in ROWS {
-        let told = report_by(rt.alloc(), *count, "-1").or_end(&rt);
-        assert_eq!(rt; told.as_str(), *below);
-        let told = report_by(rt.alloc(), *count, "256").or_end(&rt);
-        assert_eq!(rt; told.as_str(), *above);
+        assert!(rt;
+            is_text(report_by(rt.alloc(), *count, "-1"), below),
+            "{count}"
+        );
+        assert!(rt;
+            is_text(report_by(rt.alloc(), *count, "256"), above),
+            "{count}"
+        );
     }
+}
+
+// What is reported of 256 by a bound under a condition.
+fn report_when(alloc: Global, condition: bool) -> Result<String, AllocError> {
+    report(alloc, "256", When(condition, Is(range!(max = 100))))
 }
 
 #[test]
 fn asks_a_bound_under_its_condition(rt: HostRuntime) {
-    let most = Is(range!(max = 100));
-    for (holds, expected) in [
-        (true, "greater than 100\n"),
-        (false, "out of range: 0 to 255\n"),
-    ] {
-        let told = report(rt.alloc(), "256", When(holds, most)).or_end(&rt);
-        assert_eq!(rt; told.as_str(), expected);
-    }
+    assert!(rt; is_text(report_when(rt.alloc(), true), "greater than 100\n"));
+    assert!(rt; is_text(report_when(rt.alloc(), false), "out of range: 0 to 255\n"));
 }

@@ -73,24 +73,22 @@ fn lines<H: I18n + FormI18n>(
     told(alloc, tree, &form, h)
 }
 
+// Bodies, and what each reads as.
+static LINES: [(&str, &str); 3] = [
+    ("[]", "Items([])"),
+    (
+        "[{\"code\":\"P1\",\"count\":2,\"cents\":250},{\"cents\":0,\"count\":99,\"code\":\"P\"}]",
+        "Items([Line { code: TextRef(\"P1\"), count: 2, cents: 250 }, Line { code: TextRef(\"P\"), count: 99, cents: 0 }])",
+    ),
+    (
+        "[{\"code\":\"Q\",\"count\":0,\"cents\":10000},7,{\"code\":\"P\",\"count\":1}]",
+        "[0].code: value does not begin with \"P\"\n[0].count: lower than 1\n[0].cents: greater than 9999\n[1]: not an object\n[2].cents: missing\n",
+    ),
+];
+
 #[test]
 fn makes_values_of_a_user_defined_type(rt: HostRuntime) {
-    compare(
-        &rt,
-        rt.alloc(),
-        Form::Checked(Case::Lines),
-        &[
-            ("[]", "Items([])"),
-            (
-                "[{\"code\":\"P1\",\"count\":2,\"cents\":250},{\"cents\":0,\"count\":99,\"code\":\"P\"}]",
-                "Items([Line { code: TextRef(\"P1\"), count: 2, cents: 250 }, Line { code: TextRef(\"P\"), count: 99, cents: 0 }])",
-            ),
-            (
-                "[{\"code\":\"Q\",\"count\":0,\"cents\":10000},7,{\"code\":\"P\",\"count\":1}]",
-                "[0].code: value does not begin with \"P\"\n[0].count: lower than 1\n[0].cents: greater than 9999\n[1]: not an object\n[2].cents: missing\n",
-            ),
-        ],
-    );
+    compare(&rt, rt.alloc(), Form::Checked(Case::Lines), &LINES);
 }
 
 // The rule that the first number is at most the second.
@@ -124,36 +122,34 @@ fn span<H: I18n + FormI18n>(
     told(alloc, tree, &form, h)
 }
 
+// Bodies, and what each reads as.
+static SPANS: [(&str, &str); 6] = [
+    (
+        "{\"from\":1,\"to\":2,\"name\":\"a\"}",
+        "((1, 2), TextRef(\"a\"))",
+    ),
+    (
+        "{\"from\":2,\"to\":2,\"name\":\"a\"}",
+        "((2, 2), TextRef(\"a\"))",
+    ),
+    ("{\"from\":3,\"to\":2,\"name\":\"a\"}", "to: not in order\n"),
+    (
+        "{\"from\":300,\"to\":2,\"name\":\"\u{e9}\"}",
+        "from: greater than 100\nto: not in order\nname: not ascii\n",
+    ),
+    (
+        "{\"from\":3,\"to\":\"2\",\"name\":1}",
+        "to: not a whole number\nname: not a text\n",
+    ),
+    (
+        "{\"from\":3,\"name\":\"a\",\"z\":1}",
+        "to: missing\nz: not known here\n",
+    ),
+];
+
 #[test]
 fn asks_a_rule_over_two_members(rt: HostRuntime) {
-    compare(
-        &rt,
-        rt.alloc(),
-        Form::Checked(Case::Span),
-        &[
-            (
-                "{\"from\":1,\"to\":2,\"name\":\"a\"}",
-                "((1, 2), TextRef(\"a\"))",
-            ),
-            (
-                "{\"from\":2,\"to\":2,\"name\":\"a\"}",
-                "((2, 2), TextRef(\"a\"))",
-            ),
-            ("{\"from\":3,\"to\":2,\"name\":\"a\"}", "to: not in order\n"),
-            (
-                "{\"from\":300,\"to\":2,\"name\":\"\u{e9}\"}",
-                "from: greater than 100\nto: not in order\nname: not ascii\n",
-            ),
-            (
-                "{\"from\":3,\"to\":\"2\",\"name\":1}",
-                "to: not a whole number\nname: not a text\n",
-            ),
-            (
-                "{\"from\":3,\"name\":\"a\",\"z\":1}",
-                "to: missing\nz: not known here\n",
-            ),
-        ],
-    );
+    compare(&rt, rt.alloc(), Form::Checked(Case::Span), &SPANS);
 }
 
 // Both ends, by a rule on the object itself.
@@ -166,17 +162,15 @@ fn ends<H: I18n + FormI18n>(
     told(alloc, tree, &Checked(ends, Is(InOrder)), h)
 }
 
+// Bodies, and what each reads as.
+static ENDS: [(&str, &str); 4] = [
+    ("{\"from\":1,\"to\":2}", "(1, 2)"),
+    ("{\"from\":2,\"to\":1}", "not in order\n"),
+    ("{\"from\":2}", "to: missing\n"),
+    ("[2,1]", "not an object\n"),
+];
+
 #[test]
 fn asks_a_rule_of_the_whole_object(rt: HostRuntime) {
-    compare(
-        &rt,
-        rt.alloc(),
-        Form::Checked(Case::Ends),
-        &[
-            ("{\"from\":1,\"to\":2}", "(1, 2)"),
-            ("{\"from\":2,\"to\":1}", "not in order\n"),
-            ("{\"from\":2}", "to: missing\n"),
-            ("[2,1]", "not an object\n"),
-        ],
-    );
+    compare(&rt, rt.alloc(), Form::Checked(Case::Ends), &ENDS);
 }

@@ -35,58 +35,56 @@ pub fn order<H: I18n + FormI18n>(
     told(alloc, tree, &form, h)
 }
 
+// Bodies, and what each reads as, in English and as codes.
+static ORDERS: [(&str, &str, &str); 9] = [
+    (
+        "{\"delivery\":\"counter\"}",
+        "(Counter, None)",
+        "(Counter, None)",
+    ),
+    (
+        "{\"delivery\":\"post\",\"stars\":\"three\"}",
+        "(Post, Some(3))",
+        "(Post, Some(3))",
+    ),
+    (
+        "{\"delivery\":\"\",\"stars\":\"one\"}",
+        "(Drone, Some(1))",
+        "(Drone, Some(1))",
+    ),
+    (
+        "{\"stars\":\"two\",\"delivery\":\"delivered by a drone, to the roof\"}",
+        "(Drone, Some(2))",
+        "(Drone, Some(2))",
+    ),
+    (
+        "{\"delivery\":\"\\u0070ost\"}",
+        "(Post, None)",
+        "(Post, None)",
+    ),
+    (
+        "{\"delivery\":\"Post\",\"stars\":\"four\"}",
+        "delivery: not one of the known values\nstars: not one of the known values\n",
+        "delivery: value_unknown\nstars: value_unknown\n",
+    ),
+    (
+        "{\"delivery\":\"delivered by a drone, to the roo\",\"stars\":3}",
+        "delivery: not one of the known values\nstars: not a text\n",
+        "delivery: value_unknown\nstars: wrong_form wanted=Text found=Number\n",
+    ),
+    (
+        "{\"delivery\":[\"post\"],\"stars\":null}",
+        "delivery: not a text\nstars: not a text\n",
+        "delivery: wrong_form wanted=Text found=List\nstars: wrong_form wanted=Text found=Null\n",
+    ),
+    (
+        "{\"stars\":\" one\"}",
+        "delivery: missing\nstars: not one of the known values\n",
+        "delivery: member_missing\nstars: value_unknown\n",
+    ),
+];
+
 #[test]
 fn reads_the_value_that_a_text_stands_for(rt: HostRuntime) {
-    compare_codes(
-        &rt,
-        rt.alloc(),
-        Case::Enums,
-        &[
-            (
-                "{\"delivery\":\"counter\"}",
-                "(Counter, None)",
-                "(Counter, None)",
-            ),
-            (
-                "{\"delivery\":\"post\",\"stars\":\"three\"}",
-                "(Post, Some(3))",
-                "(Post, Some(3))",
-            ),
-            (
-                "{\"delivery\":\"\",\"stars\":\"one\"}",
-                "(Drone, Some(1))",
-                "(Drone, Some(1))",
-            ),
-            (
-                "{\"stars\":\"two\",\"delivery\":\"delivered by a drone, to the roof\"}",
-                "(Drone, Some(2))",
-                "(Drone, Some(2))",
-            ),
-            (
-                "{\"delivery\":\"\\u0070ost\"}",
-                "(Post, None)",
-                "(Post, None)",
-            ),
-            (
-                "{\"delivery\":\"Post\",\"stars\":\"four\"}",
-                "delivery: not one of the known values\nstars: not one of the known values\n",
-                "delivery: value_unknown\nstars: value_unknown\n",
-            ),
-            (
-                "{\"delivery\":\"delivered by a drone, to the roo\",\"stars\":3}",
-                "delivery: not one of the known values\nstars: not a text\n",
-                "delivery: value_unknown\nstars: wrong_form wanted=Text found=Number\n",
-            ),
-            (
-                "{\"delivery\":[\"post\"],\"stars\":null}",
-                "delivery: not a text\nstars: not a text\n",
-                "delivery: wrong_form wanted=Text found=List\nstars: wrong_form wanted=Text found=Null\n",
-            ),
-            (
-                "{\"stars\":\" one\"}",
-                "delivery: missing\nstars: not one of the known values\n",
-                "delivery: member_missing\nstars: value_unknown\n",
-            ),
-        ],
-    );
+    compare_codes(&rt, rt.alloc(), Case::Enums, &ORDERS);
 }

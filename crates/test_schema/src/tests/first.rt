@@ -1,6 +1,6 @@
 //! Reads that report at most so many faults of form and of rules.
 
-use super::OrEnd;
+use super::{OrEnd, is_text};
 use garde::fields::Is;
 use garde::{DefaultI18n, length, range};
 use garde_schema::{
@@ -59,8 +59,8 @@ const READS: &[(&str, usize, &str)] = &[
 #[test]
 fn tells_at_most_so_many_faults(rt: HostRuntime) {
     for (body, most, expected) in READS {
-        let told = told(rt.alloc(), body.as_bytes(), *most).or_end(&rt);
-        assert_eq!(rt; told.as_str(), *expected);
+        let told = told(rt.alloc(), body.as_bytes(), *most);
+        assert!(rt; is_text(told, expected), "{most}: {body}");
     }
 }
 
@@ -74,12 +74,16 @@ fn crowd(alloc: Global, count: usize) -> Result<String, AllocError> {
     Ok(body)
 }
 
+// Whether there are nine faults, and more.
+fn has_nine(told: &str) -> bool {
+    told.lines().count() == 10
+        && told.starts_with("ages[0]: lower than 18\nages[1]: lower than 18\n")
+        && told.ends_with("ages[8]: lower than 18\nthere are more\n")
+}
+
 #[test]
 fn tells_the_first_nine_of_many(rt: HostRuntime) {
     let body = crowd(rt.alloc(), 10_000).or_end(&rt);
     let told = told(rt.alloc(), body.as_str().as_bytes(), 9).or_end(&rt);
-    let told = told.as_str();
-    assert_eq!(rt; told.lines().count(), 10);
-    assert!(rt; told.starts_with("ages[0]: lower than 18\nages[1]: lower than 18\n"));
-    assert!(rt; told.ends_with("ages[8]: lower than 18\nthere are more\n"));
+    assert!(rt; has_nine(told.as_str()));
 }

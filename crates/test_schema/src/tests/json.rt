@@ -1,7 +1,7 @@
 //! Bytes that are read by a form: the value of each, its whole report, or where they stop to be JSON.
 
-use super::OrEnd;
-use super::told::{Case, check, told, told_of};
+use super::told::{Case, check, told};
+use super::{OrEnd, is_text};
 use garde::fields::Is;
 use garde::{DefaultI18n, I18n, length};
 use garde_schema::{
@@ -10,6 +10,7 @@ use garde_schema::{
 };
 use std::alloc::{AllocError, Global};
 use std::fmt::Write;
+use std::process::Abort;
 
 /// A name, perhaps an age, a town and whatever there is, and names that a path may confuse.
 pub fn person<H: I18n + FormI18n>(
@@ -181,27 +182,42 @@ const NAMES: &[(&[u8], &str)] = &[
 #[test]
 fn reads_a_name_from_bytes(rt: HostRuntime) {
     for (body, expected) in NAMES {
-        let told = told_of_name(rt.alloc(), body).or_end(&rt);
-        assert_eq!(rt; told.as_str(), *expected, "{body:?}");
+        assert!(rt;
+            is_text(told_of_name(rt.alloc(), body), expected),
+            "{expected}"
+        );
     }
 }
 
-// A body whose age is written by these digits behind others.
-fn with_digits(alloc: Global, before: &str, digits: &str) -> Result<String, AllocError> {
+// Asks that a body reads as this.
+fn check_text(rt: &impl Abort, alloc: Global, body: &str, expected: &str) {
+    check(
+        rt,
+        alloc,
+        Case::Json,
+        body.as_bytes(),
+        &DefaultI18n,
+        expected,
+    );
+}
+
+// What stands before the digits of an age, and what is told of it.
+static DIGITS: [(&str, &str); 2] = [
+    ("", "age: out of range: 0 to 255\n"),
+    ("0.", "age: not a whole number\n"),
+];
+
+// A body whose age is written by a thousand digits behind others.
+fn with_digits(alloc: Global, before: &str) -> Result<String, AllocError> {
+    let digits = "9".repeat(alloc, 1000)?;
     format!(in alloc; "{{\"name\":\"Ada\",\"any\":{digits},\"age\":{before}{digits}}}")
 }
 
 #[test]
 fn tells_a_number_of_a_thousand_digits(rt: HostRuntime) {
-    let digits = "9".repeat(rt.alloc(), 1000).or_end(&rt);
-    let rows = [
-        ("", "age: out of range: 0 to 255\n"),
-        ("0.", "age: not a whole number\n"),
-    ];
-    for (before, expected) in rows {
-        let body = with_digits(rt.alloc(), before, digits.as_str()).or_end(&rt);
-        let bytes = body.as_str().as_bytes();
-        check(&rt, rt.alloc(), Case::Json, bytes, &DefaultI18n, expected);
+    for (before, expected) in &DIGITS {
+        let body = with_digits(rt.alloc(), before).or_end(&rt);
+        check_text(&rt, rt.alloc(), body.as_str(), expected);
     }
 }
 
@@ -228,15 +244,7 @@ fn wide_report(alloc: Global, count: usize) -> Result<String, AllocError> {
 fn tells_each_of_two_thousand_members(rt: HostRuntime) {
     let body = wide(rt.alloc(), 2_000).or_end(&rt);
     let expected = wide_report(rt.alloc(), 2_000).or_end(&rt);
-    let bytes = body.as_str().as_bytes();
-    check(
-        &rt,
-        rt.alloc(),
-        Case::Json,
-        bytes,
-        &DefaultI18n,
-        expected.as_str(),
-    );
+    check_text(&rt, rt.alloc(), body.as_str(), expected.as_str());
 }
 
 // A body of so many lists, one in the other, in an object.
@@ -246,19 +254,21 @@ fn nest(alloc: Global, lists: usize) -> Result<String, AllocError> {
     format!(in alloc; "{{\"name\":\"Ada\",\"any\":{begun}{ended}}}")
 }
 
+const VALID: &str = "((TextRef(\"Ada\"), None), ((None, Some(())), ((None, None), (None, None))))";
+
+// How many lists there are, and what is told of them.
+static NESTS: [(usize, &str); 4] = [
+    (126, VALID),
+    (127, VALID),
+    (128, "nested deeper than 128 at line 1 column 148"),
+    (200_000, "nested deeper than 128 at line 1 column 148"),
+];
+
 #[test]
 fn reads_bodies_that_nest_no_deeper_than_128(rt: HostRuntime) {
-    let valid = "((TextRef(\"Ada\"), None), ((None, Some(())), ((None, None), (None, None))))";
-    let lists = [
-        (126, valid),
-        (127, valid),
-        (128, "nested deeper than 128 at line 1 column 148"),
-        (200_000, "nested deeper than 128 at line 1 column 148"),
-    ];
-    for (count, expected) in lists {
-        let body = nest(rt.alloc(), count).or_end(&rt);
-        let bytes = body.as_str().as_bytes();
-        check(&rt, rt.alloc(), Case::Json, bytes, &DefaultI18n, expected);
+    for (count, expected) in &NESTS {
+        let body = nest(rt.alloc(), *count).or_end(&rt);
+        check_text(&rt, rt.alloc(), body.as_str(), expected);
     }
 }
 
@@ -286,12 +296,21 @@ fn lines_of(alloc: Global, bytes: &[u8]) -> Option<usize> {
     }
 }
 
+// Whether bytes that are no JSON, no UTF-8 and no object are told apart.
+fn are_apart(alloc: Global) -> bool {
+    let place = Place { line: 2, column: 3 };
+    stop_of(alloc, b"[\n0 1]") == Some((false, place))
+        && stop_of(alloc, b"[\n0 \xff]") == Some((true, place))
+        && lines_of(alloc, b"[\n0]") == Some(1)
+}
+
 #[test]
 fn tells_bytes_that_are_no_json_apart(rt: HostRuntime) {
-    let place = Place { line: 2, column: 3 };
-    assert_eq!(rt; stop_of(rt.alloc(), b"[\n0 1]"), Some((false, place)));
-    assert_eq!(rt; stop_of(rt.alloc(), b"[\n0 \xff]"), Some((true, place)));
-    assert_eq!(rt; lines_of(rt.alloc(), b"[\n0]"), Some(1));
-    let printed = format!(in rt.alloc(); "{}", ReadError::Memory).or_end(&rt);
-    assert_eq!(rt; printed.as_str(), "out of memory");
+    assert!(rt; are_apart(rt.alloc()));
+    assert!(rt;
+        is_text(
+            format!(in rt.alloc(); "{}", ReadError::Memory),
+            "out of memory"
+        )
+    );
 }

@@ -52,35 +52,33 @@ fn tags<H: I18n + FormI18n>(
     told(alloc, tree, &form, h)
 }
 
+// Bodies, and what each reads as.
+static TAGS: [(&str, &str); 8] = [
+    ("{\"tags\":[]}", "(Items([]), None)"),
+    (
+        "{\"tags\":[\"b\",\"a\",\"\\u0063\"]}",
+        "(Items([TextRef(\"b\"), TextRef(\"a\"), TextRef(\"c\")]), None)",
+    ),
+    ("{\"tags\":null}", "tags: not a list\n"),
+    ("{\"tags\":{\"0\":\"a\"}}", "tags: not a list\n"),
+    (
+        "{\"tags\":\"a\",\"end\":1}",
+        "tags: not a list\nend: not true or false\n",
+    ),
+    ("{\"tags\":[\"a\",1,\"b\"]}", "tags[1]: not a text\n"),
+    (
+        "{\"tags\":[\"a\",[],\"\u{e9}\",\"abcd\",{\"a\":\"b\"},\"a\",\"\"],\"end\":0}",
+        "tags[1]: not a text\ntags[2]: not ascii\ntags[3]: length is greater than 3\ntags[4]: not a text\ntags[6]: length is lower than 1\nend: not true or false\n",
+    ),
+    (
+        "{\"tags\":[[\"a\"],[1],null]}",
+        "tags[0]: not a text\ntags[1]: not a text\ntags[2]: not a text\n",
+    ),
+];
+
 #[test]
 fn tells_each_wrong_item_under_its_index(rt: HostRuntime) {
-    compare(
-        &rt,
-        rt.alloc(),
-        Form::Lists(Case::Tags),
-        &[
-            ("{\"tags\":[]}", "(Items([]), None)"),
-            (
-                "{\"tags\":[\"b\",\"a\",\"\\u0063\"]}",
-                "(Items([TextRef(\"b\"), TextRef(\"a\"), TextRef(\"c\")]), None)",
-            ),
-            ("{\"tags\":null}", "tags: not a list\n"),
-            ("{\"tags\":{\"0\":\"a\"}}", "tags: not a list\n"),
-            (
-                "{\"tags\":\"a\",\"end\":1}",
-                "tags: not a list\nend: not true or false\n",
-            ),
-            ("{\"tags\":[\"a\",1,\"b\"]}", "tags[1]: not a text\n"),
-            (
-                "{\"tags\":[\"a\",[],\"\u{e9}\",\"abcd\",{\"a\":\"b\"},\"a\",\"\"],\"end\":0}",
-                "tags[1]: not a text\ntags[2]: not ascii\ntags[3]: length is greater than 3\ntags[4]: not a text\ntags[6]: length is lower than 1\nend: not true or false\n",
-            ),
-            (
-                "{\"tags\":[[\"a\"],[1],null]}",
-                "tags[0]: not a text\ntags[1]: not a text\ntags[2]: not a text\n",
-            ),
-        ],
-    );
+    compare(&rt, rt.alloc(), Form::Lists(Case::Tags), &TAGS);
 }
 
 // At most three small numbers.
@@ -94,29 +92,27 @@ fn few<H: I18n + FormI18n>(
     told(alloc, tree, &form, h)
 }
 
+// Bodies, and what each reads as.
+static FEW: [(&str, &str); 8] = [
+    ("[3]", "Items([3])"),
+    ("[3,1,2]", "Items([3, 1, 2])"),
+    ("[]", "length is lower than 1\n"),
+    ("{}", "not a list\n"),
+    ("3", "not a list\n"),
+    (
+        "[3,10,null]",
+        "[1]: greater than 9\n[2]: not a whole number\n",
+    ),
+    ("[1,1,1,1]", "length is greater than 3\n"),
+    (
+        "[1,null,256,10,\"1\"]",
+        "length is greater than 3\nlength is greater than 4\n[1]: not a whole number\n[2]: greater than 9\n[3]: greater than 9\n[4]: not a whole number\n",
+    ),
+];
+
 #[test]
 fn asks_the_rules_of_a_list_before_its_items(rt: HostRuntime) {
-    compare(
-        &rt,
-        rt.alloc(),
-        Form::Lists(Case::Few),
-        &[
-            ("[3]", "Items([3])"),
-            ("[3,1,2]", "Items([3, 1, 2])"),
-            ("[]", "length is lower than 1\n"),
-            ("{}", "not a list\n"),
-            ("3", "not a list\n"),
-            (
-                "[3,10,null]",
-                "[1]: greater than 9\n[2]: not a whole number\n",
-            ),
-            ("[1,1,1,1]", "length is greater than 3\n"),
-            (
-                "[1,null,256,10,\"1\"]",
-                "length is greater than 3\nlength is greater than 4\n[1]: not a whole number\n[2]: greater than 9\n[3]: greater than 9\n[4]: not a whole number\n",
-            ),
-        ],
-    );
+    compare(&rt, rt.alloc(), Form::Lists(Case::Few), &FEW);
 }
 
 // The rule that a list has two items or more.
@@ -135,19 +131,17 @@ impl Rule<Count> for Several {
     }
 }
 
+// Bodies, and what each reads as.
+static SEVERAL: [(&str, &str); 4] = [
+    ("[]", "alone\n"),
+    ("[-1]", "alone\n[0]: out of range: 0 to 255\n"),
+    ("[2,1]", "Items([2, 1])"),
+    ("[2,1,2]", "Items([2, 1, 2])"),
+];
+
 #[test]
 fn asks_a_rule_of_your_own_how_many_items_there_are(rt: HostRuntime) {
-    compare(
-        &rt,
-        rt.alloc(),
-        Form::Lists(Case::Several),
-        &[
-            ("[]", "alone\n"),
-            ("[-1]", "alone\n[0]: out of range: 0 to 255\n"),
-            ("[2,1]", "Items([2, 1])"),
-            ("[2,1,2]", "Items([2, 1, 2])"),
-        ],
-    );
+    compare(&rt, rt.alloc(), Form::Lists(Case::Several), &SEVERAL);
 }
 
 // A list of this many numbers, each behind this text.
@@ -168,16 +162,33 @@ fn numbers(alloc: Global, body: &str) -> Option<Items<u16>> {
     read_json(alloc, body.as_bytes(), &mut scratch, &form, &DefaultI18n).ok()
 }
 
+// Whether there are three hundred items, the last of which is 299.
+fn end_with_299(items: &Items<u16>) -> bool {
+    items.len() == 300 && !items.is_empty() && items.as_slice().last().copied() == Some(299)
+}
+
+// Whether each number is the one of its place.
+fn are_in_order(numbers: &[u16]) -> bool {
+    for (i, number) in numbers.iter().enumerate() {
+        if usize::from(*number) != i {
+            return false;
+        }
+    }
+    true
+}
+
+// Whether a list has the three hundred numbers from 0 on, in their order.
+fn are_three_hundred(alloc: Global, body: &str) -> bool {
+    match numbers(alloc, body) {
+        Some(items) => end_with_299(&items) && are_in_order(items.into_vec().as_slice()),
+        None => false,
+    }
+}
+
 #[test]
 fn reads_three_hundred_items_in_order(rt: HostRuntime) {
     let body = long(rt.alloc(), 300, "").or_end(&rt);
-    let numbers = numbers(rt.alloc(), body.as_str()).or_end(&rt);
-    assert_eq!(rt; numbers.len(), 300);
-    assert!(rt; !numbers.is_empty());
-    assert_eq!(rt; numbers.as_slice().last().copied(), Some(299));
-    for (i, number) in numbers.into_vec().iter().enumerate() {
-        assert_eq!(rt; usize::from(*number), i);
-    }
+    assert!(rt; are_three_hundred(rt.alloc(), body.as_str()));
 }
 
 #[test]
@@ -207,22 +218,20 @@ fn deep<H: I18n + FormI18n>(
     told(alloc, tree, &List(List(List(List(List(five))))), h)
 }
 
+// Bodies, and what each reads as.
+static DEEP: [(&str, &str); 3] = [
+    (
+        "[[[[[[[[[[1,2]]]]]]]]]]",
+        "Items([Items([Items([Items([Items([Items([Items([Items([Items([Items([1, 2])])])])])])])])])])",
+    ),
+    ("[[],[[]]]", "Items([Items([]), Items([Items([])])])"),
+    (
+        "[[[[[[[[[[1,[]],2]]]]]]]],3]",
+        "[0][0][0][0][0][0][0][0][0][1]: not a whole number\n[0][0][0][0][0][0][0][0][1]: not a list\n[1]: not a list\n",
+    ),
+];
+
 #[test]
 fn reads_lists_that_are_ten_deep(rt: HostRuntime) {
-    compare(
-        &rt,
-        rt.alloc(),
-        Form::Lists(Case::Deep),
-        &[
-            (
-                "[[[[[[[[[[1,2]]]]]]]]]]",
-                "Items([Items([Items([Items([Items([Items([Items([Items([Items([Items([1, 2])])])])])])])])])])",
-            ),
-            ("[[],[[]]]", "Items([Items([]), Items([Items([])])])"),
-            (
-                "[[[[[[[[[[1,[]],2]]]]]]]],3]",
-                "[0][0][0][0][0][0][0][0][0][1]: not a whole number\n[0][0][0][0][0][0][0][0][1]: not a list\n[1]: not a list\n",
-            ),
-        ],
-    );
+    compare(&rt, rt.alloc(), Form::Lists(Case::Deep), &DEEP);
 }

@@ -44,37 +44,35 @@ fn labels<H: I18n + FormI18n>(
     told(alloc, tree, &form, h)
 }
 
+// Bodies, and what each reads as.
+static LABELS: [(&str, &str); 7] = [
+    ("{\"labels\":{},\"end\":true}", "(Items([]), true)"),
+    (
+        "{\"labels\":{\"b\":\"x\",\"\":\"y\",\"a.b\":\"\",\"[0]\":\"\\u007a\"},\"end\":true}",
+        "(Items([(TextRef(\"b\"), TextRef(\"x\")), (TextRef(\"\"), TextRef(\"y\")), (TextRef(\"a.b\"), TextRef(\"\")), (TextRef(\"[0]\"), TextRef(\"z\"))]), true)",
+    ),
+    ("{\"labels\":[],\"end\":true}", "labels: not an object\n"),
+    (
+        "{\"labels\":null,\"end\":1}",
+        "labels: not an object\nend: not true or false\n",
+    ),
+    (
+        "{\"labels\":{\"a\":\"x\",\"b\":1,\"c\":\"abcd\",\"d\":{}},\"end\":0}",
+        "labels.b: not a text\nlabels.c: length is greater than 3\nlabels.d: not a text\nend: not true or false\n",
+    ),
+    (
+        "{\"labels\":{\"a\":\"x\",\"a\":\"y\"},\"end\":true}",
+        "labels.a: repeated\n",
+    ),
+    (
+        "{\"labels\":{\"a\":1,\"b\":\"\u{e9}\",\"\\u0061\":\"abcd\",\"c\":\"x\",\"b\":2,\"a\":3,\"e\":4},\"end\":true}",
+        "labels.a: not a text\nlabels.b: not ascii\nlabels.a: repeated\nlabels.b: repeated\nlabels.a: repeated\nlabels.e: not a text\n",
+    ),
+];
+
 #[test]
 fn tells_each_wrong_value_under_its_name(rt: HostRuntime) {
-    compare(
-        &rt,
-        rt.alloc(),
-        Form::Maps(Case::Labels),
-        &[
-            ("{\"labels\":{},\"end\":true}", "(Items([]), true)"),
-            (
-                "{\"labels\":{\"b\":\"x\",\"\":\"y\",\"a.b\":\"\",\"[0]\":\"\\u007a\"},\"end\":true}",
-                "(Items([(TextRef(\"b\"), TextRef(\"x\")), (TextRef(\"\"), TextRef(\"y\")), (TextRef(\"a.b\"), TextRef(\"\")), (TextRef(\"[0]\"), TextRef(\"z\"))]), true)",
-            ),
-            ("{\"labels\":[],\"end\":true}", "labels: not an object\n"),
-            (
-                "{\"labels\":null,\"end\":1}",
-                "labels: not an object\nend: not true or false\n",
-            ),
-            (
-                "{\"labels\":{\"a\":\"x\",\"b\":1,\"c\":\"abcd\",\"d\":{}},\"end\":0}",
-                "labels.b: not a text\nlabels.c: length is greater than 3\nlabels.d: not a text\nend: not true or false\n",
-            ),
-            (
-                "{\"labels\":{\"a\":\"x\",\"a\":\"y\"},\"end\":true}",
-                "labels.a: repeated\n",
-            ),
-            (
-                "{\"labels\":{\"a\":1,\"b\":\"\u{e9}\",\"\\u0061\":\"abcd\",\"c\":\"x\",\"b\":2,\"a\":3,\"e\":4},\"end\":true}",
-                "labels.a: not a text\nlabels.b: not ascii\nlabels.a: repeated\nlabels.b: repeated\nlabels.a: repeated\nlabels.e: not a text\n",
-            ),
-        ],
-    );
+    compare(&rt, rt.alloc(), Form::Maps(Case::Labels), &LABELS);
 }
 
 // An object of one or two labels.
@@ -87,31 +85,29 @@ fn few_labels<H: I18n + FormI18n>(
     told(alloc, tree, &form, h)
 }
 
+// Bodies, and what each reads as.
+static FEW_LABELS: [(&str, &str); 7] = [
+    (
+        "{\"b\":\"x\",\"a\":\"\"}",
+        "Items([(TextRef(\"b\"), TextRef(\"x\")), (TextRef(\"a\"), TextRef(\"\"))])",
+    ),
+    ("{}", "length is lower than 1\n"),
+    (
+        "{\"a\":1,\"b\":\"\u{e9}\",\"c\":\"x\"}",
+        "length is greater than 2\na: not a text\nb: not ascii\n",
+    ),
+    ("{\"a\":\"x\",\"a\":1}", "a: repeated\n"),
+    (
+        "{\"a\":\"x\",\"a\":1,\"a\":2}",
+        "length is greater than 2\na: repeated\na: repeated\n",
+    ),
+    ("[\"x\"]", "not an object\n"),
+    ("null", "not an object\n"),
+];
+
 #[test]
 fn asks_how_many_members_there_are_before_their_values(rt: HostRuntime) {
-    compare(
-        &rt,
-        rt.alloc(),
-        Form::Maps(Case::FewLabels),
-        &[
-            (
-                "{\"b\":\"x\",\"a\":\"\"}",
-                "Items([(TextRef(\"b\"), TextRef(\"x\")), (TextRef(\"a\"), TextRef(\"\"))])",
-            ),
-            ("{}", "length is lower than 1\n"),
-            (
-                "{\"a\":1,\"b\":\"\u{e9}\",\"c\":\"x\"}",
-                "length is greater than 2\na: not a text\nb: not ascii\n",
-            ),
-            ("{\"a\":\"x\",\"a\":1}", "a: repeated\n"),
-            (
-                "{\"a\":\"x\",\"a\":1,\"a\":2}",
-                "length is greater than 2\na: repeated\na: repeated\n",
-            ),
-            ("[\"x\"]", "not an object\n"),
-            ("null", "not an object\n"),
-        ],
-    );
+    compare(&rt, rt.alloc(), Form::Maps(Case::FewLabels), &FEW_LABELS);
 }
 
 // An object of this many members whose values are their numbers. The last one is named so.
@@ -124,19 +120,21 @@ fn wide(alloc: Global, count: usize, last: &str) -> Result<String, AllocError> {
     Ok(body)
 }
 
+// Whether there are a thousand members and one more, from the first to the last.
+fn has_a_thousand(told: &str) -> bool {
+    told.split("TextRef").count() == 1_002
+        && told.starts_with(
+            "Items([(TextRef(\"k0\"), 0), (TextRef(\"k1\"), 1), (TextRef(\"k2\"), 2), ",
+        )
+        && told.ends_with(" (TextRef(\"k999\"), 999), (TextRef(\"end\"), 1000)])")
+}
+
 #[test]
 fn reads_a_thousand_members_in_order(rt: HostRuntime) {
     let body = wide(rt.alloc(), 1_000, "end").or_end(&rt);
     let bytes = body.as_str().as_bytes();
     let told = told_of(rt.alloc(), Form::Maps(Case::Numbers), bytes, &DefaultI18n).or_end(&rt);
-    let told = told.as_str();
-    assert_eq!(rt; told.split("TextRef").count(), 1_002);
-    assert!(rt;
-        told.starts_with(
-            "Items([(TextRef(\"k0\"), 0), (TextRef(\"k1\"), 1), (TextRef(\"k2\"), 2), "
-        )
-    );
-    assert!(rt; told.ends_with(" (TextRef(\"k999\"), 999), (TextRef(\"end\"), 1000)])"));
+    assert!(rt; has_a_thousand(told.as_str()));
 }
 
 #[test]
@@ -154,21 +152,19 @@ fn finds_the_first_of_a_thousand_names_again(rt: HostRuntime) {
     );
 }
 
+// Bodies, and what each reads as.
+static NESTED: [(&str, &str); 2] = [
+    (
+        "{\"a\":[{\"b\":{\"c\":1}}],\"d\":[]}",
+        "Items([(TextRef(\"a\"), Items([Items([(TextRef(\"b\"), Items([(TextRef(\"c\"), 1)]))])])), (TextRef(\"d\"), Items([]))])",
+    ),
+    (
+        "{\"a\":[{},{\"b\":{\"c\":1,\"c\":2,\"d\":256},\"e\":[]}],\"f\":{}}",
+        "a[1].b.c: repeated\na[1].b.d: out of range: 0 to 255\na[1].e: not an object\nf: not a list\n",
+    ),
+];
+
 #[test]
 fn reads_maps_of_lists_of_maps(rt: HostRuntime) {
-    compare(
-        &rt,
-        rt.alloc(),
-        Form::Maps(Case::Nested),
-        &[
-            (
-                "{\"a\":[{\"b\":{\"c\":1}}],\"d\":[]}",
-                "Items([(TextRef(\"a\"), Items([Items([(TextRef(\"b\"), Items([(TextRef(\"c\"), 1)]))])])), (TextRef(\"d\"), Items([]))])",
-            ),
-            (
-                "{\"a\":[{},{\"b\":{\"c\":1,\"c\":2,\"d\":256},\"e\":[]}],\"f\":{}}",
-                "a[1].b.c: repeated\na[1].b.d: out of range: 0 to 255\na[1].e: not an object\nf: not a list\n",
-            ),
-        ],
-    );
+    compare(&rt, rt.alloc(), Form::Maps(Case::Nested), &NESTED);
 }

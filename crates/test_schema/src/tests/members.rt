@@ -1,6 +1,5 @@
 //! Members by their names.
 
-use super::OrEnd;
 use garde_tape::{Found, Scratch, Tree, parse};
 use std::alloc::Global;
 
@@ -56,7 +55,9 @@ const NAMES: &[(&str, &str, &str, &str)] = &[
 #[test]
 fn finds_a_member_by_its_name(rt: HostRuntime) {
     for (text, name, found, got) in NAMES {
-        let seen = looked_up(rt.alloc(), text, name).or_end(&rt);
-        assert_eq!(rt; seen, (*found, *got), "{text}");
+        assert!(rt;
+            looked_up(rt.alloc(), text, name) == Some((*found, *got)),
+            "{text}"
+        );
     }
 }

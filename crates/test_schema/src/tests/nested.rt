@@ -14,6 +14,7 @@ use garde_tape::Tree;
 use std::alloc::{AllocError, Global};
 use std::fmt::Write;
 use std::marker::PhantomData;
+use std::process::Abort;
 
 /// The forms of this module.
 #[derive(Clone, Copy)]
@@ -80,55 +81,53 @@ fn closed<H: I18n + FormI18n>(
     told(alloc, tree, &form, h)
 }
 
+// Bodies, and what each reads as.
+static CLOSED: [(&str, &str); 13] = [
+    (
+        "{\"name\":\"a\",\"folders\":[]}",
+        "Folder { name: TextRef(\"a\"), size: None, folders: Items([]) }",
+    ),
+    (
+        "{\"folders\":[{\"name\":\"b\",\"size\":1,\"folders\":[]},{\"name\":\"c\",\"folders\":[{\"folders\":[],\"name\":\"d\",\"size\":2}]}],\"size\":3,\"name\":\"a\"}",
+        "Folder { name: TextRef(\"a\"), size: Some(3), folders: Items([Folder { name: TextRef(\"b\"), size: Some(1), folders: Items([]) }, Folder { name: TextRef(\"c\"), size: None, folders: Items([Folder { name: TextRef(\"d\"), size: Some(2), folders: Items([]) }]) }]) }",
+    ),
+    (
+        "{\"name\":\"\",\"x\":0,\"folders\":[{\"name\":\"b\",\"size\":1001,\"folders\":[{\"name\":\"\u{e9}\",\"size\":-1,\"folders\":[]},7]},{\"y\":0,\"name\":\"c\",\"folders\":{}}],\"z\":0}",
+        "name: length is lower than 1\nfolders[0].size: greater than 1000\nfolders[0].folders[0].name: not ascii\nfolders[0].folders[0].size: out of range: 0 to 65535\nfolders[0].folders[1]: not an object\nfolders[1].folders: not a list\nfolders[1].y: not known here\nx: not known here\nz: not known here\n",
+    ),
+    ("{}", "name: missing\nfolders: missing\n"),
+    (
+        "{\"folders\":[{}],\"name\":\"a\"}",
+        "folders[0].name: missing\nfolders[0].folders: missing\n",
+    ),
+    (
+        "{\"folders\":[1],\"name\":\"a\",\"folders\":[{}],\"name\":\"b\"}",
+        "name: repeated\nfolders: repeated\n",
+    ),
+    (
+        "{\"name\":1,\"folders\":[{\"name\":2,\"folders\":[{\"name\":3,\"folders\":[{\"name\":4,\"folders\":4}]}]}]}",
+        "name: not a text\nfolders[0].name: not a text\nfolders[0].folders[0].name: not a text\nfolders[0].folders[0].folders[0].name: not a text\nfolders[0].folders[0].folders[0].folders: not a list\n",
+    ),
+    ("null", "not an object\n"),
+    ("\"a\"", "not an object\n"),
+    ("[]", "not an object\n"),
+    (
+        "{\"name\":null,\"size\":null,\"folders\":null}",
+        "name: not a text\nsize: not a whole number\nfolders: not a list\n",
+    ),
+    (
+        "{\"name\":[],\"size\":\"1\",\"folders\":\"\"}",
+        "name: not a text\nsize: not a whole number\nfolders: not a list\n",
+    ),
+    (
+        "{\"name\":\"a\",\"folders\":[null,\"b\",[{}],{\"name\":\"c\",\"folders\":[null,\"d\",[],{\"name\":\"e\",\"folders\":null}]}]}",
+        "folders[0]: not an object\nfolders[1]: not an object\nfolders[2]: not an object\nfolders[3].folders[0]: not an object\nfolders[3].folders[1]: not an object\nfolders[3].folders[2]: not an object\nfolders[3].folders[3].folders: not a list\n",
+    ),
+];
+
 #[test]
 fn makes_folders_that_hold_folders_or_tells_their_faults(rt: HostRuntime) {
-    compare(
-        &rt,
-        rt.alloc(),
-        Form::Nested(Case::Closed),
-        &[
-            (
-                "{\"name\":\"a\",\"folders\":[]}",
-                "Folder { name: TextRef(\"a\"), size: None, folders: Items([]) }",
-            ),
-            (
-                "{\"folders\":[{\"name\":\"b\",\"size\":1,\"folders\":[]},{\"name\":\"c\",\"folders\":[{\"folders\":[],\"name\":\"d\",\"size\":2}]}],\"size\":3,\"name\":\"a\"}",
-                "Folder { name: TextRef(\"a\"), size: Some(3), folders: Items([Folder { name: TextRef(\"b\"), size: Some(1), folders: Items([]) }, Folder { name: TextRef(\"c\"), size: None, folders: Items([Folder { name: TextRef(\"d\"), size: Some(2), folders: Items([]) }]) }]) }",
-            ),
-            (
-                "{\"name\":\"\",\"x\":0,\"folders\":[{\"name\":\"b\",\"size\":1001,\"folders\":[{\"name\":\"\u{e9}\",\"size\":-1,\"folders\":[]},7]},{\"y\":0,\"name\":\"c\",\"folders\":{}}],\"z\":0}",
-                "name: length is lower than 1\nfolders[0].size: greater than 1000\nfolders[0].folders[0].name: not ascii\nfolders[0].folders[0].size: out of range: 0 to 65535\nfolders[0].folders[1]: not an object\nfolders[1].folders: not a list\nfolders[1].y: not known here\nx: not known here\nz: not known here\n",
-            ),
-            ("{}", "name: missing\nfolders: missing\n"),
-            (
-                "{\"folders\":[{}],\"name\":\"a\"}",
-                "folders[0].name: missing\nfolders[0].folders: missing\n",
-            ),
-            (
-                "{\"folders\":[1],\"name\":\"a\",\"folders\":[{}],\"name\":\"b\"}",
-                "name: repeated\nfolders: repeated\n",
-            ),
-            (
-                "{\"name\":1,\"folders\":[{\"name\":2,\"folders\":[{\"name\":3,\"folders\":[{\"name\":4,\"folders\":4}]}]}]}",
-                "name: not a text\nfolders[0].name: not a text\nfolders[0].folders[0].name: not a text\nfolders[0].folders[0].folders[0].name: not a text\nfolders[0].folders[0].folders[0].folders: not a list\n",
-            ),
-            ("null", "not an object\n"),
-            ("\"a\"", "not an object\n"),
-            ("[]", "not an object\n"),
-            (
-                "{\"name\":null,\"size\":null,\"folders\":null}",
-                "name: not a text\nsize: not a whole number\nfolders: not a list\n",
-            ),
-            (
-                "{\"name\":[],\"size\":\"1\",\"folders\":\"\"}",
-                "name: not a text\nsize: not a whole number\nfolders: not a list\n",
-            ),
-            (
-                "{\"name\":\"a\",\"folders\":[null,\"b\",[{}],{\"name\":\"c\",\"folders\":[null,\"d\",[],{\"name\":\"e\",\"folders\":null}]}]}",
-                "folders[0]: not an object\nfolders[1]: not an object\nfolders[2]: not an object\nfolders[3].folders[0]: not an object\nfolders[3].folders[1]: not an object\nfolders[3].folders[2]: not an object\nfolders[3].folders[3].folders: not a list\n",
-            ),
-        ],
-    );
+    compare(&rt, rt.alloc(), Form::Nested(Case::Closed), &CLOSED);
 }
 
 fn open<H: I18n + FormI18n>(
@@ -141,23 +140,21 @@ fn open<H: I18n + FormI18n>(
     told(alloc, tree, &form, h)
 }
 
+// Bodies, and what each reads as.
+static OPEN: [(&str, &str); 2] = [
+    (
+        "{\"x\":1,\"name\":\"a\",\"folders\":[{\"name\":\"\",\"y\":[],\"folders\":[]}]}",
+        "Folder { name: TextRef(\"a\"), size: None, folders: Items([Folder { name: TextRef(\"\"), size: None, folders: Items([]) }]) }",
+    ),
+    (
+        "{\"x\":1,\"name\":0,\"folders\":[{\"y\":[],\"folders\":[]}]}",
+        "name: not a text\nfolders[0].name: missing\n",
+    ),
+];
+
 #[test]
 fn lets_unknown_members_of_open_folders_through(rt: HostRuntime) {
-    compare(
-        &rt,
-        rt.alloc(),
-        Form::Nested(Case::Open),
-        &[
-            (
-                "{\"x\":1,\"name\":\"a\",\"folders\":[{\"name\":\"\",\"y\":[],\"folders\":[]}]}",
-                "Folder { name: TextRef(\"a\"), size: None, folders: Items([Folder { name: TextRef(\"\"), size: None, folders: Items([]) }]) }",
-            ),
-            (
-                "{\"x\":1,\"name\":0,\"folders\":[{\"y\":[],\"folders\":[]}]}",
-                "name: not a text\nfolders[0].name: missing\n",
-            ),
-        ],
-    );
+    compare(&rt, rt.alloc(), Form::Nested(Case::Open), &OPEN);
 }
 
 // Folders of this name, each in the one before.
@@ -172,29 +169,38 @@ fn deep(alloc: Global, depth: usize, name: &str) -> Result<String, AllocError> {
     Ok(body)
 }
 
+// What is told of a body, in English.
+fn told_in_english(rt: &impl Abort, alloc: Global, case: Case, body: &str) -> String {
+    told_of(alloc, Form::Nested(case), body.as_bytes(), &DefaultI18n).or_end(rt)
+}
+
 #[test]
 fn reads_folders_sixty_deep(rt: HostRuntime) {
     let body = deep(rt.alloc(), 60, "\"a\"").or_end(&rt);
-    let bytes = body.as_str().as_bytes();
-    let told = told_of(rt.alloc(), Form::Nested(Case::Closed), bytes, &DefaultI18n).or_end(&rt);
-    assert_eq!(rt;
-        told.as_str()
-            .matches("Folder { name: TextRef(\"a\")")
-            .count(),
-        60
-    );
+    let told = told_in_english(&rt, rt.alloc(), Case::Closed, body.as_str());
+    let folder = "Folder { name: TextRef(\"a\")";
+    assert!(rt; told.as_str().matches(folder).count() == 60);
+}
+
+// Whether a line is the fault of a folder at this depth.
+fn is_fault_at(line: &str, depth: usize) -> bool {
+    line.matches("folders[0].").count() == depth && line.ends_with("name: not a text")
+}
+
+// Whether there are sixty lines, each of which is the fault of a folder below the one before.
+fn has_a_fault_at_each_depth(told: &str) -> bool {
+    let mut right = told.lines().count() == 60;
+    for (depth, line) in told.lines().enumerate() {
+        right = right && is_fault_at(line, depth);
+    }
+    right
 }
 
 #[test]
 fn tells_a_fault_of_each_folder_of_sixty(rt: HostRuntime) {
     let body = deep(rt.alloc(), 60, "1").or_end(&rt);
-    let bytes = body.as_str().as_bytes();
-    let told = told_of(rt.alloc(), Form::Nested(Case::Closed), bytes, &DefaultI18n).or_end(&rt);
-    assert_eq!(rt; told.as_str().lines().count(), 60);
-    for (depth, line) in told.as_str().lines().enumerate() {
-        assert_eq!(rt; line.matches("folders[0].").count(), depth);
-        assert!(rt; line.ends_with("name: not a text"));
-    }
+    let told = told_in_english(&rt, rt.alloc(), Case::Closed, body.as_str());
+    assert!(rt; has_a_fault_at_each_depth(told.as_str()));
 }
 
 // A folder with this many folders in it, each with this member.
@@ -211,15 +217,18 @@ fn wide(alloc: Global, count: usize, member: &str) -> Result<String, AllocError>
     Ok(body)
 }
 
+// Whether there are ten thousand sizes, the first of which is 0, and the last 9999.
+fn has_ten_thousand_in_order(told: &str) -> bool {
+    told.matches("size: Some(").count() == 10_000
+        && told.find("size: Some(") == told.find("size: Some(0)")
+        && told.rfind("size: Some(") == told.find("size: Some(9999)")
+}
+
 #[test]
 fn reads_ten_thousand_folders_in_order(rt: HostRuntime) {
     let body = wide(rt.alloc(), 10_000, "\"size\"").or_end(&rt);
-    let bytes = body.as_str().as_bytes();
-    let told = told_of(rt.alloc(), Form::Nested(Case::Open), bytes, &DefaultI18n).or_end(&rt);
-    let told = told.as_str();
-    assert_eq!(rt; told.matches("size: Some(").count(), 10_000);
-    assert_eq!(rt; told.find("size: Some("), told.find("size: Some(0)"));
-    assert_eq!(rt; told.rfind("size: Some("), told.find("size: Some(9999)"));
+    let told = told_in_english(&rt, rt.alloc(), Case::Open, body.as_str());
+    assert!(rt; has_ten_thousand_in_order(told.as_str()));
 }
 
 #[test]

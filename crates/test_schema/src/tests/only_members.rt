@@ -54,75 +54,73 @@ const NONE: &str = "not an object with one member\n";
 
 const NONE_IN_CODES: &str = "wrong_form wanted=OneMember found=Object\n";
 
+// Bodies, and what each reads as, in English and as codes.
+static PAYMENTS: [(&str, &str, &str); 16] = [
+    (
+        "{\"card\":{\"year\":30,\"number\":\"49\"}}",
+        "Left((TextRef(\"49\"), Some(30)))",
+        "Left((TextRef(\"49\"), Some(30)))",
+    ),
+    (
+        "{\"card\":{\"number\":\"\"}}",
+        "Left((TextRef(\"\"), None))",
+        "Left((TextRef(\"\"), None))",
+    ),
+    (
+        "{\"c\\u0061sh\":18446744073709551615}",
+        "Right(Left(18446744073709551615))",
+        "Right(Left(18446744073709551615))",
+    ),
+    ("{\"\":false}", "Right(Right(false))", "Right(Right(false))"),
+    (
+        "{\"card\":{\"year\":31,\"sum\":null}}",
+        "card.number: missing\ncard.year: greater than 30\ncard.sum: not known here\n",
+        "card.number: member_missing\ncard.year: range_greater_than max=30\ncard.sum: member_unknown\n",
+    ),
+    (
+        "{\"card\":\"49\"}",
+        "card: not an object\n",
+        "card: wrong_form wanted=Object found=Text\n",
+    ),
+    (
+        "{\"cash\":-1}",
+        "cash: out of range: 0 to 18446744073709551615\n",
+        "cash: out_of_range of=u64\n",
+    ),
+    (
+        "{\"\":1}",
+        ": not true or false\n",
+        ": wrong_form wanted=Boolean found=Number\n",
+    ),
+    ("{}", NONE, NONE_IN_CODES),
+    ("{\"cash\":1,\"card\":{}}", NONE, NONE_IN_CODES),
+    ("{\"cash\":1,\"cash\":1}", NONE, NONE_IN_CODES),
+    ("{\"cash\":1,\"other\":-1,\"\":true}", NONE, NONE_IN_CODES),
+    (
+        "{\"Cash\":-1}",
+        "Cash: not known here\n",
+        "Cash: member_unknown\n",
+    ),
+    (
+        "[{\"cash\":1}]",
+        "not an object\n",
+        "wrong_form wanted=Object found=List\n",
+    ),
+    (
+        "\"cash\"",
+        "not an object\n",
+        "wrong_form wanted=Object found=Text\n",
+    ),
+    (
+        "null",
+        "not an object\n",
+        "wrong_form wanted=Object found=Null\n",
+    ),
+];
+
 #[test]
 fn reads_the_variant_that_the_only_member_names(rt: HostRuntime) {
-    compare_codes(
-        &rt,
-        rt.alloc(),
-        Form::OnlyMembers(Case::Payment),
-        &[
-            (
-                "{\"card\":{\"year\":30,\"number\":\"49\"}}",
-                "Left((TextRef(\"49\"), Some(30)))",
-                "Left((TextRef(\"49\"), Some(30)))",
-            ),
-            (
-                "{\"card\":{\"number\":\"\"}}",
-                "Left((TextRef(\"\"), None))",
-                "Left((TextRef(\"\"), None))",
-            ),
-            (
-                "{\"c\\u0061sh\":18446744073709551615}",
-                "Right(Left(18446744073709551615))",
-                "Right(Left(18446744073709551615))",
-            ),
-            ("{\"\":false}", "Right(Right(false))", "Right(Right(false))"),
-            (
-                "{\"card\":{\"year\":31,\"sum\":null}}",
-                "card.number: missing\ncard.year: greater than 30\ncard.sum: not known here\n",
-                "card.number: member_missing\ncard.year: range_greater_than max=30\ncard.sum: member_unknown\n",
-            ),
-            (
-                "{\"card\":\"49\"}",
-                "card: not an object\n",
-                "card: wrong_form wanted=Object found=Text\n",
-            ),
-            (
-                "{\"cash\":-1}",
-                "cash: out of range: 0 to 18446744073709551615\n",
-                "cash: out_of_range of=u64\n",
-            ),
-            (
-                "{\"\":1}",
-                ": not true or false\n",
-                ": wrong_form wanted=Boolean found=Number\n",
-            ),
-            ("{}", NONE, NONE_IN_CODES),
-            ("{\"cash\":1,\"card\":{}}", NONE, NONE_IN_CODES),
-            ("{\"cash\":1,\"cash\":1}", NONE, NONE_IN_CODES),
-            ("{\"cash\":1,\"other\":-1,\"\":true}", NONE, NONE_IN_CODES),
-            (
-                "{\"Cash\":-1}",
-                "Cash: not known here\n",
-                "Cash: member_unknown\n",
-            ),
-            (
-                "[{\"cash\":1}]",
-                "not an object\n",
-                "wrong_form wanted=Object found=List\n",
-            ),
-            (
-                "\"cash\"",
-                "not an object\n",
-                "wrong_form wanted=Object found=Text\n",
-            ),
-            (
-                "null",
-                "not an object\n",
-                "wrong_form wanted=Object found=Null\n",
-            ),
-        ],
-    );
+    compare_codes(&rt, rt.alloc(), Form::OnlyMembers(Case::Payment), &PAYMENTS);
 }
 
 // This form, in an object with one member of this name.
@@ -149,23 +147,21 @@ fn deep<H: I18n + FormI18n>(
     told(alloc, tree, &form, h)
 }
 
+// Bodies, and what each reads as.
+static DEEP: [(&str, &str); 2] = [
+    (
+        "[{\"a\":{\"b\":{\"c\":{\"d\":{\"a\":{\"b\":{\"c\":{\"d\":[1,2]}}}}}}}}]",
+        "Items([Items([1, 2])])",
+    ),
+    (
+        "[{\"a\":{\"b\":{\"c\":{\"d\":{\"a\":{\"b\":{\"c\":{\"d\":[1,true,256]}}}}}}}},{\"a\":{\"b\":{\"c\":{\"d\":{\"a\":{\"b\":{\"c\":{}}}}}}}},{\"a\":{\"e\":1}}]",
+        "[0].a.b.c.d.a.b.c.d[1]: not a whole number\n[0].a.b.c.d.a.b.c.d[2]: out of range: 0 to 255\n[1].a.b.c.d.a.b.c: not an object with one member\n[2].a.e: not known here\n",
+    ),
+];
+
 #[test]
 fn reads_unions_that_are_eight_deep(rt: HostRuntime) {
-    compare(
-        &rt,
-        rt.alloc(),
-        Form::OnlyMembers(Case::Deep),
-        &[
-            (
-                "[{\"a\":{\"b\":{\"c\":{\"d\":{\"a\":{\"b\":{\"c\":{\"d\":[1,2]}}}}}}}}]",
-                "Items([Items([1, 2])])",
-            ),
-            (
-                "[{\"a\":{\"b\":{\"c\":{\"d\":{\"a\":{\"b\":{\"c\":{\"d\":[1,true,256]}}}}}}}},{\"a\":{\"b\":{\"c\":{\"d\":{\"a\":{\"b\":{\"c\":{}}}}}}}},{\"a\":{\"e\":1}}]",
-                "[0].a.b.c.d.a.b.c.d[1]: not a whole number\n[0].a.b.c.d.a.b.c.d[2]: out of range: 0 to 255\n[1].a.b.c.d.a.b.c: not an object with one member\n[2].a.e: not known here\n",
-            ),
-        ],
-    );
+    compare(&rt, rt.alloc(), Form::OnlyMembers(Case::Deep), &DEEP);
 }
 
 // A payment as serde has it by default: in cash or by a transfer, of which nothing more is known, or by
@@ -181,51 +177,49 @@ fn mixed<H: I18n + FormI18n>(
     told(alloc, tree, &form, h)
 }
 
+// Bodies, and what each reads as, in English and as codes.
+static MIXED: [(&str, &str, &str); 10] = [
+    ("\"cash\"", "Left(0)", "Left(0)"),
+    ("\"transfer\"", "Left(1)", "Left(1)"),
+    (
+        "{\"card\":{\"number\":\"49\"}}",
+        "Right(TextRef(\"49\"))",
+        "Right(TextRef(\"49\"))",
+    ),
+    (
+        "\"card\"",
+        "not one of the known values\n",
+        "value_unknown\n",
+    ),
+    ("\"\"", "not one of the known values\n", "value_unknown\n"),
+    (
+        "{\"card\":{}}",
+        "card.number: missing\n",
+        "card.number: member_missing\n",
+    ),
+    (
+        "{\"cash\":null}",
+        "cash: not known here\n",
+        "cash: member_unknown\n",
+    ),
+    (
+        "{}",
+        "not an object with one member\n",
+        "wrong_form wanted=OneMember found=Object\n",
+    ),
+    (
+        "[\"cash\"]",
+        "not an object\n",
+        "wrong_form wanted=Object found=List\n",
+    ),
+    (
+        "null",
+        "not an object\n",
+        "wrong_form wanted=Object found=Null\n",
+    ),
+];
+
 #[test]
 fn reads_variants_with_fields_and_without(rt: HostRuntime) {
-    compare_codes(
-        &rt,
-        rt.alloc(),
-        Form::OnlyMembers(Case::Mixed),
-        &[
-            ("\"cash\"", "Left(0)", "Left(0)"),
-            ("\"transfer\"", "Left(1)", "Left(1)"),
-            (
-                "{\"card\":{\"number\":\"49\"}}",
-                "Right(TextRef(\"49\"))",
-                "Right(TextRef(\"49\"))",
-            ),
-            (
-                "\"card\"",
-                "not one of the known values\n",
-                "value_unknown\n",
-            ),
-            ("\"\"", "not one of the known values\n", "value_unknown\n"),
-            (
-                "{\"card\":{}}",
-                "card.number: missing\n",
-                "card.number: member_missing\n",
-            ),
-            (
-                "{\"cash\":null}",
-                "cash: not known here\n",
-                "cash: member_unknown\n",
-            ),
-            (
-                "{}",
-                "not an object with one member\n",
-                "wrong_form wanted=OneMember found=Object\n",
-            ),
-            (
-                "[\"cash\"]",
-                "not an object\n",
-                "wrong_form wanted=Object found=List\n",
-            ),
-            (
-                "null",
-                "not an object\n",
-                "wrong_form wanted=Object found=Null\n",
-            ),
-        ],
-    );
+    compare_codes(&rt, rt.alloc(), Form::OnlyMembers(Case::Mixed), &MIXED);
 }

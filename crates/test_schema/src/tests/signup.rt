@@ -28,28 +28,26 @@ pub fn signup<H: I18n + FormI18n>(
     told(alloc, tree, &form, h)
 }
 
+// Bodies, and what each reads as, in English and as codes.
+static SIGNUPS: [(&str, &str, &str); 3] = [
+    (
+        "{\"name\":\"ab\",\"again\":\"ab\",\"age\":18,\"low\":-128,\"big\":18446744073709551615}",
+        "((TextRef(\"ab\"), TextRef(\"ab\")), (18, (-128, 18446744073709551615)))",
+        "((TextRef(\"ab\"), TextRef(\"ab\")), (18, (-128, 18446744073709551615)))",
+    ),
+    (
+        "{\"name\":\"\u{e9}\",\"again\":\"abc\",\"age\":256,\"low\":128,\"big\":18446744073709551616}",
+        "name: not ascii\nagain: length is greater than 2\nage: greater than 120\nlow: out of range: -128 to 127\nbig: out of range: 0 to 18446744073709551615\n",
+        "name: ascii_invalid\nagain: length_greater_than max=2\nage: range_greater_than max=120\nlow: out_of_range of=i8\nbig: out_of_range of=u64\n",
+    ),
+    (
+        "{\"name\":1,\"name\":2,\"age\":17,\"low\":1.0,\"big\":\"1\"}",
+        "name: repeated\nagain: missing\nage: lower than 18\nlow: not a whole number\nbig: not a whole number\n",
+        "name: member_repeated\nagain: member_missing\nage: range_lower_than min=18\nlow: wrong_form wanted=Whole found=Number\nbig: wrong_form wanted=Whole found=Text\n",
+    ),
+];
+
 #[test]
 fn reads_texts_and_whole_numbers_under_rules(rt: HostRuntime) {
-    compare_codes(
-        &rt,
-        rt.alloc(),
-        Case::Signup,
-        &[
-            (
-                "{\"name\":\"ab\",\"again\":\"ab\",\"age\":18,\"low\":-128,\"big\":18446744073709551615}",
-                "((TextRef(\"ab\"), TextRef(\"ab\")), (18, (-128, 18446744073709551615)))",
-                "((TextRef(\"ab\"), TextRef(\"ab\")), (18, (-128, 18446744073709551615)))",
-            ),
-            (
-                "{\"name\":\"\u{e9}\",\"again\":\"abc\",\"age\":256,\"low\":128,\"big\":18446744073709551616}",
-                "name: not ascii\nagain: length is greater than 2\nage: greater than 120\nlow: out of range: -128 to 127\nbig: out of range: 0 to 18446744073709551615\n",
-                "name: ascii_invalid\nagain: length_greater_than max=2\nage: range_greater_than max=120\nlow: out_of_range of=i8\nbig: out_of_range of=u64\n",
-            ),
-            (
-                "{\"name\":1,\"name\":2,\"age\":17,\"low\":1.0,\"big\":\"1\"}",
-                "name: repeated\nagain: missing\nage: lower than 18\nlow: not a whole number\nbig: not a whole number\n",
-                "name: member_repeated\nagain: member_missing\nage: range_lower_than min=18\nlow: wrong_form wanted=Whole found=Number\nbig: wrong_form wanted=Whole found=Text\n",
-            ),
-        ],
-    );
+    compare_codes(&rt, rt.alloc(), Case::Signup, &SIGNUPS);
 }

@@ -99,6 +99,11 @@ pub fn check<H: I18n + FormI18n>(
     assert_eq!(rt; told.as_str(), expected);
 }
 
+// Whether a report has so many lines, the first and the last of which are these.
+fn has_lines(told: &str, count: usize, (first, last): (&str, &str)) -> bool {
+    told.lines().count() == count && told.starts_with(first) && told.ends_with(last)
+}
+
 /// Asks that the report of a body has so many lines, the first and the last of which are these.
 pub fn check_many<H: I18n + FormI18n>(
     rt: &impl Abort,
@@ -110,10 +115,7 @@ pub fn check_many<H: I18n + FormI18n>(
     ends: (&str, &str),
 ) {
     let told = told_of(alloc, case, body.as_bytes(), h).or_end(rt);
-    let (first, last) = ends;
-    assert_eq!(rt; told.as_str().lines().count(), count);
-    assert!(rt; told.as_str().starts_with(first));
-    assert!(rt; told.as_str().ends_with(last));
+    assert!(rt; has_lines(told.as_str(), count, ends));
 }
 
 /// Asks that each body reads as this, in English.

@@ -24,78 +24,76 @@ pub fn payment<H: I18n + FormI18n>(
     told(alloc, tree, &form, h)
 }
 
+// Bodies, and what each reads as, in English and as codes.
+static PAYMENTS: [(&str, &str, &str); 13] = [
+    (
+        "{\"kind\":\"card\",\"number\":\"49\",\"year\":30,\"sum\":1}",
+        "Left((TextRef(\"49\"), Some(30)))",
+        "Left((TextRef(\"49\"), Some(30)))",
+    ),
+    (
+        "{\"paid\":7,\"number\":\"\",\"kind\":\"card\"}",
+        "Left((TextRef(\"\"), None))",
+        "Left((TextRef(\"\"), None))",
+    ),
+    (
+        "{\"sum\":18446744073709551615,\"kind\":\"c\\u0061sh\"}",
+        "Right(Left(18446744073709551615))",
+        "Right(Left(18446744073709551615))",
+    ),
+    (
+        "{\"kind\":\"\",\"sum\":[],\"paid\":false}",
+        "Right(Right(false))",
+        "Right(Right(false))",
+    ),
+    (
+        "{\"kind\":\"card\",\"year\":31,\"sum\":null}",
+        "number: missing\nyear: greater than 30\n",
+        "number: member_missing\nyear: range_greater_than max=30\n",
+    ),
+    (
+        "{\"number\":1,\"kind\":\"cash\",\"sum\":-1,\"paid\":true}",
+        "sum: out of range: 0 to 18446744073709551615\nnumber: not known here\npaid: not known here\n",
+        "sum: out_of_range of=u64\nnumber: member_unknown\npaid: member_unknown\n",
+    ),
+    (
+        "{\"kind\":\"\",\"paid\":1,\"number\":1}",
+        "paid: not true or false\n",
+        "paid: wrong_form wanted=Boolean found=Number\n",
+    ),
+    (
+        "{\"year\":0,\"other\":1}",
+        "kind: missing\n",
+        "kind: member_missing\n",
+    ),
+    (
+        "{\"kind\":\"cash\",\"kind\":\"cash\",\"sum\":1}",
+        "kind: repeated\n",
+        "kind: member_repeated\n",
+    ),
+    (
+        "{\"kind\":1,\"sum\":-1}",
+        "kind: not a text\n",
+        "kind: wrong_form wanted=Text found=Number\n",
+    ),
+    (
+        "{\"kind\":\"Cash\",\"sum\":-1,\"paid\":0,\"number\":0,\"year\":0}",
+        "kind: not one of the known values\n",
+        "kind: value_unknown\n",
+    ),
+    (
+        "[{\"kind\":\"cash\"}]",
+        "not an object\n",
+        "wrong_form wanted=Object found=List\n",
+    ),
+    (
+        "\"cash\"",
+        "not an object\n",
+        "wrong_form wanted=Object found=Text\n",
+    ),
+];
+
 #[test]
 fn reads_the_variant_that_the_tag_names(rt: HostRuntime) {
-    compare_codes(
-        &rt,
-        rt.alloc(),
-        Case::Unions,
-        &[
-            (
-                "{\"kind\":\"card\",\"number\":\"49\",\"year\":30,\"sum\":1}",
-                "Left((TextRef(\"49\"), Some(30)))",
-                "Left((TextRef(\"49\"), Some(30)))",
-            ),
-            (
-                "{\"paid\":7,\"number\":\"\",\"kind\":\"card\"}",
-                "Left((TextRef(\"\"), None))",
-                "Left((TextRef(\"\"), None))",
-            ),
-            (
-                "{\"sum\":18446744073709551615,\"kind\":\"c\\u0061sh\"}",
-                "Right(Left(18446744073709551615))",
-                "Right(Left(18446744073709551615))",
-            ),
-            (
-                "{\"kind\":\"\",\"sum\":[],\"paid\":false}",
-                "Right(Right(false))",
-                "Right(Right(false))",
-            ),
-            (
-                "{\"kind\":\"card\",\"year\":31,\"sum\":null}",
-                "number: missing\nyear: greater than 30\n",
-                "number: member_missing\nyear: range_greater_than max=30\n",
-            ),
-            (
-                "{\"number\":1,\"kind\":\"cash\",\"sum\":-1,\"paid\":true}",
-                "sum: out of range: 0 to 18446744073709551615\nnumber: not known here\npaid: not known here\n",
-                "sum: out_of_range of=u64\nnumber: member_unknown\npaid: member_unknown\n",
-            ),
-            (
-                "{\"kind\":\"\",\"paid\":1,\"number\":1}",
-                "paid: not true or false\n",
-                "paid: wrong_form wanted=Boolean found=Number\n",
-            ),
-            (
-                "{\"year\":0,\"other\":1}",
-                "kind: missing\n",
-                "kind: member_missing\n",
-            ),
-            (
-                "{\"kind\":\"cash\",\"kind\":\"cash\",\"sum\":1}",
-                "kind: repeated\n",
-                "kind: member_repeated\n",
-            ),
-            (
-                "{\"kind\":1,\"sum\":-1}",
-                "kind: not a text\n",
-                "kind: wrong_form wanted=Text found=Number\n",
-            ),
-            (
-                "{\"kind\":\"Cash\",\"sum\":-1,\"paid\":0,\"number\":0,\"year\":0}",
-                "kind: not one of the known values\n",
-                "kind: value_unknown\n",
-            ),
-            (
-                "[{\"kind\":\"cash\"}]",
-                "not an object\n",
-                "wrong_form wanted=Object found=List\n",
-            ),
-            (
-                "\"cash\"",
-                "not an object\n",
-                "wrong_form wanted=Object found=Text\n",
-            ),
-        ],
-    );
+    compare_codes(&rt, rt.alloc(), Case::Unions, &PAYMENTS);
 }

@@ -4,7 +4,6 @@ use garde::DefaultI18n;
 use garde_schema::{FormFault, FormI18n, Integer, Wanted};
 use garde_tape::Kind;
 use std::alloc::{AllocError, Global};
-use std::test::Fail;
 use test_memory::Scarce;
 
 /// A fault of each kind, and the text that the default handler has of it.
@@ -65,7 +64,6 @@ fn hands_on_without_memory(alloc: Global) -> Result<bool, AllocError> {
 }
 
 #[test]
-fn a_reference_to_a_handler_copies_no_text_of_a_form(rt: HostRuntime) -> Result<(), Fail> {
-    assert!(rt; hands_on_without_memory(rt.alloc())?);
-    Ok(())
+fn a_reference_to_a_handler_copies_no_text_of_a_form(rt: HostRuntime) {
+    assert!(rt; hands_on_without_memory(rt.alloc()) == Ok(true));
 }

@@ -5,17 +5,20 @@ use garde_toml::{TomlError, toml_to_json};
 use std::alloc::Global;
 use std::process::Abort;
 
-// What is printed of a text that is rejected, up to the first line feed. Of another it is JSON.
-fn first_line(rt: &impl Abort, alloc: Global, text: &str) -> String {
-    let printed = match toml_to_json(alloc, text) {
+// What is printed of a text that is rejected. Of another it is JSON.
+fn printed(rt: &impl Abort, alloc: Global, text: &str) -> String {
+    match toml_to_json(alloc, text) {
         Ok(json) => json,
         Err(error) => format!(in alloc; "{error}").or_end(rt),
-    };
-    let line = printed.as_str().lines().next().unwrap_or("");
-    String::from_str(alloc, line).or_end(rt)
+    }
 }
 
-const PLACES: [(&str, &str); 10] = [
+// Whether this is printed of a text, up to the first line feed.
+fn begins_with(rt: &impl Abort, alloc: Global, text: &str, line: &str) -> bool {
+    printed(rt, alloc, text).as_str().lines().next() == Some(line)
+}
+
+static PLACES: [(&str, &str); 10] = [
     ("[server]\nport 80", "TOML parse error at line 2, column 6"),
     ("a = 1\na = 2", "TOML parse error at line 2, column 1"),
     ("a.b = 1\n[a]\n", "TOML parse error at line 2, column 1"),
@@ -33,9 +36,8 @@ const PLACES: [(&str, &str); 10] = [
 
 #[test]
 fn tells_the_line_and_the_column(rt: HostRuntime) {
-    for (text, expected) in PLACES {
-        let line = first_line(&rt, rt.alloc(), text);
-        assert_eq!(rt; line.as_str(), expected, "{text}");
+    for (text, expected) in &PLACES {
+        assert!(rt; begins_with(&rt, rt.alloc(), text, expected), "{text}");
     }
 }
 
@@ -48,7 +50,7 @@ fn nested(rt: &impl Abort, alloc: Global, tables: usize, value: &str) -> String 
 
 // The root, eighty tables of the header, and those of the key make 128 levels with 47. A date, a time,
 // `nan` and `inf` count as one more.
-const LEVELS: [(usize, &str, bool); 8] = [
+static LEVELS: [(usize, &str, bool); 8] = [
     (47, "1", true),
     (48, "1", false),
     (46, "1979-05-27", true),
@@ -59,14 +61,21 @@ const LEVELS: [(usize, &str, bool); 8] = [
     (46, "[07:32:00]", false),
 ];
 
+// Whether a text is taken, or else nests too deep.
+fn is_taken(alloc: Global, text: &str) -> Option<bool> {
+    match toml_to_json(alloc, text) {
+        Ok(_) => Some(true),
+        Err(TomlError::TooDeep) => Some(false),
+        Err(_) => None,
+    }
+}
+
 #[test]
 fn rejects_more_than_128_levels(rt: HostRuntime) {
-    for (tables, value, takes) in LEVELS {
-        let text = nested(&rt, rt.alloc(), tables, value);
-        let read = toml_to_json(rt.alloc(), text.as_str());
-        assert!(rt; read.is_ok() == takes, "{tables} {value}");
+    for (tables, value, takes) in &LEVELS {
+        let text = nested(&rt, rt.alloc(), *tables, value);
         assert!(rt;
-            matches!(&read, Err(TomlError::TooDeep)) != takes,
+            is_taken(rt.alloc(), text.as_str()) == Some(*takes),
             "{tables} {value}"
         );
     }
@@ -75,6 +84,6 @@ fn rejects_more_than_128_levels(rt: HostRuntime) {
 #[test]
 fn tells_that_a_text_nests_too_deep(rt: HostRuntime) {
     let text = nested(&rt, rt.alloc(), 48, "1");
-    let line = first_line(&rt, rt.alloc(), text.as_str());
-    assert_eq!(rt; line.as_str(), "tables and arrays nest deeper than 128");
+    let line = "tables and arrays nest deeper than 128";
+    assert!(rt; begins_with(&rt, rt.alloc(), text.as_str(), line));
 }

@@ -2,7 +2,7 @@
 ghost use Rattle.std.specs.Prelude.{int_le};
 ghost use Rattle.garde.specs.Fields.{message_unless};
 
-use crate::tests::OrEnd;
+use crate::tests::is_text;
 use garde::fields::{Is, Rule};
 use garde::{DefaultI18n, I18n, RuleError};
 use garde_form::{OrEmpty, Parsed, form_to_json};
@@ -50,7 +50,7 @@ fn told(alloc: Global, json: &[u8]) -> Result<String, AllocError> {
     }
 }
 
-const JSON: [(&str, &str); 6] = [
+static JSON: [(&str, &str); 6] = [
     (
         "{\"on\":\"2026-11-25\",\"at\":\"22:15\"}",
         "2026-11-25 22:15:00 None false",
@@ -79,13 +79,15 @@ const JSON: [(&str, &str); 6] = [
 
 #[test]
 fn tells_every_fault_of_json(rt: HostRuntime) {
-    for (body, expected) in JSON {
-        let told = told(rt.alloc(), body.as_bytes()).or_end(&rt);
-        assert_eq!(rt; told.as_str(), expected, "{expected}");
+    for (body, expected) in &JSON {
+        assert!(rt;
+            is_text(told(rt.alloc(), body.as_bytes()), expected),
+            "{body}"
+        );
     }
 }
 
-const FORMS: [(&str, &str); 5] = [
+static FORMS: [(&str, &str); 5] = [
     (
         "on=2026-11-25&at=22%3A15&from=",
         "2026-11-25 22:15:00 None false",
@@ -102,11 +104,17 @@ const FORMS: [(&str, &str); 5] = [
     ("", "on: missing\nat: missing\n"),
 ];
 
+// Whether this is told of the fields of a web form.
+fn is_told(alloc: Global, body: &str, text: &str) -> bool {
+    match form_to_json(alloc, body.as_bytes()) {
+        Ok(json) => is_text(told(alloc, json.as_bytes()), text),
+        Err(_) => false,
+    }
+}
+
 #[test]
 fn tells_every_fault_of_a_web_form(rt: HostRuntime) {
-    for (body, expected) in FORMS {
-        let json = form_to_json(rt.alloc(), body.as_bytes()).or_end(&rt);
-        let told = told(rt.alloc(), json.as_bytes()).or_end(&rt);
-        assert_eq!(rt; told.as_str(), expected, "{expected}");
+    for (body, expected) in &FORMS {
+        assert!(rt; is_told(rt.alloc(), body, expected), "{body}");
     }
 }

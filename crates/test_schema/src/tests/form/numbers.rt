@@ -21,7 +21,7 @@ fn rejects<P: Parse>(rt: &impl Abort, parser: &P, texts: &[&str]) {
     }
 }
 
-const U8S: [(&str, Option<u8>); 5] = [
+static U8S: [(&str, Option<u8>); 5] = [
     ("0", Some(0)),
     ("255", Some(255)),
     ("+0000000000000000000000000255", Some(255)),
@@ -29,35 +29,35 @@ const U8S: [(&str, Option<u8>); 5] = [
     ("18446744073709551616", None),
 ];
 
-const U16S: [(&str, Option<u16>); 4] = [
+static U16S: [(&str, Option<u16>); 4] = [
     ("0", Some(0)),
     ("+0000000000000000000000000256", Some(256)),
     ("65535", Some(65535)),
     ("65536", None),
 ];
 
-const U32S: [(&str, Option<u32>); 4] = [
+static U32S: [(&str, Option<u32>); 4] = [
     ("0", Some(0)),
     ("65536", Some(65536)),
     ("4294967295", Some(4294967295)),
     ("4294967296", None),
 ];
 
-const U64S: [(&str, Option<u64>); 4] = [
+static U64S: [(&str, Option<u64>); 4] = [
     ("0", Some(0)),
     ("4294967296", Some(4294967296)),
     ("18446744073709551615", Some(18446744073709551615)),
     ("18446744073709551616", None),
 ];
 
-const USIZES: [(&str, Option<usize>); 4] = [
+static USIZES: [(&str, Option<usize>); 4] = [
     ("0", Some(0)),
     ("4294967296", Some(4294967296)),
     ("18446744073709551615", Some(18446744073709551615)),
     ("18446744073709551616", None),
 ];
 
-const NO_UNSIGNED: [&str; 10] = [
+static NO_UNSIGNED: [&str; 10] = [
     "", "+", "-0", "++1", " 1", "1 ", "1_000", "1.0", "0x1", "\u{661}",
 ];
 
@@ -75,7 +75,7 @@ fn reads_numbers_without_a_sign(rt: HostRuntime) {
     rejects(&rt, &Usize, &NO_UNSIGNED);
 }
 
-const I8S: [(&str, Option<i8>); 5] = [
+static I8S: [(&str, Option<i8>); 5] = [
     ("-0", Some(0)),
     ("127", Some(127)),
     ("128", None),
@@ -83,7 +83,7 @@ const I8S: [(&str, Option<i8>); 5] = [
     ("-129", None),
 ];
 
-const I16S: [(&str, Option<i16>); 5] = [
+static I16S: [(&str, Option<i16>); 5] = [
     ("-0", Some(0)),
     ("+32767", Some(32767)),
     ("+32768", None),
@@ -91,7 +91,7 @@ const I16S: [(&str, Option<i16>); 5] = [
     ("-32769", None),
 ];
 
-const I32S: [(&str, Option<i32>); 5] = [
+static I32S: [(&str, Option<i32>); 5] = [
     ("+32768", Some(32768)),
     ("2147483647", Some(2147483647)),
     ("2147483648", None),
@@ -99,7 +99,7 @@ const I32S: [(&str, Option<i32>); 5] = [
     ("-2147483649", None),
 ];
 
-const I64S: [(&str, Option<i64>); 5] = [
+static I64S: [(&str, Option<i64>); 5] = [
     ("-2147483649", Some(-2147483649)),
     ("9223372036854775807", Some(9223372036854775807)),
     ("9223372036854775808", None),
@@ -107,7 +107,7 @@ const I64S: [(&str, Option<i64>); 5] = [
     ("-9223372036854775809", None),
 ];
 
-const ISIZES: [(&str, Option<isize>); 5] = [
+static ISIZES: [(&str, Option<isize>); 5] = [
     ("-2147483649", Some(-2147483649)),
     ("9223372036854775807", Some(9223372036854775807)),
     ("9223372036854775808", None),
@@ -115,7 +115,7 @@ const ISIZES: [(&str, Option<isize>); 5] = [
     ("-9223372036854775809", None),
 ];
 
-const NO_SIGNED: [&str; 7] = ["", "-", "+", "-+1", "--1", " -1", "-1.0"];
+static NO_SIGNED: [&str; 7] = ["", "-", "+", "-+1", "--1", " -1", "-1.0"];
 
 #[test]
 fn reads_numbers_with_a_sign(rt: HostRuntime) {

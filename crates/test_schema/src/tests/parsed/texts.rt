@@ -1,6 +1,6 @@
 //! A parser, and a table of texts with what each is read as.
 
-use crate::tests::OrEnd;
+use crate::tests::is_text;
 use garde::DefaultI18n;
 use garde_form::{Parse, Parsed};
 use garde_schema::{Scratch, read_json};
@@ -31,7 +31,6 @@ where
     P::Value: Display,
 {
     for (text, expected) in rows {
-        let told = told(alloc, &parser, text).or_end(rt);
-        assert_eq!(rt; told.as_str(), *expected, "{text}");
+        assert!(rt; is_text(told(alloc, &parser, text), expected), "{text}");
     }
 }

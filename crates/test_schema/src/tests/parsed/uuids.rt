@@ -6,7 +6,7 @@ use garde_parsed::Uuid;
 const ONE: &str = "f81d4fae-7dec-11d0-a765-00a0c91e6bf6";
 
 // The texts of RFC 9562, sections 4 and 5 and appendix A, and the other forms of one of them.
-const UUIDS: [(&str, &str); 10] = [
+static UUIDS: [(&str, &str); 10] = [
     (ONE, ONE),
     ("urn:uuid:f81d4fae-7dec-11d0-a765-00a0c91e6bf6", ONE),
     ("URN:UUID:F81D4FAE-7DEC-11D0-A765-00A0C91E6BF6", ONE),
@@ -41,7 +41,7 @@ fn reads_uuids(rt: HostRuntime) {
 
 const NO_UUID: &str = "not a UUID\n";
 
-const NO_UUIDS: [(&str, &str); 14] = [
+static NO_UUIDS: [(&str, &str); 14] = [
     ("", NO_UUID),
     ("f81d4fae-7dec-11d0-a765-00a0c91e6bf", NO_UUID),
     ("f81d4fae-7dec-11d0-a765-00a0c91e6bf66", NO_UUID),

@@ -7,7 +7,7 @@ const NO_TIME: &str = "not a time\n";
 
 // `partial-time` of RFC 3339, section 5.6; the other forms of ISO 8601 that `jiff` reads; and texts
 // that are none, one of which is as well a month and a day.
-const TIMES: [(&str, &str); 20] = [
+static TIMES: [(&str, &str); 20] = [
     ("23:20:50.52", "23:20:50.52"),
     ("00:00:00", "00:00:00"),
     ("23:59:59.999999999", "23:59:59.999999999"),
@@ -39,7 +39,7 @@ const NO_TIMESTAMP: &str = "not a timestamp\n";
 
 // The five texts of RFC 3339, section 5.8, each with the moment that this section names (a leap
 // second is the second before); and texts that are none.
-const TIMESTAMPS: [(&str, &str); 19] = [
+static TIMESTAMPS: [(&str, &str); 19] = [
     ("1985-04-12T23:20:50.52Z", "1985-04-12T23:20:50.52Z"),
     ("1996-12-19T16:39:57-08:00", "1996-12-20T00:39:57Z"),
     ("1990-12-31T23:59:60Z", "1990-12-31T23:59:59Z"),

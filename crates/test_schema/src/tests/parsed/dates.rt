@@ -7,7 +7,7 @@ const NO_DATE: &str = "not a date\n";
 
 // `full-date` of RFC 3339, section 5.6, with the days of each month of section 5.7; the other forms
 // of ISO 8601 that `jiff` reads; and texts that are none.
-const DATES: [(&str, &str); 33] = [
+static DATES: [(&str, &str); 33] = [
     ("1985-04-12", "1985-04-12"),
     ("2024-02-29", "2024-02-29"),
     ("2000-02-29", "2000-02-29"),
@@ -51,7 +51,7 @@ fn reads_dates(rt: HostRuntime) {
 const NO_DATE_TIME: &str = "not a date and time\n";
 
 // The texts of RFC 3339, section 5.8, with and without their offsets.
-const DATE_TIMES: [(&str, &str); 17] = [
+static DATE_TIMES: [(&str, &str); 17] = [
     ("1985-04-12T23:20:50.52", "1985-04-12T23:20:50.52"),
     ("1985-04-12t23:20:50.52", "1985-04-12T23:20:50.52"),
     ("1985-04-12 23:20", "1985-04-12T23:20:00"),

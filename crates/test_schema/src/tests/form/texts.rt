@@ -3,7 +3,7 @@
 use garde_form::{Character, Parse};
 use garde_schema::Flag;
 
-const FLAGS: [(&str, Option<bool>); 11] = [
+static FLAGS: [(&str, Option<bool>); 11] = [
     ("true", Some(true)),
     ("false", Some(false)),
     ("", None),
@@ -19,12 +19,12 @@ const FLAGS: [(&str, Option<bool>); 11] = [
 
 #[test]
 fn reads_true_and_false(rt: HostRuntime) {
-    for (text, expected) in FLAGS {
-        assert!(rt; Flag.parse(text) == expected, "{text}");
+    for (text, expected) in &FLAGS {
+        assert!(rt; Flag.parse(text) == *expected, "{text}");
     }
 }
 
-const CHARACTERS: [(&str, Option<char>); 12] = [
+static CHARACTERS: [(&str, Option<char>); 12] = [
     ("a", Some('a')),
     (" ", Some(' ')),
     ("\0", Some('\0')),
@@ -41,7 +41,7 @@ const CHARACTERS: [(&str, Option<char>); 12] = [
 
 #[test]
 fn reads_one_character(rt: HostRuntime) {
-    for (text, expected) in CHARACTERS {
-        assert!(rt; Character.parse(text) == expected, "{text}");
+    for (text, expected) in &CHARACTERS {
+        assert!(rt; Character.parse(text) == *expected, "{text}");
     }
 }

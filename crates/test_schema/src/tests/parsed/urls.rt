@@ -1,6 +1,6 @@
 //! URLs: the text of each, or the whole report.
 
-use crate::tests::OrEnd;
+use crate::tests::is_text;
 use garde::DefaultI18n;
 use garde_parsed::{ParsedInMemory, Url};
 use garde_schema::{Scratch, read_json};
@@ -20,7 +20,7 @@ fn told(alloc: Global, text: &str) -> Result<String, AllocError> {
 const NO_URL: &str = "not a URL\n";
 
 // The examples of the URL Standard, sections 3.5 and 4.4, and of RFC 3986, section 1.1.2.
-const URLS: [(&str, &str); 18] = [
+static URLS: [(&str, &str); 18] = [
     ("https://example.com/././foo", "https://example.com/foo"),
     ("https:example.org", "https://example.org/"),
     ("hello:world", "hello:world"),
@@ -43,8 +43,7 @@ const URLS: [(&str, &str); 18] = [
 
 #[test]
 fn reads_urls(rt: HostRuntime) {
-    for (text, expected) in URLS {
-        let told = told(rt.alloc(), text).or_end(&rt);
-        assert_eq!(rt; told.as_str(), expected, "{text}");
+    for (text, expected) in &URLS {
+        assert!(rt; is_text(told(rt.alloc(), text), expected), "{text}");
     }
 }

@@ -7,7 +7,7 @@ const NO_IPV4: &str = "not an IPv4 address\n";
 
 // Four numbers of RFC 3986, section 3.2.2 (`dec-octet`), and the texts of that section that are no
 // such address.
-const IPV4: [(&str, &str); 18] = [
+static IPV4: [(&str, &str); 18] = [
     ("192.0.2.1", "192.0.2.1"),
     ("0.0.0.0", "0.0.0.0"),
     ("255.255.255.255", "255.255.255.255"),
@@ -36,7 +36,7 @@ fn reads_ipv4_addresses(rt: HostRuntime) {
 const NO_IPV6: &str = "not an IPv6 address\n";
 
 // The texts of RFC 4291, section 2.2, each with its text by RFC 5952; and texts that are none.
-const IPV6: [(&str, &str); 27] = [
+static IPV6: [(&str, &str); 27] = [
     (
         "ABCD:EF01:2345:6789:ABCD:EF01:2345:6789",
         "abcd:ef01:2345:6789:abcd:ef01:2345:6789",

@@ -1,11 +1,11 @@
 //! TOML texts as JSON: the whole text of each document.
 
-use crate::tests::OrEnd;
+use crate::tests::{OrEnd, is_text};
 use garde_toml::toml_to_json;
 use std::alloc::Global;
 use std::process::Abort;
 
-const VALUES: [(&str, &str); 12] = [
+static VALUES: [(&str, &str); 12] = [
     ("", "{}"),
     ("\u{feff}", "{}"),
     ("\u{feff}# a comment", "{}"),
@@ -44,15 +44,19 @@ const VALUES: [(&str, &str); 12] = [
     ),
 ];
 
+// Whether a document is written as this text.
+fn is_written(alloc: Global, document: &str, text: &str) -> bool {
+    is_text(toml_to_json(alloc, document), text)
+}
+
 #[test]
 fn writes_each_value(rt: HostRuntime) {
-    for (text, expected) in VALUES {
-        let json = toml_to_json(rt.alloc(), text).or_end(&rt);
-        assert_eq!(rt; json.as_str(), expected, "{expected}");
+    for (text, expected) in &VALUES {
+        assert!(rt; is_written(rt.alloc(), text, expected), "{expected}");
     }
 }
 
-const TABLES: [(&str, &str); 7] = [
+static TABLES: [(&str, &str); 7] = [
     ("b = 1\nB = 2\na = 3", r#"{"B":2,"a":3,"b":1}"#),
     (
         "'a b' = 1\n\"\" = 2\n\"\\u001B\" = 3\n10 = 4",
@@ -79,23 +83,24 @@ const TABLES: [(&str, &str); 7] = [
 
 #[test]
 fn writes_tables_and_arrays(rt: HostRuntime) {
-    for (text, expected) in TABLES {
-        let json = toml_to_json(rt.alloc(), text).or_end(&rt);
-        assert_eq!(rt; json.as_str(), expected, "{expected}");
+    for (text, expected) in &TABLES {
+        assert!(rt; is_written(rt.alloc(), text, expected), "{expected}");
     }
+}
+
+// These items in arrays, 79 deep, between two texts.
+fn nested(rt: &impl Abort, alloc: Global, before: &str, items: &str, after: &str) -> String {
+    let begin = "[".repeat(alloc, 79).or_end(rt);
+    let end = "]".repeat(alloc, 79).or_end(rt);
+    format!(in alloc; "{before}{begin}{items}{end}{after}").or_end(rt)
 }
 
 // Where an array were asked twice how deep it nests, or written twice, this took 2^79 steps.
 #[test]
 fn writes_arrays_as_deep_as_they_may_nest(rt: HostRuntime) {
-    let begin = "[".repeat(rt.alloc(), 79).or_end(&rt);
-    let end = "]".repeat(rt.alloc(), 79).or_end(&rt);
-    let text = format!(in rt.alloc(); "a = {begin}1979-05-27, 1{end}").or_end(&rt);
-    let json = toml_to_json(rt.alloc(), text.as_str()).or_end(&rt);
-    let expected = format!(in rt.alloc(); "{{\"a\":{begin}[-0,\"1979-05-27\"],1{end}}}").or_end(
-        &rt,
-    );
-    assert_eq!(rt; json.as_str(), expected.as_str());
+    let text = nested(&rt, rt.alloc(), "a = ", "1979-05-27, 1", "");
+    let expected = nested(&rt, rt.alloc(), "{\"a\":", "[-0,\"1979-05-27\"],1", "}");
+    assert!(rt; is_written(rt.alloc(), text.as_str(), expected.as_str()));
 }
 
 // A text of ten thousand keys, each with its number.
@@ -108,16 +113,17 @@ fn many_keys(rt: &impl Abort, alloc: Global) -> String {
     text
 }
 
+// Whether a text has each of these keys once, the first and the last of them at its ends.
+fn has_each_key(json: &str) -> bool {
+    // Fourteen bytes and a comma a key, but for the last, and two braces.
+    json.len() == 150_001
+        && json.starts_with("{\"k10000\":10000,\"k10001\":10001,")
+        && json.ends_with(",\"k19999\":19999}")
+        && json.matches("\"k1").count() == 10_000
+}
+
 #[test]
 fn writes_each_of_ten_thousand_keys(rt: HostRuntime) {
     let text = many_keys(&rt, rt.alloc());
-    let json = toml_to_json(rt.alloc(), text.as_str()).or_end(&rt);
-    // Fourteen bytes and a comma a key, but for the last, and two braces.
-    assert_eq!(rt; json.len(), 150_001);
-    assert!(rt;
-        json.as_str()
-            .starts_with("{\"k10000\":10000,\"k10001\":10001,")
-    );
-    assert!(rt; json.as_str().ends_with(",\"k19999\":19999}"));
-    assert_eq!(rt; json.as_str().matches("\"k1").count(), 10_000);
+    assert!(rt; has_each_key(&toml_to_json(rt.alloc(), text.as_str()).or_end(&rt)));
 }

@@ -1,6 +1,0 @@
-//! The tests of `garde_form`, `garde_parsed`, `garde_rows` and `garde_toml`, by their public calls.
-//! They stand in a crate of their own, since the tests within a crate prove all of it once more.
-#![tactic(auto)]
-
-#[cfg(test)]
-mod tests;
