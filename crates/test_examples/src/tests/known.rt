@@ -62,21 +62,23 @@ fn share_of(rt: &impl Abort, alloc: Global, cents: u32, guests: u32) -> u32 {
     share(&valid(rt, alloc, Bill { cents, guests }))
 }
 
+/// Bills of so many cents for so many guests, and the share of each.
+static SHARES: [(u32, u32, u32); 3] = [(100, 3, 33), (7, 40, 0), (u32::MAX, 1, u32::MAX)];
+
+/// Whether a bill for so many guests is rejected.
+fn is_bill_refused(alloc: Global, guests: u32) -> bool {
+    is_refused(alloc, Bill { cents: 1, guests })
+}
+
 #[test]
 fn a_share_of_a_bill(rt: HostRuntime) {
-    assert_eq!(rt; share_of(&rt, rt.alloc(), 100, 3), 33);
-    assert_eq!(rt; share_of(&rt, rt.alloc(), 7, 40), 0);
-    assert_eq!(rt; share_of(&rt, rt.alloc(), u32::MAX, 1), u32::MAX);
-    let nobody = Bill {
-        cents: 1,
-        guests: 0,
-    };
-    assert!(rt; is_refused(rt.alloc(), nobody));
-    let too_many = Bill {
-        cents: 1,
-        guests: 41,
-    };
-    assert!(rt; is_refused(rt.alloc(), too_many));
+    for (cents, guests, each) in &SHARES {
+        assert!(rt;
+            share_of(&rt, rt.alloc(), *cents, *guests) == *each,
+            "{cents}"
+        );
+    }
+    assert!(rt; is_bill_refused(rt.alloc(), 0) && is_bill_refused(rt.alloc(), 41));
 }
 
 /// The price of a valid seat in this row.
@@ -85,11 +87,18 @@ fn price_of(rt: &impl Abort, alloc: Global, row: usize) -> u32 {
     price(&valid(rt, alloc, Seat { row }), &prices)
 }
 
+/// The prices of the first row and of the last two.
+fn prices_of(rt: &impl Abort, alloc: Global) -> [u32; 3] {
+    [
+        price_of(rt, alloc, 0),
+        price_of(rt, alloc, 6),
+        price_of(rt, alloc, 7),
+    ]
+}
+
 #[test]
 fn the_price_of_a_row(rt: HostRuntime) {
-    assert_eq!(rt; price_of(&rt, rt.alloc(), 0), 900);
-    assert_eq!(rt; price_of(&rt, rt.alloc(), 6), 600);
-    assert_eq!(rt; price_of(&rt, rt.alloc(), 7), 500);
+    assert!(rt; prices_of(&rt, rt.alloc()) == [900, 600, 500]);
     assert!(rt; is_refused(rt.alloc(), Seat { row: 8 }));
 }
 
@@ -117,14 +126,24 @@ fn to_whom_a_parcel_goes(rt: HostRuntime) {
     assert!(rt; is_lost(&rt, rt.alloc(), "Bea"));
 }
 
+/// A valid level as a byte.
+fn byte_of(rt: &impl Abort, alloc: Global, percent: u32) -> u8 {
+    byte(&valid(rt, alloc, Level { percent }))
+}
+
+/// Three levels as bytes.
+fn bytes_of(rt: &impl Abort, alloc: Global) -> [u8; 3] {
+    [
+        byte_of(rt, alloc, 0),
+        byte_of(rt, alloc, 150),
+        byte_of(rt, alloc, 200),
+    ]
+}
+
 #[test]
 fn a_level_as_a_byte(rt: HostRuntime) {
-    let alloc = rt.alloc();
-    for (percent, narrow) in [(0, 0), (150, 150), (200, 200)] {
-        let level = valid(&rt, alloc, Level { percent });
-        assert_eq!(rt; byte(&level), narrow);
-    }
-    assert!(rt; is_refused(alloc, Level { percent: 256 }));
+    assert!(rt; bytes_of(&rt, rt.alloc()) == [0, 150, 200]);
+    assert!(rt; is_refused(rt.alloc(), Level { percent: 256 }));
 }
 
 /// The prices of two kinds, one of which is express.
@@ -161,33 +180,44 @@ fn kept_gain(alloc: Global, channel: usize, panel: &Panel, gains: &[u32; 3]) -> 
     }
 }
 
-#[test]
-fn the_gain_of_a_channel(rt: HostRuntime) {
-    let alloc = rt.alloc();
+/// The gain of a channel on a panel of two, by either way.
+fn gains_of(alloc: Global, channel: usize) -> [Option<u32>; 2] {
     let panel = Panel { last: 1 };
     let gains = [10, 20, 30];
-    for (channel, amplified) in [(0, Some(10)), (1, Some(20)), (2, None)] {
-        let reading = Reading { channel, volts: 5 };
-        assert!(rt; gain(alloc, &reading, &panel, &gains) == amplified);
-        assert!(rt; kept_gain(alloc, channel, &panel, &gains) == amplified);
+    let reading = Reading { channel, volts: 5 };
+    [
+        gain(alloc, &reading, &panel, &gains),
+        kept_gain(alloc, channel, &panel, &gains),
+    ]
+}
+
+/// Channels, and the gain of each.
+static GAINS: [(usize, Option<u32>); 3] = [(0, Some(10)), (1, Some(20)), (2, None)];
+
+#[test]
+fn the_gain_of_a_channel(rt: HostRuntime) {
+    for (channel, gain) in &GAINS {
+        assert!(rt; gains_of(rt.alloc(), *channel) == [*gain; 2], "{channel}");
+    }
+}
+
+/// The volts of a reading that a panel of eight keeps.
+fn volts_of(alloc: Global, channel: usize) -> Option<u32> {
+    let reading = Reading {
+        channel,
+        volts: 230,
+    };
+    match on_panel(alloc, reading, &Panel { last: 7 }) {
+        Some(kept) => Some(kept.into_inner().volts),
+        None => None,
     }
 }
 
 #[test]
 fn a_value_that_keeps_its_context(rt: HostRuntime) {
-    let alloc = rt.alloc();
-    let panel = Panel { last: 7 };
-    for (channel, volts) in [(0, Some(230)), (7, Some(230)), (8, None)] {
-        let kept = on_panel(
-            alloc,
-            Reading {
-                channel,
-                volts: 230,
-            },
-            &panel,
-        );
-        assert!(rt; kept.map(|kept| kept.into_inner().volts) == volts);
-    }
+    assert!(rt; volts_of(rt.alloc(), 0) == Some(230));
+    assert!(rt; volts_of(rt.alloc(), 7) == Some(230));
+    assert!(rt; volts_of(rt.alloc(), 8).is_none());
 }
 
 /// A page of two baskets, of pears and plums, and of these.
@@ -260,12 +290,22 @@ fn is_first_of_made(rt: &impl Abort, alloc: Global, name: &str) -> bool {
     first_of_first(&page).as_str() == name
 }
 
+/// The share of each guest in a bill of 80 cents that is made.
+fn share_of_made(guests: u32) -> Option<u32> {
+    match made::bill(80, guests) {
+        Some(bill) => Some(share(&bill)),
+        None => None,
+    }
+}
+
+/// So many guests, and the share of each.
+static MADE: [(u32, Option<u32>); 4] = [(0, None), (1, Some(80)), (40, Some(2)), (41, None)];
+
 #[test]
 fn values_that_are_made(rt: HostRuntime) {
-    assert_eq!(rt; share(&made::for_two(901)), 450);
-    for (guests, each) in [(0, None), (1, Some(80)), (40, Some(2)), (41, None)] {
-        let bill = made::bill(80, guests);
-        assert!(rt; bill.map(|bill| share(&bill)) == each);
+    assert!(rt; share(&made::for_two(901)) == 450);
+    for (guests, each) in &MADE {
+        assert!(rt; share_of_made(*guests) == *each, "{guests}");
     }
     assert!(rt; is_first_of_made(&rt, rt.alloc(), "figs"));
 }

@@ -7,15 +7,10 @@ mod parts;
 mod rules;
 mod strings;
 
-use crate::tests::OrEnd;
-use garde::{Report, Validate, ValidateError};
+use crate::tests::{OrEnd, prints_as};
+use garde::Validate;
 use std::alloc::Global;
 use std::process::Abort;
-
-/// Whether a report prints this text.
-fn prints(rt: &impl Abort, alloc: Global, report: &Report, text: &str) -> bool {
-    report.to_string(alloc).or_end(rt).as_str() == text
-}
 
 /// Whether the report's text is this one. That of a valid value is empty.
 fn tells<V: Validate>(
@@ -25,11 +20,7 @@ fn tells<V: Validate>(
     ctx: &V::Context,
     text: &str,
 ) -> bool {
-    match value.validate_with(alloc, ctx) {
-        Ok(()) => text.is_empty(),
-        Err(ValidateError::Report(report)) => prints(rt, alloc, &report, text),
-        Err(ValidateError::Memory) => rt.abort(),
-    }
+    prints_as(rt, alloc, value.validate_with(alloc, ctx), text)
 }
 
 /// Puts a text at the end of a list.

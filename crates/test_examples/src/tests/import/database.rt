@@ -1,6 +1,6 @@
 //! An import into a table of SQLite, in memory.
 
-use crate::tests::{Lines, list};
+use super::{Lines, list};
 use example_import::run::{Batch, import};
 use example_table::database::Stock;
 use example_table::opening::OpenError;

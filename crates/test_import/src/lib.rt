@@ -1,5 +1,0 @@
-//! The test of `example_import`, by its public calls.
-#![tactic(auto)]
-
-#[cfg(test)]
-mod tests;
