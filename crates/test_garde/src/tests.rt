@@ -1,24 +1,39 @@
 //! Types as an author writes them, and what is reported for them.
+mod asked;
 mod badge;
 mod contact;
 mod containers;
 mod couple;
+mod custom;
 mod documents;
 mod first;
 mod handed_on;
 mod handlers;
+mod hostile;
 mod item;
 mod laws;
 mod long;
 mod many;
 mod names;
+mod nested;
 mod parts;
+mod paths;
+mod people;
 mod profile;
 mod promises;
+mod refusals;
+mod reports;
+mod rules;
+mod scale;
 mod signup;
 mod span;
+mod starved;
+mod texts;
+mod told;
 mod typed_states;
+mod unneeded;
 mod user;
+mod walks;
 
 use crate::tests::badge::Badge;
 use crate::tests::contact::Contact;
@@ -28,6 +43,7 @@ use crate::tests::item::{Identifier, Item};
 use crate::tests::long::Long;
 use crate::tests::profile::Profile;
 use crate::tests::signup::{Address, Limits, Signup};
+use crate::tests::told::tells_all;
 use crate::tests::user::User;
 use garde::{DefaultI18n, I18n, Report, Trail, Validate, ValidateError, select, with_i18n};
 use garde_report::Component;
@@ -55,24 +71,6 @@ fn address(rt: &impl Abort, alloc: Global, city: &str) -> Address {
         city: String::from_str(alloc, city).or_end(rt),
         code: String::from_str(alloc, "60200").or_end(rt),
     }
-}
-
-/// The report's text, or the empty one of a valid value.
-fn told(rt: &impl Abort, alloc: Global, answer: Result<(), ValidateError>) -> String {
-    match answer {
-        Ok(()) => String::new(alloc),
-        Err(refusal) => refusal.to_string(alloc).or_end(rt),
-    }
-}
-
-/// Whether an answer prints this text. That of a valid value prints nothing.
-fn prints_as(
-    rt: &impl Abort,
-    alloc: Global,
-    answer: Result<(), ValidateError>,
-    text: &str,
-) -> bool {
-    told(rt, alloc, answer).as_str() == text
 }
 
 /// Puts a tag at the end of a list.
@@ -104,7 +102,7 @@ fn wrong_form(rt: &impl Abort, alloc: Global, tags: &[&str], city: &str) -> Sign
 fn is_told_of_a_form(rt: &impl Abort, alloc: Global, text: &str) -> bool {
     let signup = wrong_form(rt, alloc, &["ok", "ü"], "");
     let answer = signup.validate_with(alloc, &Limits { most: 1 });
-    prints_as(rt, alloc, answer, text)
+    tells_all(rt, alloc, answer, text)
 }
 
 #[test]
@@ -123,7 +121,7 @@ fn rows<'a>(rt: &impl Abort, alloc: Global, home: &'a Address) -> Vec<Option<Box
 /// Whether this is reported for the rows of an address without a city.
 fn is_told_of_rows(rt: &impl Abort, alloc: Global, text: &str) -> bool {
     let home = address(rt, alloc, "");
-    prints_as(rt, alloc, rows(rt, alloc, &home).validate(alloc), text)
+    tells_all(rt, alloc, rows(rt, alloc, &home).validate(alloc), text)
 }
 
 #[test]
@@ -138,7 +136,7 @@ fn is_told_of_a_couple(rt: &impl Abort, alloc: Global, text: &str) -> bool {
         right: Contact::Silent,
     };
     let answer = couple.validate_with_i18n(alloc, &(), &DefaultI18n);
-    prints_as(rt, alloc, answer, text)
+    tells_all(rt, alloc, answer, text)
 }
 
 #[test]
@@ -148,7 +146,7 @@ fn couples_and_contacts(rt: HostRuntime) {
 
 /// Whether this is reported for a badge of this number.
 fn is_told_of_a_badge(rt: &impl Abort, alloc: Global, number: u8, text: &str) -> bool {
-    prints_as(rt, alloc, Badge { number }.validate(alloc), text)
+    tells_all(rt, alloc, Badge { number }.validate(alloc), text)
 }
 
 #[test]
@@ -172,7 +170,7 @@ fn is_told_of_homes(rt: &impl Abort, alloc: Global, text: &str, nodes: usize) ->
     let mut trail = Trail::new(alloc);
     trail.push(Component::key("homes")).or_end(rt);
     let answer = homes.validate_on(alloc, &Limits::default(), &mut trail, &DefaultI18n);
-    trail.nodes() == nodes && trail.depth() == 1 && prints_as(rt, alloc, answer, text)
+    trail.nodes() == nodes && trail.depth() == 1 && tells_all(rt, alloc, answer, text)
 }
 
 #[test]
@@ -196,7 +194,7 @@ fn two_bytes(rt: &impl Abort, alloc: Global) -> Long {
 /// What a handler says of a text of two bytes.
 fn said<H: I18n>(rt: &impl Abort, alloc: Global, h: &H) -> String {
     let answer = two_bytes(rt, alloc).validate_with_i18n(alloc, &(), h);
-    told(rt, alloc, answer)
+    told::told(rt, alloc, answer)
 }
 
 /// Whether a handler says this of a text of two bytes.
@@ -206,7 +204,7 @@ fn says<H: I18n>(rt: &impl Abort, alloc: Global, h: &H, text: &str) -> bool {
 
 /// Whether this is said where no handler is named.
 fn is_said_by_default(rt: &impl Abort, alloc: Global, text: &str) -> bool {
-    prints_as(rt, alloc, two_bytes(rt, alloc).validate(alloc), text)
+    tells_all(rt, alloc, two_bytes(rt, alloc).validate(alloc), text)
 }
 
 /// Whether the inner handler says this.
@@ -282,7 +280,7 @@ fn a_handler_borrows_its_label(rt: HostRuntime) {
 fn is_told_in_silence(rt: &impl Abort, alloc: Global, text: &str) -> bool {
     let signup = wrong_form(rt, alloc, &[], "Brno");
     let answer = signup.validate_with_i18n(alloc, &Limits { most: 9 }, &SILENT);
-    prints_as(rt, alloc, answer, text)
+    tells_all(rt, alloc, answer, text)
 }
 
 #[test]
@@ -351,7 +349,7 @@ fn wrong_profile(rt: &impl Abort, alloc: Global) -> Profile {
 
 /// Whether this is reported for the profile.
 fn is_told_of_a_profile(rt: &impl Abort, alloc: Global, text: &str) -> bool {
-    prints_as(rt, alloc, wrong_profile(rt, alloc).validate(alloc), text)
+    tells_all(rt, alloc, wrong_profile(rt, alloc).validate(alloc), text)
 }
 
 #[test]
@@ -370,7 +368,7 @@ fn wrong_users(rt: &impl Abort, alloc: Global) -> Vec<Option<User>> {
 /// Whether this is reported for the users by a handler that says nothing.
 fn is_told_of_users_in_silence(rt: &impl Abort, alloc: Global, text: &str) -> bool {
     let answer = wrong_users(rt, alloc).validate_with_i18n(alloc, &(), &SILENT);
-    prints_as(rt, alloc, answer, text)
+    tells_all(rt, alloc, answer, text)
 }
 
 #[test]
@@ -381,5 +379,5 @@ fn empty_texts_leave_their_paths(rt: HostRuntime) {
 
 #[test]
 fn want_of_memory_prints_a_line(rt: HostRuntime) {
-    assert!(rt; prints_as(&rt, rt.alloc(), Err(ValidateError::Memory), "out of memory"));
+    assert!(rt; tells_all(&rt, rt.alloc(), Err(ValidateError::Memory), "out of memory"));
 }

@@ -9,8 +9,9 @@ ghost use Rattle.garde.specs.Select.{messages};
 ghost use Rattle.garde.specs.Tree.{Tree, flat};
 ghost use Rattle.garde.specs.declared.validate_error.ValidateError.TheVariants as errors;
 
+use crate::tests::OrEnd;
+use crate::tests::told::tells_all;
 use crate::tests::user::User;
-use crate::tests::{OrEnd, prints_as};
 use garde::laws::{messages_hide_values, read_by_handler, read_under, select_part};
 use garde::{Validate, ValidateError};
 use std::alloc::Global;
@@ -45,7 +46,7 @@ fn validate_in_secret(alloc: Global, user: &User) -> Result<(), ValidateError>
 /// Whether a user of this name has a report of one line, which is this.
 fn is_kept_secret(rt: &impl Abort, alloc: Global, name: &str, line: &str) -> bool {
     let username = String::from_str(alloc, name).or_end(rt);
-    prints_as(
+    tells_all(
         rt,
         alloc,
         validate_in_secret(alloc, &User { username }),

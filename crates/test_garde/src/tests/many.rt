@@ -80,21 +80,23 @@ fn is_told_of_letters(rt: &impl Abort, alloc: Global, letters: &str, text: &str)
     is_told(rt, alloc, &Field("letters", &letters, apart), text)
 }
 
+/// Letters, and what is reported for them.
+static LETTERS: [(&str, &str); 4] = [
+    ("", ""),
+    ("abcdefghijklm", ""),
+    (
+        "abcdefghijklma",
+        "letters[13]: this letter stands before, and more than once\n",
+    ),
+    (
+        "abcabbd",
+        "letters[3]: this letter stands before, and more than once\nletters[4]: this letter stands before, and more than once\nletters[5]: this letter stands before, and more than once\n",
+    ),
+];
+
 #[test]
 fn items_that_are_there_before(rt: HostRuntime) {
-    let rows = [
-        ("", ""),
-        ("abcdefghijklm", ""),
-        (
-            "abcdefghijklma",
-            "letters[13]: this letter stands before, and more than once\n",
-        ),
-        (
-            "abcabbd",
-            "letters[3]: this letter stands before, and more than once\nletters[4]: this letter stands before, and more than once\nletters[5]: this letter stands before, and more than once\n",
-        ),
-    ];
-    for (letters, told) in rows {
+    for (letters, told) in &LETTERS {
         assert!(rt;
             is_told_of_letters(&rt, rt.alloc(), letters, told),
             "{letters}"
@@ -115,23 +117,25 @@ fn is_told_under(
     is_told(rt, alloc, &Field("number", &number, checks), text)
 }
 
+/// A number that may be missing, a condition, and what is reported.
+static NUMBERS: [(Option<u32>, bool, &str); 4] = [
+    (Some(1), true, ""),
+    (None, true, "number: not set\n"),
+    (
+        Some(1),
+        false,
+        "number: the condition of this field does not hold\n",
+    ),
+    (
+        None,
+        false,
+        "number: the condition of this field does not hold\n",
+    ),
+];
+
 #[test]
 fn conditions_on_other_fields(rt: HostRuntime) {
-    let rows = [
-        (Some(1), true, ""),
-        (None, true, "number: not set\n"),
-        (
-            Some(1),
-            false,
-            "number: the condition of this field does not hold\n",
-        ),
-        (
-            None,
-            false,
-            "number: the condition of this field does not hold\n",
-        ),
-    ];
-    for (number, condition, told) in rows {
-        assert!(rt; is_told_under(&rt, rt.alloc(), number, condition, told));
+    for (number, condition, told) in &NUMBERS {
+        assert!(rt; is_told_under(&rt, rt.alloc(), *number, *condition, told));
     }
 }

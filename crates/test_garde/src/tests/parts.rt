@@ -5,8 +5,9 @@ ghost use Rattle.garde.specs.Author.{items, entries, index_part};
 ghost use Rattle.garde.specs.Tree.{Tree, flat};
 ghost use Rattle.garde.specs.Words.{default_text};
 
+use crate::tests::OrEnd;
+use crate::tests::told::tells_all;
 use crate::tests::user::User;
-use crate::tests::{OrEnd, prints_as};
 use garde::fields::{Dive, check_part};
 use garde::laws::items_in_parts;
 use garde::{DefaultI18n, Report, Stated, Trail, Validate};
@@ -88,7 +89,7 @@ fn parts_have_the_report_of_the_whole(rt: HostRuntime) {
     let users = users(&rt, rt.alloc());
     let text =
         "[1].username: not ascii\n[1].username: length is lower than 3\n[2].username: length is lower than 3\n[3].username: length is greater than 25\n";
-    assert!(rt; prints_as(&rt, rt.alloc(), users.validate(rt.alloc()), text));
+    assert!(rt; tells_all(&rt, rt.alloc(), users.validate(rt.alloc()), text));
     for cut in 0..=4 {
         assert!(rt; is_told_in_parts(&rt, rt.alloc(), &users, cut, text));
     }

@@ -11,7 +11,6 @@ use garde::{DefaultI18n, RuleError};
 use garde_problem::{Escaped, JsonPointer};
 use std::alloc::{AllocError, Global};
 use std::fmt::Write;
-use std::test::Fail;
 use test_memory::Scarce;
 
 /// A pattern of 64 bytes.
@@ -41,10 +40,9 @@ fn searches_without_memory(alloc: Global, pattern: &str) -> Result<bool, AllocEr
 }
 
 #[test]
-fn a_searcher_searches_without_memory(rt: HostRuntime) -> Result<(), Fail> {
-    assert!(rt; searches_without_memory(rt.alloc(), LONG)?);
-    assert!(rt; searches_without_memory(rt.alloc(), "^(seven|more)$")?);
-    Ok(())
+fn a_searcher_searches_without_memory(rt: HostRuntime) {
+    assert!(rt; searches_without_memory(rt.alloc(), LONG) == Ok(true));
+    assert!(rt; searches_without_memory(rt.alloc(), "^(seven|more)$") == Ok(true));
 }
 
 /// The texts that the default handler has without memory.
@@ -78,9 +76,8 @@ fn hands_on_without_memory(alloc: Global) -> Result<bool, AllocError> {
 }
 
 #[test]
-fn a_reference_to_a_handler_copies_no_text(rt: HostRuntime) -> Result<(), Fail> {
-    assert!(rt; hands_on_without_memory(rt.alloc())?);
-    Ok(())
+fn a_reference_to_a_handler_copies_no_text(rt: HostRuntime) {
+    assert!(rt; hands_on_without_memory(rt.alloc()) == Ok(true));
 }
 
 // Whether a rule with a message is out of memory where its handler is.
@@ -94,9 +91,8 @@ fn message_needs_the_handler(alloc: Global) -> Result<bool, AllocError> {
 }
 
 #[test]
-fn a_message_is_out_of_memory_where_the_handler_is(rt: HostRuntime) -> Result<(), Fail> {
-    assert!(rt; message_needs_the_handler(rt.alloc())?);
-    Ok(())
+fn a_message_is_out_of_memory_where_the_handler_is(rt: HostRuntime) {
+    assert!(rt; message_needs_the_handler(rt.alloc()) == Ok(true));
 }
 
 /// What a path of eight keys prints as a pointer, and escaped.
@@ -115,7 +111,6 @@ fn prints_without_memory(alloc: Global) -> Result<bool, AllocError> {
 }
 
 #[test]
-fn a_path_of_eight_components_prints_without_memory(rt: HostRuntime) -> Result<(), Fail> {
-    assert!(rt; prints_without_memory(rt.alloc())?);
-    Ok(())
+fn a_path_of_eight_components_prints_without_memory(rt: HostRuntime) {
+    assert!(rt; prints_without_memory(rt.alloc()) == Ok(true));
 }
