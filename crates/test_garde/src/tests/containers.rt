@@ -7,6 +7,7 @@ use garde::{DefaultI18n, Report, Trail, Validate, ValidateError};
 use std::alloc::Global;
 use std::borrow::Cow;
 use std::collections::{BTreeMap, BTreeSet, BinaryHeap, HashMap, HashSet, LinkedList, VecDeque};
+use std::fmt::Write;
 use std::process::Abort;
 use std::rc::Rc;
 
@@ -16,7 +17,8 @@ const FIRST_TOO_SHORT: &str = "[0].username: length is lower than 3\nnodes: 2";
 /// What is reported for a value that is too short a name, and no more than that.
 const TOO_SHORT: &str = "username: length is lower than 3\nnodes: 1";
 
-fn user(rt: &impl Abort, alloc: Global, name: &str) -> User {
+/// A user of this name.
+pub fn user(rt: &impl Abort, alloc: Global, name: &str) -> User {
     User {
         username: String::from_str(alloc, name).or_end(rt),
     }
@@ -240,16 +242,15 @@ fn tuples_in_tuples(rt: HostRuntime) {
 }
 
 /// Puts what is reported for a user at this place whose name is too short.
-fn put_too_short(rt: &impl Abort, alloc: Global, text: &mut String, index: usize) {
-    text.push_str(&format!(in alloc; "[{index}].username: length is lower than 3\n").or_end(rt))
-        .or_end(rt)
+fn put_too_short(rt: &impl Abort, text: &mut String, index: usize) {
+    write!(text, "[{index}].username: length is lower than 3\n").or_end(rt)
 }
 
 /// What is reported for a tuple of so many users whose names are too short.
 fn each_too_short(rt: &impl Abort, alloc: Global, count: usize) -> String {
     let mut text = String::new(alloc);
     for index in 0..count {
-        put_too_short(rt, alloc, &mut text, index);
+        put_too_short(rt, &mut text, index);
     }
     format!(in alloc; "{text}nodes: {}", count.saturating_mul(2)).or_end(rt)
 }
@@ -316,9 +317,7 @@ fn names(rt: &impl Abort, alloc: Global) -> Names {
 fn paths_of(rt: &impl Abort, alloc: Global, report: &Report) -> String {
     let mut paths = String::new(alloc);
     for (path, _) in report.iter() {
-        paths
-            .push_str(&format!(in alloc; "{path:?}\n").or_end(rt))
-            .or_end(rt);
+        write!(paths, "{path:?}\n").or_end(rt);
     }
     paths
 }

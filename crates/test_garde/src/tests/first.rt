@@ -1,9 +1,10 @@
 //! At most so many faults of a value, and whether it has one.
 use super::wrong_form;
 use crate::tests::OrEnd;
+use crate::tests::containers::user;
 use crate::tests::signup::Limits;
 use crate::tests::user::User;
-use garde::{DefaultI18n, FirstError, Report, Trail, Validate};
+use garde::{DefaultI18n, Error, FirstError, Path, Report, Trail, Validate};
 use std::alloc::{AllocError, Global};
 use std::collections::BTreeMap;
 use std::process::Abort;
@@ -56,12 +57,16 @@ static FORM: [Line<'static>; 10] = [
     ("address.city: length is lower than 1", 10),
 ];
 
+/// Whether a fault is this line.
+fn is_line(rt: &impl Abort, alloc: Global, path: &Path, error: &Error, line: &str) -> bool {
+    format!(in alloc; "{path}: {error}").or_end(rt).as_str() == line
+}
+
 /// Whether a report has just these lines.
 fn has(rt: &impl Abort, alloc: Global, report: &Report, lines: &[Line<'_>]) -> bool {
     let mut same = report.len() == lines.len();
     for ((path, error), (line, _)) in report.iter().zip(lines) {
-        let told = format!(in alloc; "{path}: {error}").or_end(rt);
-        same = same && told.as_str() == *line;
+        same = same && is_line(rt, alloc, path, error, line);
     }
     same
 }
@@ -137,8 +142,7 @@ fn is_answered<V: Validate>(
 fn users(rt: &impl Abort, alloc: Global, name: &str) -> Vec<User> {
     let mut users = Vec::new(alloc);
     for _ in 0..5 {
-        let username = String::from_str(alloc, name).or_end(rt);
-        users.push(User { username }).or_end(rt);
+        users.push(user(rt, alloc, name)).or_end(rt);
     }
     users
 }
@@ -147,8 +151,7 @@ fn users(rt: &impl Abort, alloc: Global, name: &str) -> Vec<User> {
 fn named(rt: &impl Abort, alloc: Global) -> BTreeMap<&'static str, User> {
     let mut named = BTreeMap::new(alloc);
     for letter in ["e", "b", "a", "d", "c"] {
-        let username = String::from_str(alloc, "é").or_end(rt);
-        named.insert(letter, User { username }).or_end(rt);
+        named.insert(letter, user(rt, alloc, "é")).or_end(rt);
     }
     named
 }
