@@ -30,7 +30,7 @@ pub trait FromParts: Drop {
 /// This form, of whose value one of the type `T` is made.
 ///
 /// A struct is read by `Built(Object((Member(..), Member(..))), PhantomData)`, where `T` is the struct:
-/// a type of yours that implements `FromParts`. Where the compiler cannot tell it from the use, name it
+/// a type of yours that implements `FromParts`. Where the compiler does not find it from the use, name it
 /// by `PhantomData::<&Line<'_>>`. No fault is added. What the rules ask is known of the parts of the
 /// value.
 #[derive(Clone, Copy, Debug)]
