@@ -75,7 +75,9 @@ fn read_nested<'t, 'a, T: FromNested, M: Members<'a, Out = T::Own>, H: I18n + Fo
 {
     let way = Way {
         alloc,
-        form,
+        name: form.0,
+        members: &form.1,
+        made: PhantomData::<T>,
         closed,
         h,
         tree,

@@ -4,9 +4,9 @@ ghost use Rattle.garde.specs.Visits.{Visited};
 ghost use Rattle.garde_schema.specs.Forms.{forget};
 ghost use Rattle.garde_schema.specs.Nested.{first_visits, last_visits, made_of, own_value};
 
+use super::FromNested;
 use super::level::{Begun, Level};
 use super::steps::{begin, check_rest, made};
-use super::{FromNested, Nested};
 use crate::form::Members;
 use crate::handler::FormI18n;
 use crate::items::Items;
@@ -14,12 +14,15 @@ use crate::put::with;
 use garde::{Component, I18n, Report, Trail};
 use garde_tape::{Tree, TreeItems};
 use std::alloc::{AllocError, Global};
+use std::marker::PhantomData;
 
-/// The form, whether it is closed, the handler, and the tree that the walk begins at.
+/// The parts of the form, whether it is closed, the handler, and the tree that the walk begins at.
 #[derive(Drop)]
 pub(super) struct Way<'t, 'r, 'f, 'h, 'a, M, T, H> {
     pub(super) alloc: Global,
-    pub(super) form: &'f Nested<'a, M, T>,
+    pub(super) name: &'a str,
+    pub(super) members: &'f M,
+    pub(super) made: PhantomData<T>,
     pub(super) closed: bool,
     pub(super) h: &'h H,
     pub(super) tree: &'r Tree<'t, 'a>,
@@ -45,17 +48,17 @@ impl<'t, 'r, 'f, 'h, 'a: 't, T: FromNested, M: Members<'a, Out = T::Own>, H: I18
 
     ghost text = { λ way. H.text way.h.now };
 
-    ghost name = { λ way. way.form.now.0.now };
+    ghost name = { λ way. way.name.now };
 
-    ghost first = { λ way j. first_visits way.form.now.0.now
-        (M.visits way.form.now.1 (H.form_text way.h.now)) (H.form_text way.h.now) j };
+    ghost first = { λ way j. first_visits way.name.now
+        (M.visits way.members.now (H.form_text way.h.now)) (H.form_text way.h.now) j };
 
-    ghost last = { λ way j. last_visits way.closed way.form.now.0.now
-        (M.names way.form.now.1) (H.form_text way.h.now) j };
+    ghost last = { λ way j. last_visits way.closed way.name.now
+        (M.names way.members.now) (H.form_text way.h.now) j };
 
-    ghost spells = { λ way j. own_value (M.value way.form.now.1) j };
+    ghost spells = { λ way j. own_value (M.value way.members.now) j };
 
-    ghost keeps = { λ way own. M.keeps way.form.now.1 own };
+    ghost keeps = { λ way own. M.keeps way.members.now own };
 
     ghost builds = { λ way own values. T.builds own values };
 
@@ -69,8 +72,8 @@ impl<'t, 'r, 'f, 'h, 'a: 't, T: FromNested, M: Members<'a, Out = T::Own>, H: I18
     ) -> Result<Begun<T::Own, TreeItems<'t, 'a>>, AllocError> {
         begin(
             self.alloc,
-            self.form.0,
-            &self.form.1,
+            self.name,
+            self.members,
             tree,
             trail,
             report,
@@ -79,7 +82,7 @@ impl<'t, 'r, 'f, 'h, 'a: 't, T: FromNested, M: Members<'a, Out = T::Own>, H: I18
     }
 
     fn enter(&self, trail: &mut Trail<'a>) -> Result<(), AllocError> {
-        trail.push(Component::key(self.form.0))
+        trail.push(Component::key(self.name))
     }
 
     fn enter_item(&self, index: usize, trail: &mut Trail<'a>) -> Result<(), AllocError> {
@@ -102,18 +105,17 @@ impl<'t, 'r, 'f, 'h, 'a: 't, T: FromNested, M: Members<'a, Out = T::Own>, H: I18
         trail: &mut Trail<'a>,
         report: &mut Report,
     ) -> Result<Option<T>, AllocError>
-        ensures answer { Visited (last_visits self.now.closed self.now.form.now.0.now
-            (M.names self.now.form.now.1) (H.form_text self.now.h.now) tree.now)
+        ensures answer { Visited (last_visits self.now.closed self.now.name.now
+            (M.names self.now.members.now) (H.form_text self.now.h.now) tree.now)
             (H.text self.now.h.now) trail.old trail.new report.old report.new (forget result) }
         ensures value { IfOk result (λ out.
             out ≡ made_of T.builds own values) }
     {
-        let Nested(name, members, _) = self.form;
         let told = check_rest(
             self.alloc,
             self.closed,
-            name,
-            members,
+            self.name,
+            self.members,
             tree,
             trail,
             report,
