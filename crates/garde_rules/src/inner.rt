@@ -199,14 +199,14 @@ impl<K: Ord + PathComponentKind, T> Inner<T> for BTreeMap<K, T> {
     }
 
     fn item(&self, index: usize) -> Option<&T> {
-        match self.iter().nth(index) {
+        match entry_at(self, index) {
             Some(entry) => Some(entry.1),
             None => None,
         }
     }
 
     fn component<'a>(&'a self, index: usize) -> Component<'a> {
-        match self.iter().nth(index) {
+        match entry_at(self, index) {
             Some(entry) => entry.0.component(),
             None => Component::text(K::component_kind(), ""),
         }
@@ -215,6 +215,14 @@ impl<K: Ord + PathComponentKind, T> Inner<T> for BTreeMap<K, T> {
     fn in_order<'a>(&'a self) -> Option<Iter<'a, K, T>> {
         Some(self.iter())
     }
+}
+
+/// The entry of a map with this number, in the order of the keys.
+fn entry_at<K: Ord, T>(entries: &BTreeMap<K, T>, index: usize) -> Option<(&K, &T)>
+    ensures { option_map (λ entry. (entry.0.now, entry.1.now)) result
+        ≡ slice_get entries.now.entries index }
+{
+    entries.iter().nth(index)
 }
 
 /// Calls `f` on each item of the field once, in order, with its component, until it returns `Err`,
