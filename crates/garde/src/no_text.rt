@@ -1,7 +1,7 @@
 //! The handler of a walk that asks only whether there is a fault.
 ghost use Rattle.std.specs.Prelude.{[]};
 
-use garde_i18n::{I18n, InvalidCreditCard, InvalidPhoneNumber, InvalidUrl, IpKind};
+use garde_i18n::{Datum, Texts};
 use std::alloc::{AllocError, Global};
 use std::borrow::CowStr;
 
@@ -9,114 +9,10 @@ use std::borrow::CowStr;
 #[derive(Drop)]
 pub struct NoText;
 
-impl I18n for NoText {
-    ghost text = { λ _ _. [] };
+impl Texts for NoText {
+    ghost texts = { λ _ _. [] };
 
-    fn length_lower_than(
-        &self,
-        _alloc: Global,
-        _min: usize,
-    ) -> Result<CowStr<'static>, AllocError> {
-        Ok(CowStr::Borrowed(""))
-    }
-
-    fn length_greater_than(
-        &self,
-        _alloc: Global,
-        _max: usize,
-    ) -> Result<CowStr<'static>, AllocError> {
-        Ok(CowStr::Borrowed(""))
-    }
-
-    fn range_lower_than(&self, _alloc: Global, _min: &str) -> Result<CowStr<'static>, AllocError> {
-        Ok(CowStr::Borrowed(""))
-    }
-
-    fn range_greater_than(
-        &self,
-        _alloc: Global,
-        _max: &str,
-    ) -> Result<CowStr<'static>, AllocError> {
-        Ok(CowStr::Borrowed(""))
-    }
-
-    fn credit_card_invalid(
-        &self,
-        _alloc: Global,
-        _reason: InvalidCreditCard,
-    ) -> Result<CowStr<'static>, AllocError> {
-        Ok(CowStr::Borrowed(""))
-    }
-
-    fn pattern_no_match(
-        &self,
-        _alloc: Global,
-        _pattern: &str,
-    ) -> Result<CowStr<'static>, AllocError> {
-        Ok(CowStr::Borrowed(""))
-    }
-
-    fn contains_missing(
-        &self,
-        _alloc: Global,
-        _pattern: &str,
-    ) -> Result<CowStr<'static>, AllocError> {
-        Ok(CowStr::Borrowed(""))
-    }
-
-    fn url_invalid(
-        &self,
-        _alloc: Global,
-        _reason: InvalidUrl,
-    ) -> Result<CowStr<'static>, AllocError> {
-        Ok(CowStr::Borrowed(""))
-    }
-
-    fn prefix_missing(
-        &self,
-        _alloc: Global,
-        _pattern: &str,
-    ) -> Result<CowStr<'static>, AllocError> {
-        Ok(CowStr::Borrowed(""))
-    }
-
-    fn suffix_missing(
-        &self,
-        _alloc: Global,
-        _pattern: &str,
-    ) -> Result<CowStr<'static>, AllocError> {
-        Ok(CowStr::Borrowed(""))
-    }
-
-    fn phone_number_invalid(
-        &self,
-        _alloc: Global,
-        _reason: InvalidPhoneNumber,
-    ) -> Result<CowStr<'static>, AllocError> {
-        Ok(CowStr::Borrowed(""))
-    }
-
-    fn ip_invalid(&self, _alloc: Global, _kind: IpKind) -> Result<CowStr<'static>, AllocError> {
-        Ok(CowStr::Borrowed(""))
-    }
-
-    fn matches_field_mismatch(
-        &self,
-        _alloc: Global,
-        _field: &str,
-    ) -> Result<CowStr<'static>, AllocError> {
-        Ok(CowStr::Borrowed(""))
-    }
-
-    fn ascii_invalid(&self, _alloc: Global) -> Result<CowStr<'static>, AllocError> {
-        Ok(CowStr::Borrowed(""))
-    }
-
-    fn alphanumeric_invalid(&self, _alloc: Global) -> Result<CowStr<'static>, AllocError> {
-        Ok(CowStr::Borrowed(""))
-    }
-
-    fn required_not_set(&self, _alloc: Global) -> Result<CowStr<'static>, AllocError> {
+    fn text_of(&self, _alloc: Global, _datum: Datum<'_>) -> Result<CowStr<'static>, AllocError> {
         Ok(CowStr::Borrowed(""))
     }
 }
