@@ -4,6 +4,7 @@ use super::bodies::drawn;
 use super::members::{found, got};
 use garde_tape::{FieldValue, Scratch, Tree, parse};
 use std::alloc::Global;
+use std::process::Abort;
 
 // What a tree is, and what is found in it under a name, with the last value there.
 fn seen(
@@ -31,21 +32,31 @@ fn is_same(alloc: Global, tree: &Tree<'_, '_>, text: &str, name: &str) -> bool {
 }
 
 // A tree by itself, and the text that spells it.
-fn tell_same(rt: &HostRuntime, tree: &Tree<'_, '_>, text: &str) {
+fn tell_same(rt: &impl Abort, alloc: Global, tree: &Tree<'_, '_>, text: &str) {
     for name in ["a", "b", ""] {
-        assert!(rt; is_same(rt.alloc(), tree, text, name), "{text}, {name}");
+        assert!(rt; is_same(alloc, tree, text, name), "{text}, {name}");
     }
 }
 
 #[test]
 fn reads_texts_as_the_json_that_spells_them(rt: HostRuntime) {
-    tell_same(&rt, &Tree::text(""), "\"\"");
-    tell_same(&rt, &Tree::text("it"), "\"it\"");
-    tell_same(&rt, &Tree::text("1"), "\"1\"");
-    tell_same(&rt, &Tree::text("a\"\n\u{e9}"), "\"a\\\"\\n\\u00e9\"");
-    tell_same(&rt, &Tree::texts(&[]), "[]");
-    tell_same(&rt, &Tree::texts(&["it"]), "[\"it\"]");
-    tell_same(&rt, &Tree::texts(&["", "a", "a"]), "[\"\",\"a\",\"a\"]");
+    tell_same(&rt, rt.alloc(), &Tree::text(""), "\"\"");
+    tell_same(&rt, rt.alloc(), &Tree::text("it"), "\"it\"");
+    tell_same(&rt, rt.alloc(), &Tree::text("1"), "\"1\"");
+    tell_same(
+        &rt,
+        rt.alloc(),
+        &Tree::text("a\"\n\u{e9}"),
+        "\"a\\\"\\n\\u00e9\"",
+    );
+    tell_same(&rt, rt.alloc(), &Tree::texts(&[]), "[]");
+    tell_same(&rt, rt.alloc(), &Tree::texts(&["it"]), "[\"it\"]");
+    tell_same(
+        &rt,
+        rt.alloc(),
+        &Tree::texts(&["", "a", "a"]),
+        "[\"\",\"a\",\"a\"]",
+    );
 }
 
 #[test]
@@ -54,20 +65,28 @@ fn reads_fields_as_the_json_that_spells_them(rt: HostRuntime) {
     let other = FieldValue::Text("");
     let list = ["it", ""];
     let list = FieldValue::Texts(&list);
-    tell_same(&rt, &Tree::fields(&[]), "{}");
-    tell_same(&rt, &Tree::fields(&[("a", it)]), "{\"a\":\"it\"}");
+    tell_same(&rt, rt.alloc(), &Tree::fields(&[]), "{}");
     tell_same(
         &rt,
+        rt.alloc(),
+        &Tree::fields(&[("a", it)]),
+        "{\"a\":\"it\"}",
+    );
+    tell_same(
+        &rt,
+        rt.alloc(),
         &Tree::fields(&[("b", other), ("a", it), ("", list)]),
         "{\"b\":\"\",\"a\":\"it\",\"\":[\"it\",\"\"]}",
     );
     tell_same(
         &rt,
+        rt.alloc(),
         &Tree::fields(&[("a", it), ("ab", it), ("a", other)]),
         "{\"a\":\"it\",\"ab\":\"it\",\"a\":\"\"}",
     );
     tell_same(
         &rt,
+        rt.alloc(),
         &Tree::fields(&[("a", other), ("a", list), ("a", it)]),
         "{\"a\":\"\",\"a\":[\"it\",\"\"],\"a\":\"it\"}",
     );
