@@ -5,8 +5,8 @@ ghost use Rattle.garde_i18n.specs.Datum as datum;
 ghost use Rattle.garde_i18n.specs.Reasons.{ip_kind_text};
 ghost use Rattle.test_rules.specs.declared.tests.lengths.handlers.czech.TheConstants as words;
 
-use super::{Asked, assert_answers};
-use garde_i18n::{I18n, InvalidCreditCard, InvalidPhoneNumber, InvalidUrl, IpKind};
+use super::assert_answers;
+use garde_i18n::{Datum, I18n, InvalidCreditCard, InvalidPhoneNumber, InvalidUrl, IpKind};
 use std::alloc::{AllocError, Global};
 use std::borrow::CowStr;
 
@@ -191,35 +191,41 @@ impl I18n for Czech {
 }
 
 /// What is asked, and its text.
-static ROWS: [(Asked<'static>, &str); 19] = [
-    (Asked::LengthLower(0), "délka je menší než 0 znaků"),
-    (Asked::LengthLower(1), "délka je menší než 1 znak"),
-    (Asked::LengthLower(2), "délka je menší než 2 znaky"),
-    (Asked::LengthGreater(4), "délka je větší než 4 znaky"),
-    (Asked::LengthGreater(5), "délka je větší než 5 znaků"),
-    (Asked::RangeLower("18"), "hodnota je menší než 18"),
-    (Asked::RangeGreater("120"), "hodnota je větší než 120"),
+static ROWS: [(Datum<'static>, &str); 19] = [
+    (Datum::LengthLowerThan(0), "délka je menší než 0 znaků"),
+    (Datum::LengthLowerThan(1), "délka je menší než 1 znak"),
+    (Datum::LengthLowerThan(2), "délka je menší než 2 znaky"),
+    (Datum::LengthGreaterThan(4), "délka je větší než 4 znaky"),
+    (Datum::LengthGreaterThan(5), "délka je větší než 5 znaků"),
+    (Datum::RangeLowerThan("18"), "hodnota je menší než 18"),
+    (Datum::RangeGreaterThan("120"), "hodnota je větší než 120"),
     (
-        Asked::Card(InvalidCreditCard::Other),
+        Datum::CreditCardInvalid(InvalidCreditCard::Other),
         "neplatné číslo platební karty",
     ),
-    (Asked::Pattern("[0-9]"), "text neodpovídá vzoru /[0-9]/"),
-    (Asked::Contains("@"), "text neobsahuje \"@\""),
-    (Asked::Url(InvalidUrl::Other), "neplatná adresa URL"),
-    (Asked::Prefix("+"), "text nezačíná na \"+\""),
-    (Asked::Suffix(".cz"), "text nekončí na \".cz\""),
     (
-        Asked::Phone(InvalidPhoneNumber::TooLong),
+        Datum::PatternNoMatch("[0-9]"),
+        "text neodpovídá vzoru /[0-9]/",
+    ),
+    (Datum::ContainsMissing("@"), "text neobsahuje \"@\""),
+    (Datum::UrlInvalid(InvalidUrl::Other), "neplatná adresa URL"),
+    (Datum::PrefixMissing("+"), "text nezačíná na \"+\""),
+    (Datum::SuffixMissing(".cz"), "text nekončí na \".cz\""),
+    (
+        Datum::PhoneNumberInvalid(InvalidPhoneNumber::TooLong),
         "neplatné telefonní číslo",
     ),
-    (Asked::Ip(IpKind::Any), "neplatná adresa IP"),
-    (Asked::Matches("heslo"), "hodnota se liší od pole heslo"),
-    (Asked::NotAscii, "text má jiné znaky než ASCII"),
+    (Datum::IpInvalid(IpKind::Any), "neplatná adresa IP"),
     (
-        Asked::NotAlphanumeric,
+        Datum::MatchesFieldMismatch("heslo"),
+        "hodnota se liší od pole heslo",
+    ),
+    (Datum::AsciiInvalid, "text má jiné znaky než ASCII"),
+    (
+        Datum::AlphanumericInvalid,
         "text má jiné znaky než písmena a číslice",
     ),
-    (Asked::NotSet, "hodnota chybí"),
+    (Datum::RequiredNotSet, "hodnota chybí"),
 ];
 
 #[test]
