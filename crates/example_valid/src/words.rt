@@ -12,7 +12,7 @@ ghost use Rattle.garde.specs.Fields as words;
 ghost use Rattle.garde.specs.Tree.{Tree};
 ghost use Rattle.garde.specs.Words.{is_ascii_text, is_alphanumeric_text, is_ip_text, has_part, has_prefix, has_suffix, matches_source, url_answer};
 
-use garde::Validate;
+use garde::Stated;
 use garde::rules::credit_card::CreditCard;
 use garde::rules::pattern::regex::Regex;
 use garde::rules::phone_number::PhoneNumber;
@@ -20,7 +20,7 @@ use std::collections::{BTreeMap, BTreeSet, HashMap, HashSet};
 use std::hash::Hash;
 
 /// Of what is put together: both sides, and what stands under a component.
-pub fn together<A: Validate, B: Validate>(a: &A, b: &B, c: &A::Context, d: &B::Context)
+pub fn together<A: Stated, B: Stated>(a: &A, b: &B, c: &A::Context, d: &B::Context)
     ensures both { Known (A.visits a.now c.now and B.visits b.now d.now)
         ↔ (Known (A.visits a.now c.now) × Known (B.visits b.now d.now)) }
     ensures field { Known (words.field "name" (A.visits a.now c.now))
@@ -31,13 +31,13 @@ pub fn together<A: Validate, B: Validate>(a: &A, b: &B, c: &A::Context, d: &B::C
 {}
 
 /// Of a part that is asked under a condition.
-pub fn conditions<A: Validate>(condition: bool, a: &A, c: &A::Context)
+pub fn conditions<A: Stated>(condition: bool, a: &A, c: &A::Context)
     ensures { Known (words.when condition (A.visits a.now c.now))
         ↔ (IsTrue condition → Known (A.visits a.now c.now)) }
 {}
 
 /// Of an option: that it has a value, always or under a condition, and what is asked of that one.
-pub fn options<A: Validate>(value: &Option<A>, c: &A::Context, condition: bool)
+pub fn options<A: Stated>(value: &Option<A>, c: &A::Context, condition: bool)
     ensures required { Known (words.required value.now) ↔ IsSome value.now }
     ensures required_if { Known (words.required_if condition value.now)
         ↔ (IsTrue condition → IsSome value.now) }
@@ -59,13 +59,13 @@ pub fn whole_options<A>(value: &Option<A>)
 {}
 
 /// Of the items of a list.
-pub fn items<A: Validate>(list: &Vec<A>, c: &A::Context)
+pub fn items<A: Stated>(list: &Vec<A>, c: &A::Context)
     ensures { Known (words.each (λ x. A.visits x c.now) list.now)
         ↔ All (λ x. Known (A.visits x c.now)) list.now.items }
 {}
 
 /// Of the items of sets.
-pub fn sets<A: Validate + Ord + Hash>(set: &BTreeSet<A>, hashed: &HashSet<A>, c: &A::Context)
+pub fn sets<A: Stated + Ord + Hash>(set: &BTreeSet<A>, hashed: &HashSet<A>, c: &A::Context)
     ensures set { Known (words.each_of_set (λ x. A.visits x c.now) set.now)
         ↔ All (λ x. Known (A.visits x c.now)) set.now.keys }
     ensures hashed { Known (words.items_in_any_order (λ x. A.visits x c.now) hashed.now.keys)
@@ -73,7 +73,7 @@ pub fn sets<A: Validate + Ord + Hash>(set: &BTreeSet<A>, hashed: &HashSet<A>, c:
 {}
 
 /// Of the values of maps.
-pub fn values<A: Validate>(
+pub fn values<A: Stated>(
     texts: &BTreeMap<String, A>,
     numbers: &BTreeMap<usize, A>,
     hashed: &HashMap<String, A>,

@@ -46,7 +46,7 @@ impl<T: Validate> Recursive for Tree<T> {
     }
 }
 
-impl<T: Stated> Stated for Tree<T> {
+impl<T: Validate> Stated for Tree<T> {
     type Context = T::Context;
 
     ghost visits = { nest_visits ⟦<Tree<T> as Recursive>⟧.nest };
