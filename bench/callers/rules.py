@@ -1,4 +1,4 @@
-"""The rules of crates/example_order/src/order.rt for other libraries of Python: models of pydantic 2, and a schema for
+"""The rules of crates/example_order/src/body.rt for other libraries of Python: models of pydantic 2, and a schema for
 jsonschema.
 
 A model with `Any` in its name has no upper bound of lines. pydantic stops at the first line beyond that bound, and so reports
