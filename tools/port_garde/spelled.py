@@ -29,10 +29,10 @@ impl<'a> ReadBody<'a> for {made} {{
         scratch: &'a mut Scratch,
         most: usize,
         h: &H,
-    ) -> Result<Valid<{made}>, FirstReadError> {{
+    ) -> Result<{made}, FirstReadError> {{
 {forms}
         match read_json_first(alloc, bytes, scratch, &{name}_form, most, h) {{
-            Ok(value) => Ok(Valid::known(value, &())),
+            Ok(value) => Ok(Valid::known(value, &()).into_inner()),
             Err(error) => Err(error),
         }}
     }}

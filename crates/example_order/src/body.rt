@@ -105,7 +105,7 @@ impl<'a> ReadBody<'a> for Order<'a> {
         scratch: &'a mut Scratch,
         most: usize,
         h: &H,
-    ) -> Result<Valid<Order<'a>>, FirstReadError> {
+    ) -> Result<Order<'a>, FirstReadError> {
         let line_form = Built(
             Object(Closed((
                 Member("code", Text(Is(Prefix("P")))),
@@ -124,7 +124,7 @@ impl<'a> ReadBody<'a> for Order<'a> {
             PhantomData::<&Order<'_>>,
         );
         match read_json_first(alloc, bytes, scratch, &order_form, most, h) {
-            Ok(value) => Ok(Valid::known(value, &())),
+            Ok(value) => Ok(Valid::known(value, &()).into_inner()),
             Err(error) => Err(error),
         }
     }

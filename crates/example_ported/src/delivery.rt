@@ -239,7 +239,7 @@ impl<'a> ReadBody<'a> for Delivery<'a> {
         scratch: &'a mut Scratch,
         most: usize,
         h: &H,
-    ) -> Result<Valid<Delivery<'a>>, FirstReadError> {
+    ) -> Result<Delivery<'a>, FirstReadError> {
         let hours_form = OneOf(&[
             ("any_time", Hours::AnyTime),
             ("morning", Hours::Morning),
@@ -285,7 +285,7 @@ impl<'a> ReadBody<'a> for Delivery<'a> {
             PhantomData::<&Delivery<'_>>,
         );
         match read_json_first(alloc, bytes, scratch, &delivery_form, most, h) {
-            Ok(value) => Ok(Valid::known(value, &())),
+            Ok(value) => Ok(Valid::known(value, &()).into_inner()),
             Err(error) => Err(error),
         }
     }

@@ -26,10 +26,7 @@ fn read<'a, B: ReadBody<'a>, H: I18n + FormI18n>(
     ensures valid { IfOk result (λ _. SpellsValid B.spelled B.visits bytes.now) }
 {
     match B::read_body(alloc, bytes, scratch, most, h) {
-        Ok(body) => {
-            let _ = body.into_inner();
-            Ok(())
-        }
+        Ok(_) => Ok(()),
         Err(error) => Err(error),
     }
 }

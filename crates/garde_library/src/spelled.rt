@@ -1,12 +1,13 @@
 //! Types whose values JSON spells.
 ghost use Rattle.std.specs.Prelude.{◌≡◌, Some, IfOk};
+ghost use Rattle.garde.specs.Validated.{IsValid};
 ghost use Rattle.garde_tape.specs.Input.{without_mark};
 ghost use Rattle.garde_schema.specs.Bytes.{OfDocument};
 ghost use Rattle.garde_schema.specs.FirstRead.{AnswersFirstBytes};
 ghost use Rattle.garde_schema.specs.Forms.{forget};
 ghost use Rattle.garde_library.specs.Spelling.{Spelling};
 
-use garde::{I18n, Stated, Valid};
+use garde::{I18n, Stated};
 use garde_schema::{FirstReadError, FormI18n, Scratch};
 use std::alloc::Global;
 
@@ -19,17 +20,18 @@ pub trait Spelled {
 /// A type whose values are the bodies that a library checks.
 pub trait ReadBody<'a>: Spelled + Stated + Drop {
     /// Reads a body: the value that it spells, or at most so many faults of its form and of its rules,
-    /// as `read_json_first` does.
+    /// as `read_json_first` does. What the rules ask is known of the value.
     fn read_body<H: I18n + FormI18n>(
         alloc: Global,
         bytes: &'a [u8],
         scratch: &'a mut Scratch,
         most: usize,
         h: &H,
-    ) -> Result<Valid<Self>, FirstReadError>
+    ) -> Result<Self, FirstReadError>
         ensures answer { AnswersFirstBytes
             (λ j. ⟦<Self as Spelled>⟧.spelled.visits (H.form_text h.now) j) (H.text h.now)
             most (without_mark bytes.now) (forget result) }
         ensures value { IfOk result (λ v. OfDocument (without_mark bytes.now)
-            (λ j. ⟦<Self as Spelled>⟧.spelled.value j ≡ Some v)) };
+            (λ j. ⟦<Self as Spelled>⟧.spelled.value j ≡ Some v)) }
+        ensures valid { IfOk result (λ v. IsValid ⟦<Self as Stated>⟧.visits v) };
 }
