@@ -5,6 +5,7 @@ with CR LF; LF and CR alone end one too here, as in many lists, and empty lines 
 fault, told with the line of its quote, and then the record is read on by the marks alone, to find its end.
 """
 import re
+import typing
 from dataclasses import dataclass
 
 QUOTED = re.compile(r'"((?:[^"]|"")*)"(?=[,\r\n]|\Z)')
@@ -20,7 +21,7 @@ class Record:
 
     line: int
     cells: list
-    fault: str | None
+    fault: typing.Optional[str]
 
 
 def line_of(text, place):

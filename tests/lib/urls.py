@@ -1,5 +1,5 @@
 """What is wrong with a text as an absolute URL: a small reading of the URL Standard, sections 3.5 and 4.4, for the texts that
-tests/tables makes. It has no IPv6 addresses, no port beyond an empty one, and no file URLs."""
+`tests/random` makes. It has no IPv6 addresses, no port beyond an empty one, and no file URLs."""
 import re
 import unicodedata
 from urllib.parse import unquote
@@ -13,6 +13,10 @@ NO_HOST = "invalid domain character"
 # The forbidden host code points but for controls, and those that a domain may not have either.
 FORBIDDEN = set("\0\t\n\r #/:<>?@[\\]^|")
 FORBIDDEN_IN_DOMAINS = FORBIDDEN | {"%", "\x7f"} | {chr(code) for code in range(32)}
+
+
+class Unsaid(Exception):
+    """An input of which this module does not say what is answered."""
 
 
 def number(part):
@@ -76,7 +80,7 @@ def url_fault(text):
     _, has_user, host = authority.rpartition("@")
     host, has_port, port = host.partition(":")
     if port:
-        raise ValueError(f"a port, of which this model does not tell: {text!r}")
+        raise Unsaid(f"a port: {text!r}")
     if is_special:
         return domain_fault(host)
     if not host and (has_user or has_port):

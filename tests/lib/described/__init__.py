@@ -1,0 +1,30 @@
+"""Programs, described by the words of `lib.form` after their READMEs: what each is to answer to an input, and random inputs of it.
+
+A module of a program has `some(dice)`, which makes a case, `wanted(case)`, the answer, and may have `met(program, case)`, which runs
+the program on a case; else it is run once. An answer is a tuple of values. A pattern stands for each text that it matches.
+"""
+import re
+import subprocess
+import typing
+
+
+class Case(typing.NamedTuple):
+    """A run: the words of the command line, the bytes of the input, and how they were spoiled."""
+    words: tuple
+    given: bytes
+    ways: frozenset = frozenset()
+
+
+def run(program, case, **where):
+    """What one run of a program answers."""
+    ran = subprocess.run([program, *case.words], input=case.given, capture_output=True, timeout=60, **where)
+    return ran.returncode, ran.stdout, ran.stderr
+
+
+def fits(wanted, met):
+    """Whether an answer is the one that is wanted."""
+    return all(part == it or isinstance(part, re.Pattern) and isinstance(it, bytes) and part.fullmatch(it) for part, it in zip(wanted, met))
+
+
+def pattern(text):
+    return re.compile(text.encode("utf-8"), re.DOTALL)

@@ -1,0 +1,165 @@
+"""The program use_config, by crates/use_config/README.md: settings in TOML, which Python's `tomllib` reads, or in JSON.
+
+Of a text that is no TOML the line and the column are not compared: two readers may stop at different places. `tomllib` reads TOML 1.0
+and the program TOML 1.1, so no line feed is put into a text, which may fall into an inline table. An integer beyond 64 bits is no
+TOML, which `tomllib` does not ask. Before Python 3.11 there is no `tomllib`, and all settings are in JSON.
+"""
+import codecs
+import datetime
+import ipaddress
+import re
+
+from lib.described import Case, pattern
+from lib.faults import REQUIRED, Rule, between, items, length, matches, suffix
+from lib.form import Checked, Closed, ListUnder, MapUnder, Member, Nullish, Object, OneOf, Text, Under, Whole, read
+from lib.json_values import DEEPEST, NoJson, Number, Pairs, depth, of_bytes
+from lib.reports import lines
+from lib.spoiled import Raw, json_text, many, missing, renamed, repeated, some_bytes, some_json, some_of, unknown, wrong_type
+
+try:
+    import tomllib
+except ImportError:
+    tomllib = None
+
+
+def is_address(host):
+    """Whether a host is an IPv4 or an IPv6 address, with no zone."""
+    try:
+        return "%" not in host and bool(ipaddress.ip_address(host))
+    except ValueError:
+        return False
+
+
+NAME = matches("^[a-z0-9-]+([.][a-z0-9-]+)*$")
+HOST = Rule(lambda host: None if is_address(host) else NAME.find(host), ["A", "a_b", "a.", "256.1.1.1", "fe80::1%1", "::ffff:1.2.3.4", "1::2::3", "a\n"])
+PEM = Text(suffix(".pem"), like=("a.pem", "key.pem"))
+FILE_FOR_DEBUG = Under("file", lambda it: REQUIRED.find(it["file"]) if it["level"] == "debug" else None)
+IN_ORDER = Under("max", lambda it: between(it["min"]).find(it["max"]))
+SERVER = Object(Closed(
+    Member("host", Text(HOST, like=("a.example", "10.0.0.7", "::1", "a-1"))),
+    Member("port", Whole("u16", between(1))),
+    Member("workers", Whole("u16", between(1, 64))),
+    Member("connections", Whole("u16")),
+    Nullish("tls", Object(Closed(Member("certificate", PEM), Member("key", PEM)))),
+))
+LOGGING = Object(Closed(Checked((Member("level", OneOf("error", "info", "debug")), Nullish("file", Text(length(1, 255)))), FILE_FOR_DEBUG)))
+LIMIT = Object(Closed(Checked((Member("min", Whole("u32")), Member("max", Whole("u32"))), IN_ORDER)))
+CONFIG = Object(Closed(Member("server", SERVER), Member("logging", LOGGING), Member("limits", MapUnder([items(1, 100)], LIMIT))))
+
+
+# ---- random settings in TOML
+
+NUMBERS = "0 1 3 64 65 65535 65536 -1 +7 1_000 0x41 0o17 0b1 9223372036854775807 -9223372036854775808 1.0 -0.5 2e3 inf -inf nan".split()
+BARE = "1979-05-27 07:32:00 1979-05-27T07:32:00 1979-05-27T07:32:00Z 1979-05-27T07:32:00.25+01:30 inf -inf +inf nan -nan +nan".split()
+BAD = ["2023-02-29", "24:00:00", "007", "1__0", "9223372036854775808", "'a", '"\\q"', "[1", "{", "{a = 1", "", "tru", "+-1", "0x", "1979-13-01", "1.", ".5", "a"]
+OTHERS = ["", "a", "A", "a.b", "::1", "256.1.1.1", "a.pem", "debug", "Info", "é" * 127, "é" * 128, "\n", "\x1b[2K", '"', "\\", "𝄞", True, False, [], [Number(1)], ["a", Pairs()], Pairs(), Pairs([("min", Number(2)), ("max", Number(1))])]
+PIECES = [b"=", b'"', b"]", b"0", b"\x00", b"\t", b".", b"#", b"'", b"\xff"]
+
+
+def some_value(dice):
+    raw = dice.choice((NUMBERS, BARE, BARE, BAD if dice.random() < 0.3 else NUMBERS))
+    return Raw(dice.choice(raw)) if dice.random() < 0.6 else dice.choice(OTHERS)
+
+
+def text_of(dice, text):
+    """A text in one of the forms that TOML has for it."""
+    if dice.random() < 0.3 and not re.search("['\\x00-\\x1f\\x7f]", text):
+        return f"'{text}'"
+    short = {'"': '\\"', "\\": "\\\\", "\n": "\\n"}
+    return '"' + "".join(short.get(c) or (f"\\u{ord(c):04X}" if ord(c) < 32 or ord(c) == 127 else c) for c in text) + '"'
+
+
+def key_of(dice, key):
+    return key if re.fullmatch("[A-Za-z0-9_-]+", key) and dice.random() < 0.8 else text_of(dice, key)
+
+
+def inline(dice, value):
+    if isinstance(value, Pairs):
+        return "{ " + ", ".join(f"{key_of(dice, key)} = {inline(dice, part)}" for key, part in value) + " }"
+    if isinstance(value, list):
+        return "[" + ", ".join(inline(dice, part) for part in value) + "]"
+    return text_of(dice, value) if isinstance(value, str) and not isinstance(value, (Number, Raw)) else json_text(dice, value)
+
+
+def toml_lines(dice, path, value):
+    """The lines of a table: its keys, and then the tables inside it, each under a header, inline or by dotted keys."""
+    below = []
+    for key, part in dice.sample(list(value), len(value)):
+        name = key_of(dice, key)
+        if isinstance(part, Pairs) and dice.random() < 0.7:
+            if part and path and dice.random() < 0.2:
+                yield from (f"{name}.{key_of(dice, inner)} = {inline(dice, it)}" for inner, it in part)
+            else:
+                below.append(([*path, name], part))
+        else:
+            yield f"{name} = {inline(dice, part)}"
+            if dice.random() < 0.1:
+                yield dice.choice(("", "# a comment", "  "))
+    for inner, part in below:
+        yield f"[{'.'.join(inner)}]"
+        yield from toml_lines(dice, inner, part)
+
+
+def some(dice):
+    if tomllib is None or dice.random() < 0.3:
+        return Case(("json",), *some_json(dice, CONFIG))
+    value, ways = some_of(dice, CONFIG, some_value, (missing, repeated, wrong_type, wrong_type, unknown, renamed, many))
+    end = dice.choice(("\n", "\n", "\r\n"))
+    body, cuts = some_bytes(dice, (end.join(toml_lines(dice, [], without_nulls(value))) + end).encode("utf-8"), PIECES)
+    mark = codecs.BOM_UTF8 if dice.random() < 0.1 else b""
+    return Case(dice.choice(((), ("toml",))), mark + body, ways | cuts)
+
+
+def without_nulls(value):
+    """The value without members that are null, which TOML does not have."""
+    return Pairs((name, without_nulls(part)) for name, part in value if part is not None) if isinstance(value, Pairs) else value
+
+
+# ---- what is answered
+
+TOO_DEEP = "tables and arrays nest deeper than 128"
+
+
+def of_toml(value):
+    """What a TOML value is in JSON: keys ascend by their bytes, and what JSON does not have is a bare value."""
+    if isinstance(value, dict):
+        return Pairs((key, of_toml(value[key])) for key in sorted(value, key=lambda key: key.encode("utf-8")))
+    if isinstance(value, list):
+        return [of_toml(item) for item in value]
+    if isinstance(value, (bool, str)):
+        return value
+    if isinstance(value, int) and not -(2**63) <= value < 2**63:
+        raise ValueError(f"{value} is no integer of TOML")
+    if isinstance(value, (datetime.date, datetime.time)) or value - value != 0:
+        return [Number("-0"), str(value)]
+    return Number(repr(value))
+
+
+def value_of(case):
+    """The value that is read, or what standard error says, as a pattern."""
+    try:
+        text = case.given.decode("utf-8").removeprefix("\ufeff")
+    except UnicodeDecodeError:
+        raise NoJson("the configuration is not read: .*") from None
+    if case.words == ("json",):
+        return of_bytes(case.given)
+    try:
+        value = of_toml(tomllib.loads(text))
+    except (ValueError, RecursionError) as error:
+        too_deep = f"|{TOO_DEEP}" if isinstance(error, RecursionError) else ""
+        raise NoJson(rf"(TOML parse error at line \d+, column \d+, [^\n]*{too_deep})") from None
+    if depth(value) > DEEPEST:
+        raise NoJson(TOO_DEEP)
+    return value
+
+
+def wanted(case):
+    try:
+        config, faults = read(CONFIG, value_of(case))
+    except NoJson as why:
+        return 2, b"", pattern(f"use_config: {why}\n")
+    if faults:
+        return 1, lines(faults).encode("utf-8"), b""
+    it = config["server"]
+    share = it["connections"] // it["workers"]
+    return 0, f"{it['host']}, port {it['port']}: {it['workers']} workers, {share} connections each\n".encode("utf-8"), b""

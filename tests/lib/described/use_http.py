@@ -1,0 +1,161 @@
+"""The program use_http, by crates/use_http/README.md: orders in JSON over HTTP, and problem details in two languages. The order is that
+of `example_order` too."""
+import re
+import typing
+
+from lib.described import Case, run
+from lib.faults import ENGLISH, between, chars, items, prefix
+from lib.form import Closed, ListUnder, Member, Object, Text, Whole, read
+from lib.json_values import NoJson, of_bytes, printed
+from lib.reports import details
+from lib.spoiled import some_json
+
+ORDER = Object(Closed(
+    Member("customer", Text(chars(1, 80), like=("Ada", "Žofie", "\x00", '"\\/'))),
+    Member("lines", ListUnder([items(1, 50)], Object(Closed(
+        Member("code", Text(prefix("P"), like=("P22", "P\x00"))),
+        Member("count", Whole("u32", between(1, 99))),
+    )))),
+))
+CZECH = {
+    "wrong_form": "jiný druh hodnoty", "member_missing": "položka chybí", "member_repeated": "položka se opakuje",
+    "member_unknown": "neznámá položka", "length_lower_than": "délka je menší než {min}", "length_greater_than": "délka je větší než {max}",
+    "range_lower_than": "hodnota je menší než {min}", "range_greater_than": "hodnota je větší než {max}",
+    "prefix_missing": "text nezačíná na {pattern}",
+}
+MOST = 1024 * 1024
+PHRASES = {
+    400: "Bad Request", 404: "Not Found", 405: "Method Not Allowed", 413: "Content Too Large", 414: "URI Too Long",
+    415: "Unsupported Media Type", 431: "Request Header Fields Too Large", 501: "Not Implemented", 505: "HTTP Version Not Supported",
+}
+TARGETS = {"": "CONNECT", "*": "OPTIONS"}
+MEDIA = ("", "text/plain", "application/json; charset=utf-8", "application/jsonp", "APPLICATION/JSON")
+PATHS = ("/orders", "/orders?x=1", "/health", "/", "/orders/1", "orders", "x:80", "*", "http://x/orders", "http://x")
+
+
+class Request(typing.NamedTuple):
+    body: bytes = b""
+    method: str = "POST"
+    path: str = "/orders"
+    media: str = "application/json"
+    language: str = ""
+
+
+def refused(status):
+    """The answer in which no order is judged: problem details of the type `about:blank` (RFC 9457, section 4.2.1)."""
+    return status, printed({"type": "about:blank", "title": PHRASES[status], "status": status})
+
+
+def no_json(title, why):
+    """Problem details of what is no JSON, as a pattern."""
+    text = printed({"title": title, "status": 400, "detail": "WHY", "errors": []}).decode()
+    return re.compile(re.escape(text).replace("WHY", str(why)).encode("utf-8"))
+
+
+def judged(body, language):
+    """The answer to the body of an order: a status, and bytes or a pattern of them."""
+    try:
+        _, faults = read(ORDER, of_bytes(body))
+    except NoJson as why:
+        return 400, no_json("the body is not read as JSON", why)
+    if not faults:
+        return 204, b""
+    return 422, printed({"title": "the order has faults", "status": 422, "errors": details(faults, language)})
+
+
+def path_of(target):
+    """The path of a target (RFC 9112, section 3.2): none of `host:port`, and `*` of `*`."""
+    if "://" in target:
+        target = "/" + target.partition("://")[2].partition("/")[2]
+    elif target != "*" and not target.startswith("/"):
+        target = ""
+    return target.partition("?")[0]
+
+
+def answer(request):
+    """The status and the body of the answer to a request."""
+    path = path_of(request.path)
+    if len(request.body) > MOST:
+        return refused(413)
+    if path in TARGETS:
+        return refused(501 if request.method == TARGETS[path] else 400)
+    if path == "/health":
+        return (200, b"") if request.method in ("GET", "HEAD") else refused(405)
+    if path != "/orders":
+        return refused(404)
+    if request.method != "POST":
+        return refused(405)
+    if not re.fullmatch(r"application/json([; \t].*)?", request.media, re.IGNORECASE):
+        return refused(415)
+    return judged(request.body, CZECH if re.match(r"cs([-,; \t]|$)", request.language, re.IGNORECASE) else ENGLISH)
+
+
+def offered(request, status):
+    """The field of an answer that says what would do, beside its value: the methods of a path, or the form of a body."""
+    if status == 405:
+        return "allow", "POST" if path_of(request.path) == "/orders" else "GET, HEAD"
+    return ("accept", "application/json") if status == 415 else None
+
+
+# ---- random requests, and the wire
+
+def some_request(dice):
+    """A request, and how its body was spoiled."""
+    body, ways = some_json(dice, ORDER)
+    if dice.random() < 0.9:
+        return Request(body, language=dice.choice(("", "en", "cs", "cs-CZ,en;q=0.5", "en,cs", "csb"))), ways
+    return Request(body, dice.choice(("POST", "GET", "PUT", "DELETE", "OPTIONS")), dice.choice(PATHS), dice.choice(MEDIA)), {"no order"}
+
+
+def fields_of(request):
+    fields = {"Content-Type": request.media, "Accept-Language": request.language}
+    return {name: value for name, value in fields.items() if value}
+
+
+def bytes_of(request):
+    fields = {"Host": "x", "Content-Length": len(request.body), **fields_of(request)}
+    head = "".join(f"{name}: {value}\r\n" for name, value in fields.items())
+    return f"{request.method} {request.path} HTTP/1.1\r\n{head}\r\n".encode() + request.body
+
+
+def some(dice):
+    request, ways = some_request(dice)
+    return Case(("--no-date",), bytes_of(request), ways)
+
+
+def request_of(given):
+    """The request of these bytes, which `bytes_of` wrote."""
+    head, _, body = given.partition(b"\r\n\r\n")
+    first, *rest = head.decode().split("\r\n")
+    fields = dict(line.split(": ", 1) for line in rest)
+    method, path, _ = first.split(" ")
+    return Request(body, method, path, fields.get("Content-Type", ""), fields.get("Accept-Language", ""))
+
+
+def wanted(case):
+    """The status of the run, the status of the answer, its type, its body, what it offers, and standard error."""
+    request = request_of(case.given)
+    status, body = answer(request)
+    return 0, status, "application/problem+json" if body else None, body, offered(request, status), b""
+
+
+def status(answer):
+    """The status of the answer, which is not that of the run."""
+    return answer[1]
+
+
+def body_of(case):
+    return request_of(case.given).body
+
+
+def with_body(case, body):
+    return case._replace(given=bytes_of(request_of(case.given)._replace(body=body)))
+
+
+def met(program, case):
+    ended, out, err = run(program, case)
+    head, _, body = out.partition(b"\r\n\r\n")
+    first, *rest = head.decode("latin-1").split("\r\n")
+    fields = dict(line.split(": ", 1) for line in rest)
+    offers = next(((name, fields[name]) for name in ("accept", "allow") if name in fields), None)
+    return ended, int((first.split() + ["0", "0"])[1]), fields.get("content-type"), body, offers, err

@@ -1,0 +1,105 @@
+"""The program use_import, by crates/use_import/README.md: a stock list in CSV, whose records `lib.rfc4180` reads."""
+import csv
+import io
+
+from lib import rfc4180
+from lib.described import Case
+from lib.faults import ALPHANUMERIC, URL, URLS, between, chars, prefix
+from lib.form import Closed, Member, Object, OrEmpty, Parsed, Text, Walk, read
+from lib.json_values import Pairs
+from lib.reports import lines
+from lib.spoiled import cut
+
+CODES = ("P1", "P200", "Pé", "Q1", "p1", "", "P", "P 1", "P-1", "P１", "PP\n")
+ROW = Object(
+    Member("code", Text(prefix("P"), ALPHANUMERIC, like=CODES)),
+    Member("name", Text(chars(1, 80), like=("Screw", "two\nlines", 'a "b", c', " "))),
+    Member("quantity", Parsed("u32", between(1, 10_000))),
+    Member("price", Parsed("u32", between(1, 50_000))),
+    Member("page", OrEmpty(Text(URL, like=URLS))),
+)
+GREATEST = 2**64 - 1
+COLUMNS = ["code", "name", "quantity", "price", "page"]
+OTHERS = ["note", "Code", "code ", "", "prices", "\x1b[0m", "a\nb", "\\", "\u202e"]
+HEADER = Closed(*(Member(name, Text()) for name in COLUMNS))
+PIECES = [b'"', b'"', b'""', b",", b",,", b"\n", b"\r\n", b"\r", b"x", b" ", b"\0", b'\n"', b',"', b'",', b"\xff", b"\xef\xbb\xbf"]
+WORDS = ((), (), (), ("--lines",), ("--lines",), ("1",), ("3",), ("--first-row", "7"), ("--no-header",), ("--no-header", "--lines", "2"))
+
+
+def written(dice, rows):
+    """A table of these rows, with ends of lines and quotes of either kind."""
+    out = io.StringIO(newline="")
+    for row in rows:
+        quoting = dice.choice([csv.QUOTE_MINIMAL, csv.QUOTE_MINIMAL, csv.QUOTE_ALL])
+        csv.writer(out, lineterminator=dice.choice(["\n", "\r\n"]), quoting=quoting).writerow(row)
+    return out.getvalue().encode("utf-8")
+
+
+def some_row(dice, columns, odd):
+    """The cells of a row for these columns, and in one of twenty one less or more."""
+    cells = dict(ROW.some(dice, odd))
+    row = [cells.get(column, dice.choice(OTHERS)) for column in columns]
+    return row if dice.random() < 0.95 else dice.choice((row[:-1], [*row, "x"]))
+
+
+def some_columns(dice):
+    columns = dice.sample(COLUMNS, len(COLUMNS))
+    for _ in range(dice.choice((0, 0, 0, 0, 0, 0, 1, 3))):
+        at, name = dice.randrange(len(columns) + 1), dice.choice(COLUMNS + OTHERS)
+        columns[at:at + dice.randrange(2)] = dice.choice(([name], [name], []))
+    return columns
+
+
+def some(dice):
+    words = dice.choice(WORDS)
+    columns, odd = COLUMNS if "--no-header" in words else some_columns(dice), dice.choice((0, 0, 0.1, 0.4))
+    rows = [some_row(dice, columns, odd) for _ in range(dice.randrange(6))]
+    body, cuts = written(dice, rows if "--no-header" in words else [columns, *rows]), set()
+    for _ in range(dice.choice((0, 0, 0, 1, 2, 4))):
+        body, cuts = cut(dice, body, PIECES), {"cut"}
+    return Case(words, body, cuts | ({"columns"} if columns != COLUMNS else set()) | ({"cells"} if odd else set()))
+
+
+def records(given):
+    """The records of a list, of which those with a cell that is no UTF-8 have a fault."""
+    for record in rfc4180.records(given.decode("utf-8", "surrogateescape")):
+        if record.fault is None and any("\udc80" <= letter <= "\udcff" for letter in "".join(record.cells)):
+            record.fault = "not UTF-8"
+        yield record
+
+
+def row_lines(place, header, record):
+    """The lines of a record, whose place is `[N]` or `line N`."""
+    walk = Walk()
+    if record.fault or len(record.cells) != len(header):
+        return f"{place}: {record.fault or 'not as many fields as in the header'}\n"
+    ROW.read(Pairs(zip(header, record.cells)), (), walk)
+    between = "." if place.startswith("[") else ", "
+    return "".join(f"{place}{between}{it}\n" for it in lines(walk).splitlines())
+
+
+def first_row(words):
+    return int(words[words.index("--first-row") + 1]) if "--first-row" in words else 0
+
+
+def most(words, all_of_them):
+    """How many faults are printed at most: the number that stands behind no other word's name."""
+    numbers = [word for before, word in zip(("", *words), words) if word.isdecimal() and before != "--first-row"]
+    return int(numbers[0]) if numbers else all_of_them
+
+
+def wanted(case):
+    found, header = list(records(case.given)), COLUMNS
+    if "--no-header" not in case.words:
+        first, *found = found or [rfc4180.Record(1, [], None)]
+        if first.fault:
+            return 2, b"", f"use_import: the header: {first.fault}\n".encode()
+        _, faults = read(HEADER, Pairs((name, "") for name in first.cells))
+        if faults:
+            return 2, lines(faults).encode("utf-8"), b"use_import: these are not the columns of a list\n"
+        header = first.cells
+    start = first_row(case.words)
+    places = (f"line {record.line}" if "--lines" in case.words else f"[{start + index}]" for index, record in enumerate(found))
+    said = "".join(row_lines(place, header, record) for place, record in zip(places, found[:GREATEST - start + 1])).splitlines(keepends=True)
+    out = "".join(said[:most(case.words, len(said))]).encode("utf-8")
+    return (2, out, b"use_import: a row has no number\n") if start + len(found) > GREATEST + 1 else (1 if said else 0, out, b"")

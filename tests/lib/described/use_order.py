@@ -1,0 +1,52 @@
+"""The program use_order, by crates/use_order/README.md: a page of orders in JSON."""
+from lib.described import Case, pattern
+from lib.faults import REQUIRED, between, chars, items, prefix
+from lib.form import Checked, Closed, ListUnder, Member, Nullish, Object, OneOf, Text, Under, Whole, read
+from lib.json_values import NoJson, of_bytes
+from lib.reports import lines, quoted
+from lib.spoiled import some_json
+
+ADDRESS_BY_POST = Under("address", lambda it: REQUIRED.find(it["address"]) if it["delivery"] == "post" else None)
+FEW_AT_THE_COUNTER = Under("lines", lambda it: items(0, 3).find(len(it["lines"])) if it["delivery"] == "counter" else None)
+LINE = Object(Closed(
+    Member("code", Text(prefix("P"), like=("P77", 'P"\\/\b\t\0', "P\u202e"))),
+    Member("count", Whole("u32", between(1, 99))),
+    Member("cents", Whole("u32", between(1, 9999))),
+))
+DESTINATION = Checked((
+    Member("delivery", OneOf("counter", "post")),
+    Nullish("address", Text(chars(5, 200), like=("12 Main Street", "Žižkov"))),
+), ADDRESS_BY_POST)
+ORDER = Object(Closed(
+    Member("customer", Text(chars(1, 80))),
+    Checked((DESTINATION, Member("lines", ListUnder([items(1, 50)], LINE))), FEW_AT_THE_COUNTER),
+))
+PAGE = Object(Closed(
+    Member("number", Whole("u32", between(1))),
+    Member("entries", ListUnder([items(0, 20)], ORDER)),
+))
+
+
+def some(dice):
+    words = dice.choice(((), (), (), ("1",), ("2",), ("7",), ("18446744073709551615",)))
+    return Case(words, *some_json(dice, PAGE))
+
+
+def confirmed(order):
+    """What confirms a valid order."""
+    place = f"by post to {quoted(order['address'])}" if order["delivery"] == "post" else "at the counter"
+    yield f"{quoted(order['customer'])}: {quoted(order['lines'][0]['code'])} .., {place}\n"
+    for it in order["lines"]:
+        yield f"    {it['count']} x {quoted(it['code'])}: {it['count'] * it['cents']} cents\n"
+
+
+def wanted(case):
+    try:
+        page, faults = read(PAGE, of_bytes(case.given))
+    except NoJson as why:
+        return 2, b"", pattern(f"use_order: {why}\n")
+    if not faults:
+        return 0, "".join(it for order in page["entries"] for it in confirmed(order)).encode("utf-8"), b""
+    most = int(case.words[0]) if case.words else len(faults)
+    more = "there are more\n" if len(faults) > most else ""
+    return 1, (lines(faults[:most]) + more).encode("utf-8"), b""

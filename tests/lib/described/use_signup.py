@@ -1,0 +1,88 @@
+"""The program use_signup, by crates/use_signup/README.md: a web form, in two languages. Its fields are those that `urllib.parse` reads."""
+import codecs
+import urllib.parse
+
+from lib.described import Case
+from lib.faults import ALPHANUMERIC, ENGLISH, REQUIRED, between, chars, fault, items, length, prefix
+from lib.form import Checked, Closed, ListUnder, Member, Object, OneOf, Optional, OrEmpty, Parsed, Text, Under, read
+from lib.json_values import Pairs
+from lib.reports import lines, quoted
+from lib.spoiled import many, missing, renamed, repeated, some_bytes, some_of, unknown, wrong_type
+
+PASSWORDS = ("analytical engine", "é" * 128, "a+b=c&d%e f?")
+REPEATED = Under("password_again", lambda it: None if it["password_again"] == it["password"] else fault("matches_field_mismatch", field="password"))
+ACCEPTED = Under("terms", lambda it: None if it["terms"] else fault("terms"))
+FORM = Object(Closed(
+    Member("name", Text(chars(1, 40), like=("Ada Lovelace", "Zoë O'Brien", 'a"b\\\n\x1b'))),
+    Member("username", Text(ALPHANUMERIC, chars(3, 25))),
+    Checked((Member("password", Text(chars(12, 128), like=PASSWORDS)), Member("password_again", Text(like=PASSWORDS))), REPEATED),
+    Member("age", Checked(OrEmpty(Parsed("u8", between(18, 120))), REQUIRED)),
+    Optional("phone", OrEmpty(Text(prefix("+"), length(9, 16), like=("+420777123456", "+42077712", "+4207771", "+" + "4" * 16, "420777123456")))),
+    Optional("topics", ListUnder([items(0, 2)], OneOf("news", "events"))),
+    Checked(Optional("terms", OneOf("on")), ACCEPTED),
+))
+LISTS = ("topics",)
+CZECH = {
+    "member_missing": "pole chybí", "member_repeated": "pole se opakuje", "member_unknown": "neznámé pole", "value_unknown": "neznámá hodnota",
+    "wrong_form": lambda wanted, found: {"Whole": "hodnota není celé číslo"}[wanted], "out_of_range": lambda of: "číslo je mimo rozsah",
+    "length_lower_than": lambda min: f"délka je menší než {min} {characters(int(min))}",
+    "length_greater_than": lambda max: f"délka je větší než {max} {characters(int(max))}",
+    "range_lower_than": "hodnota je menší než {min}", "range_greater_than": "hodnota je větší než {max}",
+    "required_not_set": "hodnota chybí", "alphanumeric_invalid": "text má jiné znaky než písmena a číslice",
+    "prefix_missing": "text nezačíná na {pattern}", "matches_field_mismatch": "hodnota se liší od pole {field}",
+    "terms": "souhlas s podmínkami chybí",
+}
+LANGUAGES = {"en": ({**ENGLISH, "terms": "the terms are not accepted"}, "welcome"), "cs": (CZECH, "vítejte")}
+TEXTS = ["", "a", "on", "On", "off", "news", "sport", "36", "\0", 'q"\\\n', "a b", "a+b", "é" * 41, "漢字½", "x" * 129, "\x1b[2K"]
+# Pieces of bodies as no browser sends them.
+PIECES = [b"%", b"%4", b"%zz", b"%%41", b"%00", b"%FF", b"\xff", b"%C3", b"\xc3", b"%F0%9F%98", b"+", b"&", b"&&", b"=", b";", b"#", b"\xef\xbb\xbf", b"%E2%80%AE", b"\n", b"\r\n", b" \t", b"&\n"]
+
+
+def characters(count):
+    """Czech has a form of the word for 1, one for 2 to 4, and one for the rest."""
+    return "znak" if count == 1 else "znaky" if 2 <= count <= 4 else "znaků"
+
+
+def byte_of(dice, byte):
+    """A byte of a name or a text: as it is where it may be, or by its number."""
+    if byte == 0x20 and dice.random() < 0.8:
+        return b"+"
+    plain = byte > 0x20 and byte not in b"%&+="
+    return bytes([byte]) if plain and dice.random() < 0.95 else b"%" + f"{byte:02{dice.choice('xX')}}".encode()
+
+
+def field_of(dice, name, text):
+    name, equals = b"".join(byte_of(dice, it) for it in name.encode("utf-8")), b"" if name and not text and dice.random() < 0.3 else b"="
+    return name + equals + b"".join(byte_of(dice, it) for it in text.encode("utf-8"))
+
+
+def some(dice):
+    ways = (missing, repeated, wrong_type, unknown, renamed, many)
+    value, how = some_of(dice, FORM, lambda dice: dice.choice(TEXTS), ways)
+    fields = [(name, text) for name, texts in value for text in (texts if isinstance(texts, list) else [texts])]
+    body, cuts = some_bytes(dice, b"&".join(field_of(dice, *field) for field in fields), PIECES)
+    return Case((dice.choice(("en", "cs")),), body, how | cuts)
+
+
+def fields_of(body):
+    """The names and texts of a body. Each byte is read as a character of Latin 1, so what is no UTF-8 is decoded at the end. As of a
+    file, a byte order mark at the beginning and white space at the end are left out."""
+    body = body.rstrip(b" \t\n\x0c\r").removeprefix(codecs.BOM_UTF8).decode("latin-1")
+    pairs = urllib.parse.parse_qsl(body, keep_blank_values=True, encoding="latin-1", separator="&")
+    return [tuple(part.encode("latin-1").decode("utf-8", "replace") for part in pair) for pair in pairs]
+
+
+def object_of(fields):
+    """The object of the fields: a listed name is one member, at the place of the first, with the texts of all."""
+    listed = {name: [text for other, text in fields if other == name] for name in LISTS}
+    firsts = [at for at, (name, _) in enumerate(fields) if name not in LISTS or name not in [before for before, _ in fields[:at]]]
+    return Pairs((fields[at][0], listed.get(fields[at][0], fields[at][1])) for at in firsts)
+
+
+def wanted(case):
+    language, welcome = LANGUAGES[case.words[0] if case.words else "en"]
+    who, faults = read(FORM, object_of(fields_of(case.given)))
+    if faults:
+        return 1, lines(faults, language).encode("utf-8"), b""
+    said = [f"{welcome}, {quoted(who['name'])} ({who['age']})", *(f"    {topic}" for topic in who["topics"] or ())]
+    return 0, "".join(f"{it}\n" for it in said).encode("utf-8"), b""

@@ -1,0 +1,108 @@
+"""The program use_store, by crates/use_store/README.md: the valid rows of a list in CSV, in a SQLite file."""
+import csv
+import io
+import pathlib
+import shutil
+import tempfile
+
+from lib.described import Case, run
+from lib.described.use_import import CODES, COLUMNS, PIECES, records, some_row, written
+from lib.faults import ALPHANUMERIC, URL, URLS, between, chars, fault, prefix
+from lib.form import Member, Object, OrEmpty, Parsed, Text, read
+from lib.json_values import Pairs
+from lib.reports import lines
+from lib.spoiled import cut
+
+try:
+    import sqlite3
+except ImportError:
+    sqlite3 = None
+
+ROW = Object(
+    Member("code", Text(prefix("P"), ALPHANUMERIC, like=CODES)),
+    Member("name", Text(chars(1, 80), like=("Screw", "two\nlines", 'a "b", c'))),
+    Member("quantity", Parsed("u64", between(1, 10_000), message="not a number of pieces")),
+    Member("price", Parsed("u64", between(1, 50_000), message="not a price in cents")),
+    Member("page", OrEmpty(Text(URL, like=URLS))),
+)
+SELECT = "select code, name, quantity, price, page from stock order by id"
+
+
+def faults_of(index, cells, codes):
+    """The faults of a row of text, where these codes are stored, and what it spells."""
+    row, walk = read(ROW, Pairs(zip(COLUMNS, cells)), (index,))
+    if cells[0] in codes:
+        walk.append(((index, "code"), fault("own", text="stored before")))
+    return row, walk
+
+
+def answer_to(found, whole=False, batch=None):
+    """What a list makes of an empty table, by its records: the table, the status, the output, and the tables at the ends of batches."""
+    table, codes, said, kept, count = [], set(), [], [[]], 0
+    for index, record in enumerate(found):
+        if record.fault or len(record.cells) != len(COLUMNS):
+            said.append(f"[{index}]: {record.fault or 'not as many fields as in the header'}\n")
+        else:
+            row, walk = faults_of(index, record.cells, codes)
+            said.append(lines(walk))
+            if not walk:
+                table.append(tuple(row[name] for name in COLUMNS))
+                codes.add(row["code"])
+        count += 1
+        if batch and count % batch == 0:
+            kept.append(list(table))
+    table = [] if whole and any(said) else table
+    said.append(f"stored {len(table)}, not stored {count - len(table)}\n")
+    return table, 0 if len(table) == count else 1, "".join(said), [*kept, table]
+
+
+# ---- random lists, and the file
+
+def some(dice):
+    odd, words = dice.choice((0, 0, 0.1, 0.4)), dice.choice((("--all-or-nothing",), ("--batch", "1"), ("--batch", "3"), ()))
+    rows = [some_row(dice, COLUMNS, odd) for _ in range(dice.randrange(8))]
+    body, cuts = written(dice, rows), set()
+    for _ in range(dice.choice((0, 0, 1, 2, 3))):
+        body, cuts = cut(dice, body, PIECES), {"cut"}
+    mark = dice.choice((b"", b"", b"\xef\xbb\xbf"))
+    return Case(("stock.db", *words), mark + ",".join(COLUMNS).encode() + dice.choice((b"\n", b"\r\n")) + body, cuts | ({"cells"} if odd else set()))
+
+
+def body_of(case):
+    """What stands behind the header."""
+    return case.given.partition(b"\n")[2]
+
+
+def with_body(case, body):
+    return case._replace(given=b"".join(case.given.partition(b"\n")[:2]) + body)
+
+
+def wanted(case):
+    """The status, the output, standard error, and the table of the file."""
+    _, *rest = records(case.given)
+    table, status, said, _ = answer_to(rest, "--all-or-nothing" in case.words)
+    return status, said.encode("utf-8"), b"", table
+
+
+def table_of(folder, program, alone=False):
+    """The rows of the table, as another SQLite reads a copy of the file (alone: without the log beside it); where Python has none, as
+    the program lists them."""
+    if sqlite3 is None:
+        _, out, _ = run(program, Case(("stock.db", "--list"), b""), cwd=folder)
+        return [(code, name, int(quantity), int(price), page or None) for code, name, quantity, price, page in list(csv.reader(io.StringIO(out.decode(), newline="")))[1:]]
+    with tempfile.TemporaryDirectory() as copy:
+        for name in ["stock.db"] if alone else ["stock.db", "stock.db-wal"]:
+            if (pathlib.Path(folder) / name).exists():
+                shutil.copy(pathlib.Path(folder) / name, copy)
+        connection = sqlite3.connect(f"{copy}/stock.db")
+        try:
+            if connection.execute("pragma integrity_check").fetchall() != [("ok",)]:
+                return ["pragma integrity_check is not ok"]
+            return connection.execute(SELECT).fetchall() if connection.execute("select 1 from sqlite_schema").fetchall() else []
+        finally:
+            connection.close()
+
+
+def met(program, case):
+    with tempfile.TemporaryDirectory() as folder:
+        return *run(program, case, cwd=folder), table_of(folder, program, alone=True)

@@ -1,0 +1,155 @@
+"""Random inputs of a program, and a small one of those that it answers otherwise than its description.
+
+Python's `random` makes the choices. Where the package `hypothesis` is, it makes those of every second round, and finds smaller ones that
+are answered otherwise too: it is slower, and tries other inputs. Then parts of the input are left out, of a JSON text first members and items, and then bytes, while the
+answer stays another one.
+"""
+import random
+import time
+import typing
+from collections import Counter
+
+from lib.described import fits
+from lib.json_values import NoJson, Pairs, of_bytes
+from lib.spoiled import json_text
+from lib.urls import Unsaid
+
+try:
+    import hypothesis
+    from hypothesis.strategies import composite, integers
+except ImportError:
+    hypothesis = None
+
+MOST_SECONDS = 5
+
+
+class Round(typing.NamedTuple):
+    """What came of some inputs: the counts of the first parts of answers and of ways of spoiling, and what is answered otherwise: the
+    input, the answer and the one that is wanted."""
+    name: str
+    statuses: Counter
+    ways: Counter
+    wrong: list
+
+
+class Differs(Exception):
+    """An input that is answered otherwise."""
+
+
+class Comparison:
+    """What answers, beside a description, and what came of the inputs so far."""
+
+    def __init__(self, described, met):
+        self.described, self.met = described, met
+        self.statuses, self.ways, self.last = Counter(), Counter(), None
+
+    def differs(self, case):
+        """Whether the program answers otherwise than its description, where that has an answer."""
+        try:
+            return not fits(self.described.wanted(case), self.met(case))
+        except Unsaid:
+            return False
+
+    def tried(self, case):
+        """Compares the answers to an input, and raises `Differs` where they differ."""
+        try:
+            wanted, met = self.described.wanted(case), self.met(case)
+        except Unsaid:
+            self.ways["left out"] += 1
+            return
+        self.statuses[getattr(self.described, "status", lambda answer: answer[0])(wanted)] += 1
+        self.ways.update(case.ways or ["none"])
+        if not fits(wanted, met):
+            self.last = case
+            raise Differs
+
+
+class Dice(random.Random):
+    """The choices of `hypothesis`, as a generator of random numbers. The simplest choice is the first, and that nothing goes wrong."""
+
+    def __init__(self, draw):
+        super().__init__(0)
+        self.draw = draw
+
+    def random(self):
+        return 1 - (self.draw(integers(0, 2**16 - 1)) + 1) / 2**16
+
+    def getrandbits(self, bits):
+        return self.draw(integers(0, 2**bits - 1))
+
+
+def by_random(comparison, seed, count):
+    for number in range(count):
+        comparison.tried(comparison.described.some(random.Random(f"{seed}/{number}")))
+
+
+def by_hypothesis(comparison, seed, count):
+    cases = composite(lambda draw: comparison.described.some(Dice(draw)))
+    settings = hypothesis.settings(
+        max_examples=count, database=None, deadline=None, print_blob=False, suppress_health_check=list(hypothesis.HealthCheck),
+        phases=(hypothesis.Phase.generate, hypothesis.Phase.shrink), verbosity=hypothesis.Verbosity.quiet,
+    )
+    hypothesis.seed(seed)(settings(hypothesis.given(cases())(comparison.tried)))()
+
+
+def simpler(value):
+    """Values that have a part of this one less."""
+    if not isinstance(value, list):
+        return
+    half = len(value) // 2
+    yield from (type(value)(part) for part in (value[:half], value[half:]) if half > 1)
+    for at, part in enumerate(value):
+        yield type(value)(value[:at] + value[at + 1:])
+        inner = part[1] if isinstance(value, Pairs) else part
+        others = simpler(inner)
+        yield from (type(value)([*value[:at], (part[0], it) if isinstance(value, Pairs) else it, *value[at + 1:]]) for it in others)
+
+
+def smaller_json(body, is_wrong):
+    """The body of a JSON text without members and items that are not needed to be answered otherwise; any other as it is."""
+    try:
+        value, end = of_bytes(body), time.monotonic() + MOST_SECONDS
+    except NoJson:
+        return body
+    while found := next((it for it in simpler(value) if time.monotonic() < end and is_wrong(written(it))), None):
+        value = found
+    return written(value) if is_wrong(written(value)) else body
+
+
+def written(value):
+    return json_text(random.Random(0), value, escapes=False).encode("utf-8")
+
+
+def smaller(body, is_wrong):
+    """The bytes without those that are not needed to be answered otherwise: first halves, then quarters, and so on."""
+    size, end = len(body) // 2, time.monotonic() + MOST_SECONDS
+    while size and time.monotonic() < end:
+        at = 0
+        while at < len(body) and time.monotonic() < end:
+            shorter = body[:at] + body[at + size:]
+            body, at = (shorter, at) if is_wrong(shorter) else (body, at + size)
+        size //= 2
+    return body
+
+
+def small(comparison, case):
+    """A smaller case of those that are answered otherwise. The description may say which bytes of the input are its body."""
+    described = comparison.described
+    body_of = getattr(described, "body_of", lambda case: case.given)
+    with_body = getattr(described, "with_body", lambda case, body: case._replace(given=body))
+
+    def is_wrong(body):
+        return comparison.differs(with_body(case, body))
+
+    return with_body(case, smaller(smaller_json(body_of(case), is_wrong), is_wrong))
+
+
+def compared(name, described, met, seed, number, count):
+    """A round of so many inputs. It ends at the first that is answered otherwise."""
+    comparison, wrong = Comparison(described, met), []
+    try:
+        (by_hypothesis if hypothesis and number % 2 else by_random)(comparison, f"{seed}/{number}/{name}", count)
+    except Differs:
+        case = small(comparison, comparison.last)
+        wrong = [(case, comparison.met(case), described.wanted(case))]
+    return Round(name, comparison.statuses, comparison.ways, wrong)

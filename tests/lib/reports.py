@@ -1,0 +1,36 @@
+"""What is printed of faults: lines, by `Escaped` of `garde_problem`, and problem details (RFC 9457)."""
+import re
+
+from lib.faults import ENGLISH
+
+SHORT = {"\\": "\\\\", "\n": "\\n", "\r": "\\r", "\t": "\\t"}
+ACTING = re.compile("[\\x00-\\x1f\\x7f-\\x9f\\u061c\\u200e\\u200f\\u2028-\\u202e\\u2066-\\u2069]")
+
+
+def escaped(text, short=SHORT):
+    """A text with the characters escaped that act in place of being shown; `short` has those that are escaped by a letter."""
+    return "".join(short.get(c) or (f"\\u{{{ord(c):x}}}" if ACTING.match(c) else c) for c in text)
+
+
+def quoted(text):
+    """A text as `{:?}` prints it, which has a quote and NUL escaped by a letter too."""
+    return '"' + escaped(text, {**SHORT, '"': '\\"', "\0": "\\0"}) + '"'
+
+
+def path_text(path):
+    return "".join(f"[{it}]" if isinstance(it, int) else f".{escaped(it)}" for it in path).removeprefix(".")
+
+
+def lines(walk, language=ENGLISH):
+    """A line for each fault; one of the whole value has no path."""
+    return "".join((f"{path_text(path)}: " if path else "") + escaped(found.text(language)) + "\n" for path, found in walk)
+
+
+def pointer(path):
+    """The JSON Pointer of a path (RFC 6901)."""
+    return "".join("/" + str(it).replace("~", "~0").replace("/", "~1") for it in path)
+
+
+def details(walk, language=ENGLISH):
+    """The faults of problem details."""
+    return [{"pointer": pointer(path), "detail": found.text(language), "code": found.code, "params": found.params} for path, found in walk]
