@@ -1,0 +1,68 @@
+"""The account of account.rt.txt, by the words of `lib.form` of tests/, and what is printed of a body."""
+import re
+
+from lib.faults import ALPHANUMERIC, ASCII, ENGLISH, REQUIRED, between, chars, items, length
+from lib.form import (
+    All, Any, Checked, Closed, Flag, ListUnder, MapUnder, Member, Null, Nullable, Nullish, Object, OneOf, Optional, Tagged, Text, Under, Whole,
+    WithDefault, read,
+)
+from lib.json_values import NoJson, of_bytes
+
+ADDRESS = Object(Closed(
+    Member("street", Text(length(2, 8))),
+    Member("zip", Nullable(Whole("u32", between(1000, 9999)))),
+    Optional("end", Null),
+    Optional("any", Any),
+))
+PAYMENT = Tagged("kind", card=All(Member("number", Text(length(4, 4))), Optional("debit", Flag)), cash=All(Member("coins", Whole("u64"))))
+ACCOUNT = Object(Closed(
+    Member("name", Text(ASCII, length(2, 5))),
+    Member("age", Whole("u8", between(18, 120))),
+    Optional("phone", Text(length(3))),
+    Nullish("motto", Text(chars(0, 4))),
+    Member("news", Flag),
+    WithDefault("count", Whole("u32", between(1)), 0),
+    Checked(Nullish("low", Whole("i64")), Under("low", lambda it: REQUIRED.find(it["low"]))),
+    Member("plan", OneOf("free", "paid", "")),
+    Member("address", ADDRESS),
+    Member("payment", PAYMENT),
+    Optional("tags", ListUnder([items(0, 3)], Text(ALPHANUMERIC))),
+    Optional("limits", MapUnder([], Whole("i8", between(None, 100)))),
+))
+
+
+def debug(value):
+    """An option as `{:?}` prints it."""
+    return "None" if value is None else f"Some({str(value).lower()})"
+
+
+def flag(value):
+    return str(bool(value)).lower()
+
+
+def value_of(it):
+    """A valid account in a line."""
+    at, paid = it["address"], it["payment"]
+    payment = f"card {paid['number']} {debug(paid['debit'])}" if paid["kind"] == "card" else f"cash {paid['coins']}"
+    plan = ("free", "paid", "").index(it["plan"])
+    lists = "" if it["tags"] is None else "[" + "".join(f"{tag}," for tag in it["tags"]) + "]"
+    lists += "" if it["limits"] is None else "{" + "".join(f"{name}:{limit}," for name, limit in it["limits"]) + "}"
+    texts = [it["name"], it["age"], *("none" if it[name] is None else it[name] for name in ("phone", "motto")), flag(it["news"]), it["count"], debug(it["low"]), plan]
+    address = f"{at['street']} {debug(at['zip'])} {flag(at['end'])} {flag(at['any'])}"
+    return "value " + "|".join(map(str, [*texts, address, payment])) + lists
+
+
+def step(it):
+    """A component of a path, as a report in JSON has it."""
+    return ["index", str(it)] if isinstance(it, int) else ["key", it]
+
+
+def wanted(body):
+    """What is printed of a body: its value, the tree of its report in JSON, or a pattern of why it is no JSON."""
+    try:
+        account, faults = read(ACCOUNT, of_bytes(body))
+    except NoJson as why:
+        return re.compile(str(why))
+    if not faults:
+        return value_of(account)
+    return {"errors": [[[step(it) for it in path], {"message": found.text(ENGLISH)}] for path, found in faults]}
