@@ -1,8 +1,8 @@
 """Random inputs of a program, and a small one of those that it answers otherwise than its description.
 
 Python's `random` makes the choices. Where the package `hypothesis` is, it makes those of every second round, and finds smaller ones that
-are answered otherwise too: it is slower, and tries other inputs. Then parts of the input are left out, of a JSON text first members and items, and then bytes, while the
-answer stays another one.
+are answered otherwise too: it is slower, and tries other inputs. Then parts of the input are left out, of a JSON text first members and
+items, and then bytes, while the answer stays another one.
 """
 import random
 import time

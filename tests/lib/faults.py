@@ -14,7 +14,8 @@ WANTED = {
     "Text": "not a text", "Whole": "not a whole number", "Boolean": "not true or false", "Null": "not null", "List": "not a list",
     "Object": "not an object", "OneMember": "not an object with one member", "Character": "not a character",
 }
-INTEGERS = {f"{sign}{bits}": (-(2 ** (bits - 1)), 2 ** (bits - 1) - 1) if sign == "i" else (0, 2**bits - 1) for sign in "ui" for bits in (8, 16, 32, 64, 128)}
+BITS = (8, 16, 32, 64, 128)
+INTEGERS = {**{f"u{bits}": (0, 2**bits - 1) for bits in BITS}, **{f"i{bits}": (-(2 ** (bits - 1)), 2 ** (bits - 1) - 1) for bits in BITS}}
 ENGLISH = {
     "wrong_form": lambda wanted, found: WANTED[wanted],
     "out_of_range": lambda of: "out of range: {} to {}".format(*INTEGERS[of]),
@@ -93,11 +94,13 @@ def of_texts(holds, found, *near):
 
 
 def prefix(pattern):
-    return of_texts(lambda text: text.startswith(pattern), fault("prefix_missing", pattern=pattern), pattern, pattern + "1", pattern.lower(), " " + pattern, pattern + "é")
+    near = (pattern, pattern + "1", pattern.lower(), " " + pattern, pattern + "é")
+    return of_texts(lambda text: text.startswith(pattern), fault("prefix_missing", pattern=pattern), *near)
 
 
 def suffix(pattern):
-    return of_texts(lambda text: text.endswith(pattern), fault("suffix_missing", pattern=pattern), pattern, "a" + pattern, pattern + "a", pattern.upper())
+    near = (pattern, "a" + pattern, pattern + "a", pattern.upper())
+    return of_texts(lambda text: text.endswith(pattern), fault("suffix_missing", pattern=pattern), *near)
 
 
 def matches(pattern, *near):

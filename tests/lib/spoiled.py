@@ -3,15 +3,19 @@
 A value is one of `json_values`, in which a `Raw` stands for what is written as it is. `dice` is a `random.Random`, or what `hypothesis`
 has in its place.
 """
+import codecs
 import json
 
 from lib.form import NUMBERS, TEXTS
 from lib.json_values import Number, Pairs, parts_of
 
 NO_NUMBERS = "+1 01 -01 1. .5 1e 1e+ - -- 0x1 1_000 NaN Infinity -Infinity 1.e2 00 ١".split()
-NO_WORDS = ["nul", "True", "undefined", "'a'", "[,]", "[1,]", '{"a":1,}', "{,}", '{"a"}', "{a:1}", '{"a":}', "[1 2]", '"a', '"\\x"', '"\\u12g4"', '"\t"', '"\n"', "]", "}", "/**/1", '"\\ud800"', '"\\udc00\\ud800"']
-NAMES = ["", "a", "Name", "name ", "a.b", "lines[0]", "[0]", "a/b", "m~n", "~1", "__proto__", "\0", "a\nb", "é", "name", "code", "port", "\u202e", "\x1b[2K", '"', "]", "\U0001f600"]
-PIECES = [b"\xff", b"\xc0\x80", b"\xed\xa0\x80", b"\xe2\x82", b"\xf4\x90\x80\x80", b"\xf0\x9f\x98", b"\x80", b"\xef\xbb\xbf", b"\x00", b"\r\n", b"\xc2\xa0", b"{}", b" null", b"//", b"=", b"&", b"%", b"+", b"'", b'"', b",", b"#"]
+NO_WORDS = ["nul", "True", "undefined", "'a'", "[,]", "[1,]", '{"a":1,}', "{,}", '{"a"}', "{a:1}", '{"a":}', "[1 2]", "]", "}", "/**/1"]
+NO_WORDS += ['"a', '"\\x"', '"\\u12g4"', '"\t"', '"\n"', '"\\ud800"', '"\\udc00\\ud800"']
+NAMES = ["", "a", "Name", "name ", "a.b", "lines[0]", "[0]", "a/b", "m~n", "~1", "__proto__", "\0", "a\nb", "é", "\U0001f600", "]", '"']
+NAMES += ["name", "code", "port", "\u202e", "\x1b[2K"]
+PIECES = [b"\xff", b"\xc0\x80", b"\xed\xa0\x80", b"\xe2\x82", b"\xf4\x90\x80\x80", b"\xf0\x9f\x98", b"\x80", b"\xef\xbb\xbf", b"\x00"]
+PIECES += [b"\r\n", b"\xc2\xa0", b"{}", b" null", b"//", b"=", b"&", b"%", b"+", b"'", b'"', b",", b"#"]
 SPACES = ("", "", "", " ", "\t", "\r ", "\n")
 MANY = (0, 2, 3, 4, 20, 21, 50, 51, 100, 101)
 DEEP = (1, 2, 9, 100, 124, 125, 126, 127, 128, 129, 130, 200, 300)
@@ -60,7 +64,7 @@ def missing(dice, at, where, some):
 
 
 def repeated(dice, at, where, some):
-    again = at[where]
+    again = copied(at)[where]
     if isinstance(at, Pairs) and dice.random() < 0.5:
         again = (again[0], some(dice))
     at.insert(dice.randint(0, len(at)), again)
@@ -79,7 +83,7 @@ def unknown(dice, at, where, some):
 
 
 def renamed(dice, at, where, some):
-    put(at, where, dice.choice(parts_of(at)))
+    put(at, where, copied(dice.choice(parts_of(at))))
     if isinstance(at, Pairs):
         at[where] = (dice.choice(NAMES), at[where][1])
 
@@ -88,7 +92,7 @@ def many(dice, at, where, some):
     lists = [it for it in parts_of(at) if isinstance(it, list) and it and not isinstance(it, Pairs)]
     it = dice.choice(lists or [at])
     if not isinstance(it, Pairs):
-        it[:] = [it[index % len(it)] for index in range(dice.choice(MANY))]
+        it[:] = [copied(it[index % len(it)]) for index in range(dice.choice(MANY if len(it) < 4 else MANY[:4]))]
 
 
 WAYS = (missing, repeated, null, wrong_type, wrong_type, unknown, renamed, many)
@@ -114,8 +118,8 @@ def copied(value):
 def some_of(dice, form, some=some_value, ways=WAYS):
     """A value of a form, most of them spoiled, and how it was."""
     value = copied(form.some(dice, dice.choice((0, 0, 0, 0.02, 0.3))))
-    found = {changed(dice, value, some, ways) for _ in range(dice.choice((0, 0, 0, 1, 1, 2, 3, 6)))}
-    return copied(value), found - {None}
+    found = {changed(dice, value, lambda dice: copied(some(dice)), ways) for _ in range(dice.choice((0, 0, 0, 1, 1, 2, 3, 6)))}
+    return value, found - {None}
 
 
 def quoted(dice, text):
@@ -139,11 +143,12 @@ def json_text(dice, value, space="", escapes=True):
 
 
 def cut(dice, body, pieces=PIECES):
-    """The bytes with one change."""
+    """The bytes with one change. Among the pieces of JSON is any byte."""
     at = dice.randint(0, len(body))
-    piece = dice.choice(pieces)
-    ways = (body[:at], piece + body, body + piece, body[:at] + piece + body[at:], body[:at] + body[at + 1:], body[:at] + piece + body[at + 1:], body + body, body[:at] + bytes([dice.randrange(256)]) + body[at + 1:])
-    return dice.choice(ways)
+    piece = bytes([dice.randrange(256)]) if pieces is PIECES and dice.random() < 0.3 else dice.choice(pieces)
+    cuts = (body[:at], body[:at] + body[at + 1:], body + body)
+    puts = (piece + body, body + piece, body[:at] + piece + body[at:], body[:at] + piece + body[at + 1:])
+    return dice.choice((*cuts, *puts))
 
 
 def some_bytes(dice, body, pieces=PIECES):
@@ -161,4 +166,5 @@ def some_json(dice, form):
         value, ways = some_value(dice), {"any value"}
     body = json_text(dice, value, dice.choice(SPACES)).encode("utf-8", "surrogatepass")
     body, cuts = some_bytes(dice, body)
-    return body, ways | cuts
+    is_marked = dice.random() < 0.04
+    return (codecs.BOM_UTF8 if is_marked else b"") + body, ways | cuts | ({"byte order mark"} if is_marked else set())

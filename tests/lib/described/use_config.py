@@ -1,7 +1,8 @@
 """The program use_config, by crates/use_config/README.md: settings in TOML, which Python's `tomllib` reads, or in JSON.
 
 Of a text that is no TOML the line and the column are not compared: two readers may stop at different places. `tomllib` reads TOML 1.0
-and the program TOML 1.1, so no line feed is put into a text, which may fall into an inline table. An integer beyond 64 bits is no
+and the program TOML 1.1, so no line feed is put into a text, which may fall into an inline table, and a time without seconds is left
+out. An integer beyond 64 bits is no
 TOML, which `tomllib` does not ask. Before Python 3.11 there is no `tomllib`, and all settings are in JSON.
 """
 import codecs
@@ -15,6 +16,7 @@ from lib.form import Checked, Closed, ListUnder, MapUnder, Member, Nullish, Obje
 from lib.json_values import DEEPEST, NoJson, Number, Pairs, depth, of_bytes
 from lib.reports import lines
 from lib.spoiled import Raw, json_text, many, missing, renamed, repeated, some_bytes, some_json, some_of, unknown, wrong_type
+from lib.urls import Unsaid
 
 try:
     import tomllib
@@ -31,7 +33,8 @@ def is_address(host):
 
 
 NAME = matches("^[a-z0-9-]+([.][a-z0-9-]+)*$")
-HOST = Rule(lambda host: None if is_address(host) else NAME.find(host), ["A", "a_b", "a.", "256.1.1.1", "fe80::1%1", "::ffff:1.2.3.4", "1::2::3", "a\n"])
+HOSTS = ("A", "a_b", "a.", "256.1.1.1", "fe80::1%1", "::ffff:1.2.3.4", "1::2::3", "a\n")
+HOST = Rule(lambda host: None if is_address(host) else NAME.find(host), HOSTS)
 PEM = Text(suffix(".pem"), like=("a.pem", "key.pem"))
 FILE_FOR_DEBUG = Under("file", lambda it: REQUIRED.find(it["file"]) if it["level"] == "debug" else None)
 IN_ORDER = Under("max", lambda it: between(it["min"]).find(it["max"]))
@@ -51,8 +54,9 @@ CONFIG = Object(Closed(Member("server", SERVER), Member("logging", LOGGING), Mem
 
 NUMBERS = "0 1 3 64 65 65535 65536 -1 +7 1_000 0x41 0o17 0b1 9223372036854775807 -9223372036854775808 1.0 -0.5 2e3 inf -inf nan".split()
 BARE = "1979-05-27 07:32:00 1979-05-27T07:32:00 1979-05-27T07:32:00Z 1979-05-27T07:32:00.25+01:30 inf -inf +inf nan -nan +nan".split()
-BAD = ["2023-02-29", "24:00:00", "007", "1__0", "9223372036854775808", "'a", '"\\q"', "[1", "{", "{a = 1", "", "tru", "+-1", "0x", "1979-13-01", "1.", ".5", "a"]
-OTHERS = ["", "a", "A", "a.b", "::1", "256.1.1.1", "a.pem", "debug", "Info", "é" * 127, "é" * 128, "\n", "\x1b[2K", '"', "\\", "𝄞", True, False, [], [Number(1)], ["a", Pairs()], Pairs(), Pairs([("min", Number(2)), ("max", Number(1))])]
+BAD = ["2023-02-29", "24:00:00", "007", "1__0", "9223372036854775808", "'a", '"\\q"', "[1", "{", "{a = 1", "", "tru", "+-1", "0x", "1979-13-01", "1."]
+OTHERS = ["", "a", "A", "a.b", "::1", "256.1.1.1", "a.pem", "debug", "Info", "é" * 127, "é" * 128, "\n", "\x1b[2K", '"', "\\", "𝄞", True, False]
+OTHERS += [[], [Number(1)], ["a", Pairs()], Pairs(), Pairs([("min", Number(2)), ("max", Number(1))])]
 PIECES = [b"=", b'"', b"]", b"0", b"\x00", b"\t", b".", b"#", b"'", b"\xff"]
 
 
@@ -143,6 +147,8 @@ def value_of(case):
         raise NoJson("the configuration is not read: .*") from None
     if case.words == ("json",):
         return of_bytes(case.given)
+    if re.search(r"(?<![-+\d:])\d\d:\d\d(?!:)", text):
+        raise Unsaid("a time without seconds")
     try:
         value = of_toml(tomllib.loads(text))
     except (ValueError, RecursionError) as error:

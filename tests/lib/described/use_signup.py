@@ -35,7 +35,8 @@ CZECH = {
 LANGUAGES = {"en": ({**ENGLISH, "terms": "the terms are not accepted"}, "welcome"), "cs": (CZECH, "vítejte")}
 TEXTS = ["", "a", "on", "On", "off", "news", "sport", "36", "\0", 'q"\\\n', "a b", "a+b", "é" * 41, "漢字½", "x" * 129, "\x1b[2K"]
 # Pieces of bodies as no browser sends them.
-PIECES = [b"%", b"%4", b"%zz", b"%%41", b"%00", b"%FF", b"\xff", b"%C3", b"\xc3", b"%F0%9F%98", b"+", b"&", b"&&", b"=", b";", b"#", b"\xef\xbb\xbf", b"%E2%80%AE", b"\n", b"\r\n", b" \t", b"&\n"]
+PIECES = [b"%", b"%4", b"%zz", b"%%41", b"%00", b"%FF", b"\xff", b"%C3", b"\xc3", b"%F0%9F%98", b"+", b"&", b"&&", b"=", b";", b"#", b"\n", b"&\n"]
+PIECES += [b"\xef\xbb\xbf", b"%E2%80%AE", b"\r\n", b" \t"]
 
 
 def characters(count):

@@ -89,7 +89,8 @@ def table_of(folder, program, alone=False):
     the program lists them."""
     if sqlite3 is None:
         _, out, _ = run(program, Case(("stock.db", "--list"), b""), cwd=folder)
-        return [(code, name, int(quantity), int(price), page or None) for code, name, quantity, price, page in list(csv.reader(io.StringIO(out.decode(), newline="")))[1:]]
+        _, *rows = csv.reader(io.StringIO(out.decode(), newline=""))
+        return [(code, name, int(quantity), int(price), page or None) for code, name, quantity, price, page in rows]
     with tempfile.TemporaryDirectory() as copy:
         for name in ["stock.db"] if alone else ["stock.db", "stock.db-wal"]:
             if (pathlib.Path(folder) / name).exists():
