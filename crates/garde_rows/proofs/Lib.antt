@@ -2,4 +2,3 @@ mod Cells
 mod Header
 mod Results
 mod Whole
-mod Texts

@@ -1,24 +1,18 @@
 -- What a table of columns and rows spells, and what is asked of it.
-use Rattle.std.specs.Prelude.{◌≡◌, ◌<◌, ◌==◌, ⊤, ℕ, List, [], ◌∷◌, ◌++◌, length, zip, codes, Bool, true, false, Result, Ok, Err}
+use Rattle.std.specs.Prelude.{◌==◌, ⊤, ℕ, List, [], ◌∷◌, length, zip, codes, Bool, true, false, Result, Ok, Err}
 use Rattle.std.specs.Borrow.{Bor}
 use Rattle.std.specs.List.{list_any}
 use Rattle.std.specs.Str.{bytes_eq}
 use Rattle.json.specs.Json.{Json, string, object, Members, no_members, member}
-use Rattle.json.specs.Print.{print}
-use Rattle.json.specs.Token.{Token}
-use Rattle.json.specs.Tree.{json_tokens}
-use Rattle.json.specs.Written.{Written}
 use Rattle.garde_i18n.specs.Datum.{Datum}
 use Rattle.garde_report.specs.Part.{index_part, key_part}
 use Rattle.garde_tape.specs.Look.{find_answer}
-use Rattle.garde_tape.specs.declared.parse_error.ParseError.TheVariants as parse
 use Rattle.garde.specs.Answers.{Answers}
 use Rattle.garde.specs.Author.{Visits, none, ◌and◌, under}
+use Rattle.garde.specs.declared.validate_error.ValidateError.{ValidateError}
 use Rattle.garde.specs.declared.validate_error.ValidateError.TheVariants as errors
 use Rattle.garde_schema.specs.Forms.{FormTexts, refused}
 use Rattle.garde_schema.specs.Members.{member_visits, members_in, unknown}
-use Rattle.garde_schema.specs.declared.read_error.ReadError.{ReadError}
-use Rattle.garde_schema.specs.declared.read_error.ReadError.TheVariants.{Parse, Report, Memory}
 
 -- a member for each pair of a name and a cell, in their order, whose value is the text of the cell
 abbrev pub cell_members : List (List ℕ × List ℕ) → Members
@@ -28,10 +22,6 @@ cell_members (p ∷ ps) = member p.0 (string p.1) (cell_members ps)
 -- the row with these cells, under the names of these columns
 abbrev pub row_json : List (List ℕ) → List (List ℕ) → Json
 row_json columns cells = object (cell_members (zip columns cells))
-
--- the row as a text
-abbrev pub row_text : List (List ℕ) → List (List ℕ) → List ℕ
-row_text columns cells = print (json_tokens (row_json columns cells))
 
 -- whether a row has a cell for each column, and no more
 abbrev pub is_whole : List (List ℕ) → List (List ℕ) → Bool
@@ -61,14 +51,8 @@ abbrev pub header_visits : (Json → Visits) → (List ℕ → Bool) → FormTex
 header_visits visits names texts header =
     visits (row_json header header) and unknown names texts (members_in (row_json header header))
 
--- The result of reading what is this text. `Parse` says that the text is too long. No reason is promised for `Memory`.
-abbrev pub AnswersRow : Visits → (Datum → List ℕ) → List ℕ → Result (Unit {0}) ReadError → Type 0
-AnswersRow visits text bytes (Ok done) = Answers visits text (Ok done)
-AnswersRow visits text bytes (Err (Parse error)) = (error ≡ parse.TooLong) × (4294967040 < length bytes)
-AnswersRow visits text bytes (Err (Report report)) = Answers visits text (Err (errors.Report report))
-AnswersRow visits text bytes (Err Memory) = ⊤
-
--- these tokens were written behind those that stood there
-pub record AreWritten (ts : List Token) (old new : Written) : Type 0 where
-  pub before : new.before ≡ old.before
-  pub tokens : new.tokens ≡ old.tokens ++ ts
+-- The result of reading a row or a header. No reason is promised for `Memory`.
+abbrev pub AnswersRow : Visits → (Datum → List ℕ) → Result (Unit {0}) ValidateError → Type 0
+AnswersRow visits text (Ok done) = Answers visits text (Ok done)
+AnswersRow visits text (Err (errors.Report report)) = Answers visits text (Err (errors.Report report))
+AnswersRow visits text (Err errors.Memory) = ⊤

@@ -2,14 +2,12 @@
 #![tactic(auto)]
 
 mod columns;
+mod fields;
 mod names;
 mod put;
 mod row;
 mod row_form;
-mod row_text;
-mod scratch;
 
 pub use columns::{Columns, read_columns};
 pub use names::Names;
 pub use row::read_row;
-pub use scratch::RowScratch;

@@ -2,19 +2,18 @@
 ghost use Rattle.std.specs.Prelude.{◌≡◌, true, Some, IfOk};
 ghost use Rattle.csv.specs.Records.{fields_of};
 ghost use Rattle.garde_schema.specs.Forms.{forget};
-ghost use Rattle.garde_rows.specs.Rows.{AnswersRow, is_whole, row_json, row_text, row_visits};
+ghost use Rattle.garde_rows.specs.Rows.{AnswersRow, is_whole, row_json, row_visits};
 
 use crate::columns::Columns;
+use crate::fields::row_fields;
 use crate::row_form::RowForm;
-use crate::row_text::write_row;
-use crate::scratch::RowScratch;
 use csv::StringRecord;
-use garde::I18n;
-use garde_schema::{Form, FormI18n, ReadError, read_json};
+use garde::{I18n, ValidateError};
+use garde_schema::{Form, FormI18n, Tree, read};
 use std::alloc::Global;
 
 // Whether there is a cell for each column, and no more.
-fn is_whole(columns: &Columns, cells: &StringRecord) -> bool
+fn is_whole(columns: &Columns<'_>, cells: &StringRecord) -> bool
     ensures { result ≡ is_whole columns.now (fields_of cells.now) }
 {
     cells.len() == columns.header.len()
@@ -25,26 +24,24 @@ fn is_whole(columns: &Columns, cells: &StringRecord) -> bool
 ///
 /// The form sees an object with a member for each column, in the order of the header, whose value is
 /// the text of the cell. A row with more or fewer cells than there are columns is one fault, and the
-/// form is not asked. The value borrows from the scratch.
+/// form is not asked. The value borrows from the cells and from the header.
 pub fn read_row<'a, F: Form<'a>, H: I18n + FormI18n>(
     alloc: Global,
     index: usize,
-    columns: &Columns,
-    cells: &StringRecord,
-    scratch: &'a mut RowScratch,
+    columns: &Columns<'a>,
+    cells: &'a StringRecord,
     form: &F,
     h: &H,
-) -> Result<F::Out, ReadError>
+) -> Result<F::Out, ValidateError>
     ensures answer { AnswersRow
         (row_visits index (λ j. F.visits form.now (H.form_text h.now) j) columns.now (fields_of cells.now))
-        (H.text h.now) (row_text columns.now (fields_of cells.now)) (forget result) }
+        (H.text h.now) (forget result) }
     ensures whole { IfOk result (λ out. is_whole columns.now (fields_of cells.now) ≡ true) }
     ensures value { IfOk result (λ out. F.value form.now (row_json columns.now (fields_of cells.now)) ≡ Some out) }
     ensures keeps { IfOk result (λ out. F.keeps form.now out) }
 {
-    let RowScratch { text, scratch } = scratch;
-    let Ok(()) = write_row(alloc, &columns.header, cells, text) else {
-        return Err(ReadError::Memory);
+    let Ok(fields) = row_fields(alloc, columns.header, cells) else {
+        return Err(ValidateError::Memory);
     };
     let is_whole = is_whole(columns, cells);
     let row = RowForm {
@@ -52,5 +49,5 @@ pub fn read_row<'a, F: Form<'a>, H: I18n + FormI18n>(
         is_whole,
         form,
     };
-    read_json(alloc, text.as_slice(), scratch, &row, h)
+    read(alloc, &row, &Tree::fields(fields.as_slice()), h)
 }

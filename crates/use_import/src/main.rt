@@ -11,11 +11,10 @@ use crate::place::Place;
 use crate::row::{COLUMNS, Row};
 use anyhow::{Result, anyhow};
 use csv::StringRecord;
-use garde::DefaultI18n;
+use garde::{DefaultI18n, ValidateError};
 use garde_csv::{Next, Records};
 use garde_problem::Escaped;
-use garde_rows::{Columns, Names, RowScratch, read_columns};
-use garde_schema::ReadError;
+use garde_rows::{Columns, Names, read_columns};
 use std::alloc::Global;
 use std::io::{BufWriter, Read, Write};
 use std::process::ExitCode;
@@ -23,14 +22,13 @@ use std::{env, io};
 
 /// A list whose header row has been read, and what is kept from one row to the next.
 #[derive(Drop)]
-struct List<R> {
+struct List<'a, R> {
     records: Records<R>,
-    columns: Columns,
+    columns: Columns<'a>,
     cells: StringRecord,
-    scratch: RowScratch,
 }
 
-impl<R: Read + Drop> List<R> {
+impl<'a, R: Read + Drop> List<'a, R> {
     /// Prints at most so many faults of the row that was read, and returns how many it printed.
     fn check<W: Write>(
         &mut self,
@@ -40,9 +38,9 @@ impl<R: Read + Drop> List<R> {
         out: &mut W,
     ) -> Result<usize> {
         let index = place.index();
-        match Row::read(alloc, index, &self.columns, &self.cells, &mut self.scratch) {
+        match Row::read(alloc, index, &self.columns, &self.cells) {
             Ok(_) => Ok(0),
-            Err(ReadError::Report(report)) => place.tell_report(alloc, &report, most, out),
+            Err(ValidateError::Report(report)) => place.tell_report(alloc, &report, most, out),
             Err(error) => Err(error.into()),
         }
     }
@@ -63,7 +61,7 @@ impl<R: Read + Drop> List<R> {
 /// none.
 fn import<R: Read + Drop, W: Write>(
     alloc: Global,
-    list: &mut List<R>,
+    list: &mut List<'_, R>,
     options: &Options,
     out: &mut W,
 ) -> Result<bool> {
@@ -106,25 +104,21 @@ fn header<R: Read + Drop>(
     }
 }
 
-/// The list of these bytes, whose header row has each of the columns and no other. It prints every
+/// The list of these records, whose header row has each of the columns and no other. It prints every
 /// fault of another header row.
-fn open<R: Read + Drop, W: Write>(
+fn open<'a, R: Read + Drop, W: Write>(
     alloc: Global,
-    bytes: R,
-    has_header: bool,
+    records: Records<R>,
+    header: &'a StringRecord,
     out: &mut W,
-) -> Result<List<R>> {
-    let mut records = Records::new(alloc, bytes)?;
-    let header = header(alloc, &mut records, has_header)?;
-    let mut scratch = RowScratch::new(alloc);
-    match read_columns(alloc, header, Names(&COLUMNS), &mut scratch, &DefaultI18n) {
+) -> Result<List<'a, R>> {
+    match read_columns(alloc, header, Names(&COLUMNS), &DefaultI18n) {
         Ok(columns) => Ok(List {
             records,
             columns,
             cells: StringRecord::new(alloc),
-            scratch,
         }),
-        Err(ReadError::Report(report)) => {
+        Err(ValidateError::Report(report)) => {
             write!(out, "{}", Escaped(alloc, &report))?;
             Err(anyhow!("these are not the columns of a list"))
         }
@@ -142,7 +136,9 @@ fn run(rt: &HostRuntime, task: Task) -> Result<bool> {
             true
         }
         Task::Import(options) => {
-            let mut list = open(rt.alloc(), rt.stdin(), options.has_header, &mut out)?;
+            let mut records = Records::new(rt.alloc(), rt.stdin())?;
+            let header = header(rt.alloc(), &mut records, options.has_header)?;
+            let mut list = open(rt.alloc(), records, &header, &mut out)?;
             import(rt.alloc(), &mut list, &options, &mut out)?
         }
     };

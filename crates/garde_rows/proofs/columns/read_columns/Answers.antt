@@ -1,16 +1,30 @@
-use Rattle.std.proofs.Common.{Ok, Err, ap, subst, sym, ◌∙◌}
-use Rattle.std.specs.Prelude.{IsUtf8}
+use Rattle.std.proofs.Common.{◌≡◌, Ok, Err, ap, ◌∙◌}
 use Rattle.csv.specs.Records.{fields_of}
-use Rattle.garde_tape.specs.Input.{without_mark}
-use Rattle.garde_rows.proofs.Results.{answers_header}
+use Rattle.json.specs.Find.{as_object}
+use Rattle.json.specs.Json.{Json, object}
+use Rattle.garde.specs.Author.{Visits, ◌and◌}
+use Rattle.garde_tape.specs.Look.{kind_of}
+use Rattle.garde_tape.specs.Texts.{field_members}
+use Rattle.garde_schema.specs.Forms.{formed}
+use Rattle.garde_schema.specs.Members.{members_in, unknown}
+use Rattle.garde_schema.specs.declared.fault.FormFault.TheVariants.{Wrong}
+use Rattle.garde_schema.specs.declared.fault.Wanted.TheVariants as wanted
+use Rattle.garde_rows.specs.Rows.{row_json}
+use Rattle.garde_rows.proofs.Results.{answers_row}
 use Rattle.garde_rows.proofs.columns.read_columns.Goals as goal
 
-pub returns-in-Err-clause-answer : goal.returns-in-Err-clause-answer
-returns-in-Err-clause-answer g c =
-    answers_header (λ j. g.M.Members.visits c.args.known (g.H.FormI18n.form_text c.args.h.now) j) (λ name. g.M.Members.names c.args.known name) (g.H.FormI18n.form_text c.args.h.now) (g.H.I18n.text c.args.h.now) (fields_of c.args.header) c.as_slice.result.now (Err c.in-Err.error)
-    (c.as_slice.ensures.value ∙ c.in-Ok.ensures.text) (ap without_mark c.as_slice.ensures.value ∙ c.in-Ok.ensures.mark ∙ sym c.as_slice.ensures.value) (subst IsUtf8 (sym c.as_slice.ensures.value) c.in-Ok.ensures.utf8) c.in-Err.ensures.answer
+pub returns-clause-answer : goal.returns-clause-answer
+returns-clause-answer g c =
+    let texts = g.H.FormI18n.form_text c.args.h.now in
+    let header = fields_of c.args.header.now in
+    let asked : Json → Visits = λ j. formed (texts (Wrong wanted.Object (kind_of j))) (λ _. g.M.Members.visits c.args.known texts j and unknown (λ name. g.M.Members.names c.args.known name) texts (members_in j)) (as_object j) in
+    let is_header = c.fields.ensures ∙ ap (λ fields. object (field_members fields)) c.as_slice.ensures.value ∙ c.in-Ok.ensures in
+    answers_row asked (g.H.I18n.text c.args.h.now) _ (row_json header header) (Err c.in-Err.error) is_header c.in-Err.ensures.answer
 
-pub returns-in-Ok-read_json-clause-answer : goal.returns-in-Ok-read_json-clause-answer
-returns-in-Ok-read_json-clause-answer g c =
-    answers_header (λ j. g.M.Members.visits c.args.known (g.H.FormI18n.form_text c.args.h.now) j) (λ name. g.M.Members.names c.args.known name) (g.H.FormI18n.form_text c.args.h.now) (g.H.I18n.text c.args.h.now) (fields_of c.args.header) c.as_slice.result.now (Ok tt)
-    (c.as_slice.ensures.value ∙ c.in-Ok.ensures.text) (ap without_mark c.as_slice.ensures.value ∙ c.in-Ok.ensures.mark ∙ sym c.as_slice.ensures.value) (subst IsUtf8 (sym c.as_slice.ensures.value) c.in-Ok.ensures.utf8) c.in-Ok-read_json.ensures.answer
+pub returns-in-Ok-read-clause-answer : goal.returns-in-Ok-read-clause-answer
+returns-in-Ok-read-clause-answer g c =
+    let texts = g.H.FormI18n.form_text c.args.h.now in
+    let header = fields_of c.args.header.now in
+    let asked : Json → Visits = λ j. formed (texts (Wrong wanted.Object (kind_of j))) (λ _. g.M.Members.visits c.args.known texts j and unknown (λ name. g.M.Members.names c.args.known name) texts (members_in j)) (as_object j) in
+    let is_header = c.fields.ensures ∙ ap (λ fields. object (field_members fields)) c.as_slice.ensures.value ∙ c.in-Ok.ensures in
+    answers_row asked (g.H.I18n.text c.args.h.now) _ (row_json header header) (Ok tt) is_header c.in-Ok-read.ensures.answer

@@ -3,9 +3,8 @@
 use super::tables::told_of_row;
 use crate::tests::{OrEnd, is_text};
 use csv::StringRecord;
-use garde::DefaultI18n;
-use garde_rows::{Columns, Names, RowScratch, read_columns};
-use garde_schema::ReadError;
+use garde::{DefaultI18n, ValidateError};
+use garde_rows::{Columns, Names, read_columns};
 use std::alloc::{AllocError, Global};
 use std::process::Abort;
 
@@ -21,19 +20,14 @@ fn many(rt: &impl Abort, alloc: Global, first: &[&str], other: &str) -> StringRe
 }
 
 // The columns of a header, or its report.
-fn columns(
-    alloc: Global,
-    header: StringRecord,
-    scratch: &mut RowScratch,
-) -> Result<Columns, ReadError> {
+fn columns(alloc: Global, header: &StringRecord) -> Result<Columns<'_>, ValidateError> {
     let known = Names(&["code", "price"]);
-    read_columns(alloc, header, known, scratch, &DefaultI18n)
+    read_columns(alloc, header, known, &DefaultI18n)
 }
 
 // What is told of a header.
-fn told_of_header(alloc: Global, header: StringRecord) -> Result<String, AllocError> {
-    let mut scratch = RowScratch::new(alloc);
-    match columns(alloc, header, &mut scratch) {
+fn told_of_header(alloc: Global, header: &StringRecord) -> Result<String, AllocError> {
+    match columns(alloc, header) {
         Ok(_) => Ok(String::new(alloc)),
         Err(error) => format!(in alloc; "{error}"),
     }
@@ -42,7 +36,7 @@ fn told_of_header(alloc: Global, header: StringRecord) -> Result<String, AllocEr
 // How many lines are told of a header that begins with two known columns.
 fn lines_of_many(rt: &impl Abort, alloc: Global) -> usize {
     let header = many(rt, alloc, &["price", "code"], "note");
-    let told = told_of_header(alloc, header).or_end(rt);
+    let told = told_of_header(alloc, &header).or_end(rt);
     told.as_str().lines().count()
 }
 
@@ -51,21 +45,10 @@ fn tells_each_of_ten_thousand_columns(rt: HostRuntime) {
     assert_eq!(rt; lines_of_many(&rt, rt.alloc()), MANY - 2);
 }
 
-// The columns of two names.
-fn two_columns(rt: &impl Abort, alloc: Global, scratch: &mut RowScratch) -> Columns {
-    let header = StringRecord::from_fields(alloc, &["price", "code"]).or_end(rt);
-    columns(alloc, header, scratch).or_end(rt)
-}
-
 // Whether a row of many cells is not as long as its header.
-fn is_too_wide(
-    rt: &impl Abort,
-    alloc: Global,
-    columns: &Columns,
-    scratch: &mut RowScratch,
-) -> bool {
+fn is_too_wide(rt: &impl Abort, alloc: Global, columns: &Columns<'_>) -> bool {
     let cells = many(rt, alloc, &["5", "P1"], "9");
-    let told = told_of_row(alloc, 7, columns, &cells, scratch);
+    let told = told_of_row(alloc, 7, columns, &cells);
     is_text(told, "[7]: not as many fields as in the header\n")
 }
 
@@ -81,13 +64,8 @@ fn is_whole(told: &str) -> bool {
 }
 
 // Whether a row with a cell of 1,500,000 bytes is read.
-fn is_long_read(
-    rt: &impl Abort,
-    alloc: Global,
-    columns: &Columns,
-    scratch: &mut RowScratch,
-) -> bool {
-    match told_of_row(alloc, 7, columns, &long_row(rt, alloc), scratch) {
+fn is_long_read(rt: &impl Abort, alloc: Global, columns: &Columns<'_>) -> bool {
+    match told_of_row(alloc, 7, columns, &long_row(rt, alloc)) {
         Ok(told) => is_whole(told.as_str()),
         Err(_) => false,
     }
@@ -95,8 +73,8 @@ fn is_long_read(
 
 #[test]
 fn reads_rows_of_many_cells(rt: HostRuntime) {
-    let mut scratch = RowScratch::new(rt.alloc());
-    let columns = two_columns(&rt, rt.alloc(), &mut scratch);
-    assert!(rt; is_too_wide(&rt, rt.alloc(), &columns, &mut scratch));
-    assert!(rt; is_long_read(&rt, rt.alloc(), &columns, &mut scratch));
+    let header = StringRecord::from_fields(rt.alloc(), &["price", "code"]).or_end(&rt);
+    let columns = columns(rt.alloc(), &header).or_end(&rt);
+    assert!(rt; is_too_wide(&rt, rt.alloc(), &columns));
+    assert!(rt; is_long_read(&rt, rt.alloc(), &columns));
 }

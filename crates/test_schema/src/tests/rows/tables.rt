@@ -3,10 +3,10 @@
 use crate::tests::OrEnd;
 use csv::StringRecord;
 use garde::fields::{Is, Prefix};
-use garde::{DefaultI18n, range};
+use garde::{DefaultI18n, ValidateError, range};
 use garde_form::{OrEmpty, Parsed};
-use garde_rows::{Columns, Names, RowScratch, read_columns, read_row};
-use garde_schema::{Any, Member, Object, Optional, ReadError, Text, U8};
+use garde_rows::{Columns, Names, read_columns, read_row};
+use garde_schema::{Any, Member, Object, Optional, Text, U8};
 use std::alloc::{AllocError, Global};
 use std::process::Abort;
 
@@ -14,16 +14,15 @@ use std::process::Abort;
 pub(super) fn told_of_row(
     alloc: Global,
     index: usize,
-    columns: &Columns,
+    columns: &Columns<'_>,
     cells: &StringRecord,
-    scratch: &mut RowScratch,
 ) -> Result<String, AllocError> {
     let form = Object((
         Member("code", Text(Is(Prefix("P")))),
         Member("price", Parsed(U8, Is(range!(min = 1, max = 200)))),
         Optional("page", OrEmpty(Text(()))),
     ));
-    match read_row(alloc, index, columns, cells, scratch, &form, &DefaultI18n) {
+    match read_row(alloc, index, columns, cells, &form, &DefaultI18n) {
         Ok((code, price, page)) => {
             let (code, page) = (code.text(), page.flatten().map(|page| page.text()));
             format!(in alloc; "{code:?} {price} {page:?}\n")
@@ -33,15 +32,9 @@ pub(super) fn told_of_row(
 }
 
 // The columns of a header, or its report.
-fn columns(
-    rt: &impl Abort,
-    alloc: Global,
-    header: &[&str],
-    scratch: &mut RowScratch,
-) -> Result<Columns, ReadError> {
-    let header = StringRecord::from_fields(alloc, header).or_end(rt);
+fn columns(alloc: Global, header: &StringRecord) -> Result<Columns<'_>, ValidateError> {
     let known = (Names(&["code", "price"]), Optional("page", Any));
-    read_columns(alloc, header, known, scratch, &DefaultI18n)
+    read_columns(alloc, header, known, &DefaultI18n)
 }
 
 // What is told of the row of this index, of these cells.
@@ -49,25 +42,18 @@ fn told_of_cells(
     rt: &impl Abort,
     alloc: Global,
     index: usize,
-    columns: &Columns,
+    columns: &Columns<'_>,
     cells: &[&str],
-    scratch: &mut RowScratch,
 ) -> String {
     let cells = StringRecord::from_fields(alloc, cells).or_end(rt);
-    told_of_row(alloc, index, columns, &cells, scratch).or_end(rt)
+    told_of_row(alloc, index, columns, &cells).or_end(rt)
 }
 
 // What is told of each row.
-fn told_of_rows(
-    rt: &impl Abort,
-    alloc: Global,
-    columns: &Columns,
-    rows: &[&[&str]],
-    scratch: &mut RowScratch,
-) -> String {
+fn told_of_rows(rt: &impl Abort, alloc: Global, columns: &Columns<'_>, rows: &[&[&str]]) -> String {
     let mut all = String::new(alloc);
     for (index, cells) in rows.iter().enumerate() {
-        let told = told_of_cells(rt, alloc, index, columns, cells, scratch);
+        let told = told_of_cells(rt, alloc, index, columns, cells);
         all.push_str(&told).or_end(rt);
     }
     all
@@ -75,9 +61,9 @@ fn told_of_rows(
 
 // What is told of a table.
 fn told(rt: &impl Abort, alloc: Global, header: &[&str], rows: &[&[&str]]) -> String {
-    let mut scratch = RowScratch::new(alloc);
-    match columns(rt, alloc, header, &mut scratch) {
-        Ok(columns) => told_of_rows(rt, alloc, &columns, rows, &mut scratch),
+    let header = StringRecord::from_fields(alloc, header).or_end(rt);
+    match columns(alloc, &header) {
+        Ok(columns) => told_of_rows(rt, alloc, &columns, rows),
         Err(error) => format!(in alloc; "{error}").or_end(rt),
     }
 }
