@@ -1,7 +1,7 @@
 use Rattle.example_order.proofs.check.check_order.Goals as goal
 
 pub returns-in-English : goal.returns-in-English
-returns-in-English c = rw c.in-English.is c.check_body.ensures
+returns-in-English c = rw c.in-English.is (c.check_body.ensures.answer, c.check_body.ensures.valid)
 
 pub returns-in-Czech : goal.returns-in-Czech
-returns-in-Czech c = rw c.in-Czech.is c.check_body-in-Czech.ensures
+returns-in-Czech c = rw c.in-Czech.is (c.check_body-in-Czech.ensures.answer, c.check_body-in-Czech.ensures.valid)
