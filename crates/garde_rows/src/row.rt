@@ -25,10 +25,10 @@ fn is_whole(columns: &Columns<'_>, cells: &StringRecord) -> bool
 /// The form sees an object with a member for each column, in the order of the header, whose value is
 /// the text of the cell. A row with more or fewer cells than there are columns is one fault, and the
 /// form is not asked. The value borrows from the cells and from the header.
-pub fn read_row<'a, F: Form<'a>, H: I18n + FormI18n>(
+pub fn read_row<'a, 'c: 'a, F: Form<'a>, H: I18n + FormI18n>(
     alloc: Global,
     index: usize,
-    columns: &Columns<'a>,
+    columns: &Columns<'c>,
     cells: &'a StringRecord,
     form: &F,
     h: &H,
