@@ -59,35 +59,39 @@ fn reads_texts_as_the_json_that_spells_them(rt: HostRuntime) {
     );
 }
 
+// Fields, and the text that spells them.
+static FIELDS: [(&[(&str, FieldValue<'static, 'static>)], &str); 5] = [
+    (&[], "{}"),
+    (&[("a", FieldValue::Text("it"))], "{\"a\":\"it\"}"),
+    (
+        &[
+            ("b", FieldValue::Text("")),
+            ("a", FieldValue::Text("it")),
+            ("", FieldValue::Texts(&["it", ""])),
+        ],
+        "{\"b\":\"\",\"a\":\"it\",\"\":[\"it\",\"\"]}",
+    ),
+    (
+        &[
+            ("a", FieldValue::Text("it")),
+            ("ab", FieldValue::Text("it")),
+            ("a", FieldValue::Text("")),
+        ],
+        "{\"a\":\"it\",\"ab\":\"it\",\"a\":\"\"}",
+    ),
+    (
+        &[
+            ("a", FieldValue::Text("")),
+            ("a", FieldValue::Texts(&["it", ""])),
+            ("a", FieldValue::Text("it")),
+        ],
+        "{\"a\":\"\",\"a\":[\"it\",\"\"],\"a\":\"it\"}",
+    ),
+];
+
 #[test]
 fn reads_fields_as_the_json_that_spells_them(rt: HostRuntime) {
-    let it = FieldValue::Text("it");
-    let other = FieldValue::Text("");
-    let list = ["it", ""];
-    let list = FieldValue::Texts(&list);
-    tell_same(&rt, rt.alloc(), &Tree::fields(&[]), "{}");
-    tell_same(
-        &rt,
-        rt.alloc(),
-        &Tree::fields(&[("a", it)]),
-        "{\"a\":\"it\"}",
-    );
-    tell_same(
-        &rt,
-        rt.alloc(),
-        &Tree::fields(&[("b", other), ("a", it), ("", list)]),
-        "{\"b\":\"\",\"a\":\"it\",\"\":[\"it\",\"\"]}",
-    );
-    tell_same(
-        &rt,
-        rt.alloc(),
-        &Tree::fields(&[("a", it), ("ab", it), ("a", other)]),
-        "{\"a\":\"it\",\"ab\":\"it\",\"a\":\"\"}",
-    );
-    tell_same(
-        &rt,
-        rt.alloc(),
-        &Tree::fields(&[("a", other), ("a", list), ("a", it)]),
-        "{\"a\":\"\",\"a\":[\"it\",\"\"],\"a\":\"it\"}",
-    );
+    for (fields, text) in &FIELDS {
+        tell_same(&rt, rt.alloc(), &Tree::fields(fields), text);
+    }
 }

@@ -11,11 +11,11 @@ use std::alloc::{AllocError, Global};
 use std::process::Abort;
 
 // What is told of the row of this index.
-pub(super) fn told_of_row(
+pub(super) fn told_of_row<'a, 'c: 'a>(
     alloc: Global,
     index: usize,
-    columns: &Columns<'_>,
-    cells: &StringRecord,
+    columns: &Columns<'c>,
+    cells: &'a StringRecord,
 ) -> Result<String, AllocError> {
     let form = Object((
         Member("code", Text(Is(Prefix("P")))),
