@@ -97,20 +97,22 @@ fn a_field_compared_with_another(rt: HostRuntime) {
 }
 
 /// The name, the motto and the page of a profile, and its age.
-type Given = ([Option<&'static str>; 3], Option<u8>);
+type Given = (
+    Option<&'static str>,
+    Option<&'static str>,
+    Option<&'static str>,
+    Option<u8>,
+);
 
 /// Profiles, and what is reported for each.
 static PROFILES: [(Given, &str); 3] = [
     (
-        (
-            [Some("abc"), Some("a"), Some("http://example.org")],
-            Some(18),
-        ),
+        (Some("abc"), Some("a"), Some("http://example.org"), Some(18)),
         "",
     ),
-    (([None, None, None], None), "name: not set\n"),
+    ((None, None, None, None), "name: not set\n"),
     (
-        ([Some("ab"), Some("é"), Some("example")], Some(17)),
+        (Some("ab"), Some("é"), Some("example"), Some(17)),
         "name: length is lower than 3\nage: lower than 18\nmotto: not ascii\npage: not a valid url: relative URL without a base\n",
     ),
 ];
@@ -119,7 +121,7 @@ static PROFILES: [(Given, &str); 3] = [
 fn is_told_of_a_profile(
     rt: &impl Abort,
     alloc: Global,
-    ([name, motto, page], age): Given,
+    (name, motto, page, age): Given,
     text: &str,
 ) -> bool {
     let profile = Profile {
@@ -235,14 +237,20 @@ fn link(rt: &impl Abort, alloc: Global, title: &str) -> Link {
 
 /// The kind of a contact without a business, an email twice and a phone, and the title of its last
 /// link.
-type Reached = (&'static str, [Option<&'static str>; 3], &'static str);
+type Reached = (
+    &'static str,
+    Option<&'static str>,
+    Option<&'static str>,
+    Option<&'static str>,
+    &'static str,
+);
 
 /// Contacts, and what is reported for each.
 static CONTACTS: [(Reached, &str); 3] = [
-    (("person", [Some("a@b.c"), Some("a@b.c"), None], "c"), ""),
-    (("person", [None, None, Some("1")], "c"), ""),
+    (("person", Some("a@b.c"), Some("a@b.c"), None, "c"), ""),
+    (("person", None, None, Some("1"), "c"), ""),
     (
-        ("business", [None, Some("a@b.c"), None], "a"),
+        ("business", None, Some("a@b.c"), None, "a"),
         "business: not set\nemail: give an email or a phone\nagain: does not match email field\nlinks[2]: there is a link of this title\n",
     ),
 ];
@@ -260,7 +268,7 @@ fn links(rt: &impl Abort, alloc: Global, titles: [&str; 3]) -> Vec<Link> {
 fn is_told_of_a_contact(
     rt: &impl Abort,
     alloc: Global,
-    (kind, [email, again, phone], last): Reached,
+    (kind, email, again, phone, last): Reached,
     told: &str,
 ) -> bool {
     let contact = Contact {
