@@ -13,6 +13,8 @@ NO_HOST = "invalid domain character"
 # The forbidden host code points but for controls, and those that a domain may not have either.
 FORBIDDEN = set("\0\t\n\r #/:<>?@[\\]^|")
 FORBIDDEN_IN_DOMAINS = FORBIDDEN | {"%", "\x7f"} | {chr(code) for code in range(32)}
+# UTS #46, section 4: the characters that are left out of a domain, as a soft hyphen and a byte order mark.
+IGNORED = re.compile("[\u00ad\u034f\u180b-\u180d\u180f\u200b\u2060\u2064\ufe00-\ufe0f\ufeff\U000e0100-\U000e01ef]")
 
 
 class Unsaid(Exception):
@@ -51,7 +53,7 @@ def is_bidi(domain):
 
 def domain_fault(host):
     """What is wrong with the host of a special URL."""
-    domain = unicodedata.normalize("NFKC", unquote(host)).casefold()
+    domain = unicodedata.normalize("NFKC", IGNORED.sub("", unquote(host))).casefold()
     if not domain:
         return EMPTY
     if FORBIDDEN_IN_DOMAINS & set(domain):
