@@ -8,7 +8,7 @@ import tempfile
 HERE = pathlib.Path(__file__).resolve().parent
 CRATES = HERE.parent / "crates"
 # The crates below those that a program lists.
-BELOW = ("garde_i18n", "garde_report", "garde_lengths", "garde_engines", "garde_rules", "garde_tape", "garde_problem")
+BELOW = ("garde_i18n", "garde_report", "garde_engines", "garde_rules", "garde_tape", "garde_problem")
 
 
 def run(words, room):

@@ -39,14 +39,14 @@ def text(dice):
 
 
 def bounds(dice, low, high, said):
-    """Bounds in the source, the end of their word, and as they are stated."""
+    """Bounds in the source, and as they are stated."""
     first, last = sorted((dice.randint(low, high), dice.randint(low, high)))
     last = first if dice.random() < 0.2 else last
     names = dice.choice((("min",), ("max",), ("equal",), ("min", "max"), ("max", "min")))
     values = {"min": first, "max": last, "equal": first}
     given = ", ".join(f"{it} = {bound(dice, values[it])}" for it in names)
-    end = "between" if len(names) == 2 else names[0]
-    return given, end, " ".join(said(values[it]) for it in ("min", "max", "equal") if it in names)
+    word = "between" if len(names) == 2 else {"min": "at_least", "max": "at_most", "equal": "exactly"}[names[0]]
+    return given, f"({' '.join([word, *(said(values[it]) for it in ('min', 'max', 'equal') if it in names)])})"
 
 
 def condition(dice, depth=0):
@@ -72,16 +72,16 @@ def rule(dice, kind, name):
     """A rule of a field in the source, and as it is stated."""
     if kind == "String" and dice.random() < 0.5:
         word, (written, value) = dice.choice(("contains", "prefix", "suffix")), text(dice)
-        return f"{word}({written})", f'{word} "{value}" v.{name}'
+        return f"{word}({written})", f'is ({word} "{value}" (str v.{name}))'
     if kind == "String":
-        mode, word = dice.choice((("", "length"), ("chars, ", "chars"), ("bytes, ", "length"), ("utf16, ", "utf16"), ("graphemes, ", "graphemes")))
-        given, end, stated = bounds(dice, 0, 5000, str)
-        return f"length({mode}{given})", f"{word}_{end} {stated} v.{name}"
+        mode, word = dice.choice((("", "bytes"), ("chars, ", "chars"), ("bytes, ", "bytes"), ("utf16, ", "utf16"), ("graphemes, ", "graphemes")))
+        given, stated = bounds(dice, 0, 5000, str)
+        return f"length({mode}{given})", f"is ({word} {stated} (str v.{name}))"
     if kind == "u16":
-        given, end, stated = bounds(dice, 0, 65535, str)
-        return f"range({given})", f"{'u16_min' if end == 'min' else f'range_{end}'} {stated} v.{name}"
-    given, end, stated = bounds(dice, -(2**31), 2**31 - 1, lambda it: f"(minus {-it})" if it < 0 else f"(pos {it})")
-    return f"range({given})", f"{'signed' if end in ('between', 'equal') else 'i32'}_{end} {stated} v.{name}"
+        given, stated = bounds(dice, 0, 65535, str)
+        return f"range({given})", f"is (range {stated} v.{name})"
+    given, stated = bounds(dice, -(2**31), 2**31 - 1, lambda it: f"(minus {-it})" if it < 0 else f"(plus {it})")
+    return f"range({given})", f"is (signed_range {stated} v.{name})"
 
 
 def source(seed):

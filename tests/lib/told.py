@@ -25,10 +25,10 @@ impl Stated for Town {{
     type Context = ();
 
     ghost visits = {{ λ v _.
-        field "name" (length_min 3
-            v.name) -- of the town
-        and field "post" (when v.near (length_max 40 v.post))
-        and item 2 (length_in 1 2 (v.lines)) }};
+        field "name" (is (bytes (at_least 3)
+            (str v.name))) -- of the town
+        and field "post" (when v.near (is (bytes (at_most 40) (str v.post))))
+        and item 2 (is (items (between 1 2) (slice v.lines))) }};
 }}
 
 impl Validate for Town {{
@@ -43,10 +43,10 @@ impl Validate for Town {{
 }}
 """
 TOWN_SAYS = [
-    'src/a/town.rt:17: field `name`: `visits` asks `length_min 3 v.name`, the code checks `long` with `long = Is(length!(min = 4))` (line 33)',
-    'src/a/town.rt:19: field `post`: `visits` asks `when v.near (length_max 40 v.post)`, the code checks `When(near, Is(length!(max = 41)))` of `city` '
+    'src/a/town.rt:17: field `name`: `visits` asks `is (bytes (at_least 3) (str v.name))`, the code checks `long` with `long = Is(length!(min = 4))` (line 33)',
+    'src/a/town.rt:19: field `post`: `visits` asks `when v.near (is (bytes (at_most 40) (str v.post)))`, the code checks `When(near, Is(length!(max = 41)))` of `city` '
     "with `near = is_near(self)` (line 32)",
-    "src/a/town.rt:20: field 2: `visits` asks `length_in 1 2 (v.lines)`, the code checks `Is(length!(max = 2))` (line 32)",
+    "src/a/town.rt:20: field 2: `visits` asks `is (items (between 1 2) (slice v.lines))`, the code checks `Is(length!(max = 2))` (line 32)",
 ]
 PLACE = f"""use garde::{{Stated, Validate}};
 
@@ -58,11 +58,11 @@ impl garde::Validate for Place {{
 }}
 
 impl Stated for Place {{
-    ghost visits = {{ λ v _. field "x" (length_min 1 v.x) }};
+    ghost visits = {{ λ v _. field "x" (is (bytes (at_least 1) (str v.x))) }};
 }}
 
 impl Stated for Road {{
-    ghost visits = {{ λ v _. field "x" (length_min 1 v.x) }};
+    ghost visits = {{ λ v _. field "x" (is (bytes (at_least 1) (str v.x))) }};
 }}
 
 impl Validate for Path {{
@@ -92,7 +92,7 @@ def faults_of_types(folder):
         (town, all_open(town), 1, TOWN_SAYS),
         (town, lambda *_: ERRORS, 2, [does_not_compile, *ERRORS[:2]]),
         (town, lambda *_: ERRORS[2:], 2, [parts_do_not, *ERRORS[2:]]),
-        (place, all_open(place), 1, ["src/a/place.rt:14: field `x`: `visits` asks `length_min 1 v.x`, the code checks `wide` with `wide = Is(length!(min = 2))` (line 9)"]),
+        (place, all_open(place), 1, ["src/a/place.rt:14: field `x`: `visits` asks `is (bytes (at_least 1) (str v.x))`, the code checks `wide` with `wide = Is(length!(min = 2))` (line 9)"]),
     ):
         said = explain(it, check)
         if (said.status, said.lines) != (status, says):

@@ -15,10 +15,10 @@ def of_pair(place, coded, pair):
     yield from of_constructors(coded, pair)
     if "==" in stated:
         yield "`==` of `Prelude` in `visits`: write `nat_eq` of numbers, and `text_eq` or `text_is` of texts"
-    if re.search(r"\boptional\b", stated) and not re.search(r"\bIfSome\b", code):
-        yield "`optional` in `visits` is `IfSome(..)` in the code; a rule of the whole option is `of_option`"
+    if re.search(r"\bif_some\b", stated) and not re.search(r"\bIfSome\b", code):
+        yield "`if_some` in `visits` is `IfSome(..)` in the code; a rule of the whole option is `of_option`"
     if re.search(r"\bof_option\b", stated) and re.search(r"\bIfSome\b", code):
-        yield "`of_option` in `visits` is a rule of the whole option; `IfSome(..)` is `optional`"
+        yield "`of_option` in `visits` is a rule of the whole option; `IfSome(..)` is `if_some`"
     yield from of_conditions(place, lets, code)
     yield from of_call(place, body)
 

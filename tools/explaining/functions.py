@@ -5,10 +5,10 @@ import re
 from .place import TRAIT
 
 WORDS = "garde_words"
-NAMED = re.compile(r"\bghost use Rattle\.garde\.specs\.Author as (\w+);")
+NAMED = re.compile(r"\bghost use Rattle\.garde\.specs\.Fields as (\w+);")
 # what checks nothing, as the code of a variant has it, so that the prover needs no steps of its own for it
 NOTHING = "garde::fields::Fields::visit(&(), alloc, trail, report, h),"
-USE = f"ghost use Rattle.garde.specs.Author as {WORDS};"
+USE = f"ghost use Rattle.garde.specs.Fields as {WORDS};"
 DECLARED = """
 trait TRAIT {
     type Context;

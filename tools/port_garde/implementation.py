@@ -12,8 +12,9 @@ LETTERS = "abcdefgijklmnopqrst"
 # Names of the method's own, and words of the statements and of their language, which no binding may hide.
 OWN = ("alloc", "trail", "report", "h", "self")
 STATED = (
-    "field item none found when optional each_of_option each each_of_set each_value each_numbered items ascii alphanumeric "
-    "contains prefix suffix pattern url ip required codes not reference_to length bytes minus pos yes no tt v x y z w u data "
+    "field item none is is_in_memory when if_some each_of_option each each_in_any_order each_value each_value_in_any_order "
+    "text_key index_part str slice range signed_range bytes chars graphemes utf16 items at_least at_most exactly between plus "
+    "minus ascii alphanumeric contains prefix suffix pattern url ip required matches codes not reference_to yes no tt v x y z w u data "
     "record deriving module where use mod pub package open as unfoldable abbrev axiom unfold unfolding ruleset mutual "
     "infix infixl infixr elim let in do coe fcoe tcoe hcom com"
 ).split()

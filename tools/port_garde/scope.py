@@ -21,10 +21,8 @@ class Uses:
     prelude: set = field(default_factory=set)
     fields: set = field(default_factory=set)
     others: set = field(default_factory=set)
-    bytes: bool = False
     cow: bool = False
     sides: bool = False
-    finds: bool = False
     spelled: set = field(default_factory=set)
     rules: dict = field(default_factory=dict)
 

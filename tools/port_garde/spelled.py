@@ -180,8 +180,8 @@ class Spellings:
             found = said(self.word("nullish"), name, self.value(kind.args[0], within_option(rules)))
             if not any(rule.name == "required" for rule in rules):
                 return found
-            self.writer.uses.words |= {"field", "required"}
-            return said(self.word("ruled"), found, f"(λ v. field {name} (required v))")
+            self.writer.uses.words |= {"field", "is", "required"}
+            return said(self.word("ruled"), found, f"(λ v. field {name} (is (required v)))")
         default = self.writer.borrowed.default(it, item)
         if default is None:
             return said(self.word("member"), name, self.value(kind, rules))
@@ -193,7 +193,7 @@ class Spellings:
             self.writer.uses.words.add("codes")
             return '(codes "")'
         if is_path(kind, *SIGNED):
-            word = "minus" if code.startswith("-") else "pos"
+            word = "minus" if code.startswith("-") else "plus"
             self.writer.uses.words.add(word)
             return f"({word} {code.lstrip('-')})"
         if code in ("true", "false"):
@@ -231,7 +231,12 @@ class Spellings:
         one = self.value(kind.args[-1], inside)
         if not whole:
             return said(self.word(word), one)
-        return said(self.word(f"{word}_of"), self.asked(kind, whole).replace("(length v)", "v"), one)
+        self.writer.uses.words.add("count")
+        asked = self.asked(kind, whole).replace("is (items ", "is (count ")
+        if len(whole) == 1:
+            return said(self.word(f"{word}_of"), asked, one)
+        self.writer.uses.words |= {"none", "◌and◌"}
+        return said(self.word(f"{word}_under"), asked, f"({' and '.join(['none'] * len(whole))})", one)
 
     def ruled(self, one, kind, rules):
         return said(self.word("a_ruled"), one, self.asked(kind, rules)) if rules else one
@@ -248,10 +253,8 @@ class Spellings:
         if rule.name not in ("range", "custom"):
             raise Refusal(rule.line, f"`{rule.name}` of a number, which `--body` does not state")
         _, text = self.checks(kind, [rule])
-        if rule.name == "custom":
-            return f"(λ v. {text.removeprefix('found (').removesuffix(')')})"
-        self.writer.uses.finds = True
-        return f"finds.{text.removesuffix(' v')}"
+        fault = text.removeprefix("is (").removesuffix(")")
+        return f"(λ v. {fault})" if rule.name == "custom" else fault.removesuffix(" v")
 
     def checks(self, kind, rules):
         scope = Scope("ctx", {}, set(), True)

@@ -5,20 +5,20 @@ from .scope import SIGNED, UNSIGNED, Conditions, Seen, is_option, is_path, is_te
 from .source import Type
 from .tokens import Refusal
 
-TEXT_LENGTHS = {"simple": "length", "bytes": "length", "chars": "chars", "graphemes": "graphemes", "utf16": "utf16"}
-BYTE_COUNTS = {
-    "simple": "byte_count", "bytes": "byte_count", "chars": "char_count", "graphemes": "bytes.grapheme_count",
-    "utf16": "bytes.unit_count",
-}
-COUNTED = {"Vec": "items", "BTreeMap": "map", "BTreeSet": "set", "HashMap": "hash_map", "HashSet": "hash_set"}
-# Each collection with the word for its items and what of it that word is given; of maps, which item is meant.
+# The word for what a `length` counts of a text.
+COUNTS = {"simple": "bytes", "bytes": "bytes", "chars": "chars", "graphemes": "graphemes", "utf16": "utf16"}
+# What each collection holds, as a list; and the words for each of its items, and of a map for each of its values.
 HELD = {
-    "Vec": ("each", ""), "BTreeSet": ("each_of_set", ""), "HashSet": ("items_in_any_order", ".keys"),
-    "VecDeque": ("items", ".items"), "LinkedList": ("items", ""), "[;]": ("items", ""), "Option": ("each_of_option", ""),
-    "Items": ("items", ""),
+    "Vec": "(slice {})", "BTreeSet": "{}.keys", "HashSet": "{}.keys", "BTreeMap": "{}.entries", "HashMap": "{}.entries",
+    "VecDeque": "{}.items", "LinkedList": "{}", "Items": "{}", "Entries": "{}",
 }
-MAPS = {("BTreeMap", "String"): "each_value", ("BTreeMap", "usize"): "each_numbered"}
-HASH_KEYS = {"String": "λ key. bytes.key_part (string_bytes key)", "usize": "λ key. bytes.index_part key"}
+EACH = {
+    "Vec": "each", "BTreeSet": "each", "HashSet": "each_in_any_order", "VecDeque": "each", "LinkedList": "each", "Items": "each",
+    "[;]": "each", "Option": "each_of_option",
+}
+EACH_VALUE = {"BTreeMap": "each_value", "HashMap": "each_value_in_any_order"}
+KEYS = {"String": "text_key", "usize": "index_part"}
+BOUNDS = {"min": "at_least", "max": "at_most", "equal": "exactly", "between": "between"}
 IPS = {"ip": "Any", "ipv4": "V4", "ipv6": "V6"}
 # The rules that are asked of what an option holds.
 INSIDE = (*PLAIN[1:], *TEXTS, "length", "range", "pattern")
@@ -57,14 +57,19 @@ class Checks:
         if goes_inside(rule, seen.type, adapter):
             held = seen.part(seen.type.args[0])
             code, spec = self.of(group, held)
-            return call(self.field("IfSome"), code), f"{self.word('optional')} (λ {held.name}. {spec}) {seen.name}"
+            return call(self.field("IfSome"), code), f"{self.word('if_some')} (λ {held.name}. {spec}) {seen.name}"
         parts = {"dive": self.dive, "inner": self.inner, "if": self.under, "custom": self.custom}
         if rule.name in parts:
             return parts[rule.name](rule, seen, adapter)
         if adapter:
             return self.adapted(rule, seen, adapter)
-        value, spec, taking = self.value(rule, seen)
-        return call(self.field("IsInMemory" if taking else "Is"), value), spec
+        value, fault, taking = self.value(rule, seen)
+        return self.asked(value, fault, taking)
+
+    def asked(self, value, fault, taking):
+        """The check that a rule holds, which finds this: as code and as it is stated."""
+        code = call(self.field("IsInMemory" if taking else "Is"), value)
+        return code, f"{self.word('is_in_memory' if taking else 'is')} ({fault})"
 
     def field(self, name):
         self.uses.fields.add(name)
@@ -90,27 +95,28 @@ class Checks:
         """The items of a collection: one of them, and the word for each with what it is given."""
         kind = seen.type
         if kind.kind == "ref" and kind.args[0].kind == "slice":
-            return seen.part(kind.args[0].args[0]), self.word("items"), f"{seen.name}.now"
-        if kind.name in HELD and kind.args:
-            word, suffix = HELD[kind.name]
-            return seen.part(kind.args[0]), self.word(word), seen.name + suffix
+            return seen.part(kind.args[0].args[0]), self.word("each"), f"{seen.name}.now"
+        if kind.name in EACH and kind.args:
+            return seen.part(kind.args[0]), self.word(EACH[kind.name]), self.held(kind, seen)
         key = kind.args[0].name if len(kind.args) == 2 and isinstance(kind.args[0], Type) else ""
-        if (kind.name, key) in MAPS:
-            return seen.part(kind.args[1]), self.word(MAPS[kind.name, key]), seen.name
-        if kind.name == "HashMap" and key in HASH_KEYS:
-            self.uses.bytes = True
-            self.uses.words |= {"entries_in_any_order"} | ({"string_bytes"} if key == "String" else set())
-            return seen.part(kind.args[1]), f"entries_in_any_order ({HASH_KEYS[key]})", f"{seen.name}.entries"
+        if kind.name in EACH_VALUE and key in KEYS:
+            return seen.part(kind.args[1]), f"{self.word(EACH_VALUE[kind.name])} {self.word(KEYS[key])}", self.held(kind, seen)
         if self.writer.borrowed and kind.name == "Entries":
-            return seen.part(Type("unread", "", rule.line)), "items", seen.name
+            return seen.part(Type("unread", "", rule.line)), "each", seen.name
         raise Refusal(rule.line, f"`{rule.name}` of the type `{self.writer.type_text(kind, True)}`, whose items the port does not know")
+
+    def held(self, kind, seen):
+        """What a collection holds, as a list."""
+        if kind.name == "Vec":
+            self.word("slice")
+        return HELD.get(kind.name, "{}").format(seen.name)
 
     def dive(self, rule, seen, adapter):
         """A value that validates itself, or a collection of such."""
         kind = seen.type
         if is_option(kind):
             return self.part([rule], seen, ())
-        if kind.name in (*HELD, "BTreeMap", "HashMap") or (kind.kind == "ref" and kind.args[0].kind == "slice"):
+        if kind.name in (*EACH, *EACH_VALUE) or (kind.kind == "ref" and kind.args[0].kind == "slice"):
             held, word, name = self.items_of(rule, seen)
             code, spec = self.of([rule], held)
             return call(self.field("Each"), code), f"{word} (λ {held.name}. {spec}) {name}"
@@ -118,7 +124,7 @@ class Checks:
         name = seen.name
         while (is_path(kind, "Box", "Rc") and len(kind.args) == 1) or kind.kind == "ref":
             name, kind = name + (".now" if kind.kind == "ref" else ".value"), kind.args[0]
-        if kind.kind != "path" or kind.name in (*SIMPLE, *HELD, "BTreeMap", "HashMap"):
+        if kind.kind != "path" or kind.name in (*SIMPLE, *EACH, *EACH_VALUE):
             raise Refusal(rule.line, f"`dive` into the type `{self.writer.type_text(kind, True)}`")
         self.writer.dives_into(kind.name, rule)
         owner = kind.name if kind.name in self.scope.params else f"⟦<{self.writer.type_text(kind)} as Stated>⟧"
@@ -142,13 +148,11 @@ class Checks:
         name = camel(rule.text) if rule.text else self.writer.closure_name(rule)
         kind = self.writer.type_text(seen.type)
         self.writer.own_rule(name, rule, kind, self.scope.unit)
-        self.word("found")
         rule_value, life, record = Word(name), "", "{}"
         if not self.scope.unit:
             rule_value, life = call(name, self.scope.the_context()), "<'static>"
             record = f"{{ 0 = {self.word('reference_to')} {self.scope.context} }}"
-        spec = f"found (⟦<{name}{life} as garde::fields::Rule<{kind}>>⟧.finds (record {record}) {seen.name})"
-        return call(self.field("Is"), rule_value), spec
+        return self.asked(rule_value, f"⟦<{name}{life} as garde::fields::Rule<{kind}>>⟧.finds (record {record}) {seen.name}", False)
 
     def adapted(self, rule, seen, adapter):
         """A rule of a text that a view shows of the value."""
@@ -157,11 +161,11 @@ class Checks:
         self.writer.own_view(name, path, kind)
         text = Type("path", "String", rule.line, path=("String",))
         shown = Seen(text, f"(⟦<{name} as garde::fields::View<{kind}>>⟧.seen (record {{}}) {seen.name})", seen.depth)
-        value, spec, taking = self.value(rule, shown)
-        return call(self.field("IsInMemory" if taking else "Is"), call(self.field("Adapt"), name, value)), spec
+        value, fault, taking = self.value(rule, shown)
+        return self.asked(call(self.field("Adapt"), name, value), fault, taking)
 
     def value(self, rule, seen):
-        """A rule as a value, as it is stated, and whether it may take memory for its answer."""
+        """A rule as a value, what it finds, and whether it may take memory for its answer."""
         if rule.name == "length":
             return (*self.length(rule, seen), False)
         if rule.name == "range":
@@ -186,19 +190,17 @@ class Checks:
         return call(name, f'"{rule.text}"'), self.text(rule.name, seen, f'"{rule.text}"'), False
 
     def text(self, word, seen, *before):
-        """A word about a text: of a `String` as it is, of other texts by their bytes."""
-        if is_path(seen.type, "String"):
-            return " ".join([self.word(word), *before, seen.name])
-        self.uses.bytes = True
-        quoted = any(it.startswith('"') for it in before)
-        before = [f"({self.word('codes')} {it})" if it.startswith('"') else it for it in before] if quoted else before
-        return " ".join([f"bytes.{word}", *before, self.bytes_of(seen)])
+        """A word about a text."""
+        return " ".join([self.word(word), *before, self.text_of(seen)])
 
-    def bytes_of(self, seen):
+    def text_of(self, seen):
+        """A text as a rule is given it."""
         if seen.type.kind == "ref":
             return f"{seen.name}.now"
         if is_path(seen.type, "TextRef"):
             return seen.name
+        if is_path(seen.type, "String"):
+            return f"({self.word('str')} {seen.name})"
         self.uses.cow = True
         return f"(cow_str_bytes {seen.name})"
 
@@ -217,12 +219,12 @@ class Checks:
             return "none"
         kinds = [self.writer.type_text(it, True) for it in (seen.type, other.type)]
         if kinds[0] == "String" and kinds[1] in ("String", "_"):
-            return f'{self.word("matches_text")} "{rule.text}" {seen.name} {other.name}'
-        same = {"Option<String>": "option_eq text_eq", **dict.fromkeys(UNSIGNED, "nat_eq")}.get(kinds[0])
+            return f'{self.word("matches")} "{rule.text}" ({self.word("text_eq")} {self.text_of(seen)} ({self.word("str")} {other.name}))'
+        same = {"Option<String>": "option_eq (λ x y. text_eq (str x) (str y))", **dict.fromkeys(UNSIGNED, "nat_eq")}.get(kinds[0])
         if same is None or kinds[1] not in (kinds[0], "_"):
             told = " and ".join(f"`{it}`" for it in dict.fromkeys(kinds))
             raise Refusal(rule.line, f"`matches` of {told}: it is written of two texts, options of texts or numbers without a sign, each of one type, so compare others by a rule of your own, by `custom`")
-        self.uses.words |= {"matches", *same.split()}
+        self.uses.words |= {"matches", *({"option_eq", "text_eq", "str"} if same != "nat_eq" else {same})}
         return f'matches "{rule.text}" ({same} {seen.name} {other.name})'
 
     def pattern(self, rule, seen):
@@ -240,36 +242,17 @@ class Checks:
     def length(self, rule, seen):
         """The rule about a length, in its mode."""
         code = self.bounds_code(rule)
-        stated = [self.bound(rule.bounds[it], False)[1] for it in ("min", "max", "equal") if it in rule.bounds]
-        return code, " ".join([self.length_word(rule, seen, ending(rule)), *stated, self.counted(rule, seen)])
-
-    def length_word(self, rule, seen, end):
-        kind = seen.type
-        if is_path(kind, "String"):
-            return self.word(f"{TEXT_LENGTHS[rule.mode]}_{end}")
-        if rule.mode == "simple" and kind.kind == "path" and kind.name in COUNTED:
-            return self.word(f"{COUNTED[kind.name]}_{end}")
-        return self.word(f"count_{end}")
-
-    def counted(self, rule, seen):
-        """What a word about a length is given: the value, or a number that is counted."""
-        kind = seen.type
-        if is_path(kind, "String") or (rule.mode == "simple" and kind.kind == "path" and kind.name in COUNTED):
-            return seen.name
+        kind, bounds = seen.type, self.stated_bounds(rule, False)
         if is_text(kind):
-            count = BYTE_COUNTS[rule.mode]
-            self.uses.bytes = self.uses.bytes or count.startswith("bytes.")
-            self.uses.words |= {count} - {it for it in (count,) if it.startswith("bytes.")}
-            return f"({count} {self.bytes_of(seen)})"
-        listed = {"VecDeque": ".items", "LinkedList": "", "Items": "", "Entries": ""}.get(kind.name)
+            return code, self.text(COUNTS[rule.mode], seen, bounds)
+        listed = self.held(kind, seen) if kind.kind == "path" and kind.name in HELD else None
         if kind.kind == "ref" and kind.args[0].kind == "slice":
-            listed = ".now"
+            listed = f"{seen.name}.now"
         if rule.mode != "simple" or listed is None:
             mode = "" if rule.mode == "simple" else f" in `{rule.mode}`"
             told = f"the length{mode} of the type `{self.writer.type_text(kind, True)}`"
             raise Refusal(rule.line, f"{told}, which the port does not know")
-        self.uses.prelude.add("length")
-        return f"(length {seen.name}{listed})"
+        return code, f"{self.word('items')} {bounds} {listed}"
 
     def range(self, rule, seen):
         """The rule about a number, by its type."""
@@ -281,11 +264,13 @@ class Checks:
         signed = kind in SIGNED
         self.refuse_bounds(rule, kind, signed)
         code = self.bounds_code(rule, signed)
-        end = ending(rule)
-        family = "signed" if signed else "range"
-        word = f"{kind}_{end}" if end == "min" or (signed and end == "max") else f"{family}_{end}"
+        return code, f"{self.word('signed_range' if signed else 'range')} {self.stated_bounds(rule, signed)} {seen.name}"
+
+    def stated_bounds(self, rule, signed):
+        """The bounds of a rule as they are stated."""
+        end = "between" if len(rule.bounds) == 2 else next(iter(rule.bounds))
         stated = [self.bound(rule.bounds[it], signed)[1] for it in ("min", "max", "equal") if it in rule.bounds]
-        return code, " ".join([self.word(word), *stated, seen.name])
+        return f"({' '.join([self.word(BOUNDS[end]), *stated])})"
 
     def refuse_bounds(self, rule, kind, signed):
         """Refuses bounds that no number of the type reaches."""
@@ -301,7 +286,7 @@ class Checks:
         if it.kind == "number":
             if it.value < 0 and not signed:
                 raise Refusal(it.line, f"the bound {it.value} of what has no sign")
-            word = "minus" if it.value < 0 else "pos"
+            word = "minus" if it.value < 0 else "plus"
             return str(it.value), f"({self.word(word)} {abs(it.value)})" if signed else str(it.value)
         if it.kind != "place":
             raise Refusal(it.line, "a bound that the port cannot read: it reads numbers and fields of `self` and of the context")
@@ -314,11 +299,6 @@ class Checks:
         given = [rule.mode] if rule.mode not in ("", "simple") else []
         given += [f"{it} = {self.bound(rule.bounds[it], signed)[0]}" for it in ("min", "max", "equal") if it in rule.bounds]
         return Word(f"{rule.name}!({', '.join(given)})")
-
-
-def ending(rule):
-    """The end of the names of a rule with these bounds."""
-    return "between" if len(rule.bounds) == 2 else next(iter(rule.bounds))
 
 
 def goes_inside(rule, kind, adapter):

@@ -364,8 +364,6 @@ class Writer:
         lines += [f"ghost use {it};" for it in (*prelude, *cow)]
         if uses.words:
             lines.append(f"ghost use Rattle.garde.specs.Fields.{{{', '.join(sorted(uses.words, key=word_order))}}};")
-        lines += ["ghost use Rattle.garde.specs.Author as bytes;"] if uses.bytes else []
-        lines += ["ghost use Rattle.garde.specs.Finds as finds;"] if uses.finds else []
         lines += [f"ghost use Rattle.garde_library.specs.Spelling.{{{', '.join(sorted(uses.spelled))}}};"] if uses.spelled else []
         lines += ["ghost use Rattle.garde_schema.specs.declared.either.Either.TheVariants.{Left, Right};"] if uses.sides else []
         lines += [self.variants_use(it) for it in self.source.items if self.stated_variants(it)]

@@ -9,7 +9,7 @@ use crate::problem::{OutOfMemory, Problem};
 use crate::raw;
 
 /// The room for details that a first call has. Longer ones take a second call.
-const ROOM: usize = 1024;
+const ROOM: usize = 4096;
 
 /// Room that is kept from one body to the next. An answer does not depend on what was checked
 /// before.

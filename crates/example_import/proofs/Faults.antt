@@ -19,14 +19,14 @@ pub append_is_nil : {A : Type 0} (xs ys : List A) → xs ++ ys ≡ [] → (xs �
 append_is_nil [] ys e = (refl, e)
 append_is_nil (x ∷ xs) ys e = absurd cc
 
-flat_of_no_fault : (p : List Part) (t : Tree) → bears t ≡ false → flat default_text p t ≡ []
+pub flat_of_no_fault : (p : List Part) (t : Tree) → bears t ≡ false → flat default_text p t ≡ []
 flat_of_no_fault p nothing e = refl
 flat_of_no_fault p (fault f t) e = absurd (true≢false e)
 flat_of_no_fault p (under k s t) e =
     let parts = or_false (bears s) (bears t) e in
     rw (flat_of_no_fault (p ++ k ∷ []) s parts.0) (flat_of_no_fault p t parts.1)
 
-no_fault_of_flat : (p : List Part) (t : Tree) → flat default_text p t ≡ [] → bears t ≡ false
+pub no_fault_of_flat : (p : List Part) (t : Tree) → flat default_text p t ≡ [] → bears t ≡ false
 no_fault_of_flat p nothing e = refl
 no_fault_of_flat p (fault f t) e = absurd cc
 no_fault_of_flat p (under k s t) e =

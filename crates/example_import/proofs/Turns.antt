@@ -1,5 +1,5 @@
 -- What an import has done so far.
-use Rattle.std.proofs.Common.{◌≡◌, ◌∙◌, sym, ap, subst, refl, ℕ, ◌+◌, Bool, true, false, not, ◌||◌, List, [], ◌∷◌, ◌++◌, length, length-append, map, Option, Some, ◌⊎◌, inl, inr, arith}
+use Rattle.std.proofs.Common.{◌≡◌, ◌∙◌, sym, ap, subst, refl, ℕ, ◌+◌, Bool, true, false, not, ◌||◌, List, [], ◌∷◌, ◌++◌, length, length-append, map, Option, Some, None, ◌-◌, ◌^◌, ◌⊎◌, inl, inr, arith}
 use Rattle.std.specs.List.{list_any}
 use Rattle.std.proofs.lemmas.List.{map-append}
 use Rattle.std.proofs.lemmas.List.Folds.{list_any-append}
@@ -8,12 +8,14 @@ use Rattle.std.proofs.Math.Dec.{eqb-suc-zero}
 use Rattle.garde.specs.Words.{Entry}
 use Rattle.example_import.specs.Line.{Line}
 use Rattle.example_import.specs.Import.{Turn, Takes, Imports}
-use Rattle.example_import.specs.Run.{Chain, Goes, Ran, KeepsFront, has_fault, counted, committed, new_run, is_full, is_all}
+use Rattle.example_import.specs.Run.{Chain, Goes, Halts, Ran, KeepsFront, StopsAt, has_fault, counted, committed, new_run, is_full, is_all}
 use Rattle.example_import.specs.declared.item.Item.{Item}
 use Rattle.example_import.specs.declared.item.Item.TheVariants as item
 use Rattle.example_import.specs.declared.run.Run.{Run}
 use Rattle.example_import.specs.declared.run.Batch.{Batch}
 use Rattle.example_import.specs.declared.run.Batch.TheVariants.{Items, All}
+use Rattle.example_import.specs.declared.run.Cause.{Cause}
+use Rattle.example_import.specs.declared.run.Cause.TheVariants.{Store, TooLong}
 use Rattle.example_import.specs.declared.run.Progress.{Progress}
 
 chain_more : {S A : Type 0} (R : S → A → S → Type 0) (s t u : S) (xs : List A) (a : A) → Chain R s xs t → R t a u → Chain R s (xs ++ a ∷ []) u
@@ -116,3 +118,45 @@ module _ {L O : Type 0} (gives : L → Option Item → L → Type 0) (tells : O 
       → ((new ≡ kept) × (later ≡ run)) ⊎ ((new ≡ lines) × (later ≡ committed items run)) → KeepsFront gives tells batch before first start new later.kept
   stops some ran (inl same) = front ran.keeps same.0 (ap (λ (r : Run). r.kept) same.1)
   stops some ran (inr all) = front (settles some ran).keeps all.0 (ap (λ (r : Run). r.kept) all.1)
+
+  -- where it stops
+  pub halts : {A B C : Type 0} (cause : Cause A B C) (list end : L) (out last : O) (lines kept : List Line) (items : ℕ) (run : Run)
+      → ((count : ℕ) → StopsAt gives tells cause count list end out last) → Ran gives tells batch before first list start out lines kept items run
+      → Halts gives tells cause before first end start last
+  halts cause list end out last lines kept items run stops ran =
+      record { turns = ran.turns; left = list; said = out; lines = lines; read = ran.read; made = ran.made; stops = stops (length ran.turns) }
+
+  -- where a table fails between two items, or at the end of the list
+  pub halts_between : {A B C : Type 0} (error : B) (list : L) (out : O) (lines kept : List Line) (items : ℕ) (run : Run)
+      → Ran gives tells batch before first list start out lines kept items run → Halts gives tells {A = A} {B = B} {C = C} (Store error) before first list start out
+  halts_between error list out lines kept items run ran = halts (Store error) list list out out lines kept items run (λ count. (inl refl, refl)) ran
+
+  pub halts_at_end : {A B C : Type 0} (error : B) (list end : L) (out : O) (lines kept : List Line) (items : ℕ) (run : Run) → gives list None end
+      → Ran gives tells batch before first list start out lines kept items run → Halts gives tells {A = A} {B = B} {C = C} (Store error) before first end start out
+  halts_at_end error list end out lines kept items run over ran =
+      halts (Store error) list end out out lines kept items run (λ count. (inr (None, over), refl)) ran
+
+  -- where the list has more items than are counted
+  pub halts_long : {A B C : Type 0} (list : L) (out : O) (lines kept : List Line) (items : ℕ) (run : Run) → items ≡ 2 ^ 64 - 1
+      → Ran gives tells batch before first list start out lines kept items run → Halts gives tells {A = A} {B = B} {C = C} TooLong before first list start out
+  halts_long list out lines kept items run long ran = record {
+    turns = ran.turns;
+    left = list;
+    said = out;
+    lines = lines;
+    read = ran.read;
+    made = ran.made;
+    stops = (refl, refl, sym ran.items ∙ long);
+  }
+
+  -- where nothing was read
+  pub halts_at_first : {A B C : Type 0} (error : B) → Halts gives tells {A = A} {B = B} {C = C} (Store error) before first first start start
+  halts_at_first error = record {
+    turns = [];
+    left = first;
+    said = start;
+    lines = before;
+    read = record { given = refl; told = refl };
+    made = refl;
+    stops = (inl refl, refl);
+  }

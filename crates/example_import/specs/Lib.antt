@@ -3,3 +3,4 @@ pub mod Line
 pub mod Import
 pub mod Run
 pub mod Memory
+pub mod Again

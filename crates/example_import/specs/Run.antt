@@ -1,10 +1,12 @@
 -- How far an import came.
-use Rattle.std.specs.Prelude.{◌≡◌, ◌==◌, ℕ, ◌+◌, ◌%◌, ◌&&◌, Bool, true, false, not, List, [], ◌∷◌, length, map, Option, Some, None, if◌then◌else◌}
+use Rattle.std.specs.Prelude.{◌≡◌, ◌==◌, ℕ, ◌+◌, ◌-◌, ◌^◌, ◌%◌, ◌⊎◌, ◌&&◌, Bool, true, false, not, List, [], ◌∷◌, length, map, Option, Some, None, if◌then◌else◌}
 use Rattle.std.specs.List.{list_any}
 use Rattle.garde.specs.Words.{Entry}
 use Rattle.example_import.specs.Line.{Line}
 use Rattle.example_import.specs.Import.{Turn, Imports, Takes}
 use Rattle.example_import.specs.declared.item.Item.{Item}
+use Rattle.example_import.specs.declared.run.Cause.{Cause}
+use Rattle.example_import.specs.declared.run.Cause.TheVariants.{Memory, List as ListFails, Store, Report, TooLong}
 use Rattle.example_import.specs.declared.run.Progress.{Progress}
 use Rattle.example_import.specs.declared.run.Run.{Run}
 use Rattle.example_import.specs.declared.run.Batch.{Batch}
@@ -65,6 +67,31 @@ module _ {L O : Type 0} (gives : L → Option Item → L → Type 0) (tells : O 
     pub items : progress.items ≡ length turns
     pub stored : length kept ≡ length before + progress.stored
     pub whole : is_all batch ≡ true → turns ≡ []
+
+  -- the list is read on by one call, or it stays
+  abbrev pub ReadsOn : L → L → Type 0
+  ReadsOn list end = (end ≡ list) ⊎ ((next : Option Item) × gives list next end)
+
+  -- How the list and the sink stand where an import stops for this reason, from how they stood when all that was read was told, and
+  -- so many items were. At `List` the list failed, and at `Report` the sink did, with the report of one more item: nothing is known
+  -- of them.
+  abbrev pub StopsAt : {A B C : Type 0} → Cause A B C → ℕ → L → L → O → O → Type 0
+  StopsAt Memory items list end out last = ReadsOn list end × (last ≡ out)
+  StopsAt (ListFails error) items list end out last = last ≡ out
+  StopsAt (Store error) items list end out last = ReadsOn list end × (last ≡ out)
+  StopsAt (Report error) items list end out last = (item : Item) × gives list (Some item) end
+  StopsAt TooLong items list end out last = (end ≡ list) × (last ≡ out) × (items ≡ 2 ^ 64 - 1)
+
+  -- An import that stopped for this reason: these items were read and taken from the first on, and the report of each was told before
+  -- the next one was read. So where the list fails, the reports of all its items were told.
+  pub record Halts {A B C : Type 0} (cause : Cause A B C) (before : List Line) (list end : L) (out last : O) : Type 0 where
+    pub turns : List Turn
+    pub left : L
+    pub said : O
+    pub lines : List Line
+    pub read : Reads list left out said turns
+    pub made : Imports 0 before turns lines
+    pub stops : StopsAt cause (length turns) left end said last
 
   -- an import between two items
   pub record Ran (batch : Batch) (before : List Line) (list end : L) (out last : O) (lines kept : List Line) (index : ℕ) (run : Run) : Type 0 where

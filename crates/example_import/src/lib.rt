@@ -2,6 +2,7 @@
 #![tactic(auto)]
 
 pub mod item;
+pub mod laws;
 pub mod memory;
 pub mod row;
 pub mod run;

@@ -114,4 +114,9 @@ impl Store for MemoryTable {
         self.kept = self.rows.len();
         Ok(())
     }
+
+    fn rollback(&mut self) -> Result<(), AllocError> {
+        self.rows.truncate(self.kept);
+        Ok(())
+    }
 }

@@ -1,7 +1,7 @@
 //! The import of a whole list.
-ghost use Rattle.std.specs.Prelude.{◌≡◌, ◌⊎◌, ⊤, ◌+◌, ◌-◌, ◌<◌, ◌≤◌, ◌^◌, None, List, IfOk, OnOk, OnErr, IfErr, IsTrue, MatchOption, MatchBool};
+ghost use Rattle.std.specs.Prelude.{◌≡◌, ◌⊎◌, ⊤, ℕ, ◌+◌, ◌-◌, ◌<◌, ◌≤◌, ◌^◌, None, List, IfOk, OnOk, OnErr, IfErr, IsTrue, MatchOption, MatchBool};
 ghost use Rattle.example_import.specs.Line.{Line};
-ghost use Rattle.example_import.specs.Run.{Ran, Goes, Ended, KeepsFront, is_full, is_all, new_run, counted, committed};
+ghost use Rattle.example_import.specs.Run.{Ran, Goes, Ended, Halts, KeepsFront, StopsAt, is_full, is_all, new_run, counted, committed};
 
 use crate::item::{Sink, Source};
 use crate::store::Store;
@@ -49,9 +49,11 @@ pub struct Progress {
 #[derive(Debug, Drop)]
 pub enum Cause<L, S, R> {
     Memory,
+    /// The list cannot be read on. The reports of its items up to there were handed on.
     List(L),
     Store(S),
     Report(R),
+    /// The list has 2^64 items.
     TooLong,
 }
 
@@ -95,7 +97,7 @@ impl Run {
     }
 
     fn stopped<L, S, R>(self, cause: Cause<L, S, R>) -> Stopped<L, S, R>
-        ensures { result.kept ≡ self.kept }
+        ensures { (result.kept ≡ self.kept) × (result.cause ≡ cause) }
     {
         Stopped {
             kept: self.kept,
@@ -150,6 +152,8 @@ fn turn<S: Store, L: Source, R: Sink>(
         (Goes L.gives R.tells index list.old list.new out.old out.new (S.lines store.old) (S.lines store.new))) }
     ensures begun { S.is_sound store.new → OnOk result (IsTrue (S.has_begun store.new)) }
     ensures kept { S.is_sound store.new → S.kept store.new ≡ S.kept store.old }
+    ensures err { IfErr result (λ cause. (items : ℕ)
+        → StopsAt L.gives R.tells cause items list.old list.new out.old out.new) }
 {
     let item = match list.next() {
         Ok(Some(item)) => item,
@@ -194,6 +198,10 @@ fn step<S: Store, L: Source, R: Sink>(
         ((before : List Line) (first : _) (start : _)
         → Ran L.gives R.tells batch before first list.old start out.old (S.lines store.old) (S.kept store.old) index run.old
         → KeepsFront L.gives R.tells batch before first start (S.kept store.new) run.new.kept) }
+    ensures halts { S.is_sound store.new → IfErr result (λ cause.
+        (before : List Line) (first : _) (start : _)
+        → Ran L.gives R.tells batch before first list.old start out.old (S.lines store.old) (S.kept store.old) index run.old
+        → Halts L.gives R.tells cause before first list.new start out.new) }
 {
     match turn(alloc, store, list, out, index) {
         Ok(Some(faulty)) => run.count(faulty),
@@ -227,6 +235,8 @@ fn take_all<S: Store, L: Source, R: Sink>(
         × Ran L.gives R.tells batch (S.lines store.old) list.old end out.old out.new (S.lines store.new) (S.kept store.new) items run.new) }
     ensures err { S.is_sound store.new → OnErr result
         (KeepsFront L.gives R.tells batch (S.lines store.old) list.old out.old (S.kept store.new) run.new.kept) }
+    ensures halts { S.is_sound store.new → IfErr result (λ cause.
+        Halts L.gives R.tells cause (S.lines store.old) list.old list.new out.old out.new) }
 {
     'items: for index in 0..usize::MAX {
         match step(alloc, store, list, out, batch, index, run) {
@@ -243,7 +253,7 @@ fn take_all<S: Store, L: Source, R: Sink>(
 /// were, and how many rows were stored.
 ///
 /// Where it ends before the list does, the table keeps what the first items of the list made of it,
-/// so many as it returns.
+/// so many as it returns. A caller that goes on with the table calls `rollback` first.
 pub fn import<S: Store, L: Source, R: Sink>(
     alloc: Global,
     store: &mut S,
@@ -257,6 +267,9 @@ pub fn import<S: Store, L: Source, R: Sink>(
         (Ended L.gives R.tells batch (S.lines store.old) list.old list.new out.old out.new (S.kept store.new)) }
     ensures err { S.is_sound store.new → IfErr result (λ stopped.
         KeepsFront L.gives R.tells batch (S.lines store.old) list.old out.old (S.kept store.new) stopped.kept) }
+    ensures settled { S.is_sound store.new → OnOk result (S.kept store.new ≡ S.lines store.new) }
+    ensures halts { S.is_sound store.new → IfErr result (λ stopped.
+        Halts L.gives R.tells stopped.cause (S.lines store.old) list.old list.new out.old out.new) }
 {
     let mut run = Run::new();
     match store.begin() {
@@ -268,7 +281,10 @@ pub fn import<S: Store, L: Source, R: Sink>(
         Err(cause) => return Err(run.stopped(cause)),
     };
     if batch.is_all() && run.faulty {
-        return Ok(Progress { items, stored: 0 });
+        return match store.rollback() {
+            Ok(()) => Ok(Progress { items, stored: 0 }),
+            Err(error) => Err(run.stopped(Cause::Store(error))),
+        };
     }
     match store.commit() {
         Ok(()) => Ok(Progress {

@@ -8,7 +8,8 @@ use crate::row::Row;
 use garde::Valid;
 
 /// A table of rows, each of which has a code of its own. What is put into it between `begin` and
-/// `commit` is kept together, or not at all.
+/// `commit` is kept together, or not at all. After a call that failed, `rollback` leaves what is kept,
+/// and the table can be used again.
 pub trait Store {
     /// Why the table was not read or changed.
     type Error;
@@ -55,4 +56,10 @@ pub trait Store {
         ensures lines { is_sound self.new → OnOk result (lines self.new ≡ lines self.old) }
         ensures ok { is_sound self.new → OnOk result (kept self.new ≡ lines self.old) }
         ensures err { is_sound self.new → OnErr result (kept self.new ≡ kept self.old) };
+
+    /// Takes out again what was put into the table and is not kept.
+    fn rollback(&mut self) -> Result<(), Self::Error>
+        ensures sound { is_sound self.new → is_sound self.old }
+        ensures ok { is_sound self.new → OnOk result (lines self.new ≡ kept self.old) }
+        ensures kept { is_sound self.new → kept self.new ≡ kept self.old };
 }

@@ -2,7 +2,7 @@
 use Rattle.std.specs.Prelude.{◌≡◌, ℕ, List, codes, if◌then◌else◌}
 use Rattle.std.specs.Str.{bytes_eq}
 use Rattle.garde.specs.Handlers.{Datum, default_text}
-use Rattle.garde.specs.Author.{Visits}
+use Rattle.garde.specs.Fields.{Visits}
 use Rattle.garde_problem.specs.CodedText.{datum_message}
 use Rattle.garde_schema.specs.Forms.{FormTexts}
 use Rattle.garde_schema.specs.FormCode.{form_message}

@@ -1,8 +1,6 @@
 //! The body that the library checks: an order, with its form and its rules.
-ghost use Rattle.std.specs.Prelude.{[], length, refl, ◌∷◌};
-ghost use Rattle.garde.specs.Fields.{◌and◌, char_count, codes, count_between, field, items, range_between};
-ghost use Rattle.garde.specs.Author as bytes;
-ghost use Rattle.garde.specs.Finds as finds;
+ghost use Rattle.std.specs.Prelude.{[], refl, ◌∷◌};
+ghost use Rattle.garde.specs.Fields.{◌and◌, between, chars, count, each, field, is, items, prefix, range};
 ghost use Rattle.garde_library.specs.Spelling.{a_list_of, a_number, a_text, an_object, closed, made, member, two, u32_numbers};
 
 use garde::fields::{Is, Prefix};
@@ -26,8 +24,8 @@ impl<'t> Stated for Line<'t> {
     type Context = ();
 
     ghost visits = { λ v _.
-        field "code" (bytes.prefix (codes "P") v.code)
-        and field "count" (range_between 1 99 v.count) };
+        field "code" (is (prefix "P" v.code))
+        and field "count" (is (range (between 1 99) v.count)) };
 }
 
 /// Who orders, and the lines.
@@ -41,8 +39,8 @@ impl<'t> Stated for Order<'t> {
     type Context = ();
 
     ghost visits = { λ v ctx.
-        field "customer" (count_between 1 80 (char_count v.customer))
-        and field "lines" (count_between 1 50 (length v.lines) and items (λ x. ⟦<Line<'t> as Stated>⟧.visits x ctx) v.lines) };
+        field "customer" (is (chars (between 1 80) v.customer))
+        and field "lines" (is (items (between 1 50) v.lines) and each (λ x. ⟦<Line<'t> as Stated>⟧.visits x ctx) v.lines) };
 }
 
 /// A value of the type `Line` is made of what its form reads.
@@ -80,15 +78,15 @@ impl<'t> FromParts for Order<'t> {
 impl<'t> Spelled for Line<'t> {
     ghost spelled = { made (λ parts. record { code = parts.0; count = parts.1 })
         (an_object (closed (two
-        (member "code" (a_text (λ v. bytes.prefix (codes "P") v)))
-        (member "count" (a_number u32_numbers (finds.range_between 1 99 ∷ [])))))) };
+        (member "code" (a_text (λ v. is (prefix "P" v))))
+        (member "count" (a_number u32_numbers (range (between 1 99) ∷ [])))))) };
 }
 
 impl<'t> Spelled for Order<'t> {
     ghost spelled = { made (λ parts. record { customer = parts.0; lines = parts.1 })
         (an_object (closed (two
-        (member "customer" (a_text (λ v. count_between 1 80 (char_count v))))
-        (member "lines" (a_list_of (λ v. count_between 1 50 v) ⟦<Line<'t> as Spelled>⟧.spelled))))) };
+        (member "customer" (a_text (λ v. is (chars (between 1 80) v))))
+        (member "lines" (a_list_of (λ v. is (count (between 1 50) v)) ⟦<Line<'t> as Spelled>⟧.spelled))))) };
 }
 
 /// The title of the problem details.

@@ -1,5 +1,5 @@
 //! An account: texts under the rules of texts, and one that is given twice.
-ghost use Rattle.garde.specs.Fields.{◌and◌, alphanumeric, ascii, chars_max, field, length_between, length_min, matches_text};
+ghost use Rattle.garde.specs.Fields.{◌and◌, alphanumeric, ascii, at_least, at_most, between, bytes, chars, field, is, matches, str, text_eq};
 
 use garde::fields::{Alphanumeric, Ascii, Field, Fields, Is, Matches};
 use garde::{I18n, Report, Stated, Trail, Validate, length};
@@ -20,10 +20,10 @@ impl Stated for Account {
     type Context = ();
 
     ghost visits = { λ v _.
-        field "username" (ascii v.username and length_between 3 25 v.username)
-        and field "password" (length_min 15 v.password)
-        and field "again" (matches_text "password" v.again v.password)
-        and field "code" (alphanumeric v.code and chars_max 8 v.code) };
+        field "username" (is (ascii (str v.username)) and is (bytes (between 3 25) (str v.username)))
+        and field "password" (is (bytes (at_least 15) (str v.password)))
+        and field "again" (is (matches "password" (text_eq (str v.again) (str v.password))))
+        and field "code" (is (alphanumeric (str v.code)) and is (chars (at_most 8) (str v.code))) };
 }
 
 impl Validate for Account {

@@ -1,7 +1,6 @@
 //! A bill and how it is paid, with the forms that read both.
 ghost use Rattle.std.specs.Prelude.{refl};
-ghost use Rattle.garde.specs.Fields.{◌and◌, byte_count, codes, count_equal, field, item, none, optional, range_between, range_max, u64_min, Visits};
-ghost use Rattle.garde.specs.Author as bytes;
+ghost use Rattle.garde.specs.Fields.{◌and◌, alphanumeric, ascii, at_least, at_most, between, bytes, exactly, field, if_some, is, is_in_memory, item, none, prefix, range, url, Visits};
 ghost use Rattle.garde_schema.specs.declared.either.Either.TheVariants.{Left, Right};
 ghost use Rattle.example_ported.specs.declared.bill.Payment.TheVariants.{Card, Account, Cash};
 ghost use Rattle.example_ported.specs.declared.bill.Origin.TheVariants.{Shop, WebSite};
@@ -30,8 +29,8 @@ impl<'t> Stated for Payment<'t> {
     type Context = ();
 
     ghost visits = { λ v _. elim v as (λ _. Visits) [
-      | Card card_no year ↦ field "card_no" (bytes.ascii card_no and count_equal 16 (byte_count card_no)) and field "year" (range_between 2024 2040 year)
-      | Account holder ↦ field "holder" (optional (λ x. bytes.alphanumeric x) holder)
+      | Card card_no year ↦ field "card_no" (is (ascii card_no) and is (bytes (exactly 16) card_no)) and field "year" (is (range (between 2024 2040) year))
+      | Account holder ↦ field "holder" (if_some (λ x. is (alphanumeric x)) holder)
       | Cash ↦ none
     ] };
 }
@@ -70,7 +69,7 @@ pub struct Number<'t>(pub TextRef<'t>);
 impl<'t> Stated for Number<'t> {
     type Context = ();
 
-    ghost visits = { λ v _. bytes.prefix (codes "B") v.0 };
+    ghost visits = { λ v _. is (prefix "B" v.0) };
 }
 
 impl<'t> Validate for Number<'t> {
@@ -98,8 +97,8 @@ impl<'t> Stated for Origin<'t> {
     type Context = ();
 
     ghost visits = { λ v _. elim v as (λ _. Visits) [
-      | Shop till ↦ field "till" (range_max 99 till)
-      | WebSite value ↦ item 0 (bytes.url value)
+      | Shop till ↦ field "till" (is (range (at_most 99) till))
+      | WebSite value ↦ item 0 (is_in_memory (url value))
     ] };
 }
 
@@ -137,9 +136,9 @@ impl<'t> Stated for Bill<'t> {
 
     ghost visits = { λ v ctx.
         field "number" (⟦<Number<'t> as Stated>⟧.visits v.number ctx)
-        and field "cents" (u64_min 1 v.cents)
+        and field "cents" (is (range (at_least 1) v.cents))
         and field "payment" (⟦<Payment<'t> as Stated>⟧.visits v.payment ctx)
-        and field "origin" (optional (λ x. ⟦<Origin<'t> as Stated>⟧.visits x ctx) v.origin) };
+        and field "origin" (if_some (λ x. ⟦<Origin<'t> as Stated>⟧.visits x ctx) v.origin) };
 }
 
 impl<'t> Validate for Bill<'t> {

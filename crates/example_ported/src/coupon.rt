@@ -1,5 +1,5 @@
 //! User-defined rules, and rules of a view.
-ghost use Rattle.garde.specs.Fields.{◌and◌, each, field, found, length_max, prefix, reference_to};
+ghost use Rattle.garde.specs.Fields.{◌and◌, at_most, bytes, each, field, is, prefix, reference_to, slice, str};
 
 use crate::own::{CouponTermsRule, IsEven, IsInSeason, TagText};
 use garde::fields::{Adapt, Each, Field, Fields, Is, Prefix};
@@ -28,8 +28,8 @@ impl Stated for Discount {
     type Context = Season;
 
     ghost visits = { λ v season.
-        field "percent" (found (⟦<IsInSeason<'static> as garde::fields::Rule<u8>>⟧.finds (record { 0 = reference_to season }) v.percent))
-        and field "further" (each (λ x. found (⟦<IsInSeason<'static> as garde::fields::Rule<u8>>⟧.finds (record { 0 = reference_to season }) x)) v.further) };
+        field "percent" (is (⟦<IsInSeason<'static> as garde::fields::Rule<u8>>⟧.finds (record { 0 = reference_to season }) v.percent))
+        and field "further" (each (λ x. is (⟦<IsInSeason<'static> as garde::fields::Rule<u8>>⟧.finds (record { 0 = reference_to season }) x)) (slice v.further)) };
 }
 
 impl Validate for Discount {
@@ -62,9 +62,9 @@ impl Stated for Coupon {
     type Context = ();
 
     ghost visits = { λ v _.
-        field "number" (found (⟦<IsEven as garde::fields::Rule<u32>>⟧.finds (record {}) v.number))
-        and field "tag" (prefix "t-" (⟦<TagText as garde::fields::View<Tag>>⟧.seen (record {}) v.tag) and length_max 6 (⟦<TagText as garde::fields::View<Tag>>⟧.seen (record {}) v.tag))
-        and field "terms" (found (⟦<CouponTermsRule as garde::fields::Rule<bool>>⟧.finds (record {}) v.terms)) };
+        field "number" (is (⟦<IsEven as garde::fields::Rule<u32>>⟧.finds (record {}) v.number))
+        and field "tag" (is (prefix "t-" (str (⟦<TagText as garde::fields::View<Tag>>⟧.seen (record {}) v.tag))) and is (bytes (at_most 6) (str (⟦<TagText as garde::fields::View<Tag>>⟧.seen (record {}) v.tag))))
+        and field "terms" (is (⟦<CouponTermsRule as garde::fields::Rule<bool>>⟧.finds (record {}) v.terms)) };
 }
 
 impl Validate for Coupon {

@@ -1,8 +1,6 @@
 //! A delivery, as a body that a static library checks.
-ghost use Rattle.std.specs.Prelude.{[], length, refl, ◌∷◌};
-ghost use Rattle.garde.specs.Fields.{◌and◌, byte_count, char_count, codes, count_between, count_max, false, field, item, items, minus, none, optional, pos, range_between, range_max, required, signed_between, u32_min};
-ghost use Rattle.garde.specs.Author as bytes;
-ghost use Rattle.garde.specs.Finds as finds;
+ghost use Rattle.std.specs.Prelude.{[], refl, ◌∷◌};
+ghost use Rattle.garde.specs.Fields.{◌and◌, alphanumeric, ascii, at_least, at_most, between, bytes, chars, count, each, false, field, if_some, is, item, items, minus, none, plus, prefix, range, required, signed_range};
 ghost use Rattle.garde_library.specs.Spelling.{a_flag, a_list, a_list_of, a_map_of, a_name, a_number, a_text, an_object, closed, i16_numbers, made, member, nullish, or_null, ruled, six, three, u16_numbers, u32_numbers, u64_numbers, u8_numbers, with_default};
 ghost use Rattle.example_ported.specs.declared.delivery.Hours.TheVariants.{AnyTime, Morning};
 
@@ -32,7 +30,7 @@ pub struct Floor(pub i16);
 impl Stated for Floor {
     type Context = ();
 
-    ghost visits = { λ v _. item 0 (signed_between (minus 3) (pos 40) v.0) };
+    ghost visits = { λ v _. item 0 (is (signed_range (between (minus 3) (plus 40)) v.0)) };
 }
 
 /// A box of it.
@@ -50,9 +48,9 @@ impl<'t> Stated for Crate<'t> {
     type Context = ();
 
     ghost visits = { λ v _.
-        field "name" (bytes.ascii v.name and count_between 2 20 (byte_count v.name))
-        and field "pieces" (range_between 1 99 v.pieces)
-        and field "marks" (count_max 5 (length v.marks) and items (λ x. bytes.alphanumeric x) v.marks) };
+        field "name" (is (ascii v.name) and is (bytes (between 2 20) v.name))
+        and field "pieces" (is (range (between 1 99) v.pieces))
+        and field "marks" (is (items (at_most 5) v.marks) and each (λ x. is (alphanumeric x)) v.marks) };
 }
 
 /// A delivery.
@@ -72,13 +70,13 @@ impl<'t> Stated for Delivery<'t> {
     type Context = ();
 
     ghost visits = { λ v ctx.
-        field "number" (u32_min 1 v.number)
-        and field "sent_to" (count_between 1 80 (char_count v.sent_to))
-        and field "phone" (optional (λ x. bytes.prefix (codes "+") x and count_max 16 (byte_count x)) v.phone)
-        and field "weight" (required v.weight and optional (λ x. range_max 30000 x) v.weight)
+        field "number" (is (range (at_least 1) v.number))
+        and field "sent_to" (is (chars (between 1 80) v.sent_to))
+        and field "phone" (if_some (λ x. is (prefix "+" x) and is (bytes (at_most 16) x)) v.phone)
+        and field "weight" (is (required v.weight) and if_some (λ x. is (range (at_most 30000) x)) v.weight)
         and field "floor" (⟦<Floor as Stated>⟧.visits v.floor ctx)
-        and field "crates" (count_between 1 50 (length v.crates) and items (λ x. ⟦<Crate<'t> as Stated>⟧.visits x ctx) v.crates)
-        and field "labels" (count_max 3 (length v.labels)) };
+        and field "crates" (is (items (between 1 50) v.crates) and each (λ x. ⟦<Crate<'t> as Stated>⟧.visits x ctx) v.crates)
+        and field "labels" (is (items (at_most 3) v.labels)) };
 }
 
 /// A value of the type `Floor` is made of what its form reads.
@@ -181,7 +179,7 @@ impl Spelled for Hours {
 
 impl Spelled for Floor {
     ghost spelled = { made (λ parts. record { 0 = parts })
-        (a_number i16_numbers (finds.signed_between (minus 3) (pos 40) ∷ [])) };
+        (a_number i16_numbers (signed_range (between (minus 3) (plus 40)) ∷ [])) };
 }
 
 impl<'t> Spelled for Crate<'t> {
@@ -193,11 +191,11 @@ impl<'t> Spelled for Crate<'t> {
       marks = parts.4;
       seen = parts.5;
     }) (an_object (closed (six
-        (member "name" (a_text (λ v. bytes.ascii v and count_between 2 20 (byte_count v))))
-        (with_default "pieces" (a_number u8_numbers (finds.range_between 1 99 ∷ [])) 1)
+        (member "name" (a_text (λ v. is (ascii v) and is (bytes (between 2 20) v))))
+        (with_default "pieces" (a_number u8_numbers (range (between 1 99) ∷ [])) 1)
         (with_default "fragile" a_flag false)
         (member "weight" (a_number u64_numbers []))
-        (member "marks" (a_list_of (λ v. count_max 5 v) (a_text (λ v. bytes.alphanumeric v))))
+        (member "marks" (a_list_of (λ v. is (count (at_most 5) v)) (a_text (λ v. is (alphanumeric v)))))
         (member "seen" (a_list (or_null a_flag)))))) };
 }
 
@@ -212,17 +210,17 @@ impl<'t> Spelled for Delivery<'t> {
       crates = parts.5.1;
       labels = parts.5.2;
     }) (an_object (closed (six
-        (member "number" (a_number u32_numbers (finds.u32_min 1 ∷ [])))
-        (member "sentTo" (a_text (λ v. count_between 1 80 (char_count v))))
-        (nullish "phone" (a_text (λ v. bytes.prefix (codes "+") v and count_max 16 (byte_count v))))
+        (member "number" (a_number u32_numbers (range (at_least 1) ∷ [])))
+        (member "sentTo" (a_text (λ v. is (chars (between 1 80) v))))
+        (nullish "phone" (a_text (λ v. is (prefix "+" v) and is (bytes (at_most 16) v))))
         (ruled
-        (nullish "grams" (a_number u16_numbers (finds.range_max 30000 ∷ [])))
-        (λ v. field "grams" (required v)))
+        (nullish "grams" (a_number u16_numbers (range (at_most 30000) ∷ [])))
+        (λ v. field "grams" (is (required v))))
         (with_default "hours" ⟦<Hours as Spelled>⟧.spelled AnyTime)
         (three
         (member "floor" ⟦<Floor as Spelled>⟧.spelled)
-        (member "crates" (a_list_of (λ v. count_between 1 50 v) ⟦<Crate<'t> as Spelled>⟧.spelled))
-        (member "labels" (a_map_of (λ v. count_max 3 v) (a_text (λ _. none)))))))) };
+        (member "crates" (a_list_of (λ v. is (count (between 1 50) v)) ⟦<Crate<'t> as Spelled>⟧.spelled))
+        (member "labels" (a_map_of (λ v. is (count (at_most 3) v)) (a_text (λ _. none)))))))) };
 }
 
 /// The title of the problem details.

@@ -1,7 +1,5 @@
 //! The other collections, and parts that are shared or stand under keys.
-ghost use Rattle.std.specs.Prelude.{length};
-ghost use Rattle.garde.specs.Fields.{◌and◌, ascii, count_max, each_value, entries_in_any_order, field, hash_map_max, hash_set_min, items, items_in_any_order, length_max, range_max, string_bytes};
-ghost use Rattle.garde.specs.Author as bytes;
+ghost use Rattle.garde.specs.Fields.{◌and◌, ascii, at_least, at_most, bytes, each, each_in_any_order, each_value, each_value_in_any_order, field, index_part, is, items, range, str, text_key};
 
 use garde::fields::{Ascii, Dive, Each, Field, Fields, Is};
 use garde::{I18n, Report, Stated, Trail, Validate, length, range};
@@ -18,7 +16,7 @@ pub struct Door {
 impl Stated for Door {
     type Context = ();
 
-    ghost visits = { λ v _. field "width" (range_max 15 v.width) };
+    ghost visits = { λ v _. field "width" (is (range (at_most 15) v.width)) };
 }
 
 impl Validate for Door {
@@ -52,14 +50,14 @@ impl Stated for Depot {
     type Context = ();
 
     ghost visits = { λ v ctx.
-        field "counts" (hash_map_max 1 v.counts and entries_in_any_order (λ key. bytes.key_part (string_bytes key)) (λ x. range_max 9 x) v.counts.entries)
-        and field "names" (entries_in_any_order (λ key. bytes.index_part key) (λ x. ascii x) v.names.entries)
-        and field "keys" (hash_set_min 1 v.keys and items_in_any_order (λ x. length_max 4 x) v.keys.keys)
-        and field "queue" (count_max 1 (length v.queue.items) and items (λ x. range_max 9 x) v.queue.items)
-        and field "chain" (count_max 1 (length v.chain) and items (λ x. range_max 9 x) v.chain)
-        and field "digits" (items (λ x. range_max 9 x) v.digits)
+        field "counts" (is (items (at_most 1) v.counts.entries) and each_value_in_any_order text_key (λ x. is (range (at_most 9) x)) v.counts.entries)
+        and field "names" (each_value_in_any_order index_part (λ x. is (ascii (str x))) v.names.entries)
+        and field "keys" (is (items (at_least 1) v.keys.keys) and each_in_any_order (λ x. is (bytes (at_most 4) (str x))) v.keys.keys)
+        and field "queue" (is (items (at_most 1) v.queue.items) and each (λ x. is (range (at_most 9) x)) v.queue.items)
+        and field "chain" (is (items (at_most 1) v.chain) and each (λ x. is (range (at_most 9) x)) v.chain)
+        and field "digits" (each (λ x. is (range (at_most 9) x)) v.digits)
         and field "gate" (⟦<Door as Stated>⟧.visits v.gate.value ctx)
-        and field "doors" (each_value (λ x. ⟦<Door as Stated>⟧.visits x ctx) v.doors) };
+        and field "doors" (each_value text_key (λ x. ⟦<Door as Stated>⟧.visits x ctx) v.doors.entries) };
 }
 
 impl Validate for Depot {

@@ -1,5 +1,5 @@
 //! Fields without an attribute, where the type allows them, and names that stand for something else in an implementation.
-ghost use Rattle.garde.specs.Fields.{◌and◌, field, length_min, range_max};
+ghost use Rattle.garde.specs.Fields.{◌and◌, at_least, at_most, bytes, field, is, range, str};
 
 use garde::fields::{Field, Fields, Is};
 use garde::{I18n, Report, Stated, Trail, Validate, length, range};
@@ -17,8 +17,8 @@ impl Stated for Draft {
     type Context = ();
 
     ghost visits = { λ v _.
-        field "report" (length_min 1 v.report)
-        and field "h" (range_max 9 v.h) };
+        field "report" (is (bytes (at_least 1) (str v.report)))
+        and field "h" (is (range (at_most 9) v.h)) };
 }
 
 impl Validate for Draft {

@@ -1,5 +1,5 @@
 //! An enum, each variant with rules of its own.
-ghost use Rattle.garde.specs.Fields.{◌and◌, ascii, field, item, length_max, length_min, minus, none, pos, range_max, signed_between, Visits};
+ghost use Rattle.garde.specs.Fields.{◌and◌, ascii, at_least, at_most, between, bytes, field, is, item, minus, none, plus, range, signed_range, str, Visits};
 ghost use Rattle.example_ported.specs.declared.event.Event.TheVariants.{Move, Say, Wait, Pair, Stop, Mark};
 
 use garde::fields::{Ascii, Field, Fields, Is, Item};
@@ -33,10 +33,10 @@ impl Stated for Event {
     type Context = ();
 
     ghost visits = { λ v _. elim v as (λ _. Visits) [
-      | Move steps ↦ field "steps" (signed_between (minus 10) (pos 10) steps)
-      | Say text _ the_report ↦ field "text" (ascii text and length_min 1 text) and field "report" (length_max 3 the_report)
-      | Wait value ↦ item 0 (range_max 60 value)
-      | Pair first second ↦ item 0 (ascii first) and item 1 (length_min 2 second)
+      | Move steps ↦ field "steps" (is (signed_range (between (minus 10) (plus 10)) steps))
+      | Say text _ the_report ↦ field "text" (is (ascii (str text)) and is (bytes (at_least 1) (str text))) and field "report" (is (bytes (at_most 3) (str the_report)))
+      | Wait value ↦ item 0 (is (range (at_most 60) value))
+      | Pair first second ↦ item 0 (is (ascii (str first))) and item 1 (is (bytes (at_least 2) (str second)))
       | Stop ↦ none
       | Mark _ ↦ none
     ] };

@@ -1,6 +1,5 @@
 //! Types with parameters.
-ghost use Rattle.garde.specs.Fields.{◌and◌, ascii, each, field, item, items, none, optional, range_max, Visits};
-ghost use Rattle.garde.specs.Author as bytes;
+ghost use Rattle.garde.specs.Fields.{◌and◌, ascii, at_most, each, field, if_some, is, item, none, range, slice, str, Visits};
 ghost use Rattle.example_ported.specs.declared.generic.Choice.TheVariants.{Part, Name, Neither};
 
 use garde::fields::{Ascii, Dive, Each, Field, Fields, IfSome, Is, Item};
@@ -19,7 +18,7 @@ impl<A: Stated, B: Stated<Context = A::Context>> Stated for Couple<A, B> {
 
     ghost visits = { λ v ctx.
         field "left" (A.visits v.left ctx)
-        and field "right" (each (λ x. B.visits x ctx) v.right) };
+        and field "right" (each (λ x. B.visits x ctx) (slice v.right)) };
 }
 
 impl<A: Validate, B: Validate<Context = A::Context>> Validate for Couple<A, B> {
@@ -49,7 +48,7 @@ pub struct Plain<T> {
 impl<T: Stated<Context = ()>> Stated for Plain<T> {
     type Context = ();
 
-    ghost visits = { λ v ctx. field "part" (optional (λ x. T.visits x ctx) v.part) };
+    ghost visits = { λ v ctx. field "part" (if_some (λ x. T.visits x ctx) v.part) };
 }
 
 impl<T: Validate<Context = ()>> Validate for Plain<T> {
@@ -79,7 +78,7 @@ impl<'t, T: Stated> Stated for Choice<'t, T> {
 
     ghost visits = { λ v ctx. elim v as (λ _. Visits) [
       | Part value ↦ item 0 (T.visits value ctx)
-      | Name name ↦ field "name" (bytes.ascii name.now)
+      | Name name ↦ field "name" (is (ascii name.now))
       | Neither ↦ none
     ] };
 }
@@ -114,7 +113,7 @@ pub struct Grid<const N: usize> {
 impl<const N: usize> Stated for Grid<N> {
     type Context = ();
 
-    ghost visits = { λ v _. field "cells" (items (λ x. range_max 9 x) v.cells) };
+    ghost visits = { λ v _. field "cells" (each (λ x. is (range (at_most 9) x)) v.cells) };
 }
 
 impl<const N: usize> Validate for Grid<N> {
@@ -141,7 +140,7 @@ pub struct Labelled<T> {
 impl<T> Stated for Labelled<T> {
     type Context = ();
 
-    ghost visits = { λ v _. field "label" (ascii v.label) };
+    ghost visits = { λ v _. field "label" (is (ascii (str v.label))) };
 }
 
 impl<T> Validate for Labelled<T> {

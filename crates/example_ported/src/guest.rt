@@ -1,5 +1,5 @@
 //! Options: rules of what they hold, and the rule that they hold something.
-ghost use Rattle.garde.specs.Fields.{◌and◌, ascii, each, each_of_option, field, items_max, length_min, optional, range_between, range_max, required, url};
+ghost use Rattle.garde.specs.Fields.{◌and◌, ascii, at_least, at_most, between, bytes, each, each_of_option, field, if_some, is, is_in_memory, items, range, required, slice, str, url};
 
 use garde::fields::{Ascii, Each, Field, Fields, IfSome, Is, IsInMemory, Required, Url};
 use garde::{I18n, Report, Stated, Trail, Validate, length, range};
@@ -19,11 +19,11 @@ impl Stated for Guest {
     type Context = ();
 
     ghost visits = { λ v _.
-        field "age" (required v.age and optional (λ x. range_between 18 120 x) v.age)
-        and field "nickname" (optional (λ x. ascii x and length_min 2 x) v.nickname and required v.nickname)
-        and field "site" (optional (λ x. url x) v.site)
-        and field "motto" (each_of_option (λ x. ascii x) v.motto)
-        and field "seats" (optional (λ x. items_max 2 x) v.seats and each_of_option (λ x. each (λ y. optional (λ z. range_max 9 z) y) x) v.seats) };
+        field "age" (is (required v.age) and if_some (λ x. is (range (between 18 120) x)) v.age)
+        and field "nickname" (if_some (λ x. is (ascii (str x)) and is (bytes (at_least 2) (str x))) v.nickname and is (required v.nickname))
+        and field "site" (if_some (λ x. is_in_memory (url (str x))) v.site)
+        and field "motto" (each_of_option (λ x. is (ascii (str x))) v.motto)
+        and field "seats" (if_some (λ x. is (items (at_most 2) (slice x))) v.seats and each_of_option (λ x. each (λ y. if_some (λ z. is (range (at_most 9) z)) y) (slice x)) v.seats) };
 }
 
 impl Validate for Guest {

@@ -1,8 +1,6 @@
 //! Texts that are borrowed.
-ghost use Rattle.std.specs.Prelude.{length};
 ghost use Rattle.std.specs.Cow.{cow_str_bytes};
-ghost use Rattle.garde.specs.Fields.{◌and◌, byte_count, char_count, codes, count_between, count_max, count_min, field, found, items, optional};
-ghost use Rattle.garde.specs.Author as bytes;
+ghost use Rattle.garde.specs.Fields.{◌and◌, alphanumeric, ascii, at_least, at_most, between, bytes, chars, contains, each, field, graphemes, if_some, is, items, prefix};
 
 use crate::own::IsShort;
 use garde::fields::{Alphanumeric, Ascii, Contains, Each, Field, Fields, IfSome, Is, Prefix};
@@ -24,11 +22,11 @@ impl<'t> Stated for Label<'t> {
     type Context = ();
 
     ghost visits = { λ v _.
-        field "name" (bytes.ascii v.name.now and count_between 1 9 (byte_count v.name.now))
-        and field "also" (count_max 2 (length v.also.now) and items (λ x. bytes.prefix (codes "b") x.now and count_max 2 (char_count x.now)) v.also.now)
-        and field "code" (optional (λ x. bytes.contains (codes "-") x.now and count_min 2 (bytes.grapheme_count x.now)) v.code)
-        and field "text" (bytes.alphanumeric (cow_str_bytes v.text))
-        and field "mark" (found (⟦<IsShort as garde::fields::Rule<&'t str>>⟧.finds (record {}) v.mark)) };
+        field "name" (is (ascii v.name.now) and is (bytes (between 1 9) v.name.now))
+        and field "also" (is (items (at_most 2) v.also.now) and each (λ x. is (prefix "b" x.now) and is (chars (at_most 2) x.now)) v.also.now)
+        and field "code" (if_some (λ x. is (contains "-" x.now) and is (graphemes (at_least 2) x.now)) v.code)
+        and field "text" (is (alphanumeric (cow_str_bytes v.text)))
+        and field "mark" (is (⟦<IsShort as garde::fields::Rule<&'t str>>⟧.finds (record {}) v.mark)) };
 }
 
 impl<'t> Validate for Label<'t> {

@@ -1,6 +1,6 @@
 //! Rules under conditions.
 ghost use Rattle.std.specs.Prelude.{is_some, ◌&&◌, ◌||◌};
-ghost use Rattle.garde.specs.Fields.{◌and◌, ascii, each, field, items_min, length_between, length_max, length_min, nat_le, not, optional, prefix, range_max, required, when};
+ghost use Rattle.garde.specs.Fields.{◌and◌, ascii, at_least, at_most, between, bytes, each, field, if_some, is, items, nat_le, not, prefix, range, required, slice, str, when};
 
 use garde::fields::{Ascii, Each, Field, Fields, IfSome, Is, Prefix, Required, When};
 use garde::{I18n, Report, Stated, Trail, Validate, length, range};
@@ -30,13 +30,13 @@ impl Stated for Page {
     type Context = Press;
 
     ghost visits = { λ v press.
-        field "content" (when v.plain (optional (λ x. ascii x) v.content) and when v.short (optional (λ x. length_between 10 100 x) v.content) and required v.content)
-        and field "notes" (when (not press.strict) (each (λ x. length_max 4 x) v.notes) and when press.strict (items_min 1 v.notes))
-        and field "title" (when (v.plain && (not v.short)) (prefix "p-" v.title and length_max 6 v.title))
-        and field "author" (when (v.plain || v.short) (ascii v.author))
-        and field "source" (when (is_some v.content) (length_min 1 v.source))
-        and field "volume" (when (nat_le 10 v.number) (ascii v.volume) and length_min 1 v.volume)
-        and field "number" (range_max 99 v.number) };
+        field "content" (when v.plain (if_some (λ x. is (ascii (str x))) v.content) and when v.short (if_some (λ x. is (bytes (between 10 100) (str x))) v.content) and is (required v.content))
+        and field "notes" (when (not press.strict) (each (λ x. is (bytes (at_most 4) (str x))) (slice v.notes)) and when press.strict (is (items (at_least 1) (slice v.notes))))
+        and field "title" (when (v.plain && (not v.short)) (is (prefix "p-" (str v.title)) and is (bytes (at_most 6) (str v.title))))
+        and field "author" (when (v.plain || v.short) (is (ascii (str v.author))))
+        and field "source" (when (is_some v.content) (is (bytes (at_least 1) (str v.source))))
+        and field "volume" (when (nat_le 10 v.number) (is (ascii (str v.volume))) and is (bytes (at_least 1) (str v.volume)))
+        and field "number" (is (range (at_most 99) v.number)) };
 }
 
 impl Validate for Page {

@@ -1,5 +1,5 @@
 //! Fields that are given twice: texts that may be missing, and numbers.
-ghost use Rattle.garde.specs.Fields.{◌and◌, field, length_max, matches, nat_eq, option_eq, optional, range_between, text_eq};
+ghost use Rattle.garde.specs.Fields.{◌and◌, at_most, between, bytes, field, if_some, is, matches, nat_eq, option_eq, range, str, text_eq};
 
 use garde::fields::{Field, Fields, IfSome, Is, Matches};
 use garde::{I18n, Report, Stated, Trail, Validate, length, range};
@@ -18,10 +18,10 @@ impl Stated for Pair {
     type Context = ();
 
     ghost visits = { λ v _.
-        field "mail" (optional (λ x. length_max 80 x) v.mail)
-        and field "mail_again" (matches "mail" (option_eq text_eq v.mail_again v.mail))
-        and field "pin" (range_between 1000 9999 v.pin)
-        and field "pin_again" (matches "pin" (nat_eq v.pin_again v.pin)) };
+        field "mail" (if_some (λ x. is (bytes (at_most 80) (str x))) v.mail)
+        and field "mail_again" (is (matches "mail" (option_eq (λ x y. text_eq (str x) (str y)) v.mail_again v.mail)))
+        and field "pin" (is (range (between 1000 9999) v.pin))
+        and field "pin_again" (is (matches "pin" (nat_eq v.pin_again v.pin))) };
 }
 
 impl Validate for Pair {

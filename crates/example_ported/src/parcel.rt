@@ -1,7 +1,6 @@
 //! A parcel as it comes in a request, with the form that reads it.
-ghost use Rattle.std.specs.Prelude.{length, refl};
-ghost use Rattle.garde.specs.Fields.{◌and◌, byte_count, char_count, codes, count_between, count_max, field, items, optional, range_between, range_max, required, u32_min};
-ghost use Rattle.garde.specs.Author as bytes;
+ghost use Rattle.std.specs.Prelude.{refl};
+ghost use Rattle.garde.specs.Fields.{◌and◌, alphanumeric, ascii, at_least, at_most, between, bytes, chars, each, field, if_some, is, items, prefix, range, required};
 
 use garde::fields::{Alphanumeric, Ascii, Is, Prefix, Required};
 use garde::{I18n, Stated, Valid, length, range};
@@ -33,8 +32,8 @@ impl<'t> Stated for Thing<'t> {
     type Context = ();
 
     ghost visits = { λ v _.
-        field "name" (bytes.ascii v.name and count_between 2 20 (byte_count v.name))
-        and field "pieces" (range_between 1 99 v.pieces) };
+        field "name" (is (ascii v.name) and is (bytes (between 2 20) v.name))
+        and field "pieces" (is (range (between 1 99) v.pieces)) };
 }
 
 /// A parcel.
@@ -54,13 +53,13 @@ impl<'t> Stated for Parcel<'t> {
     type Context = ();
 
     ghost visits = { λ v ctx.
-        field "number" (u32_min 1 v.number)
-        and field "sent_to" (count_between 1 80 (char_count v.sent_to))
-        and field "phone" (optional (λ x. bytes.prefix (codes "+") x and count_max 16 (byte_count x)) v.phone)
-        and field "weight" (required v.weight and optional (λ x. range_max 30000 x) v.weight)
-        and field "things" (count_between 1 50 (length v.things) and items (λ x. ⟦<Thing<'t> as Stated>⟧.visits x ctx) v.things)
-        and field "marks" (count_max 5 (length v.marks) and items (λ x. bytes.alphanumeric x) v.marks)
-        and field "labels" (count_max 3 (length v.labels)) };
+        field "number" (is (range (at_least 1) v.number))
+        and field "sent_to" (is (chars (between 1 80) v.sent_to))
+        and field "phone" (if_some (λ x. is (prefix "+" x) and is (bytes (at_most 16) x)) v.phone)
+        and field "weight" (is (required v.weight) and if_some (λ x. is (range (at_most 30000) x)) v.weight)
+        and field "things" (is (items (between 1 50) v.things) and each (λ x. ⟦<Thing<'t> as Stated>⟧.visits x ctx) v.things)
+        and field "marks" (is (items (at_most 5) v.marks) and each (λ x. is (alphanumeric x)) v.marks)
+        and field "labels" (is (items (at_most 3) v.labels)) };
 }
 
 /// A value of the type `Thing` is made of what its form reads.

@@ -1,5 +1,5 @@
 //! Where something is: texts with parts, addresses, and each unit in which a text is counted.
-ghost use Rattle.garde.specs.Fields.{◌and◌, Any, chars_max, contains, field, graphemes_between, ip, length_equal, length_min, prefix, suffix, url, utf16_max, V4, V6};
+ghost use Rattle.garde.specs.Fields.{◌and◌, Any, at_least, at_most, between, bytes, chars, contains, exactly, field, graphemes, ip, is, is_in_memory, prefix, str, suffix, url, utf16, V4, V6};
 
 use garde::fields::{Contains, Field, Fields, Ip, Is, IsInMemory, Prefix, Suffix, Url};
 use garde::i18n::IpKind;
@@ -24,15 +24,15 @@ impl Stated for Place {
     type Context = ();
 
     ghost visits = { λ v _.
-        field "mail" (contains "@" v.mail and suffix ".org" v.mail)
-        and field "tag" (prefix "t-" v.tag and length_equal 5 v.tag)
-        and field "host" (ip Any v.host)
-        and field "old" (ip V4 v.old)
-        and field "new" (ip V6 v.new)
-        and field "site" (url v.site)
-        and field "sign" (graphemes_between 1 3 v.sign)
-        and field "short" (utf16_max 2 v.short)
-        and field "title" (length_min 2 v.title and chars_max 4 v.title) };
+        field "mail" (is (contains "@" (str v.mail)) and is (suffix ".org" (str v.mail)))
+        and field "tag" (is (prefix "t-" (str v.tag)) and is (bytes (exactly 5) (str v.tag)))
+        and field "host" (is (ip Any (str v.host)))
+        and field "old" (is (ip V4 (str v.old)))
+        and field "new" (is (ip V6 (str v.new)))
+        and field "site" (is_in_memory (url (str v.site)))
+        and field "sign" (is (graphemes (between 1 3) (str v.sign)))
+        and field "short" (is (utf16 (at_most 2) (str v.short)))
+        and field "title" (is (bytes (at_least 2) (str v.title)) and is (chars (at_most 4) (str v.title))) };
 }
 
 impl Validate for Place {

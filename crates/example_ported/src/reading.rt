@@ -1,5 +1,5 @@
 //! Numbers, with a sign and without, under each kind of bounds.
-ghost use Rattle.garde.specs.Fields.{◌and◌, field, i16_min, i64_max, minus, pos, range_between, range_equal, range_max, signed_between, signed_equal, u8_min};
+ghost use Rattle.garde.specs.Fields.{◌and◌, at_least, at_most, between, exactly, field, is, minus, plus, range, signed_range};
 
 use garde::fields::{Field, Fields, Is};
 use garde::{I18n, Report, Stated, Trail, Validate, range};
@@ -22,14 +22,14 @@ impl Stated for Reading {
     type Context = ();
 
     ghost visits = { λ v _.
-        field "age" (u8_min 18 v.age)
-        and field "height" (range_max 5000 v.height)
-        and field "kind" (range_equal 7 v.kind)
-        and field "channel" (range_between 1 255 v.channel)
-        and field "coldest" (i16_min (minus 40) v.coldest)
-        and field "depth" (i64_max (minus 1) v.depth)
-        and field "tilt" (signed_between (minus 10) (pos 10) v.tilt)
-        and field "drift" (signed_equal (pos 0) v.drift) };
+        field "age" (is (range (at_least 18) v.age))
+        and field "height" (is (range (at_most 5000) v.height))
+        and field "kind" (is (range (exactly 7) v.kind))
+        and field "channel" (is (range (between 1 255) v.channel))
+        and field "coldest" (is (signed_range (at_least (minus 40)) v.coldest))
+        and field "depth" (is (signed_range (at_most (minus 1)) v.depth))
+        and field "tilt" (is (signed_range (between (minus 10) (plus 10)) v.tilt))
+        and field "drift" (is (signed_range (exactly (plus 0)) v.drift)) };
 }
 
 impl Validate for Reading {

@@ -1,5 +1,5 @@
 //! Collections: how many items there are, and rules of each.
-ghost use Rattle.garde.specs.Fields.{◌and◌, alphanumeric, ascii, each, each_numbered, each_of_set, each_value, field, items_between, items_min, length_equal, length_max, length_min, map_max, range_between, set_min};
+ghost use Rattle.garde.specs.Fields.{◌and◌, alphanumeric, ascii, at_least, at_most, between, bytes, each, each_value, exactly, field, index_part, is, items, range, slice, str, text_key};
 
 use garde::fields::{Alphanumeric, Ascii, Each, Field, Fields, Is};
 use garde::{I18n, Report, Stated, Trail, Validate, length, range};
@@ -20,11 +20,11 @@ impl Stated for Shop {
     type Context = ();
 
     ghost visits = { λ v _.
-        field "names" (items_between 1 3 v.names and each (λ x. ascii x and length_min 2 x) v.names)
-        and field "pieces" (map_max 2 v.pieces and each_value (λ x. range_between 1 999 x) v.pieces)
-        and field "shelves" (each_numbered (λ x. alphanumeric x) v.shelves)
-        and field "marks" (set_min 1 v.marks and each_of_set (λ x. length_max 8 x) v.marks)
-        and field "rows" (each (λ x. items_min 1 x and each (λ y. ascii y and length_equal 1 y) x) v.rows) };
+        field "names" (is (items (between 1 3) (slice v.names)) and each (λ x. is (ascii (str x)) and is (bytes (at_least 2) (str x))) (slice v.names))
+        and field "pieces" (is (items (at_most 2) v.pieces.entries) and each_value text_key (λ x. is (range (between 1 999) x)) v.pieces.entries)
+        and field "shelves" (each_value index_part (λ x. is (alphanumeric (str x))) v.shelves.entries)
+        and field "marks" (is (items (at_least 1) v.marks.keys) and each (λ x. is (bytes (at_most 8) (str x))) v.marks.keys)
+        and field "rows" (each (λ x. is (items (at_least 1) (slice x)) and each (λ y. is (ascii (str y)) and is (bytes (exactly 1) (str y))) (slice x)) (slice v.rows)) };
 }
 
 impl Validate for Shop {

@@ -1,5 +1,5 @@
 //! Parts that validate themselves, under a context and parts of it.
-ghost use Rattle.garde.specs.Fields.{◌and◌, ascii, chars_between, each, each_of_option, field, items_between, optional, u8_min};
+ghost use Rattle.garde.specs.Fields.{◌and◌, ascii, at_least, between, chars, each, each_of_option, field, if_some, is, items, range, slice, str};
 
 use garde::fields::{Ascii, Dive, Each, Field, Fields, IfSome, Is};
 use garde::{I18n, Report, Stated, Trail, Validate, length, range};
@@ -31,8 +31,8 @@ impl Stated for Member {
     type Context = Terms;
 
     ghost visits = { λ v terms.
-        field "years" (u8_min terms.age v.age)
-        and field "title" (chars_between 1 terms.title v.title) };
+        field "years" (is (range (at_least terms.age) v.age))
+        and field "title" (is (chars (between 1 terms.title) (str v.title))) };
 }
 
 impl Validate for Member {
@@ -71,9 +71,9 @@ impl Stated for Team {
     type Context = League;
 
     ghost visits = { λ v league.
-        field "members" (items_between 1 league.most v.members and each (λ x. ⟦<Member as Stated>⟧.visits x league.members) v.members)
+        field "members" (is (items (between 1 league.most) (slice v.members)) and each (λ x. ⟦<Member as Stated>⟧.visits x league.members) (slice v.members))
         and field "captain" (⟦<Member as Stated>⟧.visits v.captain.value league.members)
-        and field "coach" (optional (λ x. ⟦<Member as Stated>⟧.visits x league.members) v.coach)
+        and field "coach" (if_some (λ x. ⟦<Member as Stated>⟧.visits x league.members) v.coach)
         and field "home" (⟦<Ground as Stated>⟧.visits v.ground tt)
         and field "reserve" (each_of_option (λ x. ⟦<Member as Stated>⟧.visits x league.members) v.reserve) };
 }
@@ -121,7 +121,7 @@ pub struct Ground {
 impl Stated for Ground {
     type Context = ();
 
-    ghost visits = { λ v _. field "town" (ascii v.town) };
+    ghost visits = { λ v _. field "town" (is (ascii (str v.town))) };
 }
 
 impl Validate for Ground {
@@ -149,8 +149,8 @@ impl Stated for Cup {
     type Context = League;
 
     ghost visits = { λ v ctx.
-        field "teams" (each (λ x. ⟦<Team as Stated>⟧.visits x ctx) v.teams)
-        and field "winner" (optional (λ x. ⟦<Team as Stated>⟧.visits x ctx) v.winner) };
+        field "teams" (each (λ x. ⟦<Team as Stated>⟧.visits x ctx) (slice v.teams))
+        and field "winner" (if_some (λ x. ⟦<Team as Stated>⟧.visits x ctx) v.winner) };
 }
 
 impl Validate for Cup {

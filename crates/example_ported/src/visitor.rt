@@ -1,5 +1,5 @@
 //! Texts under patterns: compiled ones of a context, and one in quotes.
-ghost use Rattle.garde.specs.Fields.{◌and◌, ascii, each, field, optional, pattern, range_max};
+ghost use Rattle.garde.specs.Fields.{◌and◌, ascii, at_most, each, field, if_some, is, is_in_memory, pattern, range, slice, str};
 
 use garde::fields::{Ascii, Dive, Each, Field, Fields, IfSome, Is, IsInMemory, Pattern};
 use garde::rules::pattern::regex::Regex;
@@ -24,8 +24,8 @@ impl Stated for Visitor {
     type Context = Patterns;
 
     ghost visits = { λ v patterns.
-        field "mail" (ascii v.mail and pattern patterns.mail v.mail)
-        and field "phone" (optional (λ x. pattern patterns.phone x) v.phone) };
+        field "mail" (is (ascii (str v.mail)) and is_in_memory (pattern patterns.mail (str v.mail)))
+        and field "phone" (if_some (λ x. is_in_memory (pattern patterns.phone (str x))) v.phone) };
 }
 
 impl Validate for Visitor {
@@ -71,8 +71,8 @@ impl Stated for Badge {
     type Context = BadgePatterns;
 
     ghost visits = { λ v ctx.
-        field "number" (pattern ctx.number v.number)
-        and field "colors" (each (λ x. pattern ctx.colors x) v.colors)
+        field "number" (is_in_memory (pattern ctx.number (str v.number)))
+        and field "colors" (each (λ x. is_in_memory (pattern ctx.colors (str x))) (slice v.colors))
         and field "desk" (⟦<Desk as Stated>⟧.visits v.desk tt) };
 }
 
@@ -108,7 +108,7 @@ pub struct Desk {
 impl Stated for Desk {
     type Context = ();
 
-    ghost visits = { λ v _. field "floor" (range_max 9 v.floor) };
+    ghost visits = { λ v _. field "floor" (is (range (at_most 9) v.floor)) };
 }
 
 impl Validate for Desk {

@@ -1,5 +1,5 @@
 //! New types, tuples, a type with a parameter, and a unit.
-ghost use Rattle.garde.specs.Fields.{◌and◌, ascii, each, field, item, length_max, length_min, none, range_max};
+ghost use Rattle.garde.specs.Fields.{◌and◌, ascii, at_least, at_most, bytes, each, field, is, item, none, range, slice, str};
 
 use garde::fields::{Ascii, Dive, Each, Field, Fields, Is, Item, Transparent};
 use garde::{I18n, Report, Stated, Trail, Validate, length, range};
@@ -12,7 +12,7 @@ pub struct Nickname(pub String);
 impl Stated for Nickname {
     type Context = ();
 
-    ghost visits = { λ v _. length_min 3 v.0 };
+    ghost visits = { λ v _. is (bytes (at_least 3) (str v.0)) };
 }
 
 impl Validate for Nickname {
@@ -38,7 +38,7 @@ pub struct Code {
 impl Stated for Code {
     type Context = ();
 
-    ghost visits = { λ v _. ascii v.text and length_max 4 v.text };
+    ghost visits = { λ v _. is (ascii (str v.text)) and is (bytes (at_most 4) (str v.text)) };
 }
 
 impl Validate for Code {
@@ -62,7 +62,7 @@ pub struct Numbered(pub String);
 impl Stated for Numbered {
     type Context = ();
 
-    ghost visits = { λ v _. item 0 (length_min 3 v.0) };
+    ghost visits = { λ v _. item 0 (is (bytes (at_least 3) (str v.0))) };
 }
 
 impl Validate for Numbered {
@@ -86,7 +86,7 @@ pub struct Triple(pub String, pub u8, pub u8);
 impl Stated for Triple {
     type Context = ();
 
-    ghost visits = { λ v _. item 0 (ascii v.0) and item 2 (range_max 9 v.2) };
+    ghost visits = { λ v _. item 0 (is (ascii (str v.0))) and item 2 (is (range (at_most 9) v.2)) };
 }
 
 impl Validate for Triple {
@@ -119,7 +119,7 @@ impl<T: Stated> Stated for Holder<T> {
 
     ghost visits = { λ v ctx.
         field "value" (T.visits v.value ctx)
-        and field "label" (length_min 1 v.label) };
+        and field "label" (is (bytes (at_least 1) (str v.label))) };
 }
 
 impl<T: Validate> Validate for Holder<T> {
@@ -147,7 +147,7 @@ pub struct Boxes<T>(pub Vec<Box<T>>);
 impl<T: Stated> Stated for Boxes<T> {
     type Context = T::Context;
 
-    ghost visits = { λ v ctx. each (λ x. T.visits x.value ctx) v.0 };
+    ghost visits = { λ v ctx. each (λ x. T.visits x.value ctx) (slice v.0) };
 }
 
 impl<T: Validate> Validate for Boxes<T> {

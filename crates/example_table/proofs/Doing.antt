@@ -8,7 +8,7 @@ use Rattle.sqlite.specs.Ops.{unary}
 use Rattle.sqlite.specs.Kind.TheVariants.{Integer}
 use Rattle.sqlite.specs.Kind.TheVariants as kind
 use Rattle.sqlite.specs.Source.TheVariants.{Values}
-use Rattle.sqlite.specs.Command.TheVariants.{Insert, Begin, Commit, CreateTable}
+use Rattle.sqlite.specs.Command.TheVariants.{Insert, Begin, Commit, CreateTable, Rollback}
 use Rattle.sqlite.specs.Compile.{table_defined_by}
 use Rattle.sqlite.specs.Change.{created, next_tree}
 use Rattle.sqlite.specs.Query.{page}
@@ -116,6 +116,17 @@ commit_plain : IsPlain (understood stock_schema commit_text)
 unfolding understood everything
 commit_plain = (refl, refl)
 
+abbrev pub rollback_text : List ℕ
+rollback_text = codes "ROLLBACK"
+
+rollback_is : command_of (understood stock_schema rollback_text) ≡ Rollback
+unfolding understood everything
+rollback_is = refl
+
+rollback_plain : IsPlain (understood stock_schema rollback_text)
+unfolding understood everything
+rollback_plain = (refl, refl)
+
 pub begins : (old new : State) (count : ℕ) → HasTable old → Executes begin_text [] old new (Ok count) → (new.now ≡ old.now) × (new.committed ≡ old.committed) × IsTrue new.in_transaction
 begins old new count table h =
     let ran = runs_as begin_text [] old new stock_schema table.0 Begin begin_is begin_plain count h in
@@ -125,6 +136,11 @@ pub commits : (old new : State) (count : ℕ) → HasTable old → Executes comm
 commits old new count table h =
     let ran = runs_as commit_text [] old new stock_schema table.0 Commit commit_is commit_plain count h in
     (ran.1.now_is, ran.1.committed_is)
+
+pub undoes : (old new : State) (count : ℕ) → HasTable old → IsTrue new.is_open → Executes rollback_text [] old new (Ok count) → (new.now ≡ old.committed) × (new.committed ≡ old.committed)
+undoes old new count table up h =
+    let ran = runs_as rollback_text [] old new stock_schema table.0 Rollback rollback_is rollback_plain count h in
+    ran.1.undone up
 
 abbrev pub create_text : List ℕ
 create_text = codes "CREATE TABLE stock (id INTEGER PRIMARY KEY, code TEXT NOT NULL UNIQUE, name TEXT NOT NULL, quantity INTEGER NOT NULL, price INTEGER NOT NULL, page TEXT) STRICT"
@@ -170,6 +186,10 @@ begins_if old new (Ok count) table h = begins old new count table h
 pub commits_if : (old new : State) (r : Result ℕ Error) → HasTable old → Executes commit_text [] old new r → OnOk r ((new.now ≡ old.now) × (new.committed ≡ old.now))
 commits_if old new (Err e) table h = tt
 commits_if old new (Ok count) table h = commits old new count table h
+
+pub undoes_if : (old new : State) (r : Result ℕ Error) → HasTable old → IsTrue new.is_open → Executes rollback_text [] old new r → OnOk r ((new.now ≡ old.committed) × (new.committed ≡ old.committed))
+undoes_if old new (Err e) table up h = tt
+undoes_if old new (Ok count) table up h = undoes old new count table up h
 
 pub creates_if : (old new : State) (r : Result ℕ Error) → old.now.schema ≡ no_schema → old.in_transaction ≡ false → Executes create_text [] old new r
     → OnOk r (HasTable new × (new.now.trees 0 ≡ []) × (new.committed.trees 0 ≡ []))

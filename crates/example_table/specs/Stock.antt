@@ -1,5 +1,5 @@
 -- The table of a stock list in a database.
-use Rattle.std.specs.Prelude.{◌≡◌, ◌⊎◌, true, false, List, [], ◌∷◌, map, Some, codes, IsTrue}
+use Rattle.std.specs.Prelude.{◌≡◌, ◌⊎◌, ◌<ℤ◌, ℤ, true, false, List, [], ◌∷◌, map, Some, codes, IsTrue}
 use Rattle.std.specs.List.{AllByRecursion}
 use Rattle.sqlite.specs.Collation.TheVariants.{Binary}
 use Rattle.sqlite.specs.declared.types.Value.{Value}
@@ -9,10 +9,12 @@ use Rattle.sqlite.specs.Table.{Table}
 use Rattle.sqlite.specs.Schema.{Schema}
 use Rattle.sqlite.specs.Kind.TheVariants.{Integer, Text}
 use Rattle.sqlite.specs.Change.{created}
-use Rattle.sqlite.specs.Edit.{next_rowid}
+use Rattle.sqlite.specs.Edit.{id_in, next_rowid}
 use Rattle.sqlite.specs.Tree.{IsTable, rowid}
 use Rattle.sqlite.specs.View.{is_int}
 use Rattle.sqlite.specs.State.{State, HasCleanDisk}
+use Rattle.example_table.specs.declared.opening.OpenError.{OpenError}
+use Rattle.example_table.specs.declared.opening.OpenError.TheVariants.{OtherTable, Index, Sqlite}
 use Rattle.example_import.specs.Line.{Cell, nothing, number, text, other, Line}
 
 abbrev pub stock : Table
@@ -76,6 +78,10 @@ stored rows line = Int (next_rowid rows) ∷ Null ∷ params_of line
 abbrev pub Ordered : List Row → Type 0
 Ordered rows = IsTable rows × AllByRecursion (λ r. IsTrue (is_int (rowid r))) rows
 
+-- no row stands behind the one with this rowid
+abbrev pub NoneBehind : ℤ → List Row → Type 0
+NoneBehind last rows = AllByRecursion (λ r. ¬ (last <ℤ id_in (rowid r))) rows
+
 -- the connection is open, and the disk gave back what was written to it
 abbrev pub IsUp : State → Type 0
 IsUp s = HasCleanDisk s × IsTrue s.is_open
@@ -83,6 +89,16 @@ IsUp s = HasCleanDisk s × IsTrue s.is_open
 -- the database has the table and nothing else, now and as it was committed
 abbrev pub HasTable : State → Type 0
 HasTable s = (s.now.schema ≡ stock_schema) × (s.committed.schema ≡ stock_schema)
+
+-- the database has no table, no index and no view, and no transaction has begun
+abbrev pub IsFree : State → Type 0
+IsFree s = (s.now.schema ≡ no_schema) × (s.in_transaction ≡ false)
+
+-- why no table was made: the database is not free, or it is and a statement failed
+abbrev pub IsNotMade : OpenError → State → Type 0
+IsNotMade OtherTable s = ¬ (IsFree s)
+IsNotMade Index s = ⊥
+IsNotMade (Sqlite error) s = IsFree s
 
 abbrev pub Stays : State → State → Type 0
 Stays old new = (new.now ≡ old.now) × (new.committed ≡ old.committed) × (new.in_transaction ≡ old.in_transaction)

@@ -1,9 +1,9 @@
 //! The table as one that takes valid rows alone.
-ghost use Rattle.std.specs.Prelude.{◌≡◌, false, [], IfOk, IsTrue};
+ghost use Rattle.std.specs.Prelude.{◌≡◌, ◌↔◌, false, [], length, IfErr, IfOk, OnOk, IsTrue};
 ghost use Rattle.sqlite.specs.Held.{state};
 ghost use mathlib.Core.HLevel.{Π_prop};
 ghost use Rattle.example_table.specs.Props.{Holds-prop};
-ghost use Rattle.example_table.specs.Stock.{Holds, IsUp, no_schema};
+ghost use Rattle.example_table.specs.Stock.{Holds, IsFree, IsNotMade, IsUp, NoneBehind};
 
 use crate::opening::OpenError;
 use crate::statements;
@@ -23,8 +23,7 @@ pub struct Stock<S: Alter> {
 
 /// Whether a database has no table, and no transaction has begun.
 fn is_empty<S: Alter>(conn: &Connection<S>) -> bool
-    ensures schema { IsTrue result → (state S.Store conn.now).now.schema ≡ no_schema }
-    ensures outside { IsTrue result → conn.now.in_transaction ≡ false }
+    ensures { IsTrue result ↔ IsFree (state S.Store conn.now) }
 {
     let schema = conn.schema();
     conn.is_autocommit()
@@ -38,6 +37,8 @@ impl<S: Alter + Drop> Stock<S> {
     /// begun, the error is `OtherTable`, and nothing is made.
     pub fn make(mut conn: Connection<S>) -> Result<Stock<S>, OpenError>
         ensures made { IfOk result (λ stock. IsTrue stock.is_made) }
+        ensures free { OnOk result (IsFree (state S.Store conn)) }
+        ensures refused { IfErr result (λ error. IsNotMade error (state S.Store conn)) }
         ensures empty { IfOk result (λ stock. IsUp (state S.Store stock.conn)
             → ((state S.Store stock.conn).now.trees 0 ≡ []) × ((state S.Store stock.conn).committed.trees 0 ≡ [])) }
     {
@@ -64,7 +65,11 @@ impl<S: Alter + Drop> Stock<S> {
     }
 
     /// The rows behind the one with this rowid, a thousand at most.
-    pub(crate) fn page(&mut self, last: i64) -> Result<Vec<sqlite::Row>, Error> {
+    pub(crate) fn page(&mut self, last: i64) -> Result<Vec<sqlite::Row>, Error>
+        ensures end { IsTrue self.new.is_made → IsUp (state S.Store self.new.conn)
+            → IfOk result (λ rows. length rows.items ≡ 0 → NoneBehind last ((state S.Store self.old.conn).now.trees 0)) }
+        ensures made { self.new.is_made ≡ self.old.is_made }
+    {
         match statements::page(&mut self.conn, last) {
             Ok(rows) => Ok(rows),
             Err(error) => Err(error),
@@ -110,6 +115,17 @@ impl<S: Alter + Drop> Store for Stock<S> {
 
     fn commit(&mut self) -> Result<(), Error> {
         match statements::commit(&mut self.conn) {
+            Ok(_) => Ok(()),
+            Err(error) => Err(error),
+        }
+    }
+
+    fn rollback(&mut self) -> Result<(), Error> {
+        // A statement that failed may have ended the transaction.
+        if self.conn.is_autocommit() {
+            return Ok(());
+        }
+        match statements::rollback(&mut self.conn) {
             Ok(_) => Ok(()),
             Err(error) => Err(error),
         }

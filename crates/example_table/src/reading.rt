@@ -1,7 +1,9 @@
 //! The rows of the table, read back.
-ghost use Rattle.std.specs.Prelude.{◌≡◌, [], ◌∷◌, IfOk, IfSome};
+ghost use Rattle.std.specs.Prelude.{◌≡◌, ◌-◌, ◌^◌, negsuc, [], ◌∷◌, IfNone, IfOk, IfSome, IsTrue};
+ghost use Rattle.sqlite.specs.Held.{state};
 ghost use Rattle.garde.specs.Words.{index_part};
 ghost use Rattle.example_table.specs.Reading.{IsStored};
+ghost use Rattle.example_table.specs.Stock.{IsUp, NoneBehind};
 
 use crate::database::Stock;
 use example_import::row::Row;
@@ -69,7 +71,8 @@ fn validated(alloc: Global, index: usize, row: Row) -> Result<Stored, Error>
 impl<S: Alter + Drop> Stock<S> {
     /// The rows of the table, from the first on.
     pub fn rows<'a>(&'a mut self, alloc: Global) -> Rows<'a, S>
-        ensures { result.index ≡ 0 }
+        ensures index { result.index ≡ 0 }
+        ensures last { result.last ≡ negsuc (2 ^ 63 - 1) }
     {
         Rows {
             stock: self,
@@ -82,9 +85,13 @@ impl<S: Alter + Drop> Stock<S> {
 }
 
 impl<'a, S: Alter + Drop> Rows<'a, S> {
-    /// The next row, or `None` behind the last one.
+    /// The next row, or `None` behind the last one: of a table that was made here, it comes only where no
+    /// row is left.
     pub fn next(&mut self) -> Result<Option<Stored>, Error>
-        ensures { IfOk result (λ next. IfSome next (IsStored self.old.index)) }
+        ensures stored { IfOk result (λ next. IfSome next (IsStored self.old.index)) }
+        ensures end { IsTrue self.new.stock.now.is_made → IsUp (state S.Store self.new.stock.now.conn)
+            → IfOk result (λ next. IfNone next
+            (NoneBehind self.old.last ((state S.Store self.old.stock.now.conn).now.trees 0))) }
     {
         if self.page.len() == 0 {
             self.page = self.stock.page(self.last)?.into_iter();

@@ -1,6 +1,6 @@
 -- The texts of the handler `German`: one line for each datum that a rule may find.
 use Rattle.std.specs.Prelude.{ℕ, List, ◌++◌, codes}
-use Rattle.garde.specs.Handlers.{Datum, length_lower, length_greater, range_lower, range_greater, card, pattern, contains, url, prefix, suffix, phone, ip, matches, not_ascii, not_alphanumeric, not_set, decimal, ip_kind_text}
+use Rattle.garde.specs.Handlers.{Datum, length_lower, length_greater, range_lower, range_greater, card, pattern, contains, url, prefix, suffix, phone, ip, matches, not_ascii, not_alphanumeric, not_set, named, decimal, ip_kind_text}
 use Rattle.garde.specs.Urls.{EmptyHost}
 
 abbrev pub german_text : Datum → List ℕ
@@ -21,3 +21,4 @@ german_text (matches s) = codes "anders als im Feld " ++ s
 german_text not_ascii = codes "nicht nur ASCII"
 german_text not_alphanumeric = codes "nicht nur Buchstaben und Zahlen"
 german_text not_set = codes "fehlt"
+german_text (named code english) = english

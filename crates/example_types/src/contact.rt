@@ -1,6 +1,6 @@
 //! Rules over several fields: one of two is given, one is required under a condition, one repeats another, and no two
 //! items of a list are the same.
-ghost use Rattle.garde.specs.Fields.{◌and◌, asks, either, field, is_some, items_max, matches, option_eq, required_if, text_eq, text_is, unique};
+ghost use Rattle.garde.specs.Fields.{◌and◌, asks, at_most, either, field, is, is_some, items, matches, option_eq, required_if, slice, str, text_eq, text_is, unique};
 
 use garde::fields::{Asks, Field, Fields, Is, Matches, RequiredIf, Same, Unique};
 use garde::{I18n, Report, Stated, Trail, Validate, length};
@@ -18,7 +18,7 @@ pub struct Link {
 pub struct Title;
 
 impl Same<Link> for Title {
-    ghost same = { λ _ one other. text_eq one.title other.title };
+    ghost same = { λ _ one other. text_eq (str one.title) (str other.title) };
 
     fn are_same(&self, one: &Link, other: &Link) -> bool {
         one.title == other.title
@@ -40,11 +40,11 @@ impl Stated for Contact {
     type Context = ();
 
     ghost visits = { λ v _.
-        field "business" (required_if (text_is "business" v.kind) v.business)
-        and field "email" (asks "give an email or a phone" (either (is_some v.email) (is_some v.phone)))
-        and field "again" (matches "email" (option_eq text_eq v.again v.email))
-        and field "links" (items_max 9 v.links
-        and unique "there is a link of this title" (λ one other. text_eq one.title other.title) v.links) };
+        field "business" (is (required_if (text_is "business" (str v.kind)) v.business))
+        and field "email" (is (asks "give an email or a phone" (either (is_some v.email) (is_some v.phone))))
+        and field "again" (is (matches "email" (option_eq (λ x y. text_eq (str x) (str y)) v.again v.email)))
+        and field "links" (is (items (at_most 9) (slice v.links))
+        and unique "there is a link of this title" (λ one other. text_eq (str one.title) (str other.title)) (slice v.links)) };
 }
 
 impl Validate for Contact {

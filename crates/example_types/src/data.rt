@@ -1,5 +1,5 @@
 //! An enum, each variant with its own visit.
-ghost use Rattle.garde.specs.Fields.{Visits, field, item, signed_between, minus, pos};
+ghost use Rattle.garde.specs.Fields.{between, field, is, item, minus, plus, signed_range, Visits};
 ghost use Rattle.example_types.specs.declared.data.Data.TheVariants.{Struct, Tuple};
 
 use garde::fields::{Field, Fields, Is, check_under};
@@ -19,8 +19,8 @@ impl Stated for Data {
     type Context = ();
 
     ghost visits = { λ v _. elim v as (λ _. Visits) [
-      | Struct number ↦ field "field" (signed_between (minus 10) (pos 10) number)
-      | Tuple number ↦ item 0 (signed_between (minus 10) (pos 10) number)
+      | Struct number ↦ field "field" (is (signed_range (between (minus 10) (plus 10)) number))
+      | Tuple number ↦ item 0 (is (signed_range (between (minus 10) (plus 10)) number))
     ] };
 }
 

@@ -34,6 +34,7 @@ impl Texts for German {
             Datum::AlphanumericInvalid => return Ok(CowStr::Borrowed(
                 "nicht nur Buchstaben und Zahlen",
             )),
+            Datum::Named(fault) => String::from_str(alloc, fault.english)?,
             Datum::RequiredNotSet => return Ok(CowStr::Borrowed("fehlt")),
         }))
     }

@@ -1,6 +1,6 @@
 //! Values under keys, in an order of their own.
 ghost use Rattle.std.specs.Prelude.{map, refl};
-ghost use Rattle.garde.specs.Author.{ascii, entries, key_part, key_place, string_bytes};
+ghost use Rattle.garde.specs.Fields.{ascii, each_value, is, key_place, str, text_key};
 
 use garde::error::Component;
 use garde::fields::{Ascii, Is, check_under};
@@ -48,7 +48,7 @@ pub struct Ledger {
 impl Stated for Ledger {
     type Context = ();
 
-    ghost visits = { λ v _. entries (λ k. key_part (string_bytes k)) (λ owner. ascii (string_bytes owner)) v.owners.rows.items };
+    ghost visits = { λ v _. each_value text_key (λ owner. is (ascii (str owner))) v.owners.rows.items };
 }
 
 impl Validate for Ledger {

@@ -1,5 +1,5 @@
 //! Two texts, each under the rules of its field.
-ghost use Rattle.garde.specs.Fields.{◌and◌, field, ascii, length_between, length_min};
+ghost use Rattle.garde.specs.Fields.{◌and◌, ascii, at_least, between, bytes, field, is, str};
 
 use garde::fields::{Ascii, Field, Fields, Is};
 use garde::{I18n, Report, Stated, Trail, Validate, length};
@@ -18,8 +18,8 @@ impl Stated for Login {
     type Context = ();
 
     ghost visits = { λ v _.
-        field "username" (ascii v.username and length_between 3 25 v.username)
-        and field "password" (length_min 15 v.password) };
+        field "username" (is (ascii (str v.username)) and is (bytes (between 3 25) (str v.username)))
+        and field "password" (is (bytes (at_least 15) (str v.password))) };
 }
 
 impl Validate for Login {

@@ -1,6 +1,5 @@
 //! A list that is walked twice, and an option in each of its items.
-ghost use Rattle.std.specs.Prelude.{◌-◌, ◌^◌};
-ghost use Rattle.garde.specs.Author.{Visited, ascii, under, codes, field, each_of_option, items, length, length_in, part_of, required, string_bytes, ◌and◌};
+ghost use Rattle.garde.specs.Fields.{◌and◌, ascii, at_least, bytes, each, each_of_option, field, is, items, part_of, required, slice, str, under, Visited};
 
 use garde::fields::{Ascii, Check, Field, Fields, Is, Length, Required, check_under};
 use garde::rules::inner;
@@ -17,9 +16,9 @@ impl Stated for Names {
     type Context = ();
 
     ghost visits = { λ v _.
-        field (codes "items") (length_in 1 (2 ^ 64 - 1) (length v.items.items)
-        and items (λ name. required name) v.items.items
-        and items (λ name. each_of_option (λ text. ascii (string_bytes text) and length_in 1 (2 ^ 64 - 1) (length (string_bytes text))) name) v.items.items) };
+        field "items" (is (items (at_least 1) (slice v.items))
+        and each (λ name. is (required name)) (slice v.items)
+        and each (λ name. each_of_option (λ text. is (ascii (str text)) and is (bytes (at_least 1) (str text))) name) (slice v.items)) };
 }
 
 impl Validate for Names {
@@ -47,7 +46,7 @@ const NOT_EMPTY: Length = Length {
 struct EachSet;
 
 impl<'a> Check<'a, Vec<Option<String>>> for EachSet {
-    ghost visits = { λ _ v. items (λ name. required name) v.items };
+    ghost visits = { λ _ v. each (λ name. is (required name)) (slice v) };
 
     fn check<H: I18n>(
         &self,
@@ -68,7 +67,7 @@ impl<'a> Check<'a, Vec<Option<String>>> for EachSet {
 struct EachText;
 
 impl<'a> Check<'a, Vec<Option<String>>> for EachText {
-    ghost visits = { λ _ v. items (λ name. each_of_option (λ text. ascii (string_bytes text) and length_in 1 (2 ^ 64 - 1) (length (string_bytes text))) name) v.items };
+    ghost visits = { λ _ v. each (λ name. each_of_option (λ text. is (ascii (str text)) and is (bytes (at_least 1) (str text))) name) (slice v) };
 
     fn check<H: I18n>(
         &self,
@@ -83,7 +82,7 @@ impl<'a> Check<'a, Vec<Option<String>>> for EachText {
             trail,
             report,
             |name, component, trail, report|
-                ensures { Visited (under (part_of component.entry) (each_of_option (λ text. ascii (string_bytes text) and length_in 1 (2 ^ 64 - 1) (length (string_bytes text))) name.now))
+                ensures { Visited (under (part_of component.entry) (each_of_option (λ text. is (ascii (str text)) and is (bytes (at_least 1) (str text))) name.now))
                     (H.text h.entry.now) trail.old trail.new report.old report.new result }
             {
                 trail.push(component)?;

@@ -1,5 +1,5 @@
 //! A type of seven fields.
-ghost use Rattle.garde.specs.Fields.{◌and◌, field, ascii, length_between, chars_between, range_between, each, optional};
+ghost use Rattle.garde.specs.Fields.{◌and◌, ascii, between, bytes, chars, each, field, if_some, is, range, slice, str};
 
 use garde::fields::{Ascii, Each, Field, Fields, IfSome, Is};
 use garde::{I18n, Report, Stated, Trail, Validate, all, length, range};
@@ -21,13 +21,13 @@ impl Stated for Order {
     type Context = ();
 
     ghost visits = { λ v _.
-        field "number" (range_between 1 99999 v.number)
-        and field "customer" (ascii v.customer and length_between 3 25 v.customer)
-        and field "street" (length_between 1 60 v.street)
-        and field "town" (length_between 1 40 v.town)
-        and field "lines" (each (λ line. length_between 1 80 line) v.lines)
-        and field "note" (optional (λ text. chars_between 1 200 text) v.note)
-        and field "parcels" (range_between 1 20 v.parcels) };
+        field "number" (is (range (between 1 99999) v.number))
+        and field "customer" (is (ascii (str v.customer)) and is (bytes (between 3 25) (str v.customer)))
+        and field "street" (is (bytes (between 1 60) (str v.street)))
+        and field "town" (is (bytes (between 1 40) (str v.town)))
+        and field "lines" (each (λ line. is (bytes (between 1 80) (str line))) (slice v.lines))
+        and field "note" (if_some (λ text. is (chars (between 1 200) (str text))) v.note)
+        and field "parcels" (is (range (between 1 20) v.parcels)) };
 }
 
 impl Validate for Order {

@@ -1,5 +1,5 @@
 //! Numbers of cards and phones, whose types say themselves what is one.
-ghost use Rattle.garde.specs.Fields.{◌and◌, choose, nat_eq, nat_le, Ok, Err, byte_count, string_bytes, field, credit_card, phone_number};
+ghost use Rattle.garde.specs.Fields.{◌and◌, byte_count, choose, credit_card, Err, field, is, nat_eq, nat_le, Ok, phone_number, str};
 ghost use Rattle.garde.specs.Cards.{InvalidLength};
 ghost use Rattle.garde.specs.Phones.{TooLong};
 
@@ -14,7 +14,7 @@ use std::alloc::{AllocError, Global};
 pub struct CardText(pub String);
 
 impl credit_card::CreditCard for CardText {
-    ghost answer = { λ v. choose (nat_eq (byte_count (string_bytes v.0)) 16) (Ok tt) (Err InvalidLength) };
+    ghost answer = { λ v. choose (nat_eq (byte_count (str v.0)) 16) (Ok tt) (Err InvalidLength) };
 
     fn validate_credit_card(&self) -> Result<(), InvalidCreditCard> {
         if self.0.len() == 16 {
@@ -30,7 +30,7 @@ impl credit_card::CreditCard for CardText {
 pub struct PhoneText(pub String);
 
 impl phone_number::PhoneNumber for PhoneText {
-    ghost answer = { λ v. choose (nat_le (byte_count (string_bytes v.0)) 15) (Ok tt) (Err TooLong) };
+    ghost answer = { λ v. choose (nat_le (byte_count (str v.0)) 15) (Ok tt) (Err TooLong) };
 
     fn validate_phone_number(&self) -> Result<(), InvalidPhoneNumber> {
         if self.0.len() <= 15 {
@@ -52,8 +52,8 @@ impl Stated for Payment {
     type Context = ();
 
     ghost visits = { λ v _.
-        field "card" (credit_card (⟦<CardText as credit_card::CreditCard>⟧.answer v.card))
-        and field "phone" (phone_number (⟦<PhoneText as phone_number::PhoneNumber>⟧.answer v.phone)) };
+        field "card" (is (credit_card (⟦<CardText as credit_card::CreditCard>⟧.answer v.card)))
+        and field "phone" (is (phone_number (⟦<PhoneText as phone_number::PhoneNumber>⟧.answer v.phone))) };
 }
 
 impl Validate for Payment {

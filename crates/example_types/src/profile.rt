@@ -1,6 +1,5 @@
 //! Options: a value that has to be there, and what is asked of a value that is there.
-ghost use Rattle.garde.specs.Fields.{◌and◌, field, ascii, chars_max, required, optional, of_option, may_allocate};
-ghost use Rattle.garde.specs.Finds as rules;
+ghost use Rattle.garde.specs.Fields.{◌and◌, ascii, at_least, at_most, between, bytes, chars, field, if_some, is, is_in_memory, of_option, range, required, str, url};
 
 use garde::fields::{Ascii, Field, Fields, IfSome, Is, IsInMemory, Required, Url};
 use garde::{I18n, Report, Stated, Trail, Validate, length, range};
@@ -19,10 +18,10 @@ impl Stated for Profile {
     type Context = ();
 
     ghost visits = { λ v _.
-        field "name" (required v.name and of_option (λ name. rules.length_between 3 25 name) v.name)
-        and field "age" (of_option (λ age. rules.u8_min 18 age) v.age)
-        and field "motto" (optional (λ motto. ascii motto and chars_max 40 motto) v.motto)
-        and field "page" (may_allocate (of_option (λ page. rules.url page) v.page)) };
+        field "name" (is (required v.name) and is (of_option (λ name. bytes (between 3 25) (str name)) v.name))
+        and field "age" (is (of_option (λ age. range (at_least 18) age) v.age))
+        and field "motto" (if_some (λ motto. is (ascii (str motto)) and is (chars (at_most 40) (str motto))) v.motto)
+        and field "page" (is_in_memory (of_option (λ page. url (str page)) v.page)) };
 }
 
 impl Validate for Profile {

@@ -1,6 +1,5 @@
 //! Fields that depend on one another, conditions, user-defined rules and your own messages.
-ghost use Rattle.garde.specs.Fields.{◌and◌, Equals, not, either, field, length_between, chars_min, suffix, required, range_between, optional, when, matches_text, asks, with_message, message_unless, is_ipv4, is_ipv6, is_ipv4_text, is_ipv6_text};
-ghost use Rattle.garde.specs.Finds as rules;
+ghost use Rattle.garde.specs.Fields.{◌and◌, asks, at_least, between, bytes, chars, either, Equals, field, if_some, is, is_ipv4, is_ipv6, matches, not, range, required, str, suffix, text_eq, when, with_message};
 
 use garde::fields::{
     Field, Fields, IfSome, Is, Matches, Required, Rule, Suffix, When, WithMessage,
@@ -15,7 +14,7 @@ use std::borrow::CowStr;
 pub struct Accepted;
 
 impl Rule<bool> for Accepted {
-    ghost finds = { λ _ accepted. message_unless "accept the terms" accepted };
+    ghost finds = { λ _ accepted. asks "accept the terms" accepted };
 
     fn find<H: I18n>(&self, alloc: Global, value: &bool, _h: &H) -> Result<(), RuleError> {
         if *value {
@@ -39,7 +38,7 @@ pub struct Signup {
 
 /// Whether a host is an address.
 fn is_address(host: &str) -> bool
-    ensures { Equals result (either (is_ipv4_text host.now) (is_ipv6_text host.now)) }
+    ensures { Equals result (either (is_ipv4 host.now) (is_ipv6 host.now)) }
 {
     is_ipv4(host) || is_ipv6(host)
 }
@@ -48,12 +47,12 @@ impl Stated for Signup {
     type Context = ();
 
     ghost visits = { λ v _.
-        field "name" (with_message "choose a longer name" (rules.length_between 3 25 v.name))
-        and field "password" (chars_min 12 v.password)
-        and field "again" (matches_text "password" v.again v.password)
-        and field "age" (required v.age and optional (λ age. range_between 18 120 age) v.age)
-        and field "host" (when (not (either (is_ipv4 v.host) (is_ipv6 v.host))) (suffix ".org" v.host))
-        and field "terms" (asks "accept the terms" v.terms) };
+        field "name" (is (with_message "choose a longer name" (bytes (between 3 25) (str v.name))))
+        and field "password" (is (chars (at_least 12) (str v.password)))
+        and field "again" (is (matches "password" (text_eq (str v.again) (str v.password))))
+        and field "age" (is (required v.age) and if_some (λ age. is (range (between 18 120) age)) v.age)
+        and field "host" (when (not (either (is_ipv4 (str v.host)) (is_ipv6 (str v.host)))) (is (suffix ".org" (str v.host))))
+        and field "terms" (is (asks "accept the terms" v.terms)) };
 }
 
 impl Validate for Signup {

@@ -1,5 +1,5 @@
 //! A field that is compared with another one, by a rule that holds the other's value.
-ghost use Rattle.garde.specs.Fields.{◌and◌, not, nat_eq, nat_lt, remainder, field, asks, message_unless};
+ghost use Rattle.garde.specs.Fields.{◌and◌, asks, field, is, nat_eq, nat_lt, not, remainder};
 
 use garde::fields::{Field, Fields, Is, Rule};
 use garde::{I18n, Report, RuleError, Stated, Trail, Validate};
@@ -11,7 +11,7 @@ use std::borrow::CowStr;
 pub struct NoMonday;
 
 impl Rule<u32> for NoMonday {
-    ghost finds = { λ _ day. message_unless "closed on Mondays" (not (nat_eq (remainder day 7) 0)) };
+    ghost finds = { λ _ day. asks "closed on Mondays" (not (nat_eq (remainder day 7) 0)) };
 
     fn find<H: I18n>(&self, alloc: Global, value: &u32, _h: &H) -> Result<(), RuleError> {
         if *value % 7 != 0 {
@@ -27,7 +27,7 @@ impl Rule<u32> for NoMonday {
 pub struct After(pub u32);
 
 impl Rule<u32> for After {
-    ghost finds = { λ first day. message_unless "leave after you arrive" (nat_lt first.0 day) };
+    ghost finds = { λ first day. asks "leave after you arrive" (nat_lt first.0 day) };
 
     fn find<H: I18n>(&self, alloc: Global, value: &u32, _h: &H) -> Result<(), RuleError> {
         if self.0 < *value {
@@ -49,8 +49,8 @@ impl Stated for Stay {
     type Context = ();
 
     ghost visits = { λ v _.
-        field "arrival" (asks "closed on Mondays" (not (nat_eq (remainder v.arrival 7) 0)))
-        and field "departure" (asks "leave after you arrive" (nat_lt v.arrival v.departure)) };
+        field "arrival" (is (asks "closed on Mondays" (not (nat_eq (remainder v.arrival 7) 0))))
+        and field "departure" (is (asks "leave after you arrive" (nat_lt v.arrival v.departure))) };
 }
 
 impl Validate for Stay {

@@ -1,5 +1,5 @@
 //! Maps and a set: values under keys that are texts or numbers.
-ghost use Rattle.garde.specs.Fields.{◌and◌, field, ascii, length_max, range_between, map_between, each_value, each_numbered, each_signed, set_max, each_of_set};
+ghost use Rattle.garde.specs.Fields.{◌and◌, ascii, at_most, between, bytes, each, each_value, field, index_part, is, items, range, signed_index_part, str, text_key};
 
 use garde::fields::{Ascii, Each, Field, Fields, Is};
 use garde::{I18n, Report, Stated, Trail, Validate, length, range};
@@ -20,10 +20,10 @@ impl Stated for Stock {
     type Context = ();
 
     ghost visits = { λ v _.
-        field "pieces" (map_between 1 100 v.pieces and each_value (λ count. range_between 1 999 count) v.pieces)
-        and field "shelves" (map_between 1 9 v.shelves and each_numbered (λ name. ascii name) v.shelves)
-        and field "floors" (each_signed (λ name. length_max 20 name) v.floors)
-        and field "marks" (set_max 9 v.marks and each_of_set (λ mark. length_max 8 mark) v.marks) };
+        field "pieces" (is (items (between 1 100) v.pieces.entries) and each_value text_key (λ count. is (range (between 1 999) count)) v.pieces.entries)
+        and field "shelves" (is (items (between 1 9) v.shelves.entries) and each_value index_part (λ name. is (ascii (str name))) v.shelves.entries)
+        and field "floors" (each_value signed_index_part (λ name. is (bytes (at_most 20) (str name))) v.floors.entries)
+        and field "marks" (is (items (at_most 9) v.marks.keys) and each (λ mark. is (bytes (at_most 8) (str mark))) v.marks.keys) };
 }
 
 impl Validate for Stock {

@@ -1,5 +1,5 @@
 //! Items in items, each level under rules of its own.
-ghost use Rattle.garde.specs.Fields.{◌and◌, field, ascii, length_min, items_min, each};
+ghost use Rattle.garde.specs.Fields.{◌and◌, ascii, at_least, bytes, each, field, is, items, slice, str};
 
 use garde::fields::{Ascii, Each, Field, Fields, Is};
 use garde::{I18n, Report, Stated, Trail, Validate, length};
@@ -15,8 +15,8 @@ impl Stated for Table {
     type Context = ();
 
     ghost visits = { λ v _. field "rows"
-        (each (λ row. items_min 1 row
-        and each (λ cell. ascii cell and length_min 1 cell) row) v.rows) };
+        (each (λ row. is (items (at_least 1) (slice row))
+        and each (λ cell. is (ascii (str cell)) and is (bytes (at_least 1) (str cell))) (slice row)) (slice v.rows)) };
 }
 
 impl Validate for Table {

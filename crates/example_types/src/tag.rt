@@ -1,5 +1,5 @@
 //! A value that borrows its texts.
-ghost use Rattle.garde.specs.Author.{codes, length, ◌and◌, field, ascii, length_in, items};
+ghost use Rattle.garde.specs.Fields.{◌and◌, ascii, between, bytes, each, field, is, length};
 
 use garde::fields::{Ascii, Each, Field, Fields, Is};
 use garde::{I18n, Report, Stated, Trail, Validate, length};
@@ -16,8 +16,8 @@ impl<'t> Stated for Tag<'t> {
     type Context = ();
 
     ghost visits = { λ v _.
-        field (codes "name") (ascii v.name.now and length_in 1 9 (length v.name.now))
-        and field (codes "also") (items (λ name. ascii name.now) v.also.now) };
+        field "name" (is (ascii v.name.now) and is (bytes (between 1 9) v.name.now))
+        and field "also" (each (λ name. is (ascii name.now)) v.also.now) };
 }
 
 impl<'t> Validate for Tag<'t> {

@@ -1,5 +1,5 @@
 //! A value with parts: items, a part of a type of its own, and an option.
-ghost use Rattle.garde.specs.Fields.{◌and◌, field, ascii, length_between, chars_between, u8_min, items_between, each, optional};
+ghost use Rattle.garde.specs.Fields.{◌and◌, ascii, at_least, between, bytes, chars, each, field, if_some, is, items, range, slice, str};
 
 use garde::fields::{Ascii, Dive, Each, Field, Fields, IfSome, Is};
 use garde::{I18n, Report, Stated, Trail, Validate, length, range};
@@ -25,8 +25,8 @@ impl Stated for Member {
     type Context = League;
 
     ghost visits = { λ v league.
-        field "nickname" (chars_between 1 20 v.nickname)
-        and field "age" (u8_min league.least_age v.age) };
+        field "nickname" (is (chars (between 1 20) (str v.nickname)))
+        and field "age" (is (range (at_least league.least_age) v.age)) };
 }
 
 impl Validate for Member {
@@ -60,11 +60,11 @@ impl Stated for Team {
     type Context = League;
 
     ghost visits = { λ v league.
-        field "name" (ascii v.name and length_between 3 25 v.name)
-        and field "members" (items_between 1 league.most_members v.members
-        and each (λ member. ⟦<Member as Stated>⟧.visits member league) v.members)
+        field "name" (is (ascii (str v.name)) and is (bytes (between 3 25) (str v.name)))
+        and field "members" (is (items (between 1 league.most_members) (slice v.members))
+        and each (λ member. ⟦<Member as Stated>⟧.visits member league) (slice v.members))
         and field "captain" (⟦<Member as Stated>⟧.visits v.captain league)
-        and field "motto" (optional (λ text. chars_between 1 40 text) v.motto) };
+        and field "motto" (if_some (λ text. is (chars (between 1 40) (str text))) v.motto) };
 }
 
 impl Validate for Team {

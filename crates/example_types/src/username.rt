@@ -1,5 +1,5 @@
 //! New types round a text, and a value that holds one of them.
-ghost use Rattle.garde.specs.Fields.{field, item, length_min};
+ghost use Rattle.garde.specs.Fields.{at_least, bytes, field, is, item, str};
 
 use garde::fields::{Check, Dive, Field, Fields, Is, check_under};
 use garde::{Component, I18n, Report, Stated, Trail, Validate, length};
@@ -12,7 +12,7 @@ pub struct Username(pub String);
 impl Stated for Username {
     type Context = ();
 
-    ghost visits = { λ v _. length_min 3 v.0 };
+    ghost visits = { λ v _. is (bytes (at_least 3) (str v.0)) };
 }
 
 impl Validate for Username {
@@ -36,7 +36,7 @@ pub struct NumberedUsername(pub String);
 impl Stated for NumberedUsername {
     type Context = ();
 
-    ghost visits = { λ v _. item 0 (length_min 3 v.0) };
+    ghost visits = { λ v _. item 0 (is (bytes (at_least 3) (str v.0))) };
 }
 
 impl Validate for NumberedUsername {

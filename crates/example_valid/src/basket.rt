@@ -1,6 +1,6 @@
 //! A list that is not empty, and its first item.
 ghost use Rattle.std.specs.Prelude.{◌≡◌, slice_get};
-ghost use Rattle.garde.specs.Fields.{Some, field, items_between};
+ghost use Rattle.garde.specs.Fields.{between, field, is, items, slice, Some};
 
 use garde::fields::{Field, Fields, Is};
 use garde::{I18n, Report, Stated, Trail, Valid, Validate, length};
@@ -15,7 +15,7 @@ pub struct Basket {
 impl Stated for Basket {
     type Context = ();
 
-    ghost visits = { λ v _. field "articles" (items_between 1 50 v.articles) };
+    ghost visits = { λ v _. field "articles" (is (items (between 1 50) (slice v.articles))) };
 }
 
 impl Validate for Basket {

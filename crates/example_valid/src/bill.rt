@@ -1,6 +1,6 @@
 //! A number that is not zero, and a division by it.
 ghost use Rattle.std.specs.Prelude.{◌≡◌, ◌/◌};
-ghost use Rattle.garde.specs.Fields.{field, range_between};
+ghost use Rattle.garde.specs.Fields.{between, field, is, range};
 
 use garde::fields::{Field, Fields, Is};
 use garde::{I18n, Report, Stated, Trail, Valid, Validate, range};
@@ -16,7 +16,7 @@ pub struct Bill {
 impl Stated for Bill {
     type Context = ();
 
-    ghost visits = { λ v _. field "guests" (range_between 1 40 v.guests) };
+    ghost visits = { λ v _. field "guests" (is (range (between 1 40) v.guests)) };
 }
 
 impl Validate for Bill {

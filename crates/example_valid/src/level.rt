@@ -1,6 +1,6 @@
 //! A number that fits a narrower type, and a cast that loses nothing.
 ghost use Rattle.std.specs.Prelude.{◌≡◌};
-ghost use Rattle.garde.specs.Fields.{field, range_max};
+ghost use Rattle.garde.specs.Fields.{at_most, field, is, range};
 
 use garde::fields::{Field, Fields, Is};
 use garde::{I18n, Report, Stated, Trail, Valid, Validate, range};
@@ -15,7 +15,7 @@ pub struct Level {
 impl Stated for Level {
     type Context = ();
 
-    ghost visits = { λ v _. field "percent" (range_max 200 v.percent) };
+    ghost visits = { λ v _. field "percent" (is (range (at_most 200) v.percent)) };
 }
 
 impl Validate for Level {

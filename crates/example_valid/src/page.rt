@@ -1,6 +1,6 @@
 //! A page of values of any type, and what is known of each of them.
 ghost use Rattle.std.specs.Prelude.{◌≡◌, ◌<◌, IfOk, IfSome, slice_get, vec_len};
-ghost use Rattle.garde.specs.Fields.{◌and◌, Some, field, items_between, each};
+ghost use Rattle.garde.specs.Fields.{◌and◌, between, each, field, is, items, slice, Some};
 
 use crate::basket::Basket;
 use garde::fields::{Dive, Each, Field, Fields, Is};
@@ -17,7 +17,7 @@ impl<T: Stated> Stated for Page<T> {
     type Context = T::Context;
 
     ghost visits = { λ v c.
-        field "entries" (items_between 1 20 v.entries and each (λ entry. T.visits entry c) v.entries) };
+        field "entries" (is (items (between 1 20) (slice v.entries)) and each (λ entry. T.visits entry c) (slice v.entries)) };
 }
 
 impl<T: Validate> Validate for Page<T> {

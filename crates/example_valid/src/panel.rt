@@ -1,6 +1,6 @@
 //! A bound that is known at run time only, and what is known under that context.
 ghost use Rattle.std.specs.Prelude.{◌≡◌, ◌<◌, IfSome, length, slice_index};
-ghost use Rattle.garde.specs.Fields.{field, range_max};
+ghost use Rattle.garde.specs.Fields.{at_most, field, is, range};
 
 use garde::fields::{Field, Fields, Is};
 use garde::{I18n, Report, Stated, Trail, ValidUnder, Validate, range};
@@ -22,7 +22,7 @@ pub struct Reading {
 impl Stated for Reading {
     type Context = Panel;
 
-    ghost visits = { λ v panel. field "channel" (range_max panel.last v.channel) };
+    ghost visits = { λ v panel. field "channel" (is (range (at_most panel.last) v.channel)) };
 }
 
 impl Validate for Reading {

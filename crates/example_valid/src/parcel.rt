@@ -1,6 +1,6 @@
 //! An option that has a value, and that value.
 ghost use Rattle.std.specs.Prelude.{◌≡◌};
-ghost use Rattle.garde.specs.Fields.{Some, field, required};
+ghost use Rattle.garde.specs.Fields.{field, is, required, Some};
 
 use garde::fields::{Field, Fields, Is, Required};
 use garde::{I18n, Report, Stated, Trail, Valid, Validate};
@@ -16,7 +16,7 @@ pub struct Parcel {
 impl Stated for Parcel {
     type Context = ();
 
-    ghost visits = { λ v _. field "recipient" (required v.recipient) };
+    ghost visits = { λ v _. field "recipient" (is (required v.recipient)) };
 }
 
 impl Validate for Parcel {

@@ -1,6 +1,6 @@
 //! A number below the length of a table, and an index into it.
 ghost use Rattle.std.specs.Prelude.{◌≡◌, slice_index};
-ghost use Rattle.garde.specs.Fields.{field, range_max};
+ghost use Rattle.garde.specs.Fields.{at_most, field, is, range};
 
 use garde::fields::{Field, Fields, Is};
 use garde::{I18n, Report, Stated, Trail, Valid, Validate, range};
@@ -15,7 +15,7 @@ pub struct Seat {
 impl Stated for Seat {
     type Context = ();
 
-    ghost visits = { λ v _. field "row" (range_max 7 v.row) };
+    ghost visits = { λ v _. field "row" (is (range (at_most 7) v.row)) };
 }
 
 impl Validate for Seat {

@@ -1,7 +1,7 @@
 //! A map that has a value under the key that a rule asks for, and that value.
 ghost use Rattle.std.specs.Prelude.{◌≡◌, is_some};
 ghost use Rattle.std.specs.BTreeMap.{get_by_text};
-ghost use Rattle.garde.specs.Fields.{Some, codes, field, asks, message_unless};
+ghost use Rattle.garde.specs.Fields.{asks, codes, field, is, Some};
 
 use garde::fields::{Field, Fields, Is, Rule};
 use garde::{I18n, Report, RuleError, Stated, Trail, Valid, Validate};
@@ -14,7 +14,7 @@ use std::collections::BTreeMap;
 pub struct HasStandard;
 
 impl Rule<BTreeMap<String, u32>> for HasStandard {
-    ghost finds = { λ _ prices. message_unless "name the standard price" (is_some (get_by_text prices (codes "standard"))) };
+    ghost finds = { λ _ prices. asks "name the standard price" (is_some (get_by_text prices (codes "standard"))) };
 
     fn find<H: I18n>(
         &self,
@@ -40,7 +40,7 @@ impl Stated for Tariff {
     type Context = ();
 
     ghost visits = { λ v _.
-        field "prices" (asks "name the standard price" (is_some (get_by_text v.prices (codes "standard")))) };
+        field "prices" (is (asks "name the standard price" (is_some (get_by_text v.prices (codes "standard"))))) };
 }
 
 impl Validate for Tariff {

@@ -17,7 +17,7 @@ use Rattle.garde_rules.specs.{Fault, rule, own, fault_text, length_fault}
 use Rattle.garde_rules.specs.Holds.{unless}
 use Rattle.garde_rules.specs.Range.{range_fault, OutOfBounds, Lower, Upper}
 use Rattle.garde_rules.specs.Reasons.{card_fault, phone_fault, url_fault}
-use Rattle.garde.specs.Finds.{message_unless, with_message}
+use Rattle.garde.specs.Fields.{asks, with_message}
 use Rattle.garde.specs.Tree.{Tree, nothing, fault, under, ◌then◌, flat}
 use Rattle.garde.specs.Redaction.{IsAmong, length_faults, range_faults, card_faults, phone_faults, url_faults, FoundByArguments, AreAmong, SaysNoMore, FindsAmong}
 use Rattle.garde.specs.Trees.{TreesEach}
@@ -76,7 +76,7 @@ url_found (Err urls.SetHostOnCannotBeABaseUrl) = (8, omega arith, refl)
 url_found (Err urls.Overflow) = (9, omega arith, refl)
 url_found (Err urls.Other) = (10, omega arith, refl)
 
-own_found : (message : Literal) (holds : Bool) → IsAmong (own (codes message) ∷ []) (message_unless message holds)
+own_found : (message : Literal) (holds : Bool) → IsAmong (own (codes message) ∷ []) (asks message holds)
 own_found message true = tt
 own_found message false = (0, omega arith, refl)
 

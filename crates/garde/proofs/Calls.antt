@@ -1,5 +1,5 @@
 -- Lemmas on walks by a closure that visits each item.
-use Rattle.std.proofs.Common.{◌≡◌, ℕ, zero, suc, ◌+◌, List, [], ◌∷◌, Result, Ok, Err, refl, ap, ◌∙◌, ◌<◌, length, length-append, cond, ◌-◌, true, false, Bool, sym, subst, inl, inr, ◌⊎◌, Bor, MutBor, map, Option, Some, None, option_to_list, string_bytes, arith}
+use Rattle.std.proofs.Common.{◌≡◌, ℕ, zero, suc, ◌+◌, List, [], ◌∷◌, Result, Ok, Err, refl, ap, ◌∙◌, ◌<◌, length, length-append, cond, ◌-◌, true, false, Bool, sym, subst, inl, inr, Bor, MutBor, map, Option, Some, None, option_to_list, string_bytes, arith}
 use Rattle.std.specs.Result.{IsErr}
 use Rattle.std.specs.List.{Any, Contains, enumerate_from}
 use Rattle.std.specs.declared.alloc.AllocError.{AllocError}

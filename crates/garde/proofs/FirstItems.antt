@@ -6,15 +6,15 @@ use Rattle.std.proofs.lemmas.List.{at_drop_more, drop_all, get_or-map, get_or-ta
 use Rattle.std.proofs.lemmas.List.Folds.{list_any_at, list_any_none}
 use Rattle.std.proofs.lemmas.List.FromFn.{length-enumerate_from, get_or-enumerate_from}
 use Rattle.std.proofs.lemmas.Option.{none-some}
-use Rattle.garde.specs.Finds.{own_unless}
-use Rattle.garde.specs.Firsts.{firsts, is_first, unique, AreApart}
+use Rattle.garde.specs.Fields.{asks_text, unique_text}
+use Rattle.garde.specs.Firsts.{firsts, is_first, AreApart}
 use Rattle.garde.specs.Visits.{Known}
 
 not_true : (b : Bool) → b ≢ true → b ≡ false
 not_true true is_not = absurd (is_not refl)
 not_true false is_not = refl
 
-holds_of : (message : List ℕ) (holds : Bool) → own_unless message holds ≡ None → holds ≡ true
+holds_of : (message : List ℕ) (holds : Bool) → asks_text message holds ≡ None → holds ≡ true
 holds_of message true none = refl
 holds_of message false none = absurd (none-some _ (sym none))
 
@@ -55,14 +55,14 @@ module _ {A : Type 0} (same : A → A → Bool) (xs : List A) where
       ap (λ x. same x (slice_index_or xs j d)) (get_or-take j xs i e before ∙ get_or_default xs i e d (omega (arith, before, within))) ∙ apart i j d before within))
 
   -- no two items are the same
-  pub apart_of : (message : List ℕ) → Known (unique message same xs) → AreApart same xs
+  pub apart_of : (message : List ℕ) → Known (unique_text message same xs) → AreApart same xs
   unfolding Known
   apart_of message known i j d before within =
-      first_of i j d before within (holds_of message _ (sym (ap (λ e. own_unless message e.1) (firsts_at j d (0, true) within)) ∙ known j (0, true) (omega (arith, within, length-firsts))))
+      first_of i j d before within (holds_of message _ (sym (ap (λ e. asks_text message e.1) (firsts_at j d (0, true) within)) ∙ known j (0, true) (omega (arith, within, length-firsts))))
 
-  pub unique_of : (message : List ℕ) → AreApart same xs → Known (unique message same xs)
+  pub unique_of : (message : List ℕ) → AreApart same xs → Known (unique_text message same xs)
   unfolding Known
   unique_of message apart = λ j e below.
       let within : j < length xs = omega (arith, below, length-firsts) in
       let d = some_item xs j within in
-      ap (λ y. own_unless message y.1) (firsts_at j d e within) ∙ ap (own_unless message) (first_if j d within apart)
+      ap (λ y. asks_text message y.1) (firsts_at j d e within) ∙ ap (asks_text message) (first_if j d within apart)

@@ -1,5 +1,5 @@
 -- Lemmas on the answer of at most so many faults.
-use Rattle.std.proofs.Common.{◌≡◌, ℕ, ◌+◌, ◌<◌, ◌≤◌, min, Bool, true, false, List, [], ◌++◌, length, length-append, take, Result, Ok, Err, refl, ap, sym, subst, ◌∙◌, arith}
+use Rattle.std.proofs.Common.{◌≡◌, ℕ, ◌+◌, ◌<◌, ◌≤◌, min, Bool, true, false, List, [], ◌++◌, length, length-append, take, Result, Ok, Err, OnOk, ◌-◌, ◌^◌, refl, ap, sym, subst, ◌∙◌, arith}
 use Rattle.std.specs.Result.{IsErr, IsOk}
 use Rattle.std.proofs.lemmas.Bool.{false≢true, true≢false}
 use Rattle.std.proofs.lemmas.List.{take-append-le}
@@ -10,15 +10,18 @@ use Rattle.garde_report.specs.Trace.{Trace, with_limit}
 use Rattle.garde_report.specs.declared.error.report.Report.{Report}
 use Rattle.garde.specs.declared.first_error.FirstError.{FirstError}
 use Rattle.garde.specs.declared.first_error.FirstError.TheVariants as firsts
+use Rattle.garde.specs.declared.validate_error.ValidateError.{ValidateError}
 use Rattle.garde.specs.declared.validate_error.ValidateError.TheVariants as errors
 use Rattle.garde.specs.Tree.{Tree, bears, faults, first_faults, flat}
 use Rattle.garde.specs.Walk.{trace_after, room, Walked, WalkedPartly, MayRefuse}
-use Rattle.garde.specs.Visits.{Visits, Visited}
-use Rattle.garde.specs.Answers.{AreFirst, AnswersFirst, AnswersFirstOn, Decides, EndsWithin, NeedsNoMemory}
+use Rattle.garde.specs.Visits.{Visits, Visited, Known}
+use Rattle.garde.specs.Answers.{AreFirst, AnswersFirst, AnswersFirstOn, AnswersOn, Decides, EndsWithin, IsFirst, NeedsNoMemory}
+use Rattle.garde.specs.FirstError.{whole_error}
 use Rattle.garde.proofs.Answering.{never_refused, surely, walk_told}
 use Rattle.garde.proofs.Counts.{trace_after-components, trace_after-most, trace_after-nodes, trace_after-limit}
 use Rattle.garde.proofs.FirstFaults.{length-flat, first_faults-all, nodes_of_more, nodes_of_all}
 use Rattle.garde.proofs.Flat.{flat_of_no_fault}
+use Rattle.garde.proofs.Known.{known_of}
 
 -- a tree with more faults than some number has one
 pub bears_of_more : (text : Datum → List ℕ) (p : List Part) (t : Tree) (most : ℕ) → most < length (flat text p t) → bears t ≡ true
@@ -106,3 +109,18 @@ surely_first visits text most before after (Err (firsts.All r)) told needs = sur
 surely_first visits text most before after (Err (firsts.First r)) (t, v, first, within) needs =
     absurd (true≢false (sym (bears_of_more text before.components t most first.0) ∙ needs.none_bears t v))
 surely_first visits text most before after (Err firsts.Memory) told needs = absurd (never_refused visits (length before.components) needs told.0)
+
+-- where there is no fault, what the rules ask is known
+pub known_first : (visits : Visits) (text : Datum → List ℕ) (most : ℕ) (before after : Trace) (answer : Result Unit FirstError) → AnswersFirstOn visits text most before after answer → OnOk answer (Known visits)
+known_first visits text most before after (Ok _) told = known_of visits told.0
+known_first visits text most before after (Err e) told = tt
+
+-- of a call that asks for every fault
+whole_answers : (visits : Visits) (text : Datum → List ℕ) (before after : Trace) (error : FirstError) → AnswersFirstOn visits text (2 ^ 64 - 1) before after (Err error) → (IsFirst (Err error) → 2 ^ 64 - 1 < 2 ^ 64 - 1) → AnswersOn visits text before after (Err (whole_error error))
+whole_answers visits text before after (firsts.All r) told whole = told.1
+whole_answers visits text before after (firsts.First r) told whole = let never : 2 ^ 64 - 1 < 2 ^ 64 - 1 = whole tt in absurd (omega (arith, never))
+whole_answers visits text before after firsts.Memory (why, (t, v, (parts, same, front, nodes, most))) whole =
+    (why, (t, v, (parts, same, front, nodes, omega (arith, most, nodes_of_all before t (2 ^ 64 - 1 + 1)))))
+
+pub answers_whole : (visits : Visits) (text : Datum → List ℕ) (before after : Trace) (error : FirstError) {whole : ValidateError} → whole ≡ whole_error error → AnswersFirstOn visits text (2 ^ 64 - 1) before after (Err error) → (IsFirst (Err error) → 2 ^ 64 - 1 < 2 ^ 64 - 1) → AnswersOn visits text before after (Err whole)
+answers_whole visits text before after error is told whole = subst (λ e. AnswersOn visits text before after (Err e)) (sym is) (whole_answers visits text before after error told whole)

@@ -2,7 +2,7 @@
 use Rattle.std.proofs.Common.{ℕ, ◌<◌, subst}
 use Rattle.garde.specs.Trees.{NoneBears}
 use Rattle.garde.specs.Validated.{IsValid}
-use Rattle.garde.specs.Visits.{Visits, Known, when}
+use Rattle.garde.specs.Visits.{Visits, Known}
 use Rattle.garde.specs.Nest.{recursive_visits, child_visits}
 use Rattle.garde.proofs.Nesting.{recursive_visits_is, child_visits_is}
 

@@ -1,7 +1,7 @@
 mod Flat
 mod Counts
 mod FirstFaults
-mod Walks
+pub mod Walks
 mod Refusals
 mod SelectLemmas
 mod Read

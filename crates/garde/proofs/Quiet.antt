@@ -1,5 +1,5 @@
 -- Walks that need no memory: what is put together of such walks is one.
-use Rattle.std.proofs.Common.{◌≡◌, ℕ, suc, ◌+◌, ◌≤◌, false, List, [], ◌∷◌, length, Option, Some, None, Result, Ok, Err, refl, ap, subst, ◌∙◌, arith, ◌⊎◌, inl, inr}
+use Rattle.std.proofs.Common.{◌≡◌, ℕ, suc, ◌+◌, ◌≤◌, false, List, [], ◌∷◌, length, Option, Some, None, Result, Ok, Err, refl, ap, subst, ◌∙◌, arith, inl, inr}
 use Rattle.std.specs.Result.{IsOk}
 use Rattle.std.specs.Prelude.{◌||◌, IfSome}
 use Rattle.std.specs.List.{All, Any, enumerate_from}
@@ -11,7 +11,7 @@ use Rattle.garde_rules.specs.{Fault}
 use Rattle.garde.specs.Tree.{Tree, bears, height}
 use Rattle.garde.specs.Trees.{TreesNothing, TreesUnder, TreesBoth, TreesEach}
 use Rattle.garde.specs.Laws.{bears-then}
-use Rattle.garde.specs.Visits.{Visits, Visited, none, found, under, ◌and◌, items, optional}
+use Rattle.garde.specs.Visits.{Visits, Visited, found, under, ◌and◌, items, optional}
 use Rattle.garde.specs.Answers.{NeedsNoMemory}
 use Rattle.garde.proofs.Answering.{never_refused}
 use Rattle.garde.proofs.Refusals.{height-then}

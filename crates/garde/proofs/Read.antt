@@ -3,7 +3,6 @@ use Rattle.std.proofs.Common.{◌≡◌, ℕ, List, [], ◌∷◌, ◌++◌, map
 use Rattle.std.proofs.lemmas.List.{map-append}
 use Rattle.garde_i18n.specs.Datum.{Datum}
 use Rattle.garde_report.specs.Part.{Part}
-use Rattle.garde_report.specs.Report.{Entry}
 use Rattle.garde_rules.specs.{fault_text}
 use Rattle.garde.specs.Tree.{Tree, nothing, fault, under, flat}
 use Rattle.garde.specs.Reading.{entry_under, ReadsUnder, faults, entry_of, ReadsByHandler}

@@ -27,6 +27,10 @@ numbered_left first xs k {x} is within =
     let each : k < length (enumerate_from first xs) = omega (arith, within, length-enumerate_from first xs) in
     rw (add-one k) (seq.drop-cons (enumerate_from first xs) k (first, x) each ∙ ap (λ e. e ∷ drop (suc k) (enumerate_from first xs)) (get_or-enumerate_from first xs k (first, x) within ∙ ap (λ y. (first + k, y)) (sym is)))
 
+-- the same of items that are numbered from 0 on
+pub item_left : {A : Type 0} (xs : List A) (k : ℕ) {x : A} → x ≡ slice_index_or xs k x → k < length xs → drop k (enumerate_from 0 xs) ≡ (k, x) ∷ drop (k + 1) (enumerate_from 0 xs)
+item_left xs k {x} is within = numbered_left 0 xs k is within ∙ ap (λ n. (n, x) ∷ drop (k + 1) (enumerate_from 0 xs)) (omega arith)
+
 -- at the end none is left
 pub none_numbered_left : {A : Type 0} (first : ℕ) (xs : List A) (k : ℕ) → length xs ≤ k → drop k (enumerate_from first xs) ≡ []
 none_numbered_left first xs k end = drop_all k (enumerate_from first xs) (omega (arith, length-enumerate_from first xs, end))

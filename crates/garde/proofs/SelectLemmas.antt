@@ -1,11 +1,10 @@
 -- What is selected of the faults of a tree.
-use Rattle.std.proofs.Common.{◌≡◌, ℕ, Bool, true, false, ◌&&◌, List, [], ◌∷◌, ◌++◌, map, filter, Some, refl, sym, ap, ◌∙◌, append_assoc}
+use Rattle.std.proofs.Common.{◌≡◌, ℕ, Bool, true, false, ◌&&◌, List, [], ◌∷◌, ◌++◌, map, filter, Some, refl, sym, ap, ◌∙◌}
 use Rattle.std.specs.Prelude.{if◌then◌else◌}
 use Rattle.std.proofs.lemmas.List.{map-append}
 use Rattle.garde_i18n.specs.Datum.{Datum}
 use Rattle.garde_report.specs.Part.{Part}
 use Rattle.garde_report.specs.Report.{Entry, has_text, begins_with, messages_under}
-use Rattle.garde_rules.specs.{fault_text}
 use Rattle.garde.specs.Tree.{Tree, nothing, fault, under, ◌then◌, flat}
 use Rattle.garde.specs.Reading.{entry_under}
 use Rattle.garde.specs.Select.{part, messages, SelectGivesPart}

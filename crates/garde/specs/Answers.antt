@@ -1,5 +1,5 @@
 -- What validation returns.
-use Rattle.std.specs.Prelude.{◌≡◌, ◌<◌, ◌≤◌, ◌+◌, ◌-◌, ◌^◌, ℕ, Bool, true, false, List, [], length, min, take, Result, Ok, Err, IsTrue}
+use Rattle.std.specs.Prelude.{◌≡◌, ⊤, ◌<◌, ◌≤◌, ◌+◌, ◌-◌, ◌^◌, ℕ, Bool, true, false, List, [], length, min, take, Result, Ok, Err, IsTrue}
 use Rattle.std.specs.declared.alloc.AllocError.{AllocError}
 use Rattle.garde_i18n.specs.Datum.{Datum}
 use Rattle.garde_report.specs.Report.{Entry}
@@ -73,6 +73,13 @@ AnswersFirstOn visits text most before after (Err (firsts.First report)) =
 AnswersFirstOn visits text most before after (Err firsts.Memory) =
     MayRefuse visits.trees visits.allocates (length before.components)
     × ((t : Tree) × visits.trees t × EndsWithin before after (first_faults t (most + 1)))
+
+-- there were more faults than were asked for
+abbrev pub IsFirst : Result Unit FirstError → Type 0
+IsFirst (Ok _) = ⊥
+IsFirst (Err (firsts.All report)) = ⊥
+IsFirst (Err (firsts.First report)) = ⊤
+IsFirst (Err firsts.Memory) = ⊥
 
 -- The same answer where the trail is gone.
 abbrev pub AnswersFirst : Visits → (Datum → List ℕ) → ℕ → Result Unit FirstError → Type 0

@@ -1,349 +1,247 @@
--- The words by which the author of a type states the visits of its fields, each field handed to its rule as it is. A name, a
--- pattern or a message is written as "text". The words of `Author` say the same of bytes and of lists.
+-- The words by which the author of a type states its visits, in the shape of the code beside them: the code
+--     Field("code", code, (Is(Prefix("P")), Is(length!(chars, min = 3, max = 25))))
+-- is stated by
+--     field "code" (is (prefix "P" v.code) and is (chars (between 3 25) v.code))
+-- A name, a pattern or a message is written as "text". A text that borrows is given to a rule as it is, an owned `String` as
+-- `str v.name`. A list that borrows, and a `LinkedList`, is given as it is, a `Vec` as `slice v.tags`, a `VecDeque` as `v.queue.items`, a
+-- set as `v.tags.keys`, and a map as `v.scores.entries`.
 use Prim.Native.String.{String as Literal}
-pub use Rattle.std.specs.Prelude.{codes, string_bytes, vec_len, ◌≡◌, ◌==◌, Result, Ok, Err, nat_eq, nat_lt, nat_le, ◌||◌, ◌&&◌, not, true, false, Bool, pos, Some, None, Option, is_some, if◌then◌else◌}
+pub use Rattle.std.specs.Prelude.{codes, length, ◌≡◌, ◌==◌, Result, Ok, Err, nat_eq, nat_lt, nat_le, ◌||◌, ◌&&◌, not, true, false, Bool, Some, None, Option, is_some, if◌then◌else◌}
 pub use Rattle.std.specs.Option.{option_eq}
 pub use Rattle.garde.specs.Operators.{both, either, choose, product, quotient, remainder, Equals, IsAtMost}
-pub use Rattle.garde.specs.Finds.{message_unless, own_unless}
-pub use Rattle.garde.specs.Author.{Visits, item, each_of_option, none, found, may_allocate, ◌and◌, under, items, entries, items_in_any_order, entries_in_any_order, optional, when, own, Any, V4, V6, in_map, in_vec, nest_visits, AreApart}
 unfoldable pub use Rattle.garde.specs.Visits.{Known}
-pub use Rattle.garde_rules.specs.{byte_count, char_count}
-pub use Rattle.garde_rules.specs.{is_ipv4_text, is_ipv6_text}
-use Rattle.std.specs.Prelude.{ℕ, ℤ, neg_ℤ, List, String, Vec, string_eq, bytes_eq}
+pub use Rattle.garde.specs.Visits.{Visits, Visited, none, ◌and◌, under, item, when, each_of_option}
+pub use Rattle.garde.specs.Nest.{recursive_visits, child_visits, in_map, in_vec, nest_visits}
+pub use Rattle.garde.specs.Firsts.{AreApart}
+pub use Rattle.garde_report.specs.Part.{key_part, index_part, signed_index_part, part_of}
+pub use Rattle.garde_rules.specs.Inner.{component_items}
+pub use Rattle.garde_rules.specs.{Fault, rule, own, byte_count, char_count, unit_count, grapheme_count}
+pub use Rattle.garde_i18n.specs.declared.reasons.IpKind.TheVariants.{Any, V4, V6}
+use Rattle.std.specs.Prelude.{ℕ, ℤ, ◌-◌, ◌^◌, pos, neg_ℤ, List, String, Vec, string_bytes, bytes_eq, option_map, unwrap_or}
 use Rattle.std.specs.Borrow.{Bor}
-use Rattle.std.specs.BTreeMap.{BTreeMap, btree_map_len}
-use Rattle.std.specs.BTreeSet.{BTreeSet, btree_set_len}
-use Rattle.std.specs.HashMap.{HashMap}
-use Rattle.std.specs.HashSet.{HashSet}
+use Rattle.std.specs.Fmt.{decimal, signed_decimal}
+use Rattle.std.specs.declared.alloc.Global.{Global}
+use Rattle.garde_i18n.specs.Datum as datum
 use Rattle.garde_i18n.specs.declared.reasons.IpKind.{IpKind}
-use Rattle.garde_report.specs.Part.{key_part, index_part, signed_index_part}
 use Rattle.garde_i18n.specs.declared.reasons.InvalidCreditCard.{InvalidCreditCard}
 use Rattle.garde_i18n.specs.declared.reasons.InvalidPhoneNumber.{InvalidPhoneNumber}
-use Rattle.garde_rules.specs.Reasons.{card_fault, phone_fault}
-use Rattle.garde_rules.specs.{Fault}
-use Rattle.garde.specs.Finds as finds
-use Rattle.garde.specs.Firsts as firsts
+use Rattle.garde_report.specs.Part.{Part}
+use Rattle.garde_report.specs.declared.error.component.Kind.TheVariants as kinds
+use Rattle.garde_rules.specs.{bounds_answer, length_fault, is_ip_text, is_ipv4_text, is_ipv6_text, matches_source, url_answer}
+use Rattle.garde_rules.specs.Holds.{unless}
+use Rattle.garde_rules.specs.Inner as inner
+use Rattle.garde_rules.specs.Range.{unsigned_found, signed_found, multiple_fault, is_multiple, int_is_multiple}
+use Rattle.garde_rules.specs.Reasons.{card_fault, phone_fault, url_fault, read_answer}
+use Rattle.garde_rules.specs.Text.{is_ascii_text, is_alphanumeric_text, has_part, has_prefix, has_suffix}
+use Rattle.garde_rules.specs.declared.range.Range.{Range}
+use Rattle.garde.specs.Firsts.{firsts}
+use Rattle.garde.specs.Visits as visits
+
+-- What is checked of a value.
 
 -- a field, by its name
 abbrev pub field : Literal → Visits → Visits
-field name visits = under (key_part (codes name)) visits
+field name checked = under (key_part (codes name)) checked
 
--- a number below zero
+-- a rule, by what it finds; and one that may allocate for its answer: `pattern` and `url`
+abbrev pub is : Option Fault → Visits
+is fault = visits.found fault
+
+abbrev pub is_in_memory : Option Fault → Visits
+is_in_memory fault = visits.may_allocate (visits.found fault)
+
+-- what an option holds
+abbrev pub if_some : {A : Type 0} → (A → Visits) → Option A → Visits
+if_some check v = visits.optional check v
+
+-- each item of a list, under its index; of a hashed set, whose order is not known
+abbrev pub each : {A : Type 0} → (A → Visits) → List A → Visits
+each check xs = visits.items check xs
+
+abbrev pub each_in_any_order : {A : Type 0} → (A → Visits) → List A → Visits
+each_in_any_order check xs = visits.items_in_any_order check xs
+
+-- Each value of a map, under its key; of a hashed map, whose order is not known. What makes a component of a key comes first:
+-- `text_key` of a `String`, `key_part` of a text that borrows, `index_part` and `signed_index_part` of a number.
+abbrev pub each_value : {K A : Type 0} → (K → Part) → (A → Visits) → List (K × A) → Visits
+each_value part check es = visits.entries part check es
+
+abbrev pub each_value_in_any_order : {K A : Type 0} → (K → Part) → (A → Visits) → List (K × A) → Visits
+each_value_in_any_order part check es = visits.entries_in_any_order part check es
+
+abbrev pub text_key : {Z : Type 0} → String Z → Part
+text_key key = key_part (string_bytes key)
+
+-- What a rule is asked of.
+
+-- the text of a `String`, and the items of a `Vec`
+abbrev pub str : {Z : Type 0} → String Z → List ℕ
+str s = string_bytes s
+
+abbrev pub slice : {A Z : Type 0} → Vec A Z → List A
+slice v = v.items
+
+-- numbers with a sign: above zero, and below it
+abbrev pub plus : ℕ → ℤ
+plus n = pos n
+
 abbrev pub minus : ℕ → ℤ
 minus n = neg_ℤ (pos n)
 
--- a user-defined rule, and a rule of the library with your own message
-abbrev pub asks : Literal → Bool → Visits
-asks message holds = found (message_unless message holds)
+-- The bounds of a length or a number: it is no less, no more, just that, or neither less than the one nor more than the other. A
+-- constant `range!(..)` stands for them under its own name.
+abbrev pub at_least : {N : Type 0} → N → Range N
+at_least least = record { min = Some least; max = None }
 
-abbrev pub with_message : Literal → Option Fault → Visits
-with_message message fault = found (finds.with_message message fault)
+abbrev pub at_most : {N : Type 0} → N → Range N
+at_most most = record { min = None; max = Some most }
 
--- a rule of the library that is asked of an option as a whole: an option without a value passes. The walks are those of
--- `optional`, where the rule is asked of what the option holds. A pattern or a URL is asked by `may_allocate (of_option ..)`.
-abbrev pub of_option : {A : Type 0} → (A → Option Fault) → Option A → Visits
-of_option rule v = found (finds.of_option rule v)
+abbrev pub exactly : {N : Type 0} → N → Range N
+exactly n = record { min = Some n; max = Some n }
+
+abbrev pub between : {N : Type 0} → N → N → Range N
+between least most = record { min = Some least; max = Some most }
+
+-- What the rules find.
+
+-- a number without a sign is within these bounds; one with a sign is
+abbrev pub range : Range ℕ → ℕ → Option Fault
+range bounds n = unsigned_found bounds.min bounds.max n
+
+abbrev pub signed_range : Range ℤ → ℤ → Option Fault
+signed_range bounds n = signed_found bounds.min bounds.max n
+
+-- a number without a sign, or with one, is a multiple of another one
+abbrev pub multiple_of : ℕ → ℕ → Option Fault
+multiple_of divisor n = multiple_fault (decimal divisor) (is_multiple divisor n)
+
+abbrev pub signed_multiple_of : ℤ → ℤ → Option Fault
+signed_multiple_of divisor n = multiple_fault (signed_decimal divisor) (int_is_multiple divisor n)
+
+-- a length, of whatever is counted, is within these bounds
+abbrev pub count : Range ℕ → ℕ → Option Fault
+count bounds n =
+    let least = unwrap_or bounds.min 0 in let most = unwrap_or bounds.max (2 ^ 64 - 1) in length_fault least most (bounds_answer least most n)
+
+-- so many bytes has a text, so many characters, extended grapheme clusters or code units of UTF-16
+abbrev pub bytes : Range ℕ → List ℕ → Option Fault
+bytes bounds s = count bounds (byte_count s)
+
+abbrev pub chars : Range ℕ → List ℕ → Option Fault
+chars bounds s = count bounds (char_count s)
+
+abbrev pub graphemes : Range ℕ → List ℕ → Option Fault
+graphemes bounds s = count bounds (grapheme_count s)
+
+abbrev pub utf16 : Range ℕ → List ℕ → Option Fault
+utf16 bounds s = count bounds (unit_count s)
+
+-- so many items has a list, or entries a map
+abbrev pub items : {A : Type 0} → Range ℕ → List A → Option Fault
+items bounds xs = count bounds (length xs)
+
+-- every byte of a text is below 128; every character is a letter or a number
+abbrev pub ascii : List ℕ → Option Fault
+ascii s = unless (is_ascii_text s) datum.not_ascii
+
+abbrev pub alphanumeric : List ℕ → Option Fault
+alphanumeric s = unless (is_alphanumeric_text s) datum.not_alphanumeric
+
+-- a text has a pattern as a part, begins with it, or ends with it: one that stands here as "text", or one that is a value
+abbrev pub contains_text : List ℕ → List ℕ → Option Fault
+contains_text part s = unless (has_part part s) (datum.contains part)
+
+abbrev pub prefix_text : List ℕ → List ℕ → Option Fault
+prefix_text part s = unless (has_prefix part s) (datum.prefix part)
+
+abbrev pub suffix_text : List ℕ → List ℕ → Option Fault
+suffix_text part s = unless (has_suffix part s) (datum.suffix part)
+
+abbrev pub contains : Literal → List ℕ → Option Fault
+contains part s = contains_text (codes part) s
+
+abbrev pub prefix : Literal → List ℕ → Option Fault
+prefix part s = prefix_text (codes part) s
+
+abbrev pub suffix : Literal → List ℕ → Option Fault
+suffix part s = suffix_text (codes part) s
+
+-- a compiled pattern, which is a value, matches anywhere in a text; a text is an absolute URL
+abbrev pub pattern : List ℕ → List ℕ → Option Fault
+pattern source s = unless (matches_source source s) (datum.pattern source)
+
+abbrev pub url : List ℕ → Option Fault
+url s = url_fault (read_answer (url_answer s))
+
+-- a text is an address of this kind
+abbrev pub ip : IpKind → List ℕ → Option Fault
+ip kind s = unless (is_ip_text kind s) (datum.ip kind)
+
+-- a card number, and a phone number, of whose type this is the answer
+abbrev pub credit_card : Result (Unit {0}) InvalidCreditCard → Option Fault
+credit_card answer = card_fault answer
+
+abbrev pub phone_number : Result (Unit {0}) InvalidPhoneNumber → Option Fault
+phone_number answer = phone_fault answer
+
+-- an option has a value, always or where this condition holds
+abbrev pub required : {A : Type 0} → Option A → Option Fault
+required v = unless (is_some v) datum.not_set
+
+abbrev pub required_if : {A : Type 0} → Bool → Option A → Option Fault
+required_if condition v = unless (not condition || is_some v) datum.not_set
+
+-- a value matches that of the field of this name, where this says whether it does: `text_eq` of two texts, `nat_eq` of two numbers,
+-- `option_eq text_eq` of two options of texts
+abbrev pub matches : Literal → Bool → Option Fault
+matches name equal = unless equal (datum.matches (codes name))
+
+-- a condition holds, and where it fails a user-defined rule says a message: one that stands here as "text", or one that is a value
+abbrev pub asks_text : List ℕ → Bool → Option Fault
+asks_text message holds = if holds then None else Some (own message)
+
+abbrev pub asks : Literal → Bool → Option Fault
+asks message holds = asks_text (codes message) holds
+
+-- a rule, with this message in place of the handler's
+abbrev pub with_message : Literal → Option Fault → Option Fault
+with_message message fault = option_map (λ _. own (codes message)) fault
+
+-- a rule that is asked of an option as a whole: an option without a value passes. `if_some` asks the rule of what the option holds;
+-- both have the same trees.
+abbrev pub of_option : {A : Type 0} → (A → Option Fault) → Option A → Option Fault
+of_option asked None = None
+of_option asked (Some v) = asked v
+
+-- No two items of a list are the same by this comparison; each that is the same as one before it is a fault, under its index, with a
+-- message: one that stands here as "text", or one that is a value.
+abbrev pub unique_text : {A : Type 0} → List ℕ → (A → A → Bool) → List A → Visits
+unique_text message same xs = each_value index_part (λ first. is (asks_text message first)) (firsts same xs)
+
+abbrev pub unique : {A : Type 0} → Literal → (A → A → Bool) → List A → Visits
+unique message same xs = unique_text (codes message) same xs
+
+-- Conditions.
+
+-- two texts are the same; a text is just this one; a text is an address of version 4, and of version 6
+abbrev pub text_eq : List ℕ → List ℕ → Bool
+text_eq s other = bytes_eq s other
+
+abbrev pub text_is : Literal → List ℕ → Bool
+text_is wanted s = bytes_eq s (codes wanted)
+
+abbrev pub is_ipv4 : List ℕ → Bool
+is_ipv4 s = is_ipv4_text s
+
+abbrev pub is_ipv6 : List ℕ → Bool
+is_ipv6 s = is_ipv6_text s
+
+-- What else is cited.
 
 -- a reference to a value, as a user-defined rule holds its context: where it points does not matter
 abbrev pub reference_to : {A : Type 0} → A → Bor A
 reference_to v = record { ref_ptr = (0, 0); now = v }
 
--- the pattern of this source matches anywhere in a text; a text is an absolute URL
-abbrev pub pattern : {Z : Type 0} → List ℕ → String Z → Visits
-pattern source s = may_allocate (found (finds.pattern source s))
-
-abbrev pub url : {Z : Type 0} → String Z → Visits
-url s = may_allocate (found (finds.url s))
-
--- a card number, and a phone number, of whose type this is the answer
-abbrev pub credit_card : Result (Unit {0}) InvalidCreditCard → Visits
-credit_card answer = found (card_fault answer)
-
-abbrev pub phone_number : Result (Unit {0}) InvalidPhoneNumber → Visits
-phone_number answer = found (phone_fault answer)
-
--- each item of a `Vec`, under its index; of a set, in its order
-abbrev pub each : {A Z : Type 0} → (A → Visits) → Vec A Z → Visits
-each check v = items check v.items
-
-abbrev pub each_of_set : {A : Type 0} → (A → Visits) → BTreeSet A → Visits
-each_of_set check v = items check v.keys
-
--- no two items of a `Vec` are the same by this comparison; each that is the same as one before it is a fault, under its index
-abbrev pub unique : {A Z : Type 0} → Literal → (A → A → Bool) → Vec A Z → Visits
-unique message same v = firsts.unique (codes message) same v.items
-
--- each value of a `BTreeMap`, under the key that is a text, or under the index that is a number without a sign, or with one
-abbrev pub each_value : {A Z : Type 0} → (A → Visits) → BTreeMap (String Z) A → Visits
-each_value check v = entries (λ key. key_part (string_bytes key)) check v.entries
-
-abbrev pub each_numbered : {A : Type 0} → (A → Visits) → BTreeMap ℕ A → Visits
-each_numbered check v = entries (λ key. index_part key) check v.entries
-
-abbrev pub each_signed : {A : Type 0} → (A → Visits) → BTreeMap ℤ A → Visits
-each_signed check v = entries (λ key. signed_index_part key) check v.entries
-
--- every byte of a text is below 128; every character is a letter or a number
-abbrev pub ascii : {Z : Type 0} → String Z → Visits
-ascii s = found (finds.ascii s)
-
-abbrev pub alphanumeric : {Z : Type 0} → String Z → Visits
-alphanumeric s = found (finds.alphanumeric s)
-
--- a text has a pattern as a part, begins with it, or ends with it
-abbrev pub contains : {Z : Type 0} → Literal → String Z → Visits
-contains pattern s = found (finds.contains pattern s)
-
-abbrev pub prefix : {Z : Type 0} → Literal → String Z → Visits
-prefix pattern s = found (finds.prefix pattern s)
-
-abbrev pub suffix : {Z : Type 0} → Literal → String Z → Visits
-suffix pattern s = found (finds.suffix pattern s)
-
--- a text is an address of this kind
-abbrev pub ip : {Z : Type 0} → IpKind → String Z → Visits
-ip kind s = found (finds.ip kind s)
-
--- a text equals that of the field of this name, which stands last
-abbrev pub matches_text : {Z : Type 0} → Literal → String Z → String Z → Visits
-matches_text name s other = found (finds.matches_text name s other)
-
--- a value matches that of the field of this name, by a condition that says so: `text_eq` of two texts, `nat_eq` of two numbers,
--- `option_eq text_eq` of two options of texts
-abbrev pub matches : Literal → Bool → Visits
-matches name equal = found (finds.matches name equal)
-
--- the conditions that two texts are the same, and that a text is just this one
-abbrev pub text_eq : {Z : Type 0} → String Z → String Z → Bool
-text_eq s other = string_eq s other
-
-abbrev pub text_is : {Z : Type 0} → Literal → String Z → Bool
-text_is text s = bytes_eq (string_bytes s) (codes text)
-
--- how many items a `Vec` has, and a `BTreeSet`; how many pairs a `BTreeMap` has
-abbrev pub list_len : {A Z : Type 0} → Vec A Z → ℕ
-list_len v = vec_len v
-
-abbrev pub set_len : {A : Type 0} → BTreeSet A → ℕ
-set_len v = btree_set_len v
-
-abbrev pub map_len : {K A : Type 0} → BTreeMap K A → ℕ
-map_len v = btree_map_len v
-
--- the conditions that a text is an address of version 4, and of version 6
-abbrev pub is_ipv4 : {Z : Type 0} → String Z → Bool
-is_ipv4 s = is_ipv4_text (string_bytes s)
-
-abbrev pub is_ipv6 : {Z : Type 0} → String Z → Bool
-is_ipv6 s = is_ipv6_text (string_bytes s)
-
--- how long a text is, in bytes: at least, at most, just so many, or between two numbers
-abbrev pub length_min : {Z : Type 0} → ℕ → String Z → Visits
-length_min min v = found (finds.length_min min v)
-
-abbrev pub length_max : {Z : Type 0} → ℕ → String Z → Visits
-length_max max v = found (finds.length_max max v)
-
-abbrev pub length_equal : {Z : Type 0} → ℕ → String Z → Visits
-length_equal count v = found (finds.length_equal count v)
-
-abbrev pub length_between : {Z : Type 0} → ℕ → ℕ → String Z → Visits
-length_between min max v = found (finds.length_between min max v)
-
--- the same in characters
-abbrev pub chars_min : {Z : Type 0} → ℕ → String Z → Visits
-chars_min min v = found (finds.chars_min min v)
-
-abbrev pub chars_max : {Z : Type 0} → ℕ → String Z → Visits
-chars_max max v = found (finds.chars_max max v)
-
-abbrev pub chars_equal : {Z : Type 0} → ℕ → String Z → Visits
-chars_equal count v = found (finds.chars_equal count v)
-
-abbrev pub chars_between : {Z : Type 0} → ℕ → ℕ → String Z → Visits
-chars_between min max v = found (finds.chars_between min max v)
-
--- in extended grapheme clusters
-abbrev pub graphemes_min : {Z : Type 0} → ℕ → String Z → Visits
-graphemes_min min v = found (finds.graphemes_min min v)
-
-abbrev pub graphemes_max : {Z : Type 0} → ℕ → String Z → Visits
-graphemes_max max v = found (finds.graphemes_max max v)
-
-abbrev pub graphemes_equal : {Z : Type 0} → ℕ → String Z → Visits
-graphemes_equal count v = found (finds.graphemes_equal count v)
-
-abbrev pub graphemes_between : {Z : Type 0} → ℕ → ℕ → String Z → Visits
-graphemes_between min max v = found (finds.graphemes_between min max v)
-
--- in code units of UTF-16
-abbrev pub utf16_min : {Z : Type 0} → ℕ → String Z → Visits
-utf16_min min v = found (finds.utf16_min min v)
-
-abbrev pub utf16_max : {Z : Type 0} → ℕ → String Z → Visits
-utf16_max max v = found (finds.utf16_max max v)
-
-abbrev pub utf16_equal : {Z : Type 0} → ℕ → String Z → Visits
-utf16_equal count v = found (finds.utf16_equal count v)
-
-abbrev pub utf16_between : {Z : Type 0} → ℕ → ℕ → String Z → Visits
-utf16_between min max v = found (finds.utf16_between min max v)
-
--- how many items a `Vec` has
-abbrev pub items_min : {A Z : Type 0} → ℕ → Vec A Z → Visits
-items_min min v = found (finds.items_min min v)
-
-abbrev pub items_max : {A Z : Type 0} → ℕ → Vec A Z → Visits
-items_max max v = found (finds.items_max max v)
-
-abbrev pub items_equal : {A Z : Type 0} → ℕ → Vec A Z → Visits
-items_equal count v = found (finds.items_equal count v)
-
-abbrev pub items_between : {A Z : Type 0} → ℕ → ℕ → Vec A Z → Visits
-items_between min max v = found (finds.items_between min max v)
-
--- how many pairs a `BTreeMap` has
-abbrev pub map_min : {K A : Type 0} → ℕ → BTreeMap K A → Visits
-map_min min v = found (finds.map_min min v)
-
-abbrev pub map_max : {K A : Type 0} → ℕ → BTreeMap K A → Visits
-map_max max v = found (finds.map_max max v)
-
-abbrev pub map_equal : {K A : Type 0} → ℕ → BTreeMap K A → Visits
-map_equal count v = found (finds.map_equal count v)
-
-abbrev pub map_between : {K A : Type 0} → ℕ → ℕ → BTreeMap K A → Visits
-map_between min max v = found (finds.map_between min max v)
-
--- how many items a `BTreeSet` has
-abbrev pub set_min : {A : Type 0} → ℕ → BTreeSet A → Visits
-set_min min v = found (finds.set_min min v)
-
-abbrev pub set_max : {A : Type 0} → ℕ → BTreeSet A → Visits
-set_max max v = found (finds.set_max max v)
-
-abbrev pub set_equal : {A : Type 0} → ℕ → BTreeSet A → Visits
-set_equal count v = found (finds.set_equal count v)
-
-abbrev pub set_between : {A : Type 0} → ℕ → ℕ → BTreeSet A → Visits
-set_between min max v = found (finds.set_between min max v)
-
--- how many pairs a `HashMap` has
-abbrev pub hash_map_min : {K A H : Type 0} → ℕ → HashMap K A H → Visits
-hash_map_min min v = found (finds.hash_map_min min v)
-
-abbrev pub hash_map_max : {K A H : Type 0} → ℕ → HashMap K A H → Visits
-hash_map_max max v = found (finds.hash_map_max max v)
-
-abbrev pub hash_map_equal : {K A H : Type 0} → ℕ → HashMap K A H → Visits
-hash_map_equal count v = found (finds.hash_map_equal count v)
-
-abbrev pub hash_map_between : {K A H : Type 0} → ℕ → ℕ → HashMap K A H → Visits
-hash_map_between min max v = found (finds.hash_map_between min max v)
-
--- how many items a `HashSet` has
-abbrev pub hash_set_min : {A H : Type 0} → ℕ → HashSet A H → Visits
-hash_set_min min v = found (finds.hash_set_min min v)
-
-abbrev pub hash_set_max : {A H : Type 0} → ℕ → HashSet A H → Visits
-hash_set_max max v = found (finds.hash_set_max max v)
-
-abbrev pub hash_set_equal : {A H : Type 0} → ℕ → HashSet A H → Visits
-hash_set_equal count v = found (finds.hash_set_equal count v)
-
-abbrev pub hash_set_between : {A H : Type 0} → ℕ → ℕ → HashSet A H → Visits
-hash_set_between min max v = found (finds.hash_set_between min max v)
-
--- of any number that is counted
-abbrev pub count_min : ℕ → ℕ → Visits
-count_min min v = found (finds.count_min min v)
-
-abbrev pub count_max : ℕ → ℕ → Visits
-count_max max v = found (finds.count_max max v)
-
-abbrev pub count_equal : ℕ → ℕ → Visits
-count_equal count v = found (finds.count_equal count v)
-
-abbrev pub count_between : ℕ → ℕ → ℕ → Visits
-count_between min max v = found (finds.count_between min max v)
-
--- a number without a sign is at most so much, just that, or between two
-abbrev pub range_max : ℕ → ℕ → Visits
-range_max max n = found (finds.range_max max n)
-
-abbrev pub range_equal : ℕ → ℕ → Visits
-range_equal number n = found (finds.range_equal number n)
-
-abbrev pub range_between : ℕ → ℕ → ℕ → Visits
-range_between min max n = found (finds.range_between min max n)
-
--- a number of this type is at least so much: where the upper bound is left out, it is the greatest of the type
-abbrev pub u8_min : ℕ → ℕ → Visits
-u8_min min n = found (finds.u8_min min n)
-
-abbrev pub u16_min : ℕ → ℕ → Visits
-u16_min min n = found (finds.u16_min min n)
-
-abbrev pub u32_min : ℕ → ℕ → Visits
-u32_min min n = found (finds.u32_min min n)
-
-abbrev pub u64_min : ℕ → ℕ → Visits
-u64_min min n = found (finds.u64_min min n)
-
-abbrev pub u128_min : ℕ → ℕ → Visits
-u128_min min n = found (finds.u128_min min n)
-
-abbrev pub usize_min : ℕ → ℕ → Visits
-usize_min min n = found (finds.usize_min min n)
-
--- a number with a sign is just so much, or between two
-abbrev pub signed_equal : ℤ → ℤ → Visits
-signed_equal number n = found (finds.signed_equal number n)
-
-abbrev pub signed_between : ℤ → ℤ → ℤ → Visits
-signed_between min max n = found (finds.signed_between min max n)
-
--- a number of this type is at least, or at most, so much
-abbrev pub i8_min : ℤ → ℤ → Visits
-i8_min min n = found (finds.i8_min min n)
-
-abbrev pub i8_max : ℤ → ℤ → Visits
-i8_max max n = found (finds.i8_max max n)
-
-abbrev pub i16_min : ℤ → ℤ → Visits
-i16_min min n = found (finds.i16_min min n)
-
-abbrev pub i16_max : ℤ → ℤ → Visits
-i16_max max n = found (finds.i16_max max n)
-
-abbrev pub i32_min : ℤ → ℤ → Visits
-i32_min min n = found (finds.i32_min min n)
-
-abbrev pub i32_max : ℤ → ℤ → Visits
-i32_max max n = found (finds.i32_max max n)
-
-abbrev pub i64_min : ℤ → ℤ → Visits
-i64_min min n = found (finds.i64_min min n)
-
-abbrev pub i64_max : ℤ → ℤ → Visits
-i64_max max n = found (finds.i64_max max n)
-
-abbrev pub i128_min : ℤ → ℤ → Visits
-i128_min min n = found (finds.i128_min min n)
-
-abbrev pub i128_max : ℤ → ℤ → Visits
-i128_max max n = found (finds.i128_max max n)
-
-abbrev pub isize_min : ℤ → ℤ → Visits
-isize_min min n = found (finds.isize_min min n)
-
-abbrev pub isize_max : ℤ → ℤ → Visits
-isize_max max n = found (finds.isize_max max n)
-
--- an option has a value
-abbrev pub required : {A : Type 0} → Option A → Visits
-required v = found (finds.required v)
-
--- the same, where this condition holds
-abbrev pub required_if : {A : Type 0} → Bool → Option A → Visits
-required_if condition v = found (finds.required_if condition v)
+-- the component of the key of the entry with this number, in a user-defined collection that is walked by `inner`
+abbrev pub key_place : {A : Type 0} → List (String Global × A) → ℕ → Part
+key_place es index = inner.key_place kinds.Key string_bytes es index

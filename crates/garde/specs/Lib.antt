@@ -11,11 +11,9 @@ pub mod Select
 pub mod Reading
 pub mod Parts
 pub mod Redaction
-pub mod Author
 pub mod Words
 pub mod Validated
 pub mod Operators
-pub mod Finds
 pub mod Firsts
 pub mod Fields
 pub mod Handlers

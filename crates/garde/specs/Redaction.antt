@@ -1,5 +1,5 @@
--- What a rule of the library finds is one of a few faults, which its arguments alone give. So no message of it holds a part of the
--- value, whatever the value is.
+-- What a rule of the library finds is one of a few faults, which its arguments alone give. So no message of it depends on the value
+-- that the rule is asked of. An argument that is taken from another field is reported.
 use Prim.Native.String.{String as Literal}
 use Rattle.std.specs.Prelude.{⊤, ℕ, Bool, codes, Option, IfSome, Result, List, [], ◌∷◌, map}
 use Rattle.std.specs.List.{All, Contains}
@@ -16,7 +16,7 @@ use Rattle.garde_rules.specs.{Fault, rule, own, fault_text, length_fault}
 use Rattle.garde_rules.specs.Holds.{unless}
 use Rattle.garde_rules.specs.Range.{range_fault, OutOfBounds}
 use Rattle.garde_rules.specs.Reasons.{card_fault, phone_fault, url_fault}
-use Rattle.garde.specs.Finds.{message_unless, with_message}
+use Rattle.garde.specs.Fields.{asks, with_message}
 use Rattle.garde.specs.Tree.{Tree, nothing, fault, under, flat}
 use Rattle.garde.specs.Visits.{Visits}
 
@@ -56,7 +56,7 @@ pub record FoundByArguments : Type 0 where
   pub phone_number : (answer : Result (Unit {0}) InvalidPhoneNumber) → IsAmong phone_faults (phone_fault answer)
   pub url_text : (answer : Result (Unit {0}) InvalidUrl) → IsAmong url_faults (url_fault answer)
   -- a user-defined rule with a fixed message, and any rule with a message in place of the handler's
-  pub own_message : (message : Literal) (holds : Bool) → IsAmong (own (codes message) ∷ []) (message_unless message holds)
+  pub own_message : (message : Literal) (holds : Bool) → IsAmong (own (codes message) ∷ []) (asks message holds)
   pub other_message : (message : Literal) (found : Option Fault) → IsAmong (own (codes message) ∷ []) (with_message message found)
 
 -- each fault of the tree is one of these

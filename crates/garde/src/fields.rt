@@ -24,20 +24,22 @@ mod each;
 mod field;
 mod if_some;
 mod required_if;
+mod rules;
 mod tuples;
 mod unique;
 
 pub use asks::Asks;
-pub use check::{Check, Dive, Is, IsInMemory, check_under};
+pub use check::{Check, Dive, check_under};
 pub use condition::When;
 pub use each::{Each, check_part};
 pub use field::{Field, Fields, Item, Transparent};
 pub use garde_rules::Rule;
 pub use garde_rules::values::{
     Adapt, Alphanumeric, Ascii, ByteLength, CharLength, Contains, CreditCard, GraphemeLength, Ip,
-    Length, Matches, Pattern, PhoneNumber, Prefix, Range, Required, Suffix, Url, Utf16Length, View,
-    WithMessage,
+    Length, Matches, MultipleOf, Pattern, PhoneNumber, Prefix, Range, Required, Suffix, Url,
+    Utf16Length, View, WithMessage,
 };
 pub use if_some::IfSome;
 pub use required_if::RequiredIf;
-pub use unique::{Equal, Same, Unique};
+pub use rules::{Is, IsInMemory, Rules, ask_under};
+pub use unique::{Equal, Same, Unique, includes};

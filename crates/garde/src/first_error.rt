@@ -1,7 +1,8 @@
 //! The error of validation that reports at most so many faults.
-ghost use Rattle.std.specs.Prelude.{Some};
-ghost use Rattle.garde.specs.FirstError.{first_error_text};
+ghost use Rattle.std.specs.Prelude.{◌≡◌, Some};
+ghost use Rattle.garde.specs.FirstError.{first_error_text, whole_error};
 
+use crate::validate_error::ValidateError;
 use garde_report::Report;
 use std::fmt;
 
@@ -14,6 +15,19 @@ pub enum FirstError {
     First(Report),
     /// Out of memory. The faults found so far are dropped.
     Memory,
+}
+
+impl FirstError {
+    /// The same error of a call that asks for every fault: a report of either kind, or out of memory.
+    pub fn into_whole(self) -> ValidateError
+        ensures { result ≡ whole_error self }
+    {
+        match self {
+            FirstError::All(report) => ValidateError::Report(report),
+            FirstError::First(report) => ValidateError::Report(report),
+            FirstError::Memory => ValidateError::Memory,
+        }
+    }
 }
 
 /// Prints the report, after the first faults also the line `there are more`, or `out of memory`.

@@ -44,9 +44,10 @@ pub fn items_in_parts<'a, T, C: Check<'a, T>>()
 {}
 
 /// What a rule of the library finds is one of a few faults, which the arguments of the rule give:
-/// the value only decides which of them, or none. So a message holds no part of the value. Messages
-/// of user-defined rules say what their authors write. Paths are not meant: the component of a
-/// value in a map is its key.
+/// the value only decides which of them, or none. So a message depends on the arguments, and not on
+/// the value that the rule is asked of. An argument that is taken from another field is reported.
+/// Messages of user-defined rules say what their authors write. Paths are not meant: the component
+/// of a value in a map is its key.
 pub fn messages_hide_values()
     ensures found { FoundByArguments }
     ensures messages { SaysNoMore }

@@ -1,5 +1,5 @@
 //! Types as an author writes them.
-ghost use Rattle.garde.specs.Author.{codes, length, string_bytes, ◌and◌, optional, when, field, ascii, length_in, prefix, required};
+ghost use Rattle.garde.specs.Fields.{◌and◌, ascii, between, bytes, field, if_some, is, prefix, required, str, when};
 
 use crate::fields::{
     Adapt, Ascii, Field, Fields, IfSome, Is, Length, Prefix, Required, View, When,
@@ -42,11 +42,11 @@ impl Stated for Document {
     type Context = ();
 
     ghost visits = { λ v _.
-        field (codes "content") (
-        when v.check_format (optional (λ text. ascii (string_bytes text)) v.content)
-        and when v.check_length (optional (λ text. length_in 10 100 (length (string_bytes text))) v.content)
-        and required v.content)
-        and field (codes "tag") (prefix (codes "t-") (string_bytes v.tag.0)) };
+        field "content" (
+        when v.check_format (if_some (λ content. is (ascii (str content))) v.content)
+        and when v.check_length (if_some (λ content. is (bytes (between 10 100) (str content))) v.content)
+        and is (required v.content))
+        and field "tag" (is (prefix "t-" (str v.tag.0))) };
 }
 
 impl Validate for Document {

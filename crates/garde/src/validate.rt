@@ -1,9 +1,9 @@
 //! The walk of a value.
-ghost use Rattle.std.specs.Prelude.{◌≡◌, IfOk, IsOk, IsTrue, Ok, OnOk, length, true};
+ghost use Rattle.std.specs.Prelude.{◌≡◌, ◌<◌, ◌-◌, ◌^◌, IfOk, IsOk, IsTrue, Ok, OnOk, length, true};
 ghost use Rattle.garde_i18n.specs.DefaultText.{default_text};
 ghost use Rattle.garde_report.specs.Trace.{new_trace};
 ghost use Rattle.garde.specs.Answers.{Headline, Answers, AnswersOn, NeedsNoMemory};
-ghost use Rattle.garde.specs.Answers.{AnswersFirst, AnswersFirstOn, Decides};
+ghost use Rattle.garde.specs.Answers.{AnswersFirst, AnswersFirstOn, Decides, IsFirst};
 ghost use Rattle.garde.specs.Visits.{Visited, Known};
 
 pub use crate::first_error::FirstError;
@@ -107,16 +107,9 @@ pub trait Validate: Stated {
             → IsOk result }
         ensures known { OnOk result (Known (Self.visits self.now ctx.now)) }
     {
-        let mut report = Report::new(alloc);
-        match self.validate_into(alloc, ctx, trail, &mut report, h) {
-            Ok(()) => {
-                if report.is_empty() {
-                    Ok(())
-                } else {
-                    Err(ValidateError::Report(report))
-                }
-            }
-            Err(_) => Err(ValidateError::Memory),
+        match walk(alloc, self, ctx, usize::MAX, trail, h) {
+            Ok(()) => Ok(()),
+            Err(error) => Err(error.into_whole()),
         }
     }
 
@@ -163,19 +156,7 @@ pub trait Validate: Stated {
             → IsOk result }
         ensures known { OnOk result (Known (Self.visits self.now ctx.now)) }
     {
-        let mut report = Report::new(alloc);
-        let before = trail.limit(most.saturating_add(1));
-        let walked = self.validate_into(alloc, ctx, trail, &mut report, h);
-        trail.limit(before);
-        if report.len() > most {
-            report.truncate(most);
-            return Err(FirstError::First(report));
-        }
-        match walked {
-            Ok(()) if report.is_empty() => Ok(()),
-            Ok(()) => Err(FirstError::All(report)),
-            Err(_) => Err(FirstError::Memory),
-        }
+        walk(alloc, self, ctx, most, trail, h)
     }
 
     /// Whether the value has no fault under a context.
@@ -194,5 +175,34 @@ pub trait Validate: Stated {
             Err(FirstError::First(_)) => Ok(false),
             Err(FirstError::Memory) => Err(AllocError),
         }
+    }
+}
+
+// Walks the value with a report of its own, up to one fault more than so many. A report has fewer
+// than `usize::MAX` faults, so that many are all.
+fn walk<'a, T: Validate, H: I18n>(
+    alloc: Global,
+    value: &'a T,
+    ctx: &T::Context,
+    most: usize,
+    trail: &mut Trail<'a>,
+    h: &H,
+) -> Result<(), FirstError>
+    ensures on { AnswersFirstOn (T.visits value.now ctx.now) (H.text h.now) most
+        trail.old trail.new result }
+    ensures whole { IsFirst result → most < 2 ^ 64 - 1 }
+{
+    let mut report = Report::new(alloc);
+    let before = trail.limit(most.saturating_add(1));
+    let walked = value.validate_into(alloc, ctx, trail, &mut report, h);
+    trail.limit(before);
+    if report.len() > most {
+        report.truncate(most);
+        return Err(FirstError::First(report));
+    }
+    match walked {
+        Ok(()) if report.is_empty() => Ok(()),
+        Ok(()) => Err(FirstError::All(report)),
+        Err(_) => Err(FirstError::Memory),
     }
 }

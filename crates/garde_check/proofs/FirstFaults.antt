@@ -2,7 +2,7 @@
 use Rattle.std.proofs.Common.{◌≡◌, ℕ, ◌<◌, ◌≤◌, Bool, true, false, ◌||◌, List, [], ◌∷◌, ◌++◌, length, take, nat_lt, Option, Some, Err, refl, ap, sym, subst, ◌∙◌, arith}
 use Rattle.std.proofs.lemmas.Bool.{true≢false, lt-ltb, le-ltb}
 use Rattle.std.proofs.lemmas.List.{take_all}
-use Rattle.garde.specs.Author.{Visits}
+use Rattle.garde.specs.Fields.{Visits}
 use Rattle.garde.specs.Answers.{AnswersFirst}
 use Rattle.garde.specs.Words.{Entry, default_text}
 use Rattle.garde.specs.Tree.{Tree, nothing, fault, under, bears, flat}

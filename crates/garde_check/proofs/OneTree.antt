@@ -4,8 +4,9 @@ use Rattle.std.specs.declared.alloc.Global.{Global}
 use Rattle.std.specs.Prelude.{String, Option, Some, None, string_bytes}
 use Rattle.std.specs.List.{AllByRecursion, enumerate_from}
 use Rattle.std.proofs.lemmas.List.{length-map}
-use Rattle.garde.specs.Author.{Visits, codes, only, found, ◌and◌, under as visits_under, items, optional, length_in}
-use Rattle.garde.specs.Visits.{entries}
+use Rattle.garde.specs.Fields.{at_most, codes, is}
+use Rattle.garde.specs.Fields as words
+use Rattle.garde.specs.Visits.{Visits, only, found, ◌and◌, under as visits_under, items, entries, optional}
 use Rattle.garde.specs.Trees.{TreesEach}
 use Rattle.garde.specs.Tree.{Tree, nothing, under, ◌then◌, found_tree}
 use Rattle.garde.specs.Words.{Fault, bounds_answer, length_fault, index_part, key_part}
@@ -92,7 +93,7 @@ addresses_one : (es : List (String Global × Address)) → HasOnly (entries (λ 
 unfolding entries
 addresses_one es = record { same = each_address es }
 
-fewer_one : (tags : List (String Global)) → HasOnly (length_in 0 5 (length tags)) (found_tree (length_fault 0 5 (bounds_answer 0 5 (length (map string_bytes tags)))))
+fewer_one : (tags : List (String Global)) → HasOnly (is (words.items (at_most 5) tags)) (found_tree (length_fault 0 5 (bounds_answer 0 5 (length (map string_bytes tags)))))
 fewer_one tags = rw (length-map tags string_bytes) (found_one _)
 
 body_one : (body : Body) → HasOnly (body_visits body) (body_tree (content body))

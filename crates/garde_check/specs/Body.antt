@@ -1,11 +1,10 @@
 -- The visits of a request's body, and the one tree that it has.
-use Rattle.std.specs.Prelude.{ℕ, List, [], ◌∷◌, Option, is_some, map, decimal, String}
+use Rattle.std.specs.Prelude.{ℕ, List, [], ◌∷◌, Option, is_some, map, String}
 use Rattle.std.specs.declared.alloc.Global.{Global}
 use Rattle.std.specs.BTreeMap.{BTreeMap}
-use Rattle.garde.specs.Author.{Visits, codes, length, string_bytes, ◌and◌, field, required, found, length_in, items, alphanumeric, ip}
-use Rattle.garde.specs.Visits.{entries}
+use Rattle.garde.specs.Fields.{◌and◌, alphanumeric, at_most, between, chars, codes, each, each_value, field, ip, is, items, length, of_option, range, required, slice, str, text_key, Visits}
 use Rattle.garde.specs.Words as words
-use Rattle.garde.specs.Words.{Fault, Any, bounds_answer, char_count, key_part, unless, length_fault, range_fault, option_answer, is_alphanumeric_text, is_ip_text, not_alphanumeric, not_set}
+use Rattle.garde.specs.Words.{Fault, Any, bounds_answer, char_count, key_part, unless, length_fault, is_alphanumeric_text, is_ip_text, not_alphanumeric, not_set}
 use Rattle.garde.specs.Tree.{Tree, nothing, under, ◌then◌, found_tree}
 use Rattle.garde_check.specs.declared.body.Address.{Address}
 use Rattle.garde_check.specs.declared.body.Body.{Body}
@@ -14,15 +13,15 @@ use Rattle.garde_check.specs.User.{user_visits, named_tree}
 
 -- the fault of an age that is there, and is below 18 or above 120
 abbrev pub age_fault : Option ℕ → Option Fault
-age_fault age = range_fault (decimal 18) (decimal 120) (option_answer (bounds_answer 18 120) age)
+age_fault age = of_option (λ years. range (between 18 120) years) age
 
 -- the rule that the text is an IP address
 abbrev pub address_visits : Address → Visits
-address_visits address = ip Any (string_bytes address.0)
+address_visits address = is (ip Any (str address.0))
 
 -- the rule that each character of a tag is a letter or a number, and then that there are 1 to 20
 abbrev pub tag_visits : String Global → Visits
-tag_visits tag = alphanumeric (string_bytes tag) and length_in 1 20 (char_count (string_bytes tag))
+tag_visits tag = is (alphanumeric (str tag)) and is (chars (between 1 20) (str tag))
 
 -- The user, with no component of its own. Then under the key `age` the rules that there is an age,
 -- and that it is at least 18 and at most 120; under the key `tags` the rule that there are at most 5,
@@ -30,10 +29,9 @@ tag_visits tag = alphanumeric (string_bytes tag) and length_in 1 20 (char_count 
 abbrev pub body_visits : Body → Visits
 body_visits body =
     user_visits body.user
-    and field (codes "age") (required body.age and found (age_fault body.age))
-    and field (codes "tags") (length_in 0 5 (length body.tags.items) and items tag_visits body.tags.items)
-    and field (codes "addresses")
-    (entries (λ name. key_part (string_bytes name)) address_visits body.addresses.entries)
+    and field "age" (is (required body.age) and is (age_fault body.age))
+    and field "tags" (is (items (at_most 5) (slice body.tags)) and each tag_visits (slice body.tags))
+    and field "addresses" (each_value text_key address_visits body.addresses.entries)
 
 -- what a body says
 pub record Content : Type 0 where
@@ -45,13 +43,13 @@ pub record Content : Type 0 where
 
 -- the names and texts of addresses
 abbrev pub entries_of : BTreeMap (String Global) Address → List (List ℕ × List ℕ)
-entries_of addresses = map (λ e. (string_bytes e.0, string_bytes e.1.0)) addresses.entries
+entries_of addresses = map (λ e. (str e.0, str e.1.0)) addresses.entries
 
 abbrev pub content : Body → Content
 content body = record {
-  username = string_bytes body.user.username;
+  username = str body.user.username;
   age = body.age;
-  tags = map string_bytes body.tags.items;
+  tags = map str body.tags.items;
   addresses = entries_of body.addresses;
 }
 

@@ -1,7 +1,7 @@
 -- Which output belongs to an input.
 use Rattle.std.specs.Prelude.{◌≡◌, ◌-◌, ◌^◌, ℕ, List, [], Bool, false, Option, Some, None, ◌↔◌, min}
 use Rattle.std.specs.Str.{IsUtf8}
-use Rattle.garde.specs.Author.{Visits}
+use Rattle.garde.specs.Fields.{Visits}
 use Rattle.garde.specs.Words.{Entry, default_text}
 use Rattle.garde.specs.Tree.{Tree, bears, flat, nodes}
 use Rattle.garde_check.specs.declared.form.Form.{Form}

@@ -1,6 +1,6 @@
 -- The visits of a user, and the one tree that it has.
 use Rattle.std.specs.Prelude.{ℕ, List}
-use Rattle.garde.specs.Author.{Visits, codes, length, string_bytes, ◌and◌, field, ascii, length_in}
+use Rattle.garde.specs.Fields.{◌and◌, ascii, between, bytes, codes, field, is, length, str, Visits}
 use Rattle.garde.specs.Words.{not_ascii, bounds_answer, key_part, unless, is_ascii_text, length_fault}
 use Rattle.garde.specs.Tree.{Tree, nothing, under, ◌then◌, found_tree}
 use Rattle.garde_check.specs.declared.user.User.{User}
@@ -9,8 +9,8 @@ use Rattle.garde_check.specs.declared.user.User.{User}
 -- at least 3 and at most 25.
 abbrev pub user_visits : User → Visits
 user_visits user =
-    let name = string_bytes user.username in
-    field (codes "username") (ascii name and length_in 3 25 (length name))
+    let name = str user.username in
+    field "username" (is (ascii name) and is (bytes (between 3 25) name))
 
 -- The fault `not ascii` where some byte of the name is above 127, and then the fault of a length below
 -- 3 or above 25 where the name has such a length.

@@ -11,8 +11,6 @@ mod mode;
 mod outcome;
 mod output;
 mod running;
-#[cfg(test)]
-mod tests;
 mod transfer;
 mod user;
 mod words;

@@ -7,8 +7,6 @@ mod fault;
 mod list_error;
 mod place;
 mod records;
-#[cfg(test)]
-mod tests;
 mod walk;
 
 pub use fault::Fault;

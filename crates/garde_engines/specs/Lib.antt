@@ -1,4 +1,8 @@
+pub mod Applies
+pub mod Bounds
+pub mod Beyond
 pub mod Compiled
+pub mod Counts
 pub mod Ip
 pub mod IpText
 pub mod Octets

@@ -8,7 +8,8 @@ use Rattle.garde_report.specs.Fault.{IfFault}
 use Rattle.garde_report.specs.declared.error.rule_error.RuleError.{RuleError}
 use Rattle.garde_report.specs.declared.error.rule_error.RuleError.TheVariants as errors
 use Rattle.garde_rules.specs.{Applies}
-use Rattle.garde.specs.Author.{Fault, Visits, Visited, Known, found, own}
+use Rattle.garde.specs.Fields.{Fault, own}
+use Rattle.garde.specs.Visits.{Visits, Visited, Known, found}
 use Rattle.garde.proofs.Author.{visited_none}
 use Rattle.garde_schema.specs.Bound.{TellsBound}
 use Rattle.garde_schema.specs.Forms.{formed, refused, Sound}

@@ -1,5 +1,4 @@
 mod Characters
 mod Lemmas
-mod Lists
+mod Listed
 mod Numerals
-mod Tokens

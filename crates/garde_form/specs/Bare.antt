@@ -1,7 +1,9 @@
 -- Values that were written without quotes, of a kind that JSON does not have.
-use Rattle.std.specs.Prelude.{ℕ, List, [], ◌∷◌, codes, Bool, true, false, Option, Some, None, option_map, option_and_then, if◌then◌else◌, bytes_eq}
+use Rattle.std.specs.Prelude.{◌≡◌, ◌++◌, ℕ, List, [], ◌∷◌, codes, Bool, true, false, Option, Some, None, option_map, option_and_then, if◌then◌else◌, bytes_eq}
 use Rattle.json.specs.Json.{Json, number, string, array, no_items, item}
 use Rattle.json.specs.Find.{as_str, as_number, as_array}
+use Rattle.json.specs.Token.{Token}
+use Rattle.json.specs.Written.{Written}
 use Rattle.garde_tape.specs.Reading.{item_list}
 
 -- the number in front of a bare value: no form takes it, and no number of TOML is written so
@@ -37,3 +39,8 @@ or_bare None bare = bare
 abbrev pub text_in : Bool → Json → Option (List ℕ)
 text_in false j = as_str j
 text_in true j = or_bare (as_str j) (bare_text j)
+
+-- these tokens were written behind those that stood there
+pub record AreWritten (ts : List Token) (old new : Written) : Type 0 where
+  pub before : new.before ≡ old.before
+  pub tokens : new.tokens ≡ old.tokens ++ ts

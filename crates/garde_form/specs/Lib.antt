@@ -1,4 +1,4 @@
 pub mod Bare
-pub mod Lists
+pub mod Members
 pub mod Texts
 pub mod WebForm

@@ -2,7 +2,8 @@
 use Rattle.std.specs.Prelude.{ℕ, ℤ, pos, negsuc, ◌-◌, ◌^◌, ◌==◌, ◌&&◌, Bool, true, false, List, [], ◌∷◌, length, nat_lt, Option, Some, None, if◌then◌else◌, chars, bytes_eq}
 use Rattle.std.specs.Char.{digit_value}
 use Rattle.std.specs.Str.Parse.{true_text, false_text, digits_value, signed_digits_value, without_leading_plus, without_leading_sign}
-use Rattle.garde.specs.Author.{Fault, Visits, found}
+use Rattle.garde.specs.Fields.{Fault}
+use Rattle.garde.specs.Visits.{Visits, found}
 use Rattle.garde_tape.specs.Number.{has_minus}
 use Rattle.garde_schema.specs.Whole.{between, up_to, beyond_fault}
 use Rattle.garde_schema.specs.declared.fault.FormFault.{FormFault}

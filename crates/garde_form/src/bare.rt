@@ -2,8 +2,7 @@
 ghost use Rattle.std.specs.Prelude.{◌≡◌, ◌&&◌, codes, Some, OnOk, option_map};
 ghost use Rattle.json.specs.Find.{as_number};
 ghost use Rattle.json.specs.Tree.{json_tokens};
-ghost use Rattle.garde_form.specs.Bare.{bare, bare_text, is_mark, text_in};
-ghost use Rattle.garde_form.specs.WebForm.{AreWritten};
+ghost use Rattle.garde_form.specs.Bare.{AreWritten, bare, bare_text, is_mark, text_in};
 
 use crate::parse::Parse;
 use crate::parsed::text_of;

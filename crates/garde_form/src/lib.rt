@@ -5,11 +5,14 @@
 mod bare;
 mod character;
 mod flag;
+mod lists;
+mod members;
 mod numbers;
 mod or_empty;
 mod parse;
 mod parsed;
 mod put;
+mod reading;
 mod web_form;
 
 pub use bare::write_bare;
@@ -17,4 +20,5 @@ pub use character::Character;
 pub use or_empty::OrEmpty;
 pub use parse::Parse;
 pub use parsed::Parsed;
-pub use web_form::{form_to_json, form_to_json_with_lists};
+pub use reading::read_form;
+pub use web_form::{FormField, form_fields};

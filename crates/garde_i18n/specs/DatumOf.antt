@@ -2,13 +2,31 @@
 use Rattle.std.specs.Prelude.{ℕ, List, [], ◌∷◌, Option, None, Some}
 use Rattle.std.specs.Borrow.{Bor}
 use Rattle.std.specs.Fmt.{decimal}
-use Rattle.garde_i18n.specs.CodeText.{Code}
-use Rattle.garde_i18n.specs.Datum.{Datum, length_lower, length_greater, range_lower, range_greater, card, pattern, contains, url, prefix, suffix, phone, ip, matches, not_ascii, not_alphanumeric, not_set}
+use Rattle.garde_i18n.specs.Datum.{Code, Datum, length_lower, length_greater, range_lower, range_greater, card, pattern, contains, url, prefix, suffix, phone, ip, matches, not_ascii, not_alphanumeric, not_set, named}
 use Rattle.garde_i18n.specs.declared.datum.Code as coded
 use Rattle.garde_i18n.specs.declared.datum.Datum as found
 use Rattle.garde_i18n.specs.declared.datum.Datum.TheVariants as kind
+use Rattle.garde_i18n.specs.declared.datum.Named as brought
 use Rattle.garde_i18n.specs.declared.datum.Value as printed
 use Rattle.garde_i18n.specs.declared.datum.Value.TheVariants as value
+
+-- a value as it is printed: a number in decimal, a text as it is
+abbrev pub value_text : printed.Value → List ℕ
+value_text (value.Number n) = decimal n
+value_text (value.Text s) = s.now
+
+-- a parameter, if there is one: its name and its value
+abbrev pub params_of : Option (Bor (List ℕ) × printed.Value) → List (List ℕ × List ℕ)
+params_of None = []
+params_of (Some p) = (p.0.now, value_text p.1) ∷ []
+
+-- a code and its parameter
+abbrev pub code_of : coded.Code → Code
+code_of c = (c.name.now, params_of c.param)
+
+-- what a rule found that has no method of its own
+abbrev pub named_of : brought.Named → Datum
+named_of fault = named (code_of fault.code) fault.english.now
 
 -- a text is the list of its bytes
 abbrev pub datum_of : found.Datum → Datum
@@ -28,17 +46,4 @@ datum_of (kind.MatchesFieldMismatch field) = matches field.now
 datum_of kind.AsciiInvalid = not_ascii
 datum_of kind.AlphanumericInvalid = not_alphanumeric
 datum_of kind.RequiredNotSet = not_set
-
--- a value as it is printed: a number in decimal, a text as it is
-abbrev pub value_text : printed.Value → List ℕ
-value_text (value.Number n) = decimal n
-value_text (value.Text s) = s.now
-
--- a parameter, if there is one: its name and its value
-abbrev pub params_of : Option (Bor (List ℕ) × printed.Value) → List (List ℕ × List ℕ)
-params_of None = []
-params_of (Some p) = (p.0.now, value_text p.1) ∷ []
-
--- a code and its parameter
-abbrev pub code_of : coded.Code → Code
-code_of c = (c.name.now, params_of c.param)
+datum_of (kind.Named fault) = named_of fault

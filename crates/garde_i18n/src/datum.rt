@@ -41,10 +41,13 @@ pub enum Datum<'a> {
     AlphanumericInvalid,
     /// A value that must be there is missing.
     RequiredNotSet,
+    /// What a rule found that has no method of its own.
+    Named(Named<'a>),
 }
 
 impl<'a> Datum<'a> {
-    /// The code of the datum: the name of its method, and its argument as a parameter.
+    /// The code of the datum: the name of its method, and its argument as a parameter; or the code
+    /// that it brings.
     pub fn code(self) -> Code<'a>
         ensures { code_of result ≡ datum_code (datum_of self.entry) }
     {
@@ -74,9 +77,22 @@ impl<'a> Datum<'a> {
             Datum::AsciiInvalid => ("ascii_invalid", None),
             Datum::AlphanumericInvalid => ("alphanumeric_invalid", None),
             Datum::RequiredNotSet => ("required_not_set", None),
+            Datum::Named(fault) => return fault.code,
         };
         Code { name, param }
     }
+}
+
+/// What a rule found that has no method of its own: one that the Rust crate does not have, or a
+/// user-defined one.
+///
+/// A handler words it by its code. One that does not know the code gives the text in English.
+#[derive(Clone, Copy)]
+pub struct Named<'a> {
+    /// The code, and the parameter, if there is one.
+    pub code: Code<'a>,
+    /// The text in English.
+    pub english: &'a str,
 }
 
 /// A code for a program, and its parameter, if there is one: a name and a value.

@@ -4,7 +4,7 @@ ghost use Rattle.std.specs.Cow.{cow_str_bytes};
 ghost use Rattle.garde_i18n.specs.Datum as datum;
 ghost use Rattle.garde_i18n.specs.DatumOf.{datum_of};
 
-use crate::datum::Datum;
+use crate::datum::{Datum, Named};
 use crate::handler::I18n;
 use crate::reasons::{InvalidCreditCard, InvalidPhoneNumber, InvalidUrl, IpKind};
 use std::alloc::{AllocError, Global};
@@ -48,6 +48,7 @@ impl<T: I18n> Texts for &T {
             Datum::AsciiInvalid => handler.ascii_invalid(alloc),
             Datum::AlphanumericInvalid => handler.alphanumeric_invalid(alloc),
             Datum::RequiredNotSet => handler.required_not_set(alloc),
+            Datum::Named(fault) => handler.named(alloc, fault),
         }
     }
 }
@@ -157,5 +158,9 @@ impl<T: Texts> I18n for T {
         ensures given { T.borrowed self.now datum.not_set → IsOk result }
     {
         self.text_of(alloc, Datum::RequiredNotSet)
+    }
+
+    fn named(&self, alloc: Global, fault: Named<'_>) -> Result<CowStr<'static>, AllocError> {
+        self.text_of(alloc, Datum::Named(fault))
     }
 }

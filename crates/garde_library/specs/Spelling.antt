@@ -4,7 +4,8 @@ use Rattle.std.specs.Prelude.{◌≡◌, ℕ, ℤ, pos, negsuc, ◌-◌, ◌^◌
 use Rattle.std.specs.Str.{bytes_eq}
 use Rattle.json.specs.Json.{Json}
 use Rattle.json.specs.Find.{as_bool, as_number, as_object, as_str, is_null}
-use Rattle.garde.specs.Author.{Visits, Fault, none, found, ◌and◌, under, key_part}
+use Rattle.garde.specs.Fields.{Fault, key_part}
+use Rattle.garde.specs.Visits.{Visits, none, found, ◌and◌, under}
 use Rattle.garde.specs.Validated.{IsValid}
 use Rattle.garde_tape.specs.Input.{without_mark}
 use Rattle.garde_tape.specs.Look.{find_answer, kind_of}
@@ -152,21 +153,27 @@ or_null one = record {
   visits = λ texts j. nullable_visits (one.visits texts j) (is_null j);
 }
 
--- a list, and one under rules of how many items it has
+-- a list
 abbrev pub a_list : {A : Type 0} → Spelling A → Spelling (List A)
 a_list item = record {
   value = λ j. option_and_then (λ js. all_values (λ x. item.value x) js) (list_of j);
   visits = λ texts j. formed (texts (Wrong wanted.List (kind_of j))) (λ js. each_item (λ x. item.visits texts x) js) (list_of j);
 }
 
-abbrev pub a_list_of : {A : Type 0} → (ℕ → Visits) → Spelling A → Spelling (List A)
-a_list_of asks item = record {
+-- The same under rules of how many items it has. They ask nothing of its values: `none` for each rule.
+abbrev pub a_list_under : {A : Type 0} → (ℕ → Visits) → Visits → Spelling A → Spelling (List A)
+a_list_under asks nothing item = record {
   value = λ j. (a_list item).value j;
   visits = λ texts j. formed (texts (Wrong wanted.List (kind_of j)))
-      (λ js. asks (length js) and each_item (λ x. item.visits texts x) js) (list_of j);
+      (λ js. (asks (length js) and each_item (λ x. item.visits texts x) js)
+      and rules_on_value (λ _. nothing) (all_values (λ x. item.value x) js)) (list_of j);
 }
 
--- an object of any names, in the order of the text, and one under rules of how many members it has
+-- under one rule
+abbrev pub a_list_of : {A : Type 0} → (ℕ → Visits) → Spelling A → Spelling (List A)
+a_list_of asks item = a_list_under asks none item
+
+-- an object of any names, in the order of the text
 abbrev pub a_map : {A : Type 0} → Spelling A → Spelling (List (List ℕ × A))
 a_map item = record {
   value = λ j. option_and_then (λ ms. all_values (entry_value (λ v. item.value v)) (members_first ms)) (map_of j);
@@ -174,12 +181,18 @@ a_map item = record {
       (λ ms. each_entry texts (λ v. item.visits texts v) (members_first ms)) (map_of j);
 }
 
-abbrev pub a_map_of : {A : Type 0} → (ℕ → Visits) → Spelling A → Spelling (List (List ℕ × A))
-a_map_of asks item = record {
+-- The same under rules of how many members it has. They ask nothing of its names: `none` for each rule.
+abbrev pub a_map_under : {A : Type 0} → (ℕ → Visits) → Visits → Spelling A → Spelling (List (List ℕ × A))
+a_map_under asks nothing item = record {
   value = λ j. (a_map item).value j;
   visits = λ texts j. formed (texts (Wrong wanted.Object (kind_of j)))
-      (λ ms. asks (length ms) and each_entry texts (λ v. item.visits texts v) (members_first ms)) (map_of j);
+      (λ ms. (asks (length ms) and each_entry texts (λ v. item.visits texts v) (members_first ms))
+      and rules_on_value (λ _. nothing) (all_values (entry_value (λ v. item.value v)) (members_first ms))) (map_of j);
 }
+
+-- under one rule
+abbrev pub a_map_of : {A : Type 0} → (ℕ → Visits) → Spelling A → Spelling (List (List ℕ × A))
+a_map_of asks item = a_map_under asks none item
 
 -- a value under rules, which are asked where the value is spelled
 abbrev pub a_ruled : {A : Type 0} → Spelling A → (A → Visits) → Spelling A

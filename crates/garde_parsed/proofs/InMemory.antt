@@ -5,7 +5,7 @@ use Rattle.std.proofs.lemmas.Option.{none-some}
 use Rattle.garde_i18n.specs.Datum.{Datum}
 use Rattle.garde_report.specs.Report.{Entry}
 use Rattle.garde_report.specs.Trace.{Trace}
-use Rattle.garde.specs.Author.{Visits, Visited, Known, none, only, found, may_allocate, ◌and◌}
+use Rattle.garde.specs.Visits.{Visits, Visited, Known, none, only, found, may_allocate, ◌and◌}
 use Rattle.garde.specs.Tree.{nothing, ◌then◌}
 use Rattle.garde.proofs.Author.{visited_as, visited_stop}
 use Rattle.garde_schema.specs.Forms.{formed, refused, Sound}

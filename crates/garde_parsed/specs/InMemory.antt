@@ -2,7 +2,7 @@
 use Rattle.std.specs.Prelude.{ℕ, List}
 use Rattle.json.specs.Json.{Json}
 use Rattle.json.specs.Find.{as_str}
-use Rattle.garde.specs.Author.{Visits}
+use Rattle.garde.specs.Visits.{Visits}
 use Rattle.garde_tape.specs.Look.{kind_of}
 use Rattle.garde_schema.specs.declared.fault.FormFault.TheVariants.{Wrong}
 use Rattle.garde_schema.specs.declared.fault.Wanted.TheVariants as wanted

@@ -1,12 +1,12 @@
 -- Messages, cut at their marks.
-use Rattle.std.proofs.Common.{◌≡◌, ◌<◌, ℕ, ◌+◌, List, [], ◌∷◌, ◌++◌, length, Option, Some, None, MatchOption, Bor, All, false, refl, arith, ap, ap₂, sym, ◌∙◌}
+use Rattle.std.proofs.Common.{◌≡◌, ℕ, ◌+◌, List, [], ◌∷◌, ◌++◌, length, Option, Some, None, MatchOption, Bor, All, refl, arith, ap, ap₂, sym, ◌∙◌}
 use Rattle.std.specs.List.{slice_split, onto_first, position_or_len}
 use Rattle.std.proofs.Math.ListN.{length-drop}
 use Rattle.std.proofs.lemmas.List.Elements.{All-head, All-tail}
 use Rattle.std.proofs.lemmas.List.Splits.{slice_split_at, slice_split-cons_no, slice_split_first, slice_split_none}
 use Rattle.std.proofs.lemmas.List.Sums.{fails_before_first}
 use Rattle.std.proofs.lemmas.Str.Pattern.{IsSplitOnceResult, split_once_first}
-use Rattle.garde_problem.specs.Coded.{Param, Parts, is_mark, params_text, coded_text, pairs, params_in, custom, parts_of, IsCut}
+use Rattle.garde_problem.specs.Coded.{Param, is_mark, params_text, coded_text, pairs, params_in, custom, parts_of, IsCut}
 use Rattle.garde_problem.specs.Laws.{IsUnmarked, CodedMessagesAreRead, OtherMessagesAreCustom}
 
 -- what `split_once` at a mark gives

@@ -1,5 +1,6 @@
 //! A path as a JSON Pointer.
-ghost use Rattle.std.specs.Prelude.{◌∷◌, Some};
+ghost use Rattle.std.specs.Prelude.{◌≡◌, ◌∷◌, Some};
+ghost use Rattle.std.specs.Bool.{OnTrue};
 ghost use Rattle.std.specs.Char.{encode_utf8};
 ghost use Rattle.std.specs.Fmt.{WritesOnOk};
 ghost use Rattle.garde_problem.specs.Pointer.{path_pointer, token};
@@ -41,8 +42,31 @@ fn write_pointer<W: fmt::Write>(
     Ok(())
 }
 
-// Writes a text as a token of a pointer.
+// Writes a text as a token of a pointer. Most texts are their own tokens.
 fn write_token<W: fmt::Write>(text: &str, f: &mut fmt::Formatter<W>) -> fmt::Result
+    ensures { WritesOnOk W.write_str_gives f.old result (token text.now) f.new }
+{
+    if is_plain(text.as_bytes()) {
+        f.write_str(text)
+    } else {
+        write_chars(text, f)
+    }
+}
+
+// Whether a text has neither `~` nor `/`, so that it is its own token.
+fn is_plain(text: &[u8]) -> bool
+    ensures { OnTrue result (token text.now ≡ text.now) }
+{
+    for &byte in text {
+        if byte == b'~' || byte == b'/' {
+            return false;
+        }
+    }
+    true
+}
+
+// Writes the token of a text character by character.
+fn write_chars<W: fmt::Write>(text: &str, f: &mut fmt::Formatter<W>) -> fmt::Result
     ensures { WritesOnOk W.write_str_gives f.old result (token text.now) f.new }
 {
     for c in text.chars() {

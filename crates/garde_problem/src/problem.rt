@@ -14,6 +14,9 @@ use garde_report::{Error, Path, Report};
 use json::Writer;
 use std::alloc::{AllocError, Global};
 
+/// How many bytes of text a fault has that is not long, and what stands around all of them.
+const FAULT: usize = 160;
+
 /// What a client of an HTTP API reads of a request as a whole: the members of RFC 9457, section 3.1.
 /// `title` and `status` are always written, the others where they are given.
 #[derive(Clone, Copy, Debug)]
@@ -44,7 +47,8 @@ pub fn problem_to_json_text(
     ensures { IfOk result (λ text. string_bytes text
         ≡ json_text (problem_json problem.now report.now)) }
 {
-    let mut out = Writer::new(Vec::new(alloc));
+    let room = report.len().saturating_mul(FAULT).saturating_add(FAULT);
+    let mut out = Writer::new(Vec::with_capacity(alloc, room)?);
     write_problem(alloc, report, problem, &mut out)?;
     match String::from_utf8(out.into_inner()) {
         Ok(text) => Ok(text),
@@ -80,24 +84,27 @@ fn write_faults(alloc: Global, report: &Report, out: &mut Writer) -> Result<(), 
         out.old out.new) }
 {
     out.begin_array()?;
+    let mut pointer = String::new(alloc);
     for (path, error) in report.iter() {
-        write_fault(alloc, path, error, out)?;
+        write_fault(alloc, path, error, &mut pointer, out)?;
     }
     out.end_array()?;
     Ok(())
 }
 
+// Writes a fault. Its pointer is made in a text that is kept for the next one.
 fn write_fault(
     alloc: Global,
     path: &Path,
     error: &Error,
+    pointer: &mut String,
     out: &mut Writer,
 ) -> Result<(), AllocError>
     ensures { OnOk result (AreWritten (json_tokens (fault_json (path.now, error.now)))
         out.old out.new) }
 {
     out.begin_object()?;
-    write_pointer(alloc, path, out)?;
+    write_pointer(alloc, path, pointer, out)?;
     write_message(&Coded::of(error.message()), out)?;
     out.end_object()?;
     Ok(())
@@ -128,11 +135,17 @@ fn write_params(mut params: Params<'_>, out: &mut Writer) -> Result<(), AllocErr
     Ok(())
 }
 
-fn write_pointer(alloc: Global, path: &Path, out: &mut Writer) -> Result<(), AllocError>
+fn write_pointer(
+    alloc: Global,
+    path: &Path,
+    pointer: &mut String,
+    out: &mut Writer,
+) -> Result<(), AllocError>
     ensures { OnOk result (AreWritten
         (key (codes "pointer") ∷ string (path_pointer path.now) ∷ []) out.old out.new) }
 {
-    let pointer = JsonPointer(alloc, path).to_string(alloc)?;
+    pointer.clear();
+    write!(pointer, "{}", JsonPointer(alloc, path))?;
     write_member("pointer", pointer.as_str(), out)
 }
 

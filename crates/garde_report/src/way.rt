@@ -1,32 +1,35 @@
 //! A stack whose first items lie in the value itself.
-ghost use Rattle.std.specs.Prelude.{◌≡◌, ◌-◌, ◌<◌, ◌≤◌, [], ◌∷◌, ◌++◌, length, take, vec_len, vec_capacity, OnOk, OnErr};
-ghost use Rattle.garde_report.specs.Way.{way_items, IsWay};
+ghost use Rattle.std.specs.Prelude.{◌≡◌, ◌-◌, ◌<◌, ◌≤◌, [], ◌∷◌, ◌++◌, length, take, slice_index_or, OnOk, OnErr};
 
+use crate::error::Component;
 use std::alloc::{AllocError, Global};
 use std::marker::Model;
 
-/// A stack that allocates only if it has more than 8 items.
-pub(crate) struct Way<T> {
+/// A stack of components that allocates only if it has more than 8 of them.
+pub(crate) struct Way<'a> {
     depth: usize,
-    // The first items, of which the first `depth` count where there are at most 8.
-    near: [T; 8],
-    // Where there are more than 8 items, they stand here first. Behind them may stand some that
-    // were taken off the stack, so that taking one is a subtraction.
-    far: Vec<T>,
+    // The first items, of which the first `depth` count.
+    near: [Component<'a>; 8],
+    // The items behind them. The last ones may have been taken off the stack, so that taking one is
+    // a subtraction.
+    far: Vec<Component<'a>>,
 }
 
-impl<T> Model for Way<T> {
-    ghost use Rattle.std.specs.Prelude.{List};
-    ghost use Rattle.garde_report.specs.Way.{way_items, IsWay};
+impl<'a> Model for Way<'a> {
+    ghost use Rattle.std.specs.Prelude.{◌≡◌, ◌+◌, ◌≤◌, List, ◌++◌, length, take};
+    ghost use Rattle.garde_report.specs.declared.error.component.Component.{Component};
 
-    ghost Value = { List T };
+    ghost Value = { List Component };
 
-    ghost view = { λ w. way_items w.depth w.near w.far.items };
+    ghost view = { λ w. take w.depth (w.near ++ w.far.items) };
 
-    ghost invariant = { λ w. IsWay w.depth w.near w.far.items };
+    ghost invariant = { λ w. record {
+      room : length w.near ≡ 8;
+      all : w.depth ≤ 8 + length w.far.items;
+    } };
 }
 
-impl<T: Drop> Drop for Way<T> {
+impl<'a> Drop for Way<'a> {
     fn drop(self) {
         let Way {
             depth: _,
@@ -36,15 +39,15 @@ impl<T: Drop> Drop for Way<T> {
     }
 }
 
-impl<T: Copy> Way<T> {
-    /// A stack without an item. `blank` stands where an item is missing.
+impl<'a> Way<'a> {
+    /// The stack without an item.
     #[inline]
-    pub(crate) fn new(alloc: Global, blank: T) -> Self
+    pub(crate) fn new(alloc: Global) -> Self
         ensures { result ≡ [] }
     {
         Way {
             depth: 0,
-            near: [blank; 8],
+            near: [Component::unnamed(); 8],
             far: Vec::new(alloc),
         }
     }
@@ -57,35 +60,34 @@ impl<T: Copy> Way<T> {
         self.depth
     }
 
-    /// The items.
-    #[inline]
-    pub(crate) fn as_slice(&self) -> &[T]
-        ensures { result.now ≡ self.now }
+    /// The item with this number, counted from 0 at the first one.
+    pub(crate) fn at(&self, index: usize) -> Component<'a>
+        requires { index < length self.now }
+        ensures { result ≡ slice_index_or self.now index result }
     {
-        if self.depth > 8 {
-            &self.far[..self.depth]
+        if index < 8 {
+            self.near[index]
         } else {
-            &self.near[..self.depth]
+            self.far[index - 8]
         }
     }
 
     /// Puts an item on the stack. With fewer than 8 items this allocates nothing. When memory runs
     /// out, the stack stays as it was.
     #[inline(always)]
-    pub(crate) fn push(&mut self, item: T) -> Result<(), AllocError>
-        ensures ok { OnOk result (self.new ≡ self.old ++ item ∷ []) }
+    #[tactic(auto, using(crate::proofs::Ways::near_push, crate::proofs::Ways::far_push, crate::proofs::Ways::far_kept))]
+    pub(crate) fn push(&mut self, item: Component<'a>) -> Result<(), AllocError>
+        ensures ok { OnOk result (self.new ≡ self.old ++ item.entry ∷ []) }
         ensures err { OnErr result (self.new ≡ self.old) }
         ensures full { OnErr result (8 ≤ length self.old) }
     {
         let depth = self.depth;
         if depth < 8 {
             self.near[depth] = item;
-            self.depth = depth + 1;
         } else {
-            make_room(depth, &self.near, &mut self.far)?;
-            self.far.push_reserved(item);
-            self.depth = self.far.len();
+            push_far(&mut self.far, depth - 8, item)?;
         }
+        self.depth = depth + 1;
         Ok(())
     }
 
@@ -99,34 +101,17 @@ impl<T: Copy> Way<T> {
     }
 }
 
-// Puts all items where the far ones are, and nothing behind them, with room for one more. There are 8
-// at least.
+// Puts an item behind the first `kept` of the far ones.
 #[inline(never)]
-#[tactic(auto, using(crate::proofs::FarItems::first_kept))]
-fn make_room<T: Copy>(depth: usize, near: &[T; 8], far: &mut Vec<T>) -> Result<(), AllocError>
-    requires full { 8 ≤ depth }
-    requires way { IsWay depth near.now far.old.items }
-    ensures ok { OnOk result (far.new.items ≡ way_items depth near.now far.old.items) }
-    ensures first { OnOk result (take 8 far.new.items ≡ near.now) }
-    ensures all { OnOk result (length far.new.items ≡ depth) }
-    ensures room { OnOk result (vec_len far.new < vec_capacity far.new) }
-    ensures way { OnErr result (IsWay depth near.now far.new.items) }
-    ensures same { OnErr result (way_items depth near.now far.new.items
-        ≡ way_items depth near.now far.old.items) }
+fn push_far<'a>(
+    far: &mut Vec<Component<'a>>,
+    kept: usize,
+    item: Component<'a>,
+) -> Result<(), AllocError>
+    ensures ok { OnOk result (far.new.items ≡ take kept far.old.items ++ item.entry ∷ []) }
+    ensures err { OnErr result (far.new.items ≡ take kept far.old.items) }
 {
-    if depth == 8 {
-        return copy_near(near, far);
-    }
-    far.truncate(depth);
-    far.reserve(1)
-}
-
-// Puts the near items where the far ones are, with room for one more.
-fn copy_near<T: Copy>(near: &[T; 8], far: &mut Vec<T>) -> Result<(), AllocError>
-    ensures ok { OnOk result (far.new.items ≡ near.now) }
-    ensures room { OnOk result (vec_len far.new < vec_capacity far.new) }
-{
-    far.clear();
-    far.extend_from_slice(near)?;
-    far.reserve(1)
+    far.truncate(kept);
+    far.push(item)?;
+    Ok(())
 }

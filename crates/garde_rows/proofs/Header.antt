@@ -9,7 +9,7 @@ use Rattle.garde_report.specs.Part.{key_part}
 use Rattle.garde_report.specs.Report.{Entry}
 use Rattle.garde_report.specs.Trace.{Trace}
 use Rattle.garde_tape.specs.Look.{find_answer}
-use Rattle.garde.specs.Author.{Visits, Visited, none, under}
+use Rattle.garde.specs.Visits.{Visits, Visited, none, under}
 use Rattle.garde.proofs.Author.{visited_none, visited_then, visited_stop}
 use Rattle.garde_schema.specs.Forms.{FormTexts}
 use Rattle.garde_schema.specs.Members.{member_visits}

@@ -4,7 +4,7 @@ use Rattle.std.specs.Prelude.{IfOk, if◌then◌else◌}
 use Rattle.json.specs.Json.{Json}
 use Rattle.garde_i18n.specs.Datum.{Datum}
 use Rattle.garde.specs.Answers.{Answers}
-use Rattle.garde.specs.Author.{Visits}
+use Rattle.garde.specs.Visits.{Visits}
 use Rattle.garde.specs.declared.validate_error.ValidateError.{ValidateError}
 use Rattle.garde.specs.declared.validate_error.ValidateError.TheVariants as errors
 use Rattle.garde_rows.specs.Rows.{AnswersRow}

@@ -1,5 +1,5 @@
 -- Rows that are whole and others, under their index.
-use Rattle.std.proofs.Common.{◌≡◌, ◌≤◌, ℕ, Bool, true, false, List, Option, Some, None, Result, Ok, Err, IsErr, length, codes, refl, sym, subst, ◌∙◌}
+use Rattle.std.proofs.Common.{◌≡◌, ◌≤◌, ℕ, Bool, true, false, List, Option, Some, None, Result, Ok, Err, IsErr, length, refl, sym, subst, ◌∙◌}
 use Rattle.std.proofs.lemmas.Bool.{false≢true}
 use Rattle.std.specs.Prelude.{IfOk, IsOkAnd, OnOk, if◌then◌else◌}
 use Rattle.garde_i18n.specs.Datum.{Datum}
@@ -10,9 +10,11 @@ use Rattle.garde_report.specs.Trace.{Trace, IsTrace, with_component, without_las
 use Rattle.garde_report.specs.declared.error.rule_error.RuleError.{RuleError}
 use Rattle.garde_report.specs.declared.error.rule_error.RuleError.TheVariants as errors
 use Rattle.garde_rules.specs.{Applies}
-use Rattle.garde.specs.Author.{Visits, Visited, Known, found, own, under}
+use Rattle.garde.specs.Fields.{own}
+use Rattle.garde.specs.Visits.{Visits, Visited, Known, found, under}
 use Rattle.garde.proofs.Author.{visited_full, visited_under}
-use Rattle.garde_schema.specs.Forms.{forget, refused, Sound}
+use Rattle.garde_schema.specs.declared.fault.FormFault.TheVariants.{RowLength}
+use Rattle.garde_schema.specs.Forms.{FormTexts, forget, refused, Sound}
 use Rattle.garde_rows.specs.Rows.{if_whole}
 
 -- the answer of a rule whose fault has a text of its own
@@ -27,18 +29,18 @@ unfolding Known found
 refused_is_fault message is = cc
 
 -- a row that is whole is as sound as its form, and another one has a fault
-pub sound_whole : {A B E : Type 0} (r : Result B E) (whole : Bool) (visits : Visits) (keeps : A → Type 0) (value : Option A) → whole ≡ true → OnOk r (Sound visits keeps value) → OnOk r (Sound (if_whole whole visits) keeps (if whole then value else None))
-sound_whole r whole visits keeps value is sound = subst (λ b. OnOk r (Sound (if_whole b visits) keeps (if b then value else None))) (sym is) sound
+pub sound_whole : {A B E : Type 0} (r : Result B E) (texts : FormTexts) (whole : Bool) (visits : Visits) (keeps : A → Type 0) (value : Option A) → whole ≡ true → OnOk r (Sound visits keeps value) → OnOk r (Sound (if_whole texts whole visits) keeps (if whole then value else None))
+sound_whole r texts whole visits keeps value is sound = subst (λ b. OnOk r (Sound (if_whole texts b visits) keeps (if b then value else None))) (sym is) sound
 
-pub sound_other : {A : Type 0} (whole : Bool) (visits : Visits) (keeps : A → Type 0) (value : Option A) → whole ≡ false → Sound (if_whole whole visits) keeps (if whole then value else None)
-sound_other whole visits keeps value is = subst (λ b. Sound (if_whole b visits) keeps (if b then value else None)) (sym is) (refused_is_fault (codes "not as many fields as in the header"))
+pub sound_other : {A : Type 0} (texts : FormTexts) (whole : Bool) (visits : Visits) (keeps : A → Type 0) (value : Option A) → whole ≡ false → Sound (if_whole texts whole visits) keeps (if whole then value else None)
+sound_other texts whole visits keeps value is = subst (λ b. Sound (if_whole texts b visits) keeps (if b then value else None)) (sym is) (refused_is_fault (texts RowLength))
 
 module _ {text : Datum → List ℕ} {E : Type 0} where
-  pub told_whole : (whole : Bool) (visits : Visits) {before after : Trace} {old new : List Entry} {result : Result Unit E} → whole ≡ true → Visited visits text before after old new result → Visited (if_whole whole visits) text before after old new result
-  told_whole whole visits {before} {after} {old} {new} {result} is told = subst (λ b. Visited (if_whole b visits) text before after old new result) (sym is) told
+  pub told_whole : (texts : FormTexts) (whole : Bool) (visits : Visits) {before after : Trace} {old new : List Entry} {result : Result Unit E} → whole ≡ true → Visited visits text before after old new result → Visited (if_whole texts whole visits) text before after old new result
+  told_whole texts whole visits {before} {after} {old} {new} {result} is told = subst (λ b. Visited (if_whole texts b visits) text before after old new result) (sym is) told
 
-  pub told_other : (whole : Bool) (visits : Visits) {before after : Trace} {old new : List Entry} {result : Result Unit E} → whole ≡ false → Visited (refused (codes "not as many fields as in the header")) text before after old new result → Visited (if_whole whole visits) text before after old new result
-  told_other whole visits {before} {after} {old} {new} {result} is told = subst (λ b. Visited (if_whole b visits) text before after old new result) (sym is) told
+  pub told_other : (texts : FormTexts) (whole : Bool) (visits : Visits) {before after : Trace} {old new : List Entry} {result : Result Unit E} → whole ≡ false → Visited (refused (texts RowLength)) text before after old new result → Visited (if_whole texts whole visits) text before after old new result
+  told_other texts whole visits {before} {after} {old} {new} {result} is told = subst (λ b. Visited (if_whole texts b visits) text before after old new result) (sym is) told
 
   -- under a component, which is this one
   pub told_under : (k : Part) {p : Part} (a : Visits) {before inner mid after : Trace} {old new : List Entry} {result : Result Unit E} → p ≡ k → IsTrace before → inner ≡ with_component before p → Visited a text inner mid old new result → after ≡ without_last mid → Visited (under k a) text before after old new result

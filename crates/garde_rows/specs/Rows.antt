@@ -1,5 +1,5 @@
 -- What a table of columns and rows spells, and what is asked of it.
-use Rattle.std.specs.Prelude.{◌==◌, ⊤, ℕ, List, [], ◌∷◌, length, zip, codes, Bool, true, false, Result, Ok, Err}
+use Rattle.std.specs.Prelude.{◌==◌, ⊤, ℕ, List, [], ◌∷◌, length, zip, Bool, true, false, Result, Ok, Err}
 use Rattle.std.specs.Borrow.{Bor}
 use Rattle.std.specs.List.{list_any}
 use Rattle.std.specs.Str.{bytes_eq}
@@ -8,9 +8,10 @@ use Rattle.garde_i18n.specs.Datum.{Datum}
 use Rattle.garde_report.specs.Part.{index_part, key_part}
 use Rattle.garde_tape.specs.Look.{find_answer}
 use Rattle.garde.specs.Answers.{Answers}
-use Rattle.garde.specs.Author.{Visits, none, ◌and◌, under}
+use Rattle.garde.specs.Visits.{Visits, none, ◌and◌, under}
 use Rattle.garde.specs.declared.validate_error.ValidateError.{ValidateError}
 use Rattle.garde.specs.declared.validate_error.ValidateError.TheVariants as errors
+use Rattle.garde_schema.specs.declared.fault.FormFault.TheVariants.{RowLength}
 use Rattle.garde_schema.specs.Forms.{FormTexts, refused}
 use Rattle.garde_schema.specs.Members.{member_visits, members_in, unknown}
 
@@ -28,13 +29,14 @@ abbrev pub is_whole : List (List ℕ) → List (List ℕ) → Bool
 is_whole columns cells = length cells == length columns
 
 -- what is asked of a row that is whole; of another one, that it is
-abbrev pub if_whole : Bool → Visits → Visits
-if_whole true visits = visits
-if_whole false visits = refused (codes "not as many fields as in the header")
+abbrev pub if_whole : FormTexts → Bool → Visits → Visits
+if_whole texts true visits = visits
+if_whole texts false visits = refused (texts RowLength)
 
 -- what is asked of the row of this index
-abbrev pub row_visits : ℕ → (Json → Visits) → List (List ℕ) → List (List ℕ) → Visits
-row_visits index visits columns cells = under (index_part index) (if_whole (is_whole columns cells) (visits (row_json columns cells)))
+abbrev pub row_visits : ℕ → FormTexts → (Json → Visits) → List (List ℕ) → List (List ℕ) → Visits
+row_visits index texts visits columns cells =
+    under (index_part index) (if_whole texts (is_whole columns cells) (visits (row_json columns cells)))
 
 -- each of these columns stands in a header once
 unfoldable pub each_known : List (Bor (List ℕ)) → FormTexts → Json → Visits

@@ -34,7 +34,7 @@ pub fn read_row<'a, 'c: 'a, F: Form<'a>, H: I18n + FormI18n>(
     h: &H,
 ) -> Result<F::Out, ValidateError>
     ensures answer { AnswersRow
-        (row_visits index (λ j. F.visits form.now (H.form_text h.now) j) columns.now (fields_of cells.now))
+        (row_visits index (H.form_text h.now) (λ j. F.visits form.now (H.form_text h.now) j) columns.now (fields_of cells.now))
         (H.text h.now) (forget result) }
     ensures whole { IfOk result (λ out. is_whole columns.now (fields_of cells.now) ≡ true) }
     ensures value { IfOk result (λ out. F.value form.now (row_json columns.now (fields_of cells.now)) ≡ Some out) }

@@ -27,11 +27,11 @@ fn read_cells<'t, 'a, F: Form<'a>, H: I18n + FormI18n>(
     report: &mut Report,
     h: &H,
 ) -> Result<Option<F::Out>, AllocError>
-    ensures answer { Visited (if_whole row.now.is_whole (F.visits row.now.form.now (H.form_text h.now) tree.now))
+    ensures answer { Visited (if_whole (H.form_text h.now) row.now.is_whole (F.visits row.now.form.now (H.form_text h.now) tree.now))
         (H.text h.now) trail.old trail.new report.old report.new (forget result) }
     ensures value { IfOk result (λ out. out ≡ (if row.now.is_whole then F.value row.now.form.now tree.now else None)) }
     ensures sound { OnOk result (Sound
-        (if_whole row.now.is_whole (F.visits row.now.form.now (H.form_text h.now) tree.now))
+        (if_whole (H.form_text h.now) row.now.is_whole (F.visits row.now.form.now (H.form_text h.now) tree.now))
         (λ out. F.keeps row.now.form.now out)
         (if row.now.is_whole then F.value row.now.form.now tree.now else None)) }
 {
@@ -49,7 +49,7 @@ impl<'a, 'f, F: Form<'a>> Form<'a> for RowForm<'f, F> {
     type Out = F::Out;
 
     ghost visits = { λ row texts j. under (index_part row.index)
-        (if_whole row.is_whole (F.visits row.form.now texts j)) };
+        (if_whole texts row.is_whole (F.visits row.form.now texts j)) };
 
     ghost value = { λ row j. if row.is_whole then F.value row.form.now j else None };
 

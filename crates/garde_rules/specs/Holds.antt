@@ -1,7 +1,7 @@
 -- When a rule holds, and the fault where it does not.
 use Rattle.std.specs.Prelude.{Bool, true, Option, Some, None, IsSomeAnd, if◌then◌else◌}
 use Rattle.garde_i18n.specs.Datum.{Datum}
-use Rattle.garde_lengths.specs.Applies.{Fault, rule}
+use Rattle.garde_engines.specs.Applies.{Fault, rule}
 
 -- the fault of this datum where the rule does not hold
 abbrev pub unless : Bool → Datum → Option Fault

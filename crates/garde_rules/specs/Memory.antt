@@ -1,7 +1,7 @@
 -- The result of a rule that allocates to find out whether it holds.
 use Rattle.std.specs.Prelude.{◌≡◌, ⊤, ℕ, List, Option, Some, None, Result, Ok, Err, IsSomeAnd}
 use Rattle.garde_i18n.specs.Datum.{Datum}
-use Rattle.garde_lengths.specs.Applies.{Fault, fault_text}
+use Rattle.garde_engines.specs.Applies.{Fault, fault_text}
 use Rattle.garde_report.specs.declared.error.rule_error.RuleError.{RuleError}
 use Rattle.garde_report.specs.declared.error.rule_error.RuleError.TheVariants as errors
 

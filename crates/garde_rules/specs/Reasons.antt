@@ -5,7 +5,7 @@ use Rattle.garde_i18n.specs.declared.reasons.InvalidCreditCard.{InvalidCreditCar
 use Rattle.garde_i18n.specs.declared.reasons.InvalidPhoneNumber.{InvalidPhoneNumber}
 use Rattle.garde_i18n.specs.declared.reasons.InvalidUrl.{InvalidUrl}
 use Rattle.garde_i18n.specs.declared.reasons.InvalidUrl.TheVariants.{Overflow}
-use Rattle.garde_lengths.specs.Applies.{Fault, rule}
+use Rattle.garde_engines.specs.Applies.{Fault, rule}
 
 -- the fault of a value that gave this answer, by the datum of its reason
 abbrev pub reason_fault : {E : Type 0} → (E → Datum) → Result (Unit {0}) E → Option Fault

@@ -1,7 +1,7 @@
 //! Texts of ASCII alone.
 ghost use Rattle.std.specs.Prelude.{◌≡◌, Bool};
 ghost use Rattle.garde_i18n.specs.Datum.{not_ascii};
-ghost use Rattle.garde_lengths.specs.Applies.{Applies};
+ghost use Rattle.garde_engines.specs.Applies.{Applies};
 ghost use Rattle.garde_rules.specs.Holds.{unless, passes_option};
 ghost use Rattle.garde_rules.specs.Text.{is_ascii_text};
 

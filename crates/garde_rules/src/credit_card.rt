@@ -1,7 +1,7 @@
 //! Credit card numbers.
 ghost use Rattle.std.specs.Prelude.{◌≡◌, Result};
 ghost use Rattle.garde_i18n.specs.declared.reasons.InvalidCreditCard.{InvalidCreditCard};
-ghost use Rattle.garde_lengths.specs.Applies.{Applies};
+ghost use Rattle.garde_engines.specs.Applies.{Applies};
 ghost use Rattle.garde_rules.specs.Reasons.{card_fault, option_reason};
 
 use garde_i18n::I18n;

@@ -3,7 +3,7 @@ ghost use Rattle.std.specs.Prelude.{◌≡◌, ◌++◌, ◌↔◌, Bool, IsTrue
 ghost use Rattle.garde_i18n.specs.Datum as datum;
 ghost use Rattle.garde_i18n.specs.Reasons.{ip_kind_text};
 ghost use Rattle.garde_i18n.specs.declared.reasons.IpKind.{IpKind};
-ghost use Rattle.garde_lengths.specs.Applies.{Applies};
+ghost use Rattle.garde_engines.specs.Applies.{Applies};
 ghost use Rattle.garde_engines.specs.Ip.{IsIp};
 ghost use Rattle.garde_engines.specs.IpText.{is_ip_text};
 ghost use Rattle.garde_rules.specs.Holds.{unless, passes_option, refused_option};

@@ -1,7 +1,7 @@
 //! Values that equal another, as a password that is given twice.
 ghost use Rattle.std.specs.Prelude.{◌≡◌, Bool};
 ghost use Rattle.garde_i18n.specs.Datum as datum;
-ghost use Rattle.garde_lengths.specs.Applies.{Applies};
+ghost use Rattle.garde_engines.specs.Applies.{Applies};
 ghost use Rattle.garde_rules.specs.Holds.{unless};
 
 use garde_i18n::I18n;

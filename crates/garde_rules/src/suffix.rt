@@ -1,7 +1,7 @@
 //! Texts that end with a pattern.
 ghost use Rattle.std.specs.Prelude.{◌≡◌, Bool, ℕ, List};
 ghost use Rattle.garde_i18n.specs.Datum as datum;
-ghost use Rattle.garde_lengths.specs.Applies.{Applies};
+ghost use Rattle.garde_engines.specs.Applies.{Applies};
 ghost use Rattle.garde_rules.specs.Holds.{unless, passes_option};
 ghost use Rattle.garde_rules.specs.Text.{has_suffix};
 

@@ -1,26 +1,32 @@
 //! The rules as values, each named as the attribute of the Rust crate's derive that asks for it.
-ghost use Rattle.std.specs.Prelude.{◌≡◌, Option, Some, None, option_map, unwrap_or};
+//!
+//! A rule whose trait has the same name stands here, since a module has each name once. The others
+//! stand beside their traits.
+ghost use Rattle.std.specs.Prelude.{option_map};
 ghost use Rattle.garde_i18n.specs.Datum as datum;
 ghost use Rattle.garde_rules.specs.Holds.{unless};
 ghost use Rattle.garde_rules.specs.Memory.{AppliesInMemory, AppliesIfKnown};
-ghost use Rattle.garde_rules.specs.Range.{range_fault};
 ghost use Rattle.garde_rules.specs.Reasons.{card_fault, phone_fault, url_fault, read_answer};
-ghost use Rattle.garde_lengths.specs.Applies.{Fault, own};
 
 use crate::ip::IpKind;
+pub use crate::memory_rule::MemoryRule;
+pub use crate::multiple_of::MultipleOf;
 use crate::pattern::Matcher;
+pub use crate::range::Range;
+pub use crate::view::{Adapt, View};
+pub use crate::with_message::WithMessage;
 use crate::{
-    adapt, alphanumeric, ascii, contains, credit_card, ip, matches, pattern, phone_number, prefix,
-    range, required, suffix, url,
+    alphanumeric, ascii, contains, credit_card, ip, matches, pattern, phone_number, prefix,
+    required, suffix, url,
 };
+use garde_engines::Rule;
+pub use garde_engines::length::bytes::ByteLength;
+pub use garde_engines::length::chars::CharLength;
+pub use garde_engines::length::graphemes::GraphemeLength;
+pub use garde_engines::length::simple::Length;
+pub use garde_engines::length::utf16::Utf16Length;
 use garde_i18n::I18n;
-use garde_lengths::Rule;
-pub use garde_lengths::length::bytes::ByteLength;
-pub use garde_lengths::length::chars::CharLength;
-pub use garde_lengths::length::graphemes::GraphemeLength;
-pub use garde_lengths::length::simple::Length;
-pub use garde_lengths::length::utf16::Utf16Length;
-use garde_report::{Error, RuleError};
+use garde_report::RuleError;
 use std::alloc::Global;
 
 /// The rule as a value: every byte is below 128.
@@ -131,68 +137,6 @@ impl<T: matches::Matches<O>, O> Rule<T> for Matches<'_, O> {
     }
 }
 
-/// The rule as a value: the value is at least `min` and at most `max`, where they are given.
-#[derive(Clone, Copy, Debug, PartialEq, Eq)]
-pub struct Range<S> {
-    /// The lower bound, if there is one.
-    pub min: Option<S>,
-    /// The upper bound, if there is one.
-    pub max: Option<S>,
-}
-
-impl<S> Range<S> {
-    /// The value is at least `min`.
-    pub const fn min(min: S) -> Range<S>
-        ensures { result ≡ record { min = Some min; max = None } }
-    {
-        let (min, max) = (Some(min), None);
-        Range { min, max }
-    }
-
-    /// The value is at most `max`.
-    pub const fn max(max: S) -> Range<S>
-        ensures { result ≡ record { min = None; max = Some max } }
-    {
-        let (min, max) = (None, Some(max));
-        Range { min, max }
-    }
-
-    /// The value is at least `min` and at most `max`.
-    pub const fn between(min: S, max: S) -> Range<S>
-        ensures { result ≡ record { min = Some min; max = Some max } }
-    {
-        let (min, max) = (Some(min), Some(max));
-        Range { min, max }
-    }
-}
-
-impl<S: Copy> Range<S> {
-    /// The value is just this one.
-    pub const fn equal(value: S) -> Range<S>
-        ensures { result ≡ record { min = Some value; max = Some value } }
-    {
-        let (min, max) = (Some(value), Some(value));
-        Range { min, max }
-    }
-}
-
-impl<T: range::Bounds> Rule<T> for Range<T::Size> {
-    ghost finds = { λ rule v.
-        let lo = unwrap_or rule.min T.MIN in let hi = unwrap_or rule.max T.MAX in
-        range_fault (T.text lo) (T.text hi) (T.answer lo hi v) };
-
-    #[inline]
-    fn holds(&self, value: &T) -> bool {
-        value
-            .validate_bounds(self.min.unwrap_or(T::MIN), self.max.unwrap_or(T::MAX))
-            .is_ok()
-    }
-
-    fn find<H: I18n>(&self, alloc: Global, value: &T, h: &H) -> Result<(), RuleError> {
-        range::apply(alloc, value, (self.min, self.max), h)
-    }
-}
-
 /// The rule as a value: the value is there.
 #[derive(Clone, Copy, Debug, Default, PartialEq, Eq)]
 pub struct Required;
@@ -258,90 +202,6 @@ impl<T: phone_number::PhoneNumber> Rule<T> for PhoneNumber {
 
     fn find<H: I18n>(&self, alloc: Global, value: &T, h: &H) -> Result<(), RuleError> {
         phone_number::apply(alloc, value, (), h)
-    }
-}
-
-/// The rule as a value: this rule holds of the value. What it finds is reported by this message,
-/// which no handler changes.
-///
-/// The handler's text is not used, and yet it is made: where there is no memory for it,
-/// `RuleError::Memory` is returned.
-#[derive(Clone, Copy, Debug)]
-pub struct WithMessage<'a, R>(pub R, pub &'a str);
-
-impl<T, R: Rule<T>> Rule<T> for WithMessage<'_, R> {
-    ghost finds = { λ rule v. option_map (λ _. own rule.1.now) (R.finds rule.0 v) };
-
-    #[inline]
-    fn holds(&self, value: &T) -> bool {
-        self.0.holds(value)
-    }
-
-    fn find<H: I18n>(&self, alloc: Global, value: &T, h: &H) -> Result<(), RuleError> {
-        match self.0.find(alloc, value, h) {
-            Err(RuleError::Fault(_)) => match Error::new(alloc, self.1) {
-                Ok(error) => Err(RuleError::Fault(error)),
-                Err(_) => Err(RuleError::Memory),
-            },
-            answer => answer,
-        }
-    }
-}
-
-/// A view of a `T` as a value of another type, of which a rule can be asked.
-pub trait View<T> {
-    /// The type of the value that is seen.
-    type Seen;
-
-    /// The value that is seen.
-    ghost seen: { Self → T → Self.Seen };
-
-    /// Returns the value that is seen.
-    fn see<'v>(&self, value: &'v T) -> &'v Self::Seen
-        ensures { result.now ≡ seen self.now value.now };
-}
-
-/// The rule as a value: this rule holds of this view of the value.
-#[derive(Clone, Copy, Debug)]
-pub struct Adapt<V, R>(pub V, pub R);
-
-impl<T, V: View<T>, R: Rule<V::Seen>> Rule<T> for Adapt<V, R> {
-    ghost finds = { λ rule v. R.finds rule.1 (V.seen rule.0 v) };
-
-    #[inline]
-    fn holds(&self, value: &T) -> bool {
-        self.1.holds(self.0.see(value))
-    }
-
-    fn find<H: I18n>(&self, alloc: Global, value: &T, h: &H) -> Result<(), RuleError> {
-        adapt(
-            value,
-            |value| self.0.see(value),
-            |seen| self.1.find(alloc, *seen, h),
-        )
-    }
-}
-
-/// A rule as a value that may allocate for its answer, as the search for a pattern does.
-pub trait MemoryRule<T> {
-    /// What the rule finds in a value.
-    ghost finds: { Self → T → Option Fault };
-
-    /// Returns Ok only where the rule finds nothing, and a fault only with the handler's text of
-    /// what it finds. `RuleError::Memory` says nothing of the value.
-    fn find_in_memory<H: I18n>(&self, alloc: Global, value: &T, h: &H) -> Result<(), RuleError>
-        ensures { AppliesInMemory (finds self.now value.now) (H.text h.now) result };
-}
-
-impl<T, V: View<T>, R: MemoryRule<V::Seen>> MemoryRule<T> for Adapt<V, R> {
-    ghost finds = { λ rule v. R.finds rule.1 (V.seen rule.0 v) };
-
-    fn find_in_memory<H: I18n>(&self, alloc: Global, value: &T, h: &H) -> Result<(), RuleError> {
-        adapt(
-            value,
-            |value| self.0.see(value),
-            |seen| self.1.find_in_memory(alloc, *seen, h),
-        )
     }
 }
 

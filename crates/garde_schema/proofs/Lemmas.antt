@@ -11,7 +11,8 @@ use Rattle.json.specs.Json as json
 use Rattle.json.specs.Json.{Json}
 use Rattle.json.specs.Find.{as_object}
 use Rattle.garde_tape.specs.Reading.{member_list}
-use Rattle.garde.specs.Author.{Visits, Visited, Known, none, found, own, ◌and◌, under}
+use Rattle.garde.specs.Fields.{own}
+use Rattle.garde.specs.Visits.{Visits, Visited, Known, none, found, ◌and◌, under}
 use Rattle.garde.proofs.Author.{visited_none, visited_then, visited_stop, visited_under, visited_full}
 use Rattle.garde_report.specs.Fault.{IfFault}
 use Rattle.garde_report.specs.declared.error.rule_error.RuleError.{RuleError}

@@ -9,3 +9,4 @@ mod Maps
 mod Wide
 mod Making
 mod Recursion
+mod AllFaults

@@ -10,7 +10,7 @@ use Rattle.garde_report.specs.Part.{Part, index_part}
 use Rattle.garde_report.specs.Report.{Entry}
 use Rattle.garde_report.specs.Trace.{Trace}
 use Rattle.json.specs.Json.{Json}
-use Rattle.garde.specs.Author.{Visits, Visited, Known, none, only, may_allocate, ◌and◌, under, items, entries}
+use Rattle.garde.specs.Visits.{Visits, Visited, Known, none, only, may_allocate, ◌and◌, under, items, entries}
 use Rattle.garde.specs.Laws.{Any-cons}
 use Rattle.garde.specs.Tree.{Tree, nothing, fault, under as node, ◌then◌}
 use Rattle.garde.proofs.Author.{visited_none, visited_then, visited_stop, visited_as, visited_numbered, is_walked}

@@ -1,7 +1,7 @@
 -- A lemma on values that are made of parts.
 use Rattle.std.proofs.Common.{◌≡◌, Option, Some, None, sym, subst}
 use Rattle.std.specs.Prelude.{option_map}
-use Rattle.garde.specs.Author.{Visits}
+use Rattle.garde.specs.Visits.{Visits}
 use Rattle.garde_schema.specs.Forms.{Sound}
 
 -- what is known of the parts is known of the parts of what is made

@@ -1,6 +1,7 @@
 -- Lemmas on the reading of members of any names.
-use Rattle.std.proofs.Common.{◌≡◌, ℕ, Bool, true, false, List, [], ◌∷◌, length, Option, Some, None, Result, Ok, Err, refl, ap, sym, subst, ◌∙◌, arith}
+use Rattle.std.proofs.Common.{◌≡◌, ℕ, ◌+◌, ◌<◌, ◌≤◌, Bool, true, false, List, [], ◌∷◌, length, map, drop, slice_index_or, Option, Some, None, Result, Ok, Err, refl, ap, sym, subst, ◌∙◌, arith}
 use Rattle.std.proofs.lemmas.Bool.{false≢true}
+use Rattle.std.proofs.lemmas.List.{at_drop_more, drop_all, get_or-map, length-map}
 use Rattle.std.proofs.lemmas.List.Elements.{All-nil, All-cons, All-head, All-tail}
 use Rattle.std.specs.BTreeSet.{BTreeSet, IsEmpty}
 use Rattle.std.specs.BTreeMap.{is_at}
@@ -16,13 +17,13 @@ use Rattle.garde_report.specs.Part.{Part, key_part}
 use Rattle.garde_report.specs.Report.{Entry}
 use Rattle.garde_report.specs.Trace.{Trace}
 use Rattle.json.specs.Json.{Json}
-use Rattle.garde.specs.Author.{Visits, Visited, Known, none, only, may_allocate, ◌and◌, under, entries}
+use Rattle.garde.specs.Visits.{Visits, Visited, Known, none, only, may_allocate, ◌and◌, under, entries}
 use Rattle.garde.specs.Tree.{◌then◌}
 use Rattle.garde.proofs.Author.{visited_stop, visited_as}
 use Rattle.garde_schema.specs.declared.fault.FormFault.TheVariants as faults
 use Rattle.garde_schema.specs.Forms.{FormTexts, forget, formed, refused, Sound}
 use Rattle.garde_schema.specs.Lists.{all_values, with_first, with_last}
-use Rattle.garde_schema.specs.Maps.{has_name, with_name, when_new, first_of_names, members_first, each_entry, entry_value}
+use Rattle.garde_schema.specs.Maps.{has_name, with_name, when_new, first_of_names, members_first, each_entry, entry_value, names_of}
 use Rattle.garde_schema.proofs.Lemmas.{refused_is_fault, told_as}
 use Rattle.garde_schema.proofs.Lists.{values_length, sound_first, refused_memory, more_memory, item_kept, item_refused, entry_then, entry_stop, entry_none}
 
@@ -151,3 +152,21 @@ module _ {text : Datum → List ℕ} {E : Type 0} where
 
   pub members_as : (texts : FormTexts) (each : Json → Visits) (left all : List (List ℕ × Option Json)) {before after : Trace} {old new : List Entry} {result : Result Unit E} → left ≡ all → Visited (each_entry texts each left) text before after old new result → Visited (each_entry texts each all) text before after old new result
   members_as texts each left all {before} {after} {old} {new} {result} is told = subst (λ l. Visited (each_entry texts each l) text before after old new result) is told
+
+-- ---- rules of names
+
+abbrev pub each_name : {A : Type 0} → List (List ℕ × A) → List (List ℕ × List ℕ)
+each_name es = map (λ name. (name, name)) (names_of es)
+
+length-each_name : {A : Type 0} (es : List (List ℕ × A)) → length (each_name es) ≡ length es
+length-each_name es = length-map (names_of es) (λ name. (name, name)) ∙ length-map es (λ e. e.0)
+
+-- the name of this entry is the next one
+pub names_left : {A : Type 0} (es : List (List ℕ × A)) (i : ℕ) {e : List ℕ × A} → e ≡ slice_index_or es i e → i < length es → drop i (each_name es) ≡ (e.0, e.0) ∷ drop (i + 1) (each_name es)
+names_left es i {e} is within =
+    at_drop_more (λ ns. ns) (each_name es) i (e.0, e.0) (omega (arith, within, length-each_name es))
+    ∙ ap (λ n. n ∷ drop (i + 1) (each_name es)) (get_or-map (λ name. (name, name)) (names_of es) i e.0 (e.0, e.0) (omega (arith, within, length-map es (λ x. x.0))) ∙ ap (λ name. (name, name)) (get_or-map (λ x. x.0) es i e e.0 within ∙ ap (λ x. x.0) (sym is)))
+
+-- no name is left
+pub no_names_left : {A : Type 0} (es : List (List ℕ × A)) (i : ℕ) → length es ≤ i → drop i (each_name es) ≡ []
+no_names_left es i past = drop_all i (each_name es) (omega (arith, past, length-each_name es))

@@ -3,7 +3,7 @@ use Rattle.std.proofs.Common.{◌≡◌, ℕ, Bool, true, List, Ok, sym, subst}
 use Rattle.garde_i18n.specs.Datum.{Datum}
 use Rattle.garde_report.specs.Report.{Entry}
 use Rattle.garde_report.specs.Trace.{Trace}
-use Rattle.garde.specs.Author.{Visits, Visited}
+use Rattle.garde.specs.Visits.{Visits, Visited}
 use Rattle.garde.proofs.Author.{visited_none}
 use Rattle.garde_schema.specs.Nulls.{nullable_visits}
 

@@ -6,7 +6,8 @@ use Rattle.json.specs.Json.{Json}
 use Rattle.garde_i18n.specs.Datum.{Datum}
 use Rattle.garde_report.specs.declared.error.rule_error.RuleError.{RuleError}
 use Rattle.garde_report.specs.declared.error.rule_error.RuleError.TheVariants as errors
-use Rattle.garde.specs.Author.{Visits, Known, Fault, found}
+use Rattle.garde.specs.Fields.{Fault}
+use Rattle.garde.specs.Visits.{Visits, Known, found}
 use Rattle.garde_rules.specs.{Applies}
 use Rattle.garde_schema.specs.Bound.{TellsBound}
 use Rattle.garde_schema.specs.Forms.{FormTexts, Sound}

@@ -15,7 +15,7 @@ use Rattle.garde_tape.specs.Reading.{item_list}
 use Rattle.garde_tape.specs.Look.{answer_of, find_answer, times}
 use Rattle.garde_tape.specs.declared.found.Found.{Found}
 use Rattle.garde_tape.specs.declared.found.Found.TheVariants.{Missing, Once, Repeated}
-use Rattle.garde.specs.Author.{Visits, Visited, Known, none, ◌and◌, under}
+use Rattle.garde.specs.Visits.{Visits, Visited, Known, none, ◌and◌, under}
 use Rattle.garde.specs.Nest.{recursive_visits, child_visits}
 use Rattle.garde.proofs.Author.{visited_none, known_level, known_within}
 use Rattle.garde_schema.specs.declared.fault.FormFault.{FormFault}

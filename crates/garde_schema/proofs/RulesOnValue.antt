@@ -4,7 +4,7 @@ use Rattle.std.specs.Result.{IsOk}
 use Rattle.garde_i18n.specs.Datum.{Datum}
 use Rattle.garde_report.specs.Report.{Entry}
 use Rattle.garde_report.specs.Trace.{Trace}
-use Rattle.garde.specs.Author.{Visits, Visited, Known, none, ◌and◌}
+use Rattle.garde.specs.Visits.{Visits, Visited, Known, none, ◌and◌}
 use Rattle.garde.proofs.Author.{visited_none}
 use Rattle.garde_schema.proofs.Lemmas.{read_and}
 use Rattle.garde_schema.specs.RulesOnValue.{rules_on_value}

@@ -5,7 +5,7 @@ use Rattle.garde_i18n.specs.Datum.{Datum}
 use Rattle.garde_report.specs.Part.{Part}
 use Rattle.garde_report.specs.Report.{Entry}
 use Rattle.garde_report.specs.Trace.{Trace}
-use Rattle.garde.specs.Author.{Visits, Visited, Known, under}
+use Rattle.garde.specs.Visits.{Visits, Visited, Known, under}
 use Rattle.garde_schema.specs.declared.fault.FormFault.{FormFault}
 use Rattle.garde_schema.specs.declared.fault.FormFault.TheVariants as faults
 use Rattle.garde_schema.specs.Forms.{formed, refused, Sound, FormTexts}

@@ -1,9 +1,9 @@
 -- The faults of bounds: a number that its type does not hold has such a fault where the number nearest to it has it.
 use Rattle.std.specs.Prelude.{◌≡◌, ⊤, ℕ, List, [], Bool, true, false, Option, Some, None, IsSomeAnd, Result, Ok, Err, codes, if◌then◌else◌}
-use Rattle.garde_i18n.specs.Datum.{Datum, length_lower, length_greater, range_lower, range_greater, card, pattern, contains, url, prefix, suffix, phone, ip, matches, not_ascii, not_alphanumeric, not_set}
+use Rattle.garde_i18n.specs.Datum.{Datum, length_lower, length_greater, range_lower, range_greater, card, pattern, contains, url, prefix, suffix, phone, ip, matches, not_ascii, not_alphanumeric, not_set, named}
 use Rattle.garde_report.specs.declared.error.rule_error.RuleError.{RuleError}
 use Rattle.garde_report.specs.declared.error.rule_error.RuleError.TheVariants as errors
-use Rattle.garde.specs.Author.{Fault, rule, own}
+use Rattle.garde.specs.Fields.{Fault, rule, own}
 use Rattle.garde_rules.specs.{fault_text}
 
 -- whether a datum is that of a bound
@@ -24,6 +24,7 @@ is_bound_datum (matches s) = false
 is_bound_datum not_ascii = false
 is_bound_datum not_alphanumeric = false
 is_bound_datum not_set = false
+is_bound_datum (named code english) = false
 
 -- whether a fault is that of a bound: a message of its own is not
 abbrev pub is_bound : Fault → Bool

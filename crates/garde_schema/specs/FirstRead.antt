@@ -13,6 +13,8 @@ use Rattle.garde.specs.declared.first_error.FirstError.TheVariants as firsts
 use Rattle.garde_schema.specs.Bytes.{OfDocument, NoDocument}
 use Rattle.garde_schema.specs.declared.first_read_error.FirstReadError.{FirstReadError}
 use Rattle.garde_schema.specs.declared.first_read_error.FirstReadError.TheVariants.{Parse, All, First, Memory}
+use Rattle.garde_schema.specs.declared.read_error.ReadError.{ReadError}
+use Rattle.garde_schema.specs.declared.read_error.ReadError.TheVariants as wholes
 
 -- The result. Where the bytes are a JSON text it is that of at most so many faults of its value. `Memory` is the answer of the
 -- parser or of the walk: no reason is promised for it.
@@ -44,3 +46,18 @@ first_read_error_text (Parse error) = parse_error_text error
 first_read_error_text (All report) = report_text report
 first_read_error_text (First report) = report_text report ++ codes "there are more\n"
 first_read_error_text Memory = codes "out of memory"
+
+-- there were more faults than were asked for
+abbrev pub IsFirstRead : Result (Unit {0}) FirstReadError → Type 0
+IsFirstRead (Ok done) = ⊥
+IsFirstRead (Err (Parse error)) = ⊥
+IsFirstRead (Err (All report)) = ⊥
+IsFirstRead (Err (First report)) = ⊤
+IsFirstRead (Err Memory) = ⊥
+
+-- the error of a read that asks for every fault
+abbrev pub whole_read_error : FirstReadError → ReadError
+whole_read_error (Parse error) = wholes.Parse error
+whole_read_error (All report) = wholes.Report report
+whole_read_error (First report) = wholes.Report report
+whole_read_error Memory = wholes.Memory

@@ -1,7 +1,5 @@
--- The texts of the faults of form: in English, and as codes.
-use Rattle.std.specs.Prelude.{ℕ, List, ◌++◌, codes}
-use Rattle.garde_tape.specs.declared.kind.Kind.{Kind}
-use Rattle.garde_tape.specs.declared.kind.Kind.TheVariants as kinds
+-- The texts of the faults of form, in English.
+use Rattle.std.specs.Prelude.{ℕ, List, codes}
 use Rattle.garde_schema.specs.declared.fault.FormFault.{FormFault}
 use Rattle.garde_schema.specs.declared.fault.FormFault.TheVariants as faults
 use Rattle.garde_schema.specs.declared.fault.Wanted.{Wanted}
@@ -50,54 +48,4 @@ default_form_text faults.Missing = codes "missing"
 default_form_text faults.Repeated = codes "repeated"
 default_form_text faults.Unknown = codes "not known here"
 default_form_text faults.NotOneOf = codes "not one of the known values"
-
--- the name of what is wanted
-abbrev pub wanted_code : Wanted → List ℕ
-wanted_code wants.Text = codes "Text"
-wanted_code wants.Whole = codes "Whole"
-wanted_code wants.Boolean = codes "Boolean"
-wanted_code wants.Null = codes "Null"
-wanted_code wants.List = codes "List"
-wanted_code wants.Object = codes "Object"
-wanted_code wants.OneMember = codes "OneMember"
-wanted_code wants.Character = codes "Character"
-wanted_code wants.Date = codes "Date"
-wanted_code wants.Time = codes "Time"
-wanted_code wants.DateTime = codes "DateTime"
-wanted_code wants.Timestamp = codes "Timestamp"
-wanted_code wants.Ipv4 = codes "Ipv4"
-wanted_code wants.Ipv6 = codes "Ipv6"
-wanted_code wants.Uuid = codes "Uuid"
-wanted_code wants.Version = codes "Version"
-wanted_code wants.Url = codes "Url"
-
--- the name of what was found
-abbrev pub kind_code : Kind → List ℕ
-kind_code kinds.Text = codes "Text"
-kind_code kinds.Number = codes "Number"
-kind_code kinds.Boolean = codes "Boolean"
-kind_code kinds.Null = codes "Null"
-kind_code kinds.List = codes "List"
-kind_code kinds.Object = codes "Object"
-
--- the name of a type of whole numbers
-abbrev pub integer_code : Integer → List ℕ
-integer_code integers.U8 = codes "u8"
-integer_code integers.U16 = codes "u16"
-integer_code integers.U32 = codes "u32"
-integer_code integers.U64 = codes "u64"
-integer_code integers.U128 = codes "u128"
-integer_code integers.I8 = codes "i8"
-integer_code integers.I16 = codes "i16"
-integer_code integers.I32 = codes "i32"
-integer_code integers.I64 = codes "i64"
-integer_code integers.I128 = codes "i128"
-
--- the text of a fault of form, as a code: the name of the method, and the name and the value of each argument
-abbrev pub code_form_text : FormFault → List ℕ
-code_form_text (faults.Wrong wanted found) = codes "wrong_form wanted=" ++ (wanted_code wanted ++ (codes " found=" ++ kind_code found))
-code_form_text (faults.OutOfRange integer) = codes "out_of_range of=" ++ integer_code integer
-code_form_text faults.Missing = codes "member_missing"
-code_form_text faults.Repeated = codes "member_repeated"
-code_form_text faults.Unknown = codes "member_unknown"
-code_form_text faults.NotOneOf = codes "value_unknown"
+default_form_text faults.RowLength = codes "not as many fields as in the header"

@@ -1,6 +1,7 @@
 -- What a reading of a tree by a form finds, and what it returns.
 use Rattle.std.specs.Prelude.{ℕ, List, Bool, true, false, Option, Some, None, IfSome, Result, Ok, Err}
-use Rattle.garde.specs.Author.{Visits, Known, found, own}
+use Rattle.garde.specs.Fields.{own}
+use Rattle.garde.specs.Visits.{Visits, Known, found}
 use Rattle.garde_schema.specs.declared.fault.FormFault.{FormFault}
 
 -- the texts of the faults of form

@@ -3,7 +3,7 @@ use Rattle.std.specs.Prelude.{List, [], ◌∷◌, ◌++◌, Option, Some, None,
 use Rattle.json.specs.Json.{Json}
 use Rattle.json.specs.Find.{as_array}
 use Rattle.garde_tape.specs.Reading.{item_list}
-use Rattle.garde.specs.Author.{Visits, items, may_allocate}
+use Rattle.garde.specs.Visits.{Visits, items, may_allocate}
 
 -- the items of a list, where the value is one
 abbrev pub list_of : Json → Option (List Json)

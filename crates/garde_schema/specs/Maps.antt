@@ -1,5 +1,5 @@
 -- The members of an object under any names, and their values.
-use Rattle.std.specs.Prelude.{ℕ, List, [], ◌∷◌, Bool, true, false, cond, Option, Some, None, option_map, option_and_then}
+use Rattle.std.specs.Prelude.{ℕ, List, [], ◌∷◌, map, Bool, true, false, cond, Option, Some, None, option_map, option_and_then}
 use Rattle.std.specs.BTreeSet.{BTreeSet, contains_by}
 use Rattle.std.specs.Borrow.{Bor}
 use Rattle.std.specs.Cmp.Lexicographic.{slice_cmp}
@@ -9,7 +9,7 @@ use Rattle.json.specs.Json.{Json}
 use Rattle.json.specs.Find.{as_object}
 use Rattle.garde_report.specs.Part.{key_part}
 use Rattle.garde_tape.specs.Reading.{member_list}
-use Rattle.garde.specs.Author.{Visits, entries, may_allocate}
+use Rattle.garde.specs.Visits.{Visits, entries, may_allocate}
 use Rattle.garde_schema.specs.declared.fault.FormFault.TheVariants as faults
 use Rattle.garde_schema.specs.Forms.{FormTexts, formed}
 
@@ -44,3 +44,11 @@ each_entry texts each es = entries (λ name. key_part name) (λ v. may_allocate 
 -- the name with the value of the member
 abbrev pub entry_value : {A : Type 0} → (Json → Option A) → List ℕ × Option Json → Option (List ℕ × A)
 entry_value value e = option_map (λ v. (e.0, v)) (option_and_then value e.1)
+
+-- the names of the members
+abbrev pub names_of : {A : Type 0} → List (List ℕ × A) → List (List ℕ)
+names_of es = map (λ e. e.0) es
+
+-- what is asked of each name, under itself
+abbrev pub each_key : (List ℕ → Visits) → List (List ℕ) → Visits
+each_key asks names = entries (λ name. key_part name) asks (map (λ name. (name, name)) names)

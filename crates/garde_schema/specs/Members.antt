@@ -7,7 +7,7 @@ use Rattle.garde_report.specs.Part.{Part, key_part}
 use Rattle.garde_tape.specs.Reading.{member_list}
 use Rattle.garde_tape.specs.declared.found.Found.{Found}
 use Rattle.garde_tape.specs.declared.found.Found.TheVariants.{Missing, Once, Repeated}
-use Rattle.garde.specs.Author.{Visits, none, ◌and◌, under, when}
+use Rattle.garde.specs.Visits.{Visits, none, ◌and◌, under, when}
 use Rattle.garde_schema.specs.declared.fault.FormFault.TheVariants as faults
 use Rattle.garde_schema.specs.Forms.{FormTexts, refused}
 

@@ -9,7 +9,7 @@ use Rattle.garde_report.specs.Part.{key_part}
 use Rattle.garde_tape.specs.Look.{kind_of, find_answer}
 use Rattle.garde_tape.specs.declared.found.Found.{Found}
 use Rattle.garde_tape.specs.declared.found.Found.TheVariants.{Missing, Once, Repeated}
-use Rattle.garde.specs.Author.{Visits, none, ◌and◌, under, when}
+use Rattle.garde.specs.Visits.{Visits, none, ◌and◌, under, when}
 use Rattle.garde.specs.Nest.{recursive_visits}
 use Rattle.garde_schema.specs.declared.fault.FormFault.{FormFault}
 use Rattle.garde_schema.specs.declared.fault.FormFault.TheVariants as faults

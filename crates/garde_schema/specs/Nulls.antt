@@ -2,7 +2,7 @@
 use Rattle.std.specs.Prelude.{◌≡◌, Bool, true, false, Option, Some, None, option_map, unwrap_or, ◌⊎◌}
 use Rattle.json.specs.Json.{Json}
 use Rattle.json.specs.Find.{is_null}
-use Rattle.garde.specs.Author.{Visits, none}
+use Rattle.garde.specs.Visits.{Visits, none}
 use Rattle.garde_tape.specs.declared.found.Found.{Found}
 use Rattle.garde_tape.specs.declared.found.Found.TheVariants.{Missing, Once, Repeated}
 

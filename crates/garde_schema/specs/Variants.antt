@@ -6,7 +6,7 @@ use Rattle.garde_report.specs.Part.{Part, key_part}
 use Rattle.garde_tape.specs.Look.{kind_of}
 use Rattle.garde_tape.specs.declared.found.Found.{Found}
 use Rattle.garde_tape.specs.declared.found.Found.TheVariants.{Missing, Once, Repeated}
-use Rattle.garde.specs.Author.{Visits, under}
+use Rattle.garde.specs.Visits.{Visits, under}
 use Rattle.garde_schema.specs.declared.either.Either.{Either}
 use Rattle.garde_schema.specs.declared.either.Either.TheVariants.{Left, Right}
 use Rattle.garde_schema.specs.declared.fault.FormFault.{FormFault}

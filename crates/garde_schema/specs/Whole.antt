@@ -4,7 +4,8 @@ use Rattle.json.specs.Json.{Json}
 use Rattle.json.specs.Find.{as_number}
 use Rattle.garde_tape.specs.Number.{unsigned_of, signed_of, has_minus, is_whole_text}
 use Rattle.garde_tape.specs.Look.{kind_of}
-use Rattle.garde.specs.Author.{Visits, found, Fault, own}
+use Rattle.garde.specs.Fields.{Fault, own}
+use Rattle.garde.specs.Visits.{Visits, found}
 use Rattle.garde_schema.specs.Forms.{FormTexts}
 use Rattle.garde_schema.specs.declared.fault.FormFault.TheVariants.{Wrong, OutOfRange}
 use Rattle.garde_schema.specs.declared.fault.Wanted.TheVariants as wanted

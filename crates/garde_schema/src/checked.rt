@@ -7,7 +7,7 @@ ghost use Rattle.garde_schema.specs.RulesOnValue.{rules_on_value};
 use crate::form::{Form, Members};
 use crate::handler::FormI18n;
 use crate::put::with;
-use crate::rules::Rules;
+use garde::fields::{Rules, ask_under};
 use garde::{Component, I18n, Report, Trail};
 use garde_tape::Tree;
 use std::alloc::{AllocError, Global};
@@ -109,9 +109,14 @@ impl<T, R: Rules<T>> Rules<T> for Under<R> {
         report: &mut Report,
         h: &H,
     ) -> Result<(), AllocError> {
-        trail.push(Component::key(self.0))?;
-        let told = self.1.ask(alloc, value, trail, report, h);
-        trail.pop();
-        told
+        ask_under(
+            alloc,
+            Component::key(self.0),
+            &self.1,
+            value,
+            trail,
+            report,
+            h,
+        )
     }
 }

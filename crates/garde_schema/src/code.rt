@@ -1,15 +1,28 @@
 //! The faults of form as codes, for a program that reads them.
 ghost use Rattle.std.specs.Prelude.{◌≡◌, IfOk, IsOk};
 ghost use Rattle.std.specs.Cow.{cow_str_bytes};
-ghost use Rattle.garde_schema.specs.declared.fault.FormFault.TheVariants as faults;
-ghost use Rattle.garde_schema.specs.FormText.{code_form_text, wanted_code, kind_code, integer_code};
+ghost use Rattle.garde_schema.specs.FormCode.{code_form_text, form_name, has_no_param, wanted_code, kind_code, integer_code};
 
-use crate::fault::{Integer, Wanted};
+use crate::fault::{FormFault, Integer, Wanted};
 use crate::handler::FormI18n;
 use garde::CodeI18n;
 use garde_tape::Kind;
 use std::alloc::{AllocError, Global};
 use std::borrow::CowStr;
+
+pub(crate) fn name_of_fault(fault: FormFault) -> &'static str
+    ensures { result.now ≡ form_name fault }
+{
+    match fault {
+        FormFault::Wrong(_, _) => "wrong_form",
+        FormFault::OutOfRange(_) => "out_of_range",
+        FormFault::Missing => "member_missing",
+        FormFault::Repeated => "member_repeated",
+        FormFault::Unknown => "member_unknown",
+        FormFault::NotOneOf => "value_unknown",
+        FormFault::RowLength => "row_length",
+    }
+}
 
 pub(crate) fn name_of_wanted(wanted: Wanted) -> &'static str
     ensures { result.now ≡ wanted_code wanted }
@@ -66,52 +79,27 @@ pub(crate) fn name_of_integer(integer: Integer) -> &'static str
 }
 
 /// Codes with their parameters, as `CodeI18n` gives them of rules: `member_missing`,
-/// `out_of_range of=u8`, `wrong_form wanted=Text found=Number`. Those of a member's name and of a
-/// known value allocate nothing.
+/// `out_of_range of=u8`, `wrong_form wanted=Text found=Number`. Those without a parameter allocate
+/// nothing.
 impl FormI18n for CodeI18n {
     ghost form_text = { λ _ fault. code_form_text fault };
 
-    fn wrong_form(
-        &self,
-        alloc: Global,
-        wanted: Wanted,
-        found: Kind,
-    ) -> Result<CowStr<'static>, AllocError> {
-        let wanted = name_of_wanted(wanted);
-        let found = name_of_kind(found);
-        Ok(CowStr::Owned(format!(in alloc; "wrong_form wanted={wanted} found={found}")?))
-    }
-
-    fn out_of_range(&self, alloc: Global, of: Integer) -> Result<CowStr<'static>, AllocError> {
-        let of = name_of_integer(of);
-        Ok(CowStr::Owned(format!(in alloc; "out_of_range of={of}")?))
-    }
-
-    fn member_missing(&self, _alloc: Global) -> Result<CowStr<'static>, AllocError>
-        ensures text { IfOk result (λ s. cow_str_bytes s ≡ code_form_text faults.Missing) }
-        ensures given { IsOk result }
+    fn form_fault(&self, alloc: Global, fault: FormFault) -> Result<CowStr<'static>, AllocError>
+        ensures text { IfOk result (λ s. cow_str_bytes s ≡ code_form_text fault) }
+        ensures given { has_no_param fault → IsOk result }
     {
-        Ok(CowStr::Borrowed("member_missing"))
-    }
-
-    fn member_repeated(&self, _alloc: Global) -> Result<CowStr<'static>, AllocError>
-        ensures text { IfOk result (λ s. cow_str_bytes s ≡ code_form_text faults.Repeated) }
-        ensures given { IsOk result }
-    {
-        Ok(CowStr::Borrowed("member_repeated"))
-    }
-
-    fn member_unknown(&self, _alloc: Global) -> Result<CowStr<'static>, AllocError>
-        ensures text { IfOk result (λ s. cow_str_bytes s ≡ code_form_text faults.Unknown) }
-        ensures given { IsOk result }
-    {
-        Ok(CowStr::Borrowed("member_unknown"))
-    }
-
-    fn value_unknown(&self, _alloc: Global) -> Result<CowStr<'static>, AllocError>
-        ensures text { IfOk result (λ s. cow_str_bytes s ≡ code_form_text faults.NotOneOf) }
-        ensures given { IsOk result }
-    {
-        Ok(CowStr::Borrowed("value_unknown"))
+        let name = name_of_fault(fault);
+        match fault {
+            FormFault::Wrong(wanted, found) => {
+                let wanted = name_of_wanted(wanted);
+                let found = name_of_kind(found);
+                Ok(CowStr::Owned(format!(in alloc; "{name} wanted={wanted} found={found}")?))
+            }
+            FormFault::OutOfRange(of) => {
+                let of = name_of_integer(of);
+                Ok(CowStr::Owned(format!(in alloc; "{name} of={of}")?))
+            }
+            _ => Ok(CowStr::Borrowed(name)),
+        }
     }
 }

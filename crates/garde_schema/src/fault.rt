@@ -81,4 +81,6 @@ pub enum FormFault {
     Unknown,
     /// The text is not one of the names that are known.
     NotOneOf,
+    /// A row of a table has more or fewer fields than its header.
+    RowLength,
 }

@@ -1,7 +1,8 @@
 //! The error of reading bytes with at most so many faults.
 ghost use Rattle.std.specs.Prelude.{◌≡◌, Some};
-ghost use Rattle.garde_schema.specs.FirstRead.{first_of_parse_error, first_of_first_error, first_read_error_text};
+ghost use Rattle.garde_schema.specs.FirstRead.{first_of_parse_error, first_of_first_error, first_read_error_text, whole_read_error};
 
+use crate::read_error::ReadError;
 use garde::{FirstError, Report};
 use garde_tape::ParseError;
 use std::fmt;
@@ -19,6 +20,20 @@ pub enum FirstReadError {
     First(Report),
     /// Out of memory. The faults found so far are dropped.
     Memory,
+}
+
+impl FirstReadError {
+    /// The same error of a read that asks for every fault: a report of either kind is the report.
+    pub fn into_whole(self) -> ReadError
+        ensures { result ≡ whole_read_error self }
+    {
+        match self {
+            FirstReadError::Parse(error) => ReadError::Parse(error),
+            FirstReadError::All(report) => ReadError::Report(report),
+            FirstReadError::First(report) => ReadError::Report(report),
+            FirstReadError::Memory => ReadError::Memory,
+        }
+    }
 }
 
 /// Out of memory is `FirstReadError::Memory`.

@@ -1,9 +1,10 @@
 //! The values of a list's items.
 ghost use Rattle.std.specs.Prelude.{◌≡◌, [], ◌∷◌, ◌++◌, ◌==◌, length, is_ok, if◌then◌else◌, IfOk};
+ghost use Rattle.garde.specs.Fields.{unique_text};
 ghost use Rattle.garde.specs.Visits.{items};
 ghost use Rattle.garde_schema.specs.Lists.{with_last};
 
-use garde::fields::{Check, Each};
+use garde::fields::{Check, Each, Rules, Same, Unique};
 use garde::rules::length::HasSimpleLength;
 use garde::{I18n, Report, Trail};
 use std::alloc::{AllocError, Global};
@@ -94,6 +95,38 @@ impl<'a, T, C: Check<'a, T>> Check<'a, Items<T>> for Each<C> {
         h: &H,
     ) -> Result<(), AllocError> {
         self.check(alloc, &value.0, trail, report, h)
+    }
+}
+
+/// Each value in order, under its index.
+impl<T, R: Rules<T>> Rules<Items<T>> for Each<R> {
+    ghost asks = { λ each values. items (λ x. R.asks each.0 x) values };
+
+    fn ask<'a, H: I18n>(
+        &self,
+        alloc: Global,
+        value: &Items<T>,
+        trail: &mut Trail<'a>,
+        report: &mut Report,
+        h: &H,
+    ) -> Result<(), AllocError> {
+        self.ask(alloc, &value.as_slice(), trail, report, h)
+    }
+}
+
+/// No two values are the same.
+impl<T, S: Same<T>> Rules<Items<T>> for Unique<'_, S> {
+    ghost asks = { λ rules values. unique_text rules.0.now (λ x y. S.same rules.1 x y) values };
+
+    fn ask<'a, H: I18n>(
+        &self,
+        alloc: Global,
+        value: &Items<T>,
+        trail: &mut Trail<'a>,
+        report: &mut Report,
+        h: &H,
+    ) -> Result<(), AllocError> {
+        self.ask(alloc, &value.as_slice(), trail, report, h)
     }
 }
 

@@ -10,7 +10,7 @@ ghost use Rattle.garde_schema.specs.Forms.{formed, forget, Sound};
 use crate::fault::{FormFault, Wanted};
 use crate::handler::FormI18n;
 use crate::put::{put, with};
-use crate::rules::Rules;
+use garde::fields::Rules;
 use garde::{I18n, Report, Trail};
 use garde_tape::Tree;
 use std::alloc::{AllocError, Global};

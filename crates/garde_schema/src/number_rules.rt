@@ -1,6 +1,6 @@
 //! Rules on numbers, one that its type does not hold among them.
 ghost use Rattle.std.specs.Prelude.{◌≡◌, Option, None, IfOk, IfErr, option_map, is_some, if◌then◌else◌};
-ghost use Rattle.garde.specs.Author.{Fault};
+ghost use Rattle.garde.specs.Fields.{Fault};
 ghost use Rattle.garde_report.specs.declared.error.rule_error.RuleError.TheVariants as errors;
 ghost use Rattle.garde_rules.specs.{fault_text};
 ghost use Rattle.garde_schema.specs.Bound.{bound_in, first_bound, mark_text, TellsBound};
@@ -9,8 +9,7 @@ mod tuples;
 
 use crate::checked::Under;
 use crate::marks::Marks;
-use crate::rules::Rules;
-use garde::fields::{Is, IsInMemory, Rule, When};
+use garde::fields::{Is, IsInMemory, Rule, Rules, When};
 use garde::rules::values::MemoryRule;
 use garde::{Error, I18n, RuleError};
 use std::alloc::Global;

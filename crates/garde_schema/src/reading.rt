@@ -1,36 +1,46 @@
 //! Reading a tree by a form.
-ghost use Rattle.std.specs.Prelude.{◌≡◌, Some, IfOk, IsSomeAnd};
-ghost use Rattle.garde.specs.Answers.{Answers};
+ghost use Rattle.std.specs.Prelude.{◌≡◌, ◌<◌, ◌-◌, ◌^◌, Some, IfOk, IsSomeAnd};
+ghost use Rattle.garde.specs.Answers.{Answers, AnswersFirst, IsFirst};
 ghost use Rattle.garde_schema.specs.Forms.{forget};
 
 use crate::form::Form;
 use crate::handler::FormI18n;
-use garde::{I18n, Report, Trail, ValidateError};
+use garde::{FirstError, I18n, Report, Trail, ValidateError};
 use garde_tape::Tree;
 use std::alloc::Global;
 
-// Reads a tree that stands at the root.
+// Reads a tree that stands at the root, up to one fault more than so many. A report has fewer than
+// `usize::MAX` faults, so that many are all.
 fn examine<'t, 'a, F: Form<'a>, H: I18n + FormI18n>(
     alloc: Global,
     form: &F,
     tree: &Tree<'t, 'a>,
+    most: usize,
     h: &H,
-) -> Result<Option<F::Out>, ValidateError>
-    ensures answer { Answers (F.visits form.now (H.form_text h.now) tree.now) (H.text h.now) (forget result) }
+) -> Result<Option<F::Out>, FirstError>
+    ensures answer { AnswersFirst (F.visits form.now (H.form_text h.now) tree.now) (H.text h.now)
+        most (forget result) }
     ensures taken { IfOk result (λ value. IsSomeAnd value
         (λ out. (F.value form.now tree.now ≡ Some out) × F.keeps form.now out)) }
+    ensures whole { IsFirst (forget result) → most < 2 ^ 64 - 1 }
 {
     let mut trail = Trail::new(alloc);
     let mut report = Report::new(alloc);
-    match form.read(alloc, tree, &mut trail, &mut report, h) {
+    trail.limit(most.saturating_add(1));
+    let taken = form.read(alloc, tree, &mut trail, &mut report, h);
+    if report.len() > most {
+        report.truncate(most);
+        return Err(FirstError::First(report));
+    }
+    match taken {
         Ok(value) => {
             if report.is_empty() {
                 Ok(value)
             } else {
-                Err(ValidateError::Report(report))
+                Err(FirstError::All(report))
             }
         }
-        Err(_) => Err(ValidateError::Memory),
+        Err(_) => Err(FirstError::Memory),
     }
 }
 
@@ -46,7 +56,31 @@ pub fn read<'t, 'a, F: Form<'a>, H: I18n + FormI18n>(
     ensures value { IfOk result (λ out. F.value form.now tree.now ≡ Some out) }
     ensures keeps { IfOk result (λ out. F.keeps form.now out) }
 {
-    match examine(alloc, form, tree, h) {
+    match read_first(alloc, form, tree, usize::MAX, h) {
+        Ok(out) => Ok(out),
+        Err(error) => Err(error.into_whole()),
+    }
+}
+
+/// Reads a tree by a form: the value that it spells, or at most so many faults of its form and of
+/// the rules.
+///
+/// `FirstError::All` has every fault of a tree that has 1 to `most` of them, and `FirstError::First`
+/// the first `most` of one that has more. The read ends after one fault more than `most`.
+pub fn read_first<'t, 'a, F: Form<'a>, H: I18n + FormI18n>(
+    alloc: Global,
+    form: &F,
+    tree: &Tree<'t, 'a>,
+    most: usize,
+    h: &H,
+) -> Result<F::Out, FirstError>
+    ensures answer { AnswersFirst (F.visits form.now (H.form_text h.now) tree.now) (H.text h.now)
+        most (forget result) }
+    ensures value { IfOk result (λ out. F.value form.now tree.now ≡ Some out) }
+    ensures keeps { IfOk result (λ out. F.keeps form.now out) }
+    ensures whole { IsFirst (forget result) → most < 2 ^ 64 - 1 }
+{
+    match examine(alloc, form, tree, most, h) {
         Ok(Some(out)) => Ok(out),
         Ok(None) => unreachable!(),
         Err(error) => Err(error),

@@ -15,8 +15,7 @@ use Rattle.json.specs.Written.{Written, Writes}
 use Rattle.json.proofs.Printed.Trees.{value-json_tokens}
 use Rattle.toml.specs.Data.{Data, string, integer, float, boolean, datetime, array, table, Items, no_items, item, Members, no_members, member}
 use Rattle.toml_writer.specs.Text.{IsFloatText}
-use Rattle.garde_form.specs.Bare.{bare}
-use Rattle.garde_form.specs.WebForm.{AreWritten}
+use Rattle.garde_form.specs.Bare.{AreWritten, bare}
 use Rattle.garde_toml.specs.Nesting.{nesting, items_nesting, members_nesting}
 use Rattle.garde_toml.specs.Spelled.{Spells, SpellItems, SpellMembers}
 use Rattle.garde_toml.specs.Writes.{WritesValue, WritesItems, WritesMembers}

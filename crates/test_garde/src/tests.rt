@@ -1,5 +1,6 @@
 //! Types as an author writes them, and what is reported for them.
 mod asked;
+mod asked_rules;
 mod badge;
 mod contact;
 mod containers;
@@ -15,10 +16,8 @@ mod laws;
 mod long;
 mod many;
 mod names;
-mod nested;
 mod parts;
 mod paths;
-mod people;
 mod profile;
 mod promises;
 mod refusals;
@@ -27,9 +26,9 @@ mod rules;
 mod scale;
 mod signup;
 mod span;
-mod starved;
 mod texts;
 mod told;
+mod tuples;
 mod typed_states;
 mod unneeded;
 mod user;

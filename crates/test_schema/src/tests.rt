@@ -3,7 +3,9 @@
 mod bodies;
 mod bounds;
 mod checked;
+mod csv_records;
 mod enums;
+mod examples;
 mod first;
 mod form;
 mod forms;
@@ -17,7 +19,6 @@ mod numbers;
 mod only_members;
 mod own_texts;
 mod parsed;
-mod reports;
 mod rows;
 mod signup;
 mod sizes;

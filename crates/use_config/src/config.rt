@@ -1,6 +1,6 @@
 //! The whole configuration, and its form.
 ghost use Rattle.std.specs.Prelude.{IfOk};
-ghost use Rattle.garde.specs.Author.{Known, unsigned_in};
+ghost use Rattle.garde.specs.Fields.{between, is, Known, range};
 
 use crate::limit::{InOrder, Limit};
 use crate::logging::{FileForDebug, LEVELS, Logging};
@@ -33,7 +33,7 @@ pub fn read_config<'a, H: I18n + FormI18n>(
     names: &Regex,
     h: &H,
 ) -> Result<Config<'a>, ReadError>
-    ensures { IfOk result (λ config. Known (unsigned_in 1 64 config.server.workers)) }
+    ensures { IfOk result (λ config. Known (is (range (between 1 64) config.server.workers))) }
 {
     let pem = Is(Suffix(".pem"));
     let tls = Object(Closed((Member("certificate", Text(pem)), Member("key", Text(pem)))));

@@ -1,6 +1,6 @@
 //! What a resource may take.
 ghost use Rattle.std.specs.Prelude.{refl};
-ghost use Rattle.garde.specs.Author.{unsigned_in};
+ghost use Rattle.garde.specs.Fields.{at_least, is, range};
 
 use garde::fields::Is;
 use garde::{I18n, Report, Trail, range};
@@ -35,7 +35,7 @@ impl FromParts for Limit {
 pub struct InOrder;
 
 impl Rules<(u32, u32)> for InOrder {
-    ghost asks = { λ _ v. unsigned_in v.0 4294967295 v.1 };
+    ghost asks = { λ _ v. is (range (at_least v.0) v.1) };
 
     fn ask<'a, H: I18n>(
         &self,

@@ -1,6 +1,6 @@
 //! What is logged, and where.
 ghost use Rattle.std.specs.Prelude.{Bool, true, false, refl};
-ghost use Rattle.garde.specs.Author.{required, when};
+ghost use Rattle.garde.specs.Fields.{is, required, when};
 ghost use Rattle.use_config.specs.declared.logging.Level.TheVariants.{Debug};
 
 use garde::fields::{Is, Required, When};
@@ -51,7 +51,7 @@ pub struct FileForDebug;
 
 impl<A> Rules<(Level, Option<A>)> for FileForDebug {
     ghost asks = { λ _ v.
-        when (elim v.0 as (λ _. Bool) [ Debug ↦ true | _ ↦ false ]) (required v.1) };
+        when (elim v.0 as (λ _. Bool) [ Debug ↦ true | _ ↦ false ]) (is (required v.1)) };
 
     fn ask<'a, H: I18n>(
         &self,

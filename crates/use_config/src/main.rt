@@ -2,7 +2,7 @@
 //! form, and prints each fault of form and of the rules at its path.
 #![tactic(auto)]
 
-ghost use Rattle.garde.specs.Author.{Known, unsigned_in};
+ghost use Rattle.garde.specs.Fields.{between, is, Known, range};
 
 mod config;
 mod limit;
@@ -79,7 +79,7 @@ fn to_json(alloc: Global, text: &str) -> Result<String> {
 
 /// Prints what a valid configuration asks for.
 fn show(rt: &HostRuntime, config: &Config<'_>) -> Result<ExitCode>
-    requires { Known (unsigned_in 1 64 config.now.server.workers) }
+    requires { Known (is (range (between 1 64) config.now.server.workers)) }
 {
     let server = &config.server;
     let (host, port, workers) = (server.host.text(), server.port, server.workers);

@@ -1,7 +1,6 @@
 //! Where the service listens, and how much it takes.
 ghost use Rattle.std.specs.Prelude.{◌≡◌, ◌||◌, ◌/◌, not, refl};
-ghost use Rattle.garde.specs.Author.{Known, pattern, unsigned_in, when};
-ghost use Rattle.garde.specs.Fields.{is_ipv4_text, is_ipv6_text};
+ghost use Rattle.garde.specs.Fields.{between, is, is_in_memory, is_ipv4, is_ipv6, Known, pattern, range, when};
 
 use garde::fields::{IsInMemory, Pattern, When};
 use garde::rules::ip::{is_ipv4, is_ipv6};
@@ -76,7 +75,7 @@ impl<'t> FromParts for Server<'t> {
 
 /// Whether a host is an address.
 fn is_address(host: &str) -> bool
-    ensures { result ≡ is_ipv4_text host.now || is_ipv6_text host.now }
+    ensures { result ≡ is_ipv4 host.now || is_ipv6 host.now }
 {
     is_ipv4(host) || is_ipv6(host)
 }
@@ -87,7 +86,7 @@ pub struct IsHost<'r>(pub &'r Regex);
 
 impl<'t> Rules<TextRef<'t>> for IsHost<'_> {
     ghost asks = { λ rule host.
-        when (not (is_ipv4_text host || is_ipv6_text host)) (pattern rule.0.now host) };
+        when (not (is_ipv4 host || is_ipv6 host)) (is_in_memory (pattern rule.0.now host)) };
 
     fn ask<'a, H: I18n>(
         &self,
@@ -106,7 +105,7 @@ impl<'t> Rules<TextRef<'t>> for IsHost<'_> {
 /// tested.
 #[tactic(auto, unfolding(garde::specs::Fields::Known))]
 pub fn share(server: &Server<'_>) -> u16
-    requires { Known (unsigned_in 1 64 server.now.workers) }
+    requires { Known (is (range (between 1 64) server.now.workers)) }
     ensures { result ≡ server.now.connections / server.now.workers }
 {
     server.connections / server.workers

@@ -1,6 +1,17 @@
 -- An answer of the service, as it is read from the wire, fits its request.
-use Rattle.std.proofs.Common.{◌≡◌, ◌≢◌, ℕ, Bool, List, [], codes, Result, Ok, Err, refl, sym, ap, subst, ◌∙◌, arith, if◌then◌else◌, inl, inr}
+use Rattle.std.proofs.Common.{◌≡◌, ◌≢◌, ◌<◌, ◌≤◌, ℕ, Bool, true, false, List, [], ◌∷◌, ◌⊎◌, codes, length, None, Some, Option, Result, Ok, Err, IsUtf8, IsSomeAnd, IsTrue, refl, sym, ap, subst, ◌∙◌, arith, if◌then◌else◌, inl, inr}
+use Rattle.std.proofs.lemmas.Bool.{true≢false}
 use Rattle.std.proofs.lemmas.Slice.Eq.{bytes_eq-Decides}
+use Rattle.json.specs.Json.{Json, document}
+use Rattle.garde.specs.Handlers.{Datum}
+use Rattle.garde_report.specs.Report.{Entry}
+use Rattle.garde_tape.specs.Input.{without_mark}
+use Rattle.garde_tape.specs.declared.parse_error.ParseError.{ParseError}
+use Rattle.garde_tape.specs.declared.parse_error.ParseError.TheVariants as parse
+use Rattle.garde.specs.Answers.{Answers}
+use Rattle.garde.specs.declared.validate_error.ValidateError.TheVariants as errors
+use Rattle.garde_schema.specs.Bytes.{OfDocument, NoDocument}
+use Rattle.garde_schema.specs.Forms.{FormTexts}
 use Rattle.garde_schema.specs.declared.read_error.ReadError.{ReadError}
 use Rattle.garde_schema.specs.declared.read_error.ReadError.TheVariants.{Parse, Report, Memory}
 use Rattle.httparse.specs.Grammar.{status_code}
@@ -15,24 +26,102 @@ use Rattle.http_server.specs.Exchange.{Call, Exchanges}
 use Rattle.use_http.specs.declared.request.Route.{Route}
 use Rattle.use_http.specs.declared.request.Route.TheVariants.{Order, OtherForm, OtherOfOrders, Health, OtherOfHealth, Nowhere, Unserved, BadTarget}
 use Rattle.use_http.specs.declared.request.Language.{Language}
-use Rattle.use_http.specs.Answered.{form_texts, rule_texts, IsAnsweredSometime, AnswersRoute}
-use Rattle.use_http.specs.Dated.{IsDated}
-use Rattle.use_http.specs.Fits.{Fits}
+use Rattle.use_http.specs.declared.request.Language.TheVariants.{English, Czech}
+use Rattle.use_http.specs.Answered.{form_texts, rule_texts, IsAnswered, IsAnsweredSometime, AnswersRoute}
+use Rattle.use_http.specs.Fits.{Fits, IsOrderIn, IsFaultless, HasReport, IsProblemOf, IsShort, ReadsIn}
 use Rattle.use_http.specs.Judged.{Reads, Tells}
-use Rattle.use_http.specs.Request.{IsLanguage, IsRoute}
+use Rattle.use_http.specs.Reasons.{IsServiced}
+use Rattle.use_http.specs.Order.{order_visits}
+use Rattle.use_http.specs.Request.{Is, IsNot, IsLanguage, IsRoute, path_of}
 use Rattle.use_http.specs.Wire.{IsExchange}
 
--- the call is answered by the service
-abbrev pub IsServiced : Call → Type 0
-IsServiced c = IsAnsweredSometime (head_of c.0) (body_of c.0) c.1
+-- ---- what a request asks for
 
--- another status says nothing
-other : (request : Wire.Request) (response : Wire.Response) (n : ℕ)
-    → status_code response.head ≡ n → n ≢ 204 → n ≢ 422 → Fits request response
-other request response n is not_204 not_422 = record {
-  accepts = λ e. absurd (not_204 (sym is ∙ e));
-  reports = λ e. absurd (not_422 (sym is ∙ e));
-}
+pub is_one_language : (one other : Language) (head : Parts) → IsLanguage one head → IsLanguage other head → one ≡ other
+is_one_language English English head a b = refl
+is_one_language English Czech head a b = absurd (a b)
+is_one_language Czech English head a b = absurd (b a)
+is_one_language Czech Czech head a b = refl
+
+abbrev second : List ℕ → ℕ
+second [] = 0
+second (a ∷ []) = 0
+second (a ∷ b ∷ rest) = b
+
+-- one path is not that of orders and of health
+not_both : (path : List ℕ) → Is path (codes "/orders") → Is path (codes "/health") → ⊥
+not_both path orders health =
+    let one : path ≡ codes "/orders" = (bytes_eq-Decides path (codes "/orders")).0 orders in
+    let two : path ≡ codes "/health" = (bytes_eq-Decides path (codes "/health")).0 health in
+    let same : codes "/orders" ≡ codes "/health" = sym one ∙ two in
+    let differ : 111 ≡ 104 = ap second same in
+    omega (arith, differ)
+
+other_path : (path text : List ℕ) → Is path text → IsNot path text → ⊥
+other_path path text is is_not = true≢false (sym is ∙ is_not)
+
+pub only_order : (route : Route) (head : Parts) → IsRoute route head → IsRoute Order head → route ≡ Order
+only_order Order head is order = refl
+only_order OtherForm head is order = absurd (is.2 order.2)
+only_order OtherOfOrders head is order = absurd (other_path head.method (codes "POST") order.1 is.1)
+only_order Health head is order = absurd (not_both (path_of head) order.0 is.0)
+only_order OtherOfHealth head is order = absurd (not_both (path_of head) order.0 is.0)
+only_order Nowhere head is order = absurd (other_path (path_of head) (codes "/orders") order.0 is.0)
+only_order Unserved head is order = absurd (other_path (path_of head) (codes "/orders") order.0 is.0)
+only_order BadTarget head is order = absurd (other_path (path_of head) (codes "/orders") order.0 is.0)
+
+-- the method is not one of health's
+other_method : (method : List ℕ) → Is method (codes "GET") ⊎ Is method (codes "HEAD") → IsNot method (codes "GET") → IsNot method (codes "HEAD") → ⊥
+other_method method is get head =
+    elim is [ inl asked ↦ true≢false (sym asked ∙ get) | inr asked ↦ true≢false (sym asked ∙ head) ]
+
+pub only_health : (route : Route) (head : Parts) → IsRoute route head → IsRoute Health head → route ≡ Health
+only_health Order head is health = absurd (not_both (path_of head) is.0 health.0)
+only_health OtherForm head is health = absurd (not_both (path_of head) is.0 health.0)
+only_health OtherOfOrders head is health = absurd (not_both (path_of head) is.0 health.0)
+only_health Health head is health = refl
+only_health OtherOfHealth head is health = absurd (other_method head.method health.1 is.1 is.2)
+only_health Nowhere head is health = absurd (other_path (path_of head) (codes "/health") health.0 is.1)
+only_health Unserved head is health = absurd (other_path (path_of head) (codes "/health") health.0 is.1)
+only_health BadTarget head is health = absurd (other_path (path_of head) (codes "/health") health.0 is.1)
+
+-- ---- a body has one result
+
+-- no value has a fault and none
+clash : (form_text : FormTexts) (text : Datum → List ℕ) (report : List Entry) (value : Option Json)
+    → IsSomeAnd value (λ j. Answers (order_visits form_text j) text (Ok tt))
+    → IsSomeAnd value (λ j. Answers (order_visits form_text j) text (Err (errors.Report report))) → ⊥
+clash form_text text report None a b = a
+clash form_text text report (Some j) a b = true≢false (sym b.2 ∙ a b.0 b.1)
+
+nothing_of : (P : Json → Type 0) (value : Option Json) → IsSomeAnd value P → value ≡ None → ⊥
+nothing_of P None a is = a
+nothing_of P (Some j) a is = cc
+
+-- what is a document, and short enough, is not rejected
+no_refusal : (P : Json → Type 0) (bytes : List ℕ) (error : ParseError) → OfDocument bytes P → length bytes ≤ 4294967040 → NoDocument bytes error → ⊥
+no_refusal P bytes (parse.NotUtf8 place) a short bad = bad a.0
+no_refusal P bytes (parse.NotJson place) a short bad = nothing_of P _ a.1 bad.1
+no_refusal P bytes (parse.TooDeep place) a short bad = nothing_of P _ a.1 bad.1
+no_refusal P bytes (parse.LoneSurrogate place) a short bad = nothing_of P _ a.1 bad.1
+no_refusal P bytes parse.TooLong a short bad = omega (arith, short, bad)
+no_refusal P bytes parse.Memory a short bad = bad
+
+told_accepted : (language : Language) (body : List ℕ) → IsShort body → IsFaultless language body
+    → (read : Result (Unit {0}) ReadError) → ReadsIn language body read → (plain : Response) → Tells read plain → plain.status ≡ 204
+told_accepted language body short is (Ok done) reads plain tells = tells.status
+told_accepted language body short is (Err (Report report)) reads plain tells = absurd (clash (form_texts language) (rule_texts language) report _ is.1 reads.1)
+told_accepted language body short is (Err (Parse error)) reads plain tells = absurd (no_refusal _ _ error is short reads)
+told_accepted language body short is (Err Memory) reads plain tells = absurd tells
+
+told_reported : (language : Language) (body : List ℕ) → IsShort body → (report : List Entry) → HasReport language body report
+    → (read : Result (Unit {0}) ReadError) → ReadsIn language body read → (plain : Response) → Tells read plain → plain.status ≡ 422
+told_reported language body short report is (Ok done) reads plain tells = absurd (clash (form_texts language) (rule_texts language) report _ reads.1 is.1)
+told_reported language body short report is (Err (Report other)) reads plain tells = tells.status
+told_reported language body short report is (Err (Parse error)) reads plain tells = absurd (no_refusal _ _ error is short reads)
+told_reported language body short report is (Err Memory) reads plain tells = absurd tells
+
+-- ---- the answer on the wire
 
 -- the body of the answer to a `POST`
 body_sent : (method sent told : List ℕ) → method ≡ codes "POST"
@@ -40,70 +129,127 @@ body_sent : (method sent told : List ℕ) → method ≡ codes "POST"
 body_sent method sent told is e =
     subst (λ (m : List ℕ). sent ≡ (if is_head (method_kind m) then [] else told)) is e
 
-told : (config : Config) (stays : Bool) (stream text rest : List ℕ) (c : Call) (x : Exchanges config stays stream c text rest)
-    (language : Language) → IsLanguage language (head_of c.0) → (head_of c.0).method ≡ codes "POST"
-    → (read : Result (Unit {0}) ReadError)
-    → Reads (form_texts language) (rule_texts language) (body_of c.0) read
-    → (plain : Response) → Tells read plain → c.1.status ≡ plain.status → c.1.body ≡ plain.body
-    → Fits x.message x.is_answer.message
-told config stays stream text rest c x language is_language posted (Ok done) found plain tells status body = record {
-  accepts = λ e. (
-    language,
-    subst (λ (b : List ℕ). Reads (form_texts language) (rule_texts language) b (Ok tt)) x.request.body found,
-  );
-  reports = λ e. absurd (omega (arith, e, x.is_answer.status, status, tells.status));
-}
-told config stays stream text rest c x language is_language posted (Err (Report report)) found plain tells status body = record {
-  accepts = λ e. absurd (omega (arith, e, x.is_answer.status, status, tells.status));
-  reports = λ e. record {
-    head = head_of c.0;
-    are_parts = x.request.parts;
-    language = language;
-    is_language = is_language;
-    report = report;
-    is_report = subst (λ (b : List ℕ). Reads (form_texts language) (rule_texts language) b (Err (Report report)))
-        x.request.body found;
-    is_text = body_sent x.message.head.method _ _ (sym x.request.parts.method ∙ posted) x.is_answer.body
-        ∙ ap (λ b. b.items) body ∙ tells.body;
-  };
-}
-told config stays stream text rest c x language is_language posted (Err (Parse error)) found plain tells status body =
-    other _ _ 400 (x.is_answer.status ∙ status ∙ tells.status) (λ e. omega (arith, e)) (λ e. omega (arith, e))
-told config stays stream text rest c x language is_language posted (Err Memory) found plain tells status body = absurd tells
+-- what is said of the answer to a body, by its status
+record Says (head : Parts) (body : List ℕ) (status : ℕ) (sent : List ℕ) : Type 0 where
+  accepts : status ≡ 204 → (language : Language) × IsOrderIn language head × IsFaultless language body
+  reports : status ≡ 422 → IsProblemOf head body sent
+  accepts_each : (language : Language) → IsOrderIn language head → IsShort body → IsFaultless language body → status ≡ 204
+  reports_each : (language : Language) → IsOrderIn language head → IsShort body
+      → (report : List Entry) → HasReport language body report → status ≡ 422
 
-by_route : (config : Config) (stays : Bool) (stream text rest : List ℕ) (c : Call) (x : Exchanges config stays stream c text rest)
-    (route : Route) → IsRoute route (head_of c.0) → (plain : Response) → AnswersRoute route (head_of c.0) (body_of c.0) plain
-    → c.1.status ≡ plain.status → c.1.body ≡ plain.body → Fits x.message x.is_answer.message
-by_route config stays stream text rest c x Order is_route plain a status body =
-    told config stays stream text rest c x a.0 a.1 ((bytes_eq-Decides _ _).0 is_route.1) a.2.0 a.2.1 plain a.2.2 status body
-by_route config stays stream text rest c x OtherForm is_route plain a status body =
-    other _ _ 415 (x.is_answer.status ∙ status ∙ a.status) (λ e. omega (arith, e)) (λ e. omega (arith, e))
-by_route config stays stream text rest c x OtherOfOrders is_route plain a status body =
-    other _ _ 405 (x.is_answer.status ∙ status ∙ a.status) (λ e. omega (arith, e)) (λ e. omega (arith, e))
-by_route config stays stream text rest c x Health is_route plain a status body =
-    other _ _ 200 (x.is_answer.status ∙ status ∙ a.status) (λ e. omega (arith, e)) (λ e. omega (arith, e))
-by_route config stays stream text rest c x OtherOfHealth is_route plain a status body =
-    other _ _ 405 (x.is_answer.status ∙ status ∙ a.status) (λ e. omega (arith, e)) (λ e. omega (arith, e))
-by_route config stays stream text rest c x Nowhere is_route plain a status body =
-    other _ _ 404 (x.is_answer.status ∙ status ∙ a.status) (λ e. omega (arith, e)) (λ e. omega (arith, e))
-by_route config stays stream text rest c x Unserved is_route plain a status body =
-    other _ _ 501 (x.is_answer.status ∙ status ∙ a.status) (λ e. omega (arith, e)) (λ e. omega (arith, e))
-by_route config stays stream text rest c x BadTarget is_route plain a status body =
-    other _ _ 400 (x.is_answer.status ∙ status ∙ a.status) (λ e. omega (arith, e)) (λ e. omega (arith, e))
+-- a request that is no order
+other : (head : Parts) (body : List ℕ) (status : ℕ) (sent : List ℕ) (route : Route) → IsRoute route head → route ≢ Order
+    → status ≢ 204 → status ≢ 422 → Says head body status sent
+other head body status sent route is no_order not_204 not_422 = record {
+  accepts = λ e. absurd (not_204 e);
+  reports = λ e. absurd (not_422 e);
+  accepts_each = λ language order. absurd (no_order (only_order route head is order.0));
+  reports_each = λ language order. absurd (no_order (only_order route head is order.0));
+}
+
+only_accepts : (language : Language) (head : Parts) (body : List ℕ) (plain : Response) (sent : List ℕ) → IsOrderIn language head
+    → (read : Result (Unit {0}) ReadError) → ReadsIn language body read → Tells read plain → plain.status ≡ 204
+    → IsFaultless language body
+only_accepts language head body plain sent order (Ok done) reads tells e = reads
+only_accepts language head body plain sent order (Err (Report report)) reads tells e = absurd (omega (arith, e, tells.status))
+only_accepts language head body plain sent order (Err (Parse error)) reads tells e = absurd (omega (arith, e, tells.status))
+only_accepts language head body plain sent order (Err Memory) reads tells e = absurd tells
+
+only_reports : (language : Language) (head : Parts) (body : List ℕ) (plain : Response) (sent : List ℕ) → IsOrderIn language head
+    → sent ≡ plain.body.items
+    → (read : Result (Unit {0}) ReadError) → ReadsIn language body read → Tells read plain → plain.status ≡ 422
+    → IsProblemOf head body sent
+only_reports language head body plain sent order is (Ok done) reads tells e = absurd (omega (arith, e, tells.status))
+only_reports language head body plain sent order is (Err (Report report)) reads tells e = record {
+  language = language;
+  is_order = order;
+  report = report;
+  is_report = reads;
+  is_text = is ∙ tells.body;
+}
+only_reports language head body plain sent order is (Err (Parse error)) reads tells e = absurd (omega (arith, e, tells.status))
+only_reports language head body plain sent order is (Err Memory) reads tells e = absurd tells
+
+of_order : (language : Language) (head : Parts) (body : List ℕ) (plain : Response) (sent : List ℕ) → IsOrderIn language head
+    → sent ≡ plain.body.items
+    → (read : Result (Unit {0}) ReadError) → ReadsIn language body read → Tells read plain → Says head body plain.status sent
+of_order language head body plain sent order is read reads tells = record {
+  accepts = λ e. (language, order, only_accepts language head body plain sent order read reads tells e);
+  reports = λ e. only_reports language head body plain sent order is read reads tells e;
+  accepts_each = λ other asks short faultless.
+      told_accepted language body short
+      (subst (λ (l : Language). IsFaultless l body) (is_one_language other language head asks.1 order.1) faultless) read reads plain tells;
+  reports_each = λ other asks short report has.
+      told_reported language body short report
+      (subst (λ (l : Language). HasReport l body report) (is_one_language other language head asks.1 order.1) has) read reads plain tells;
+}
+
+by_route : (head : Parts) (body : List ℕ) (plain : Response) (sent : List ℕ) (route : Route) → IsRoute route head
+    → AnswersRoute route head body plain → sent ≡ (if is_head (method_kind head.method) then [] else plain.body.items)
+    → Says head body plain.status sent
+by_route head body plain sent Order is_route a is =
+    of_order a.0 head body plain sent (is_route, a.1) (body_sent head.method sent _ ((bytes_eq-Decides _ _).0 is_route.1) is) a.2.0 a.2.1 a.2.2
+by_route head body plain sent OtherForm is_route a is =
+    other head body _ sent OtherForm is_route (λ e. cc) (λ e. omega (arith, e, a.status)) (λ e. omega (arith, e, a.status))
+by_route head body plain sent OtherOfOrders is_route a is =
+    other head body _ sent OtherOfOrders is_route (λ e. cc) (λ e. omega (arith, e, a.status)) (λ e. omega (arith, e, a.status))
+by_route head body plain sent Health is_route a is =
+    other head body _ sent Health is_route (λ e. cc) (λ e. omega (arith, e, a.status)) (λ e. omega (arith, e, a.status))
+by_route head body plain sent OtherOfHealth is_route a is =
+    other head body _ sent OtherOfHealth is_route (λ e. cc) (λ e. omega (arith, e, a.status)) (λ e. omega (arith, e, a.status))
+by_route head body plain sent Nowhere is_route a is =
+    other head body _ sent Nowhere is_route (λ e. cc) (λ e. omega (arith, e, a.status)) (λ e. omega (arith, e, a.status))
+by_route head body plain sent Unserved is_route a is =
+    other head body _ sent Unserved is_route (λ e. cc) (λ e. omega (arith, e, a.status)) (λ e. omega (arith, e, a.status))
+by_route head body plain sent BadTarget is_route a is =
+    other head body _ sent BadTarget is_route (λ e. cc) (λ e. omega (arith, e, a.status)) (λ e. omega (arith, e, a.status))
+
+-- the response without its date says the same
+undated : (head : Parts) (body : List ℕ) (answer : Response) (sent : List ℕ) → IsAnsweredSometime head body answer
+    → sent ≡ (if is_head (method_kind head.method) then [] else answer.body.items) → Says head body answer.status sent
+undated head body answer sent a is =
+    let plain = a.1.2 in
+    subst (λ (n : ℕ). Says head body n sent) (sym a.1.4.0)
+    (by_route head body plain sent a.1.0 a.1.1 a.1.3
+    (subst (λ (t : List ℕ). sent ≡ (if is_head (method_kind head.method) then [] else t)) (ap (λ b. b.items) a.1.4.1) is))
 
 pub exchange_fits : (config : Config) (stays : Bool) (stream text rest : List ℕ) (c : Call) → IsServiced c
-    → Exchanges config stays stream c text rest → IsExchange Fits config stream text rest
-exchange_fits config stays stream text rest c a x = record {
-  request = x.message;
-  reads = x.request.reads;
-  interim = x.interim;
-  is_interim = x.is_interim;
-  answer = x.answer;
-  joined = x.joined;
-  response = x.is_answer.message;
-  is_read = x.is_answer.reads;
-  fits = by_route config stays stream text rest c x a.1.0 a.1.1 a.1.2 a.1.3 a.1.4.0 a.1.4.1;
-}
+    → Exchanges config stays stream c text rest → IsExchange config stays stream text rest
+exchange_fits config stays stream text rest c a x =
+    let head = head_of c.0 in
+    let sent = x.is_answer.message.body.bytes in
+    let answered : IsAnsweredSometime head x.message.body.bytes c.1 = subst (λ (b : List ℕ). IsAnsweredSometime head b c.1) x.request.body a in
+    let is : sent ≡ (if is_head (method_kind head.method) then [] else c.1.body.items) =
+    subst (λ (m : List ℕ). sent ≡ (if is_head (method_kind m) then [] else c.1.body.items)) (sym x.request.parts.method) x.is_answer.body in
+    let says = subst (λ (n : ℕ). Says head x.message.body.bytes n sent) (sym x.is_answer.status) (undated head x.message.body.bytes c.1 sent answered is) in
+    record {
+      request = x.message;
+      reads = x.request.reads;
+      within = x.request.fits;
+      interim = x.interim;
+      is_interim = x.is_interim;
+      answer = x.answer;
+      joined = x.joined;
+      response = x.is_answer.message;
+      is_read = x.is_answer.reads;
+      fits = record {
+        head = head;
+        are_parts = x.request.parts;
+        answer = c.1;
+        is_answered = answered;
+        status = x.is_answer.status;
+        added = x.is_answer.added;
+        fields = x.is_answer.headers.0;
+        are_added = x.is_answer.headers.1;
+        body = x.is_answer.body;
+        accepts = says.accepts;
+        reports = says.reports;
+        accepts_each = says.accepts_each;
+        reports_each = says.reports_each;
+      };
+      persists = x.persists;
+      announced = x.announced;
+    }
 
 -- the service never accepts an upgrade
 read_stays : (read : Result (Unit {0}) ReadError) (r : Response) → Tells read r → r.status ≢ 101

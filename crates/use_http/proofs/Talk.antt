@@ -1,13 +1,17 @@
--- From the histories of a connection to what is on the wire.
-use Rattle.std.proofs.Common.{◌≡◌, ◌≢◌, ℕ, Bool, zero, suc, ◌⊎◌, List, [], ◌∷◌, ◌++◌, length, All, refl, sym, ap, subst, ◌∙◌, append_assoc, append-nil, inl, inr}
+-- From the history of a connection to what is on the wire.
+use Rattle.std.proofs.Common.{◌≡◌, ◌≢◌, ◌<◌, ◌≤◌, ◌↔◌, arith, not, ℕ, Bool, true, false, zero, suc, ◌⊎◌, List, [], ◌∷◌, ◌++◌, length, All, IsTrue, IsErr, IsFalse, Option, Result, Ok, Err, ◌==◌, if◌then◌else◌, refl, sym, ap, subst, ◌∙◌, append_assoc, append-nil, inl, inr}
+use Rattle.std.specs.Io.KnownBytes.{IsAtEnd}
+use Rattle.std.proofs.Math.Dec.{eqb-suc-zero}
 use Rattle.std.proofs.Math.Logic.{∥∥₁_map}
+use Rattle.std.proofs.lemmas.Bool.{true≢false}
+use Rattle.std.proofs.lemmas.List.{append_cancel_right}
 use Rattle.std.proofs.lemmas.List.Elements.{All-nil, All-cons, All-head, All-tail, All-weaker}
 use Rattle.http.specs.declared.request.Request.{Request}
-use Rattle.http1.specs.Message as Wire
 use Rattle.http_server.specs.declared.response.Response.{Response}
 use Rattle.http_server.specs.declared.state.Config.{Config}
 use Rattle.http_server.specs.declared.state.State.{State}
 use Rattle.http_server.specs.declared.state.State.TheVariants.{Open, Closing, Upgraded, Aborted}
+use Rattle.http_server.specs.declared.state.Reason.{Reason}
 use Rattle.http_server.specs.declared.state.Reason.TheVariants.{Asked, EndOfInput, Refused}
 use Rattle.http_server.specs.declared.connection.Connection.{Connection}
 use Rattle.http_server.specs.declared.state.Refusal.{Refusal}
@@ -17,146 +21,274 @@ use Rattle.http_server.specs.Exchange.{Call, Calls, Exchanges, IsInterim, Serves
 use Rattle.http_server.proofs.Theorems.{always_served, Chain-each}
 use Rattle.http_server.specs.History.{History, IsServed, Justifies, Stands, new_history}
 use Rattle.http_server.specs.Refusal.{refusal_text}
-use Rattle.use_http.specs.Ending.{Ends}
-use Rattle.use_http.specs.Wire.{IsExchange, AreExchanges, IsLast, IsConversation, IsTalk}
+use Rattle.use_http.specs.Ending.{Ends, IsRefusalText}
+use Rattle.use_http.specs.Reasons.{IsServiced, IsRefusedFor}
+use Rattle.use_http.specs.Wire.{IsExchange, AreExchanges, Follows, IsConversation, IsTalk}
+use Rattle.use_http.proofs.Fitting.{exchange_fits, never_upgrades}
 
-module _ (Fits : Wire.Request → Wire.Response → Type 0) (answers : Call → Type 0)
-    (fits : (config : Config) (stays : Bool) (stream text rest : List ℕ) (c : Call) → answers c → Exchanges config stays stream c text rest → IsExchange Fits config stream text rest)
-    (settles : (c : Call) → answers c → c.1.status ≢ 101) where
-  -- the exchanges of the calls
-  all_fit : (config : Config) (calls : List Call) (stream text rest : List ℕ) → All answers calls
-      → Serves config stream calls text rest → AreExchanges Fits config (length calls) stream text rest
-  all_fit config [] stream text rest fine x = x
-  all_fit config (c ∷ calls) stream text rest fine x = (
-    x.0,
-    x.1,
-    x.2,
-    x.3,
-    fits config _ stream x.0 x.1 c (All-head answers c calls fine) x.4,
-    all_fit config calls x.1 x.2 rest (All-tail answers c calls fine) x.5,
-  )
+-- the exchanges of the calls
+all_fit : (config : Config) (calls : List Call) (stream text rest : List ℕ) → All IsServiced calls
+    → Serves config stream calls text rest → AreExchanges config (length calls) stream text rest
+all_fit config [] stream text rest fine x = x
+all_fit config (c ∷ calls) stream text rest fine x = (
+  x.0,
+  x.1,
+  x.2,
+  x.3,
+  exchange_fits config true stream x.0 x.1 c (All-head IsServiced c calls fine) x.4,
+  all_fit config calls x.1 x.2 rest (All-tail IsServiced c calls fine) x.5,
+)
 
-  -- the last of the calls is answered
-  last_of : (calls : List Call) (c : Call) → All answers (calls ++ c ∷ []) → answers c
-  last_of [] c fine = All-head answers c [] fine
-  last_of (x ∷ xs) c fine = last_of xs c (All-tail answers x (xs ++ c ∷ []) fine)
+-- the last of the calls is answered
+last_of : (calls : List Call) (c : Call) → All IsServiced (calls ++ c ∷ []) → IsServiced c
+last_of [] c fine = All-head IsServiced c [] fine
+last_of (x ∷ xs) c fine = last_of xs c (All-tail IsServiced x (xs ++ c ∷ []) fine)
 
-  -- the calls that were answered are the first of the calls
-  first_of : (calls more : List Call) → All answers (calls ++ more) → All answers calls
-  first_of [] more fine = All-nil answers
-  first_of (x ∷ xs) more fine = All-cons answers x xs (All-head answers x (xs ++ more) fine) (first_of xs more (All-tail answers x (xs ++ more) fine))
+-- the calls that were answered are the first of the calls
+first_of : (calls more : List Call) → All IsServiced (calls ++ more) → All IsServiced calls
+first_of [] more fine = All-nil IsServiced
+first_of (x ∷ xs) more fine =
+    All-cons IsServiced x xs (All-head IsServiced x (xs ++ more) fine) (first_of xs more (All-tail IsServiced x (xs ++ more) fine))
 
-  -- what follows the exchanges, by the state: what was handed out, what is pending and perhaps more are the answers and the rest
-  abbrev Follows : Config → List ℕ → List ℕ → List ℕ → Type 0
-  Follows config handed text rest =
-      (last : List ℕ) × IsLast Fits config rest last × (unwritten : List ℕ) × (handed ++ unwritten ≡ text ++ last)
+moved : (calls others : List Call) → calls ≡ others → All IsServiced calls → All IsServiced others
+moved calls others is fine = subst (λ (cs : List Call). All IsServiced cs) is fine
 
-  ends_at : (s : State) (config : Config) (h : History) (calls : List Call) (text interim rest : List ℕ)
-      → ((c : Call) → All answers (calls ++ c ∷ []) → answers c)
-      → IsInterim config.limits rest interim → All answers h.calls → Stands s config h calls text interim rest
-      → Follows config (h.sent ++ h.pending) text rest
-  ends_at Open config h calls text interim rest at_end waits fine x =
-      (interim, inr (interim, waits, inl refl), [], append-nil (h.sent ++ h.pending) ∙ x.1)
-  ends_at (Closing Asked) config h calls text interim rest at_end waits fine x =
-      let c = x.0 in (
-        x.1,
-        inl (x.2, fits config _ rest x.1 x.2 c (at_end c (subst (λ (cs : List Call). All answers cs) x.4 fine)) x.3),
-        [],
-        append-nil (h.sent ++ h.pending) ∙ x.5,
-      )
-  ends_at (Closing EndOfInput) config h calls text interim rest at_end waits fine x =
-      ([], inr ([], inl refl, inl refl), [], append-nil (h.sent ++ h.pending) ∙ x.3 ∙ sym (append-nil text))
-  ends_at (Closing (Refused why)) config h calls text interim rest at_end waits fine x = (
-    interim ++ refusal_text why,
-    inr (interim, waits, inr (why, refl)),
-    [],
-    append-nil (h.sent ++ h.pending) ∙ x.1 ∙ append_assoc text interim (refusal_text why),
-  )
-  ends_at Upgraded config h calls text interim rest at_end waits fine x =
-      absurd (settles x.last.call (at_end x.last.call (subst (λ (cs : List Call). All answers cs) x.last.calls fine)) x.accepted)
-  ends_at Aborted config h calls text interim rest at_end waits fine x = (
-    interim,
-    inr (interim, waits, inl refl),
-    x.lost,
-    ap (λ (p : List ℕ). (h.sent ++ p) ++ x.lost) x.dropped ∙ ap (λ (t : List ℕ). t ++ x.lost) (append-nil h.sent) ∙ x.sent,
-  )
+-- the calls that were answered, by the state
+refused_first : (why : Refusal) (config : Config) (h : History) (calls : List Call) (rest : List ℕ)
+    → All IsServiced h.calls → Justifies why config h calls rest → All IsServiced calls
+refused_first Truncated config h calls rest fine x = moved _ _ x.0 fine
+refused_first (Unreadable e) config h calls rest fine x = moved _ _ x.0 fine
+refused_first BodyTooLarge config h calls rest fine x = moved _ _ x.0 fine
+refused_first (InvalidPart e) config h calls rest fine x = moved _ _ x.0 fine
+refused_first InvalidHost config h calls rest fine x = moved _ _ x.0 fine
+refused_first UnknownCoding config h calls rest fine x = moved _ _ x.0 fine
+refused_first (InvalidResponse e) config h calls rest fine x = first_of calls (x.1.call ∷ []) (moved _ _ x.1.calls fine)
 
-  -- the calls that were answered, by the state
-  refused_first : (why : Refusal) (config : Config) (h : History) (calls : List Call) (rest : List ℕ)
-      → All answers h.calls → Justifies why config h calls rest → All answers calls
-  refused_first Truncated config h calls rest fine x = subst (λ (cs : List Call). All answers cs) x.0 fine
-  refused_first (Unreadable e) config h calls rest fine x = subst (λ (cs : List Call). All answers cs) x.0 fine
-  refused_first BodyTooLarge config h calls rest fine x = subst (λ (cs : List Call). All answers cs) x.0 fine
-  refused_first (InvalidPart e) config h calls rest fine x = subst (λ (cs : List Call). All answers cs) x.0 fine
-  refused_first InvalidHost config h calls rest fine x = subst (λ (cs : List Call). All answers cs) x.0 fine
-  refused_first UnknownCoding config h calls rest fine x = subst (λ (cs : List Call). All answers cs) x.0 fine
-  refused_first (InvalidResponse e) config h calls rest fine x =
-      first_of calls (x.1.call ∷ []) (subst (λ (cs : List Call). All answers cs) x.1.calls fine)
+first_at : (s : State) (config : Config) (h : History) (calls : List Call) (text interim rest : List ℕ)
+    → All IsServiced h.calls → Stands s config h calls text interim rest → All IsServiced calls
+first_at Open config h calls text interim rest fine x = moved _ _ x.0 fine
+first_at (Closing Asked) config h calls text interim rest fine x = first_of calls (x.0 ∷ []) (moved _ _ x.4 fine)
+first_at (Closing EndOfInput) config h calls text interim rest fine x = moved _ _ x.0 fine
+first_at (Closing (Refused why)) config h calls text interim rest fine x = refused_first why config h calls rest fine x.0
+first_at Upgraded config h calls text interim rest fine x = first_of calls (x.last.call ∷ []) (moved _ _ x.last.calls fine)
+first_at Aborted config h calls text interim rest fine x =
+    elim x.calls [
+      | inl same ↦ moved _ _ same fine
+      | inr more ↦ first_of calls (more.0 ∷ []) (moved _ _ more.1 fine)
+    ]
 
-  first_at : (s : State) (config : Config) (h : History) (calls : List Call) (text interim rest : List ℕ)
-      → All answers h.calls → Stands s config h calls text interim rest → All answers calls
-  first_at Open config h calls text interim rest fine x = subst (λ (cs : List Call). All answers cs) x.0 fine
-  first_at (Closing Asked) config h calls text interim rest fine x =
-      first_of calls (x.0 ∷ []) (subst (λ (cs : List Call). All answers cs) x.4 fine)
-  first_at (Closing EndOfInput) config h calls text interim rest fine x = subst (λ (cs : List Call). All answers cs) x.0 fine
-  first_at (Closing (Refused why)) config h calls text interim rest fine x = refused_first why config h calls rest fine x.0
-  first_at Upgraded config h calls text interim rest fine x =
-      first_of calls (x.last.call ∷ []) (subst (λ (cs : List Call). All answers cs) x.last.calls fine)
-  first_at Aborted config h calls text interim rest fine x =
-      elim x.calls [
-        | inl same ↦ subst (λ (cs : List Call). All answers cs) same fine
-        | inr more ↦ first_of calls (more.0 ∷ []) (subst (λ (cs : List Call). All answers cs) more.1 fine)
-      ]
+-- why the next request is refused, of the bytes alone
+reason_of : (why : Refusal) (config : Config) (h : History) (calls : List Call) (rest : List ℕ)
+    → All IsServiced h.calls → Justifies why config h calls rest → IsRefusedFor why config h.ended rest
+reason_of Truncated config h calls rest fine x = (x.1, x.2, x.3)
+reason_of (Unreadable e) config h calls rest fine x = (x.1, x.2)
+reason_of BodyTooLarge config h calls rest fine x = x.1
+reason_of (InvalidPart e) config h calls rest fine x = x.1
+reason_of InvalidHost config h calls rest fine x = x.1
+reason_of UnknownCoding config h calls rest fine x = x.1
+reason_of (InvalidResponse e) config h calls rest fine x =
+    (x.1.call, last_of calls x.1.call (moved _ _ x.1.calls fine), x.1.message, x.0, x.1.request, x.2)
 
-  conversation : (config : Config) (h : History) → All answers h.calls → IsServed config h
-      → IsConversation Fits config h.received (h.sent ++ h.pending)
-  conversation config h fine x =
-      let first = first_at h.state config h x.answered x.text x.interim x.rest fine x.stands in
-      let end = ends_at h.state config h x.answered x.text x.interim x.rest (last_of x.answered) x.is_interim fine x.stands in
+-- nothing was lost, unless memory ran out
+abbrev pub Keeps : State → List ℕ → Type 0
+Keeps Aborted lost = Unit {0}
+Keeps state lost = lost ≡ []
+
+-- what follows the exchanges, by the state: what was handed out, what is pending and what was lost are the answers and the rest
+abbrev Ending : State → Config → History → List ℕ → List ℕ → Type 0
+Ending s config h text rest =
+    (last : List ℕ) × Follows s config h.ended rest last × (lost : List ℕ) × ((h.sent ++ h.pending) ++ lost ≡ text ++ last) × Keeps s lost
+
+ends_at : (s : State) (config : Config) (h : History) (calls : List Call) (text interim rest : List ℕ)
+    → IsInterim config.limits rest interim → All IsServiced h.calls → Stands s config h calls text interim rest
+    → Ending s config h text rest
+ends_at Open config h calls text interim rest waits fine x = (interim, waits, [], append-nil (h.sent ++ h.pending) ∙ x.1, refl)
+ends_at (Closing Asked) config h calls text interim rest waits fine x = (
+  x.1,
+  (x.2, exchange_fits config false rest x.1 x.2 x.0 (last_of calls x.0 (moved _ _ x.4 fine)) x.3),
+  [],
+  append-nil (h.sent ++ h.pending) ∙ x.5,
+  refl,
+)
+ends_at (Closing EndOfInput) config h calls text interim rest waits fine x =
+    ([], (x.1, x.2, refl), [], append-nil (h.sent ++ h.pending) ∙ x.3 ∙ sym (append-nil text), refl)
+ends_at (Closing (Refused why)) config h calls text interim rest waits fine x = (
+  interim ++ refusal_text why,
+  (reason_of why config h calls rest fine x.0, (interim, waits, (refusal_text why, inl refl, refl))),
+  [],
+  append-nil (h.sent ++ h.pending) ∙ x.1 ∙ append_assoc text interim (refusal_text why),
+  refl,
+)
+ends_at Upgraded config h calls text interim rest waits fine x =
+    absurd (never_upgrades x.last.call (last_of calls x.last.call (moved _ _ x.last.calls fine)) x.accepted)
+ends_at Aborted config h calls text interim rest waits fine x = (
+  interim,
+  (waits, x.had_work),
+  x.lost,
+  ap (λ (p : List ℕ). (h.sent ++ p) ++ x.lost) x.dropped ∙ ap (λ (t : List ℕ). t ++ x.lost) (append-nil h.sent) ∙ x.sent,
+  tt,
+)
+
+-- what a connection read and wrote, has yet to write, and lost
+abbrev pub Conversed : Config → State → Bool → List ℕ → List ℕ → Type 0
+Conversed config state ended read text = (lost : List ℕ) × IsConversation config state ended read (text ++ lost) × Keeps state lost
+
+conversation : (config : Config) (h : History) → All IsServiced h.calls → IsServed config h
+    → Conversed config h.state h.ended h.received (h.sent ++ h.pending)
+conversation config h fine x =
+    let first = first_at h.state config h x.answered x.text x.interim x.rest fine x.stands in
+    let end = ends_at h.state config h x.answered x.text x.interim x.rest x.is_interim fine x.stands in (
+      end.2,
       record {
         count = length x.answered;
         answers = x.text;
         rest = x.rest;
         exchanges = all_fit config x.answered h.received x.text x.rest first x.serves;
         last = end.0;
-        is_last = end.1;
-        unwritten = end.2;
+        follows = end.1;
         joined = end.3;
-      }
+      },
+      end.4,
+    )
 
-  -- what a connection that was new has read, and has written or has yet to write, after calls of a service whose answers are such
-  pub conversed : {S : Type 0} (gives : S → Request (List ℕ) → Response → S → Type 0)
-      → ((old new : S) (c : Call) → gives old c.0 c.1 new → answers c)
-      → (c : Connection) (old new : S) → Calls gives old new [] (history c).calls
-      → ∥ IsConversation Fits (config_of c) (history c).received ((history c).sent ++ (history c).pending) ∥₁
-  conversed {S} gives each c old new x =
-      let fine = All-weaker (λ (k : Call). (a : S) × (b : S) × gives a k.0 k.1 b) answers (λ k w. each w.0 w.1 k w.2) x.0
-      (Chain-each gives x.0 old new x.2) in
-      ∥∥₁_map (always_served c) (conversation _ _ (subst (λ (cs : List Call). All answers cs) (sym x.1) fine))
+-- where the bytes of a refusal alone are pending, what stands in their place ends the conversation as well
+replaced : (config : Config) (why : Refusal) (h : History) (text : List ℕ) → All IsServiced h.calls → IsServed config h
+    → h.state ≡ Closing (Refused why) → h.pending ≡ refusal_text why → IsRefusalText why text
+    → IsConversation config (Closing (Refused why)) h.ended h.received (h.sent ++ text)
+replaced config why h text fine x closes alone stands =
+    let first = first_at h.state config h x.answered x.text x.interim x.rest fine x.stands in
+    let there : Stands (Closing (Refused why)) config h x.answered x.text x.interim x.rest =
+    subst (λ (s : State). Stands s config h x.answered x.text x.interim x.rest) closes x.stands in
+    let sent : h.sent ≡ x.text ++ x.interim =
+    append_cancel_right h.sent (x.text ++ x.interim) (refusal_text why)
+    (ap (λ (p : List ℕ). h.sent ++ p) (sym alone) ∙ there.1) in
+    record {
+      count = length x.answered;
+      answers = x.text;
+      rest = x.rest;
+      exchanges = all_fit config x.answered h.received x.text x.rest first x.serves;
+      last = x.interim ++ text;
+      follows = (reason_of why config h x.answered x.rest fine there.0, (x.interim, x.is_interim, (text, stands, refl)));
+      joined = ap (λ (t : List ℕ). t ++ text) sent ∙ append_assoc x.text x.interim text;
+    }
 
-  -- the same, from what `Connection::new` and the calls on it ensure
-  pub talk_of : {S : Type 0} (gives : S → Request (List ℕ) → Response → S → Type 0)
-      → ((old new : S) (c : Call) → gives old c.0 c.1 new → answers c)
-      → (config : Config) (first last : Connection) (old new : S) (read written : List ℕ)
-      → config_of first ≡ config → history first ≡ new_history → config_of last ≡ config_of first
-      → (history last).received ≡ (history first).received ++ read → (history last).sent ≡ (history first).sent ++ written
-      → Calls gives old new (history first).calls (history last).calls
-      → ∥ IsConversation Fits config read (written ++ (history last).pending) ∥₁
-  talk_of {S} gives each config first last old new read written is fresh kept received sent calls =
-      let got : (history last).received ≡ read = received ∙ ap (λ (h : History). h.received ++ read) fresh in
-      let gave : (history last).sent ≡ written = sent ∙ ap (λ (h : History). h.sent ++ written) fresh in
-      let talk = conversed gives each last old new (subst (λ (h : History). Calls gives old new h.calls (history last).calls) fresh calls) in
-      subst (λ (k : Config). ∥ IsConversation Fits k read (written ++ (history last).pending) ∥₁) (kept ∙ is)
-      (subst (λ (r : List ℕ). ∥ IsConversation Fits (config_of last) r (written ++ (history last).pending) ∥₁) got
-      (subst (λ (w : List ℕ). ∥ IsConversation Fits (config_of last) (history last).received (w ++ (history last).pending) ∥₁) gave talk))
+-- the calls of a service whose answers are such
+serviced : {S : Type 0} (gives : S → Request (List ℕ) → Response → S → Type 0)
+    → ((old new : S) (c : Call) → gives old c.0 c.1 new → IsServiced c)
+    → (first last : Connection) (old new : S) → history first ≡ new_history
+    → Calls gives old new (history first).calls (history last).calls → All IsServiced (history last).calls
+serviced {S} gives each first last old new fresh calls =
+    let x = subst (λ (h : History). Calls gives old new h.calls (history last).calls) fresh calls in
+    moved _ _ (sym x.1)
+    (All-weaker (λ (k : Call). (a : S) × (b : S) × gives a k.0 k.1 b) IsServiced (λ k w. each w.0 w.1 k w.2) x.0
+    (Chain-each gives x.0 old new x.2))
 
-  -- a conversation whose end was written, or what stands in its place
-  pub ended : (config : Config) (read written pending end : List ℕ) → ∥ IsConversation Fits config read (written ++ pending) ∥₁
-      → Ends pending end → ∥ IsTalk Fits config read (written ++ end) ∥₁
-  ended config read written pending end talk ends = ∥∥₁_map talk (λ whole. (written, pending, end, refl, whole, ends))
+-- ---- what a call returned, by how much of what was to be written it wrote
 
-  -- a conversation of which this much was written
-  pub unended : (config : Config) (read written pending : List ℕ) → ∥ IsConversation Fits config read (written ++ pending) ∥₁
-      → ∥ IsTalk Fits config read written ∥₁
-  unended config read written pending talk =
-      ∥∥₁_map talk (λ whole. (written, pending, [], sym (append-nil written), whole, (pending, inl refl)))
+-- all that is written in the end, for bytes that are pending
+whole : (config : Config) (h : History) (text : List ℕ) → All IsServiced h.calls → IsServed config h → Ends h.state h.pending text
+    → Conversed config h.state h.ended h.received (h.sent ++ text)
+whole config h text fine x ends =
+    elim ends [
+      | inl same ↦
+          subst (λ (p : List ℕ). Conversed config h.state h.ended h.received (h.sent ++ p)) (sym same) (conversation config h fine x)
+      | inr other ↦
+          subst (λ (s : State). Conversed config s h.ended h.received (h.sent ++ text)) (sym other.1) (
+            [],
+            subst (λ (t : List ℕ). IsConversation config (Closing (Refused other.0)) h.ended h.received t) (sym (append-nil (h.sent ++ text)))
+                (replaced config other.0 h text fine x other.1 other.2 other.3),
+            refl,
+          )
+    ]
+
+-- an error, where this part of it was written
+failing : (E : Type 0) (config : Config) (h : History) (part unwritten : List ℕ) (e : E) → All IsServiced h.calls → IsServed config h
+    → Ends h.state h.pending (part ++ unwritten) → IsTalk config h.ended h.received (h.sent ++ part) (Err e)
+failing E config h part unwritten e fine x ends =
+    let all = whole config h (part ++ unwritten) fine x ends in
+    let joined : (h.sent ++ (part ++ unwritten)) ++ all.0 ≡ (h.sent ++ part) ++ (unwritten ++ all.0) =
+    ap (λ (t : List ℕ). t ++ all.0) (sym (append_assoc h.sent part unwritten)) ∙ append_assoc (h.sent ++ part) unwritten all.0 in
+    (h.state, unwritten ++ all.0, subst (λ (t : List ℕ). IsConversation config h.state h.ended h.received t) joined all.1)
+
+-- all of it was written
+ending : (E : Type 0) (s : State) (config : Config) (at_end : Bool) (read text : List ℕ) → s ≢ Open → Conversed config s at_end read text
+    → IsTalk {E = E} config at_end read text (Ok s)
+ending E Open config at_end read text shut all = absurd (shut refl)
+ending E (Closing why) config at_end read text shut all =
+    subst (λ (t : List ℕ). IsConversation config (Closing why) at_end read t) (ap (λ (l : List ℕ). text ++ l) all.2 ∙ append-nil text) all.1
+ending E Upgraded config at_end read text shut all = absurd all.1.follows
+ending E Aborted config at_end read text shut all = (all.0, all.1)
+
+-- A connection that was new, after calls of a service that read and wrote these bytes.
+pub record Talked (asked : Config) (last : Connection) (read written : List ℕ) : Type 0 where
+  pub is_asked : config_of last ≡ asked
+  pub received : (history last).received ≡ read
+  pub sent : (history last).sent ≡ written
+  pub all_serviced : All IsServiced (history last).calls
+
+-- the same of the bytes that were read and written
+of_bytes : (E : Type 0) (config : Config) (last : Connection) (read written part : List ℕ) (result : Result State E) → Talked config last read written
+    → ∥ IsTalk (config_of last) (history last).ended (history last).received ((history last).sent ++ part) result ∥₁
+    → ∥ IsTalk config (history last).ended read (written ++ part) result ∥₁
+of_bytes E config last read written part result t talk =
+    subst (λ (k : Config). ∥ IsTalk k (history last).ended read (written ++ part) result ∥₁) t.is_asked
+    (subst (λ (r : List ℕ). ∥ IsTalk (config_of last) (history last).ended r (written ++ part) result ∥₁) t.received
+    (subst (λ (w : List ℕ). ∥ IsTalk (config_of last) (history last).ended (history last).received (w ++ part) result ∥₁) t.sent talk))
+
+pub talked : {S : Type 0} (gives : S → Request (List ℕ) → Response → S → Type 0)
+    → ((old new : S) (c : Call) → gives old c.0 c.1 new → IsServiced c)
+    → (config : Config) (first last : Connection) (old new : S) (read written : List ℕ)
+    → config_of first ≡ config → history first ≡ new_history → config_of last ≡ config_of first
+    → (history last).received ≡ (history first).received ++ read → (history last).sent ≡ (history first).sent ++ written
+    → Calls gives old new (history first).calls (history last).calls
+    → Talked config last read written
+talked gives each config first last old new read written is fresh kept received sent calls = record {
+  is_asked = kept ∙ is;
+  received = received ∙ ap (λ (h : History). h.received ++ read) fresh;
+  sent = sent ∙ ap (λ (h : History). h.sent ++ written) fresh;
+  all_serviced = serviced gives each first last old new fresh calls;
+}
+
+pub failed : (E : Type 0) (config : Config) (last : Connection) (read written part unwritten : List ℕ) (e : E) → Talked config last read written
+    → Ends (history last).state (history last).pending (part ++ unwritten) → ∥ IsTalk config (history last).ended read (written ++ part) (Err e) ∥₁
+failed E config last read written part unwritten e t ends =
+    of_bytes E config last read written part (Err e) t
+    (∥∥₁_map (always_served last) (λ x. failing E _ _ part unwritten e t.all_serviced x ends))
+
+pub failed_at_once : (E : Type 0) (config : Config) (last : Connection) (read written : List ℕ) (e : E) → Talked config last read written
+    → ∥ IsTalk config (history last).ended read written (Err e) ∥₁
+failed_at_once E config last read written e t =
+    subst (λ (w : List ℕ). ∥ IsTalk config (history last).ended read w (Err e) ∥₁) (append-nil written)
+    (failed E config last read written [] (history last).pending e t (inl refl))
+
+pub closed : (E : Type 0) (config : Config) (last : Connection) (read written part unwritten : List ℕ) (s : State) → Talked config last read written
+    → s ≡ (history last).state → (history last).state ≢ Open → Ends (history last).state (history last).pending (part ++ unwritten) → unwritten ≡ []
+    → ∥ IsTalk {E = E} config (history last).ended read (written ++ part) (Ok s) ∥₁
+closed E config last read written part unwritten s t is shut ends all =
+    let text : part ++ unwritten ≡ part = ap (λ (u : List ℕ). part ++ u) all ∙ append-nil part in
+    subst (λ (s : State). ∥ IsTalk {E = E} config (history last).ended read (written ++ part) (Ok s) ∥₁) (sym is)
+    (of_bytes E config last read written part (Ok (history last).state) t
+    (∥∥₁_map (always_served last) (λ x. ending E (history last).state _ _ _ _ shut
+    (whole _ _ part t.all_serviced x (subst (λ (p : List ℕ). Ends (history last).state (history last).pending p) text ends)))))
+
+-- of a new connection no end was found
+pub ended_first : (P : Type 0) (h : History) → h ≡ new_history → IsTrue h.ended → P
+ended_first P h fresh found = absurd (true≢false (sym found ∙ ap (λ (h : History). h.ended) fresh))
+
+-- a read that found the end
+pub end_after : (was : Bool) (more : List ℕ) (known : Option (List ℕ)) → IsFalse was → (length more ≡ 0 → IsAtEnd known)
+    → IsTrue (if was then was else (length more == 0)) → IsAtEnd known
+end_after true more known going at_end found = absurd (true≢false going)
+end_after false [] known going at_end found = at_end refl
+end_after false (byte ∷ more) known going at_end found = absurd (true≢false (sym found ∙ eqb-suc-zero (length more)))
+
+-- where nothing is pending, no more is than may be
+pub none_pending : (wants : Bool) (len most : ℕ) → (IsTrue wants ↔ (0 < len)) → wants ≡ false → len ≤ most
+none_pending wants zero most is idle = omega arith
+none_pending wants (suc n) most is idle = absurd (true≢false (sym (is.1 (omega arith)) ∙ idle))
+
+-- an error of any kind
+pub of_err : (E : Type 0) (config : Config) (at_end : Bool) (read written : List ℕ) (result : Result State E) → IsErr result
+    → ((e : E) → ∥ IsTalk config at_end read written (Err e) ∥₁) → ∥ IsTalk config at_end read written result ∥₁
+of_err E config at_end read written (Ok s) is all = absurd (true≢false (sym is))
+of_err E config at_end read written (Err e) is all = all e

@@ -20,3 +20,4 @@ czech_form_text faults.Missing = words.MISSING.now
 czech_form_text faults.Repeated = words.REPEATED.now
 czech_form_text faults.Unknown = words.UNKNOWN.now
 czech_form_text faults.NotOneOf = words.OTHER.now
+czech_form_text faults.RowLength = words.OTHER.now

@@ -3,6 +3,11 @@ use Rattle.std.specs.Prelude.{◌≡◌, ℕ, ◌⊎◌, List, [], ◌++◌, len
 use Rattle.std.specs.Fmt.{decimal}
 use Rattle.httpdate.specs.Date.{date_text}
 use Rattle.httpdate.specs.declared.date.HttpDate.{HttpDate}
+use Rattle.http_server.specs.declared.state.Refusal.{Refusal}
+use Rattle.http_server.specs.Refusal as server
+use Rattle.http_server.specs.declared.state.State.{State}
+use Rattle.http_server.specs.declared.state.State.TheVariants.{Closing}
+use Rattle.http_server.specs.declared.state.Reason.TheVariants.{Refused as Refusing}
 use Rattle.use_http.specs.declared.refusal.TheConstants as words
 use Rattle.use_http.specs.declared.refused.Refused.{Refused}
 use Rattle.use_http.specs.declared.refused.Refused.TheVariants.{BadRequest, ContentTooLarge, UriTooLong, FieldsTooLarge, InternalServerError, NotImplemented, VersionNotSupported}
@@ -28,9 +33,15 @@ refusal_text why (Some day) =
     codes "HTTP/1.1 " ++ (title_of why ++ (words.CLOSES.now ++ (words.DATE.now ++ (date_text day
     ++ (words.MEDIA.now ++ (decimal (length (problem_of why)) ++ (words.BODY.now ++ problem_of why)))))))
 
--- what was written of the bytes that were pending: a first part of them, or of what stands in their place
-abbrev pub Ends : List ℕ → List ℕ → Type 0
-Ends pending written =
-    (unwritten : List ℕ)
-    × ((pending ≡ written ++ unwritten)
-    ⊎ ((why : Refused) × (date : Option HttpDate) × (pending ≡ plain_of why) × (refusal_text why date ≡ written ++ unwritten)))
+-- what is written in place of the answer of `http_server`: that one, or problem details of the same status, or of 505 for 400
+abbrev pub IsRefusalText : Refusal → List ℕ → Type 0
+IsRefusalText why text =
+    (text ≡ server.refusal_text why)
+    ⊎ ((kind : Refused) × (date : Option HttpDate) × (plain_of kind ≡ server.refusal_text why) × (text ≡ refusal_text kind date))
+
+-- What is written where these bytes are pending, by how the connection stands: they; or, where they are the answer of `http_server` to a
+-- refusal and nothing else, what stands in its place.
+abbrev pub Ends : State → List ℕ → List ℕ → Type 0
+Ends state pending text =
+    (text ≡ pending)
+    ⊎ ((why : Refusal) × (state ≡ Closing (Refusing why)) × (pending ≡ server.refusal_text why) × IsRefusalText why text)

@@ -5,6 +5,7 @@ pub mod Ending
 pub mod Fits
 pub mod Judged
 pub mod Order
+pub mod Reasons
 pub mod Refused
 pub mod Request
 pub mod Wire

@@ -1,15 +1,18 @@
 -- What was read from a connection and written to it.
-use Rattle.std.specs.Prelude.{◌≡◌, ℕ, zero, suc, ◌≤◌, ◌⊎◌, List, [], ◌++◌, length}
+use Rattle.std.specs.Prelude.{◌≡◌, ℕ, zero, suc, ◌≤◌, Bool, true, false, not, List, [], ◌++◌, length, Result, Ok, Err, IsTrue}
 use Rattle.httparse.specs.Grammar.{print_response}
 use Rattle.http1.specs.declared.conn.Limits.{Limits}
 use Rattle.http1.specs.Framing.{method_kind}
 use Rattle.http1.specs.Message as Wire
-use Rattle.http1.specs.Message.{ReadsRequestMessage, ReadsResponseMessage}
+use Rattle.http1.specs.Message.{known_of, ReadsRequestMessage, ReadsResponseMessage}
 use Rattle.http_server.specs.declared.state.Config.{Config}
-use Rattle.http_server.specs.declared.state.Refusal.{Refusal}
-use Rattle.http_server.specs.Exchange.{IsInterim}
-use Rattle.http_server.specs.Refusal as server
-use Rattle.use_http.specs.Ending.{Ends}
+use Rattle.http_server.specs.declared.state.State.{State}
+use Rattle.http_server.specs.declared.state.State.TheVariants.{Open, Closing, Upgraded, Aborted}
+use Rattle.http_server.specs.declared.state.Reason.TheVariants.{Asked, EndOfInput, Refused}
+use Rattle.http_server.specs.Exchange.{IsInterim, keeps_open}
+use Rattle.use_http.specs.Ending.{IsRefusalText}
+use Rattle.use_http.specs.Fits.{Fits}
+use Rattle.use_http.specs.Reasons.{IsRefusedFor, HasWork}
 
 -- A client that sent a request with this method, and has room for the head, reads the text, whole, as this response.
 abbrev pub IsReadAs : List ℕ → List ℕ → Wire.Response → Type 0
@@ -18,10 +21,12 @@ IsReadAs method text response =
     → ReadsResponseMessage limits (method_kind method) text response []
 
 -- The bytes that were read begin with a request. The text is all that is written for it: `100 Continue` where that was asked for, or
--- nothing, and then a response that fits the request.
-pub record IsExchange (Fits : Wire.Request → Wire.Response → Type 0) (config : Config) (stream text rest : List ℕ) : Type 0 where
+-- nothing, and then a response that fits the request. The connection stays open unless the request asked to close it, and the response
+-- says whether it does.
+pub record IsExchange (config : Config) (stays : Bool) (stream text rest : List ℕ) : Type 0 where
   pub request : Wire.Request
   pub reads : ReadsRequestMessage config.limits stream request rest
+  pub within : length request.body.bytes ≤ config.max_body_len
   pub interim : List ℕ
   pub is_interim : IsInterim config.limits stream interim
   pub answer : List ℕ
@@ -29,36 +34,46 @@ pub record IsExchange (Fits : Wire.Request → Wire.Response → Type 0) (config
   pub response : Wire.Response
   pub is_read : IsReadAs request.head.method answer response
   pub fits : Fits request response
+  pub persists : keeps_open request.head fits.answer ≡ stays
+  pub announced : (known_of response.head.fields).close ≡ not stays
 
--- so many requests and the answers to them, in order
-abbrev pub AreExchanges : (Wire.Request → Wire.Response → Type 0) → Config → ℕ → List ℕ → List ℕ → List ℕ → Type 0
-AreExchanges Fits config zero stream text rest = (stream ≡ rest) × (text ≡ [])
-AreExchanges Fits config (suc n) stream text rest =
+-- so many requests and the answers to them, in order, each of which leaves the connection open
+abbrev pub AreExchanges : Config → ℕ → List ℕ → List ℕ → List ℕ → Type 0
+AreExchanges config zero stream text rest = (stream ≡ rest) × (text ≡ [])
+AreExchanges config (suc n) stream text rest =
     (first : List ℕ) × (after : List ℕ) × (later : List ℕ) × (text ≡ first ++ later)
-    × IsExchange Fits config stream first after × AreExchanges Fits config n after later rest
+    × IsExchange config true stream first after × AreExchanges config n after later rest
 
--- What follows them: one more exchange, which closes the connection; or perhaps `100 Continue`, and then nothing, or a refusal of
--- `http_server`'s own, whose status is 400, 413, 414, 431, 500 or 501.
-abbrev pub IsLast : (Wire.Request → Wire.Response → Type 0) → Config → List ℕ → List ℕ → Type 0
-IsLast Fits config stream text =
-    ((after : List ℕ) × IsExchange Fits config stream text after)
-    ⊎ ((interim : List ℕ) × IsInterim config.limits stream interim
-    × ((text ≡ interim) ⊎ ((why : Refusal) × (text ≡ interim ++ server.refusal_text why))))
+-- What follows them, by how the connection stands, and what is written for it. `ended`: the reader has nothing more.
+-- Asked: one more exchange, which closes the connection. EndOfInput: nothing more came. Refused: what came has this reason to be
+-- refused, and is. Aborted: memory ran out where there was work to do. No request hands the connection over.
+abbrev pub Follows : State → Config → Bool → List ℕ → List ℕ → Type 0
+Follows Open config ended rest text = IsInterim config.limits rest text
+Follows (Closing Asked) config ended rest text = (after : List ℕ) × IsExchange config false rest text after
+Follows (Closing EndOfInput) config ended rest text = IsTrue ended × (rest ≡ []) × (text ≡ [])
+Follows (Closing (Refused why)) config ended rest text =
+    IsRefusedFor why config ended rest
+    × ((interim : List ℕ) × IsInterim config.limits rest interim
+    × ((refusal : List ℕ) × IsRefusalText why refusal × (text ≡ interim ++ refusal)))
+Follows Upgraded config ended rest text = ⊥
+Follows Aborted config ended rest text = IsInterim config.limits rest text × HasWork config ended rest
 
--- What was read begins with requests. What was written is a first part of the answers to them, in order, and of what follows.
-pub record IsConversation (Fits : Wire.Request → Wire.Response → Type 0) (config : Config) (read written : List ℕ) : Type 0 where
+-- What was read begins with requests. The text is the answers to them, in order, and what is written for what follows.
+pub record IsConversation (config : Config) (state : State) (ended : Bool) (read text : List ℕ) : Type 0 where
   pub count : ℕ
   pub answers : List ℕ
   pub rest : List ℕ
-  pub exchanges : AreExchanges Fits config count read answers rest
+  pub exchanges : AreExchanges config count read answers rest
   pub last : List ℕ
-  pub is_last : IsLast Fits config rest last
-  pub unwritten : List ℕ
-  pub joined : written ++ unwritten ≡ answers ++ last
+  pub follows : Follows state config ended rest last
+  pub joined : text ≡ answers ++ last
 
--- What was written is a conversation, or ends one in another way: the last bytes of the conversation are a refusal of `http_server`'s own,
--- and problem details were written in its place.
-abbrev pub IsTalk : (Wire.Request → Wire.Response → Type 0) → Config → List ℕ → List ℕ → Type 0
-IsTalk Fits config read written =
-    (front : List ℕ) × (pending : List ℕ) × (end : List ℕ)
-    × (written ≡ front ++ end) × IsConversation Fits config read (front ++ pending) × Ends pending end
+-- What was read and written when a call returned this. Where the connection closed, the whole conversation was written. Where memory
+-- ran out, or reading or writing failed, a first part of one was.
+abbrev pub IsTalk : {E : Type 0} → Config → Bool → List ℕ → List ℕ → Result State E → Type 0
+IsTalk config ended read written (Ok Open) = ⊥
+IsTalk config ended read written (Ok (Closing why)) = IsConversation config (Closing why) ended read written
+IsTalk config ended read written (Ok Upgraded) = ⊥
+IsTalk config ended read written (Ok Aborted) = (unwritten : List ℕ) × IsConversation config Aborted ended read (written ++ unwritten)
+IsTalk config ended read written (Err e) =
+    (state : State) × (unwritten : List ℕ) × IsConversation config state ended read (written ++ unwritten)

@@ -2,8 +2,8 @@
 ghost use Rattle.use_http.specs.CzechText.{czech_form_text, czech_text};
 
 use garde::I18n;
-use garde::i18n::{InvalidCreditCard, InvalidPhoneNumber, InvalidUrl, IpKind};
-use garde_schema::{FormI18n, Integer, Kind, Wanted};
+use garde::i18n::{InvalidCreditCard, InvalidPhoneNumber, InvalidUrl, IpKind, Named};
+use garde_schema::{FormFault, FormI18n};
 use std::alloc::{AllocError, Global};
 use std::borrow::CowStr;
 
@@ -119,37 +119,23 @@ impl I18n for Czech {
     fn required_not_set(&self, _alloc: Global) -> Result<CowStr<'static>, AllocError> {
         Ok(CowStr::Borrowed(OTHER))
     }
+
+    fn named(&self, _alloc: Global, _fault: Named<'_>) -> Result<CowStr<'static>, AllocError> {
+        Ok(CowStr::Borrowed(OTHER))
+    }
 }
 
 impl FormI18n for Czech {
     ghost form_text = { λ _ fault. czech_form_text fault };
 
-    fn wrong_form(
-        &self,
-        _alloc: Global,
-        _wanted: Wanted,
-        _found: Kind,
-    ) -> Result<CowStr<'static>, AllocError> {
-        Ok(CowStr::Borrowed(FORM))
-    }
-
-    fn out_of_range(&self, _alloc: Global, _of: Integer) -> Result<CowStr<'static>, AllocError> {
-        Ok(CowStr::Borrowed(RANGE))
-    }
-
-    fn member_missing(&self, _alloc: Global) -> Result<CowStr<'static>, AllocError> {
-        Ok(CowStr::Borrowed(MISSING))
-    }
-
-    fn member_repeated(&self, _alloc: Global) -> Result<CowStr<'static>, AllocError> {
-        Ok(CowStr::Borrowed(REPEATED))
-    }
-
-    fn member_unknown(&self, _alloc: Global) -> Result<CowStr<'static>, AllocError> {
-        Ok(CowStr::Borrowed(UNKNOWN))
-    }
-
-    fn value_unknown(&self, _alloc: Global) -> Result<CowStr<'static>, AllocError> {
-        Ok(CowStr::Borrowed(OTHER))
+    fn form_fault(&self, _alloc: Global, fault: FormFault) -> Result<CowStr<'static>, AllocError> {
+        Ok(CowStr::Borrowed(match fault {
+            FormFault::Wrong(_, _) => FORM,
+            FormFault::OutOfRange(_) => RANGE,
+            FormFault::Missing => MISSING,
+            FormFault::Repeated => REPEATED,
+            FormFault::Unknown => UNKNOWN,
+            FormFault::NotOneOf | FormFault::RowLength => OTHER,
+        }))
     }
 }

@@ -1,5 +1,6 @@
 //! What is answered where `http_server` rejects a request: its own answer has no body, and no date.
 ghost use Rattle.std.specs.Prelude.{◌≡◌, IfOk, IsTrue, string_bytes};
+ghost use Rattle.http_server.specs.Refusal as server;
 ghost use Rattle.use_http.specs.Ending.{plain_of, refusal_text};
 
 use crate::refused::Refused;
@@ -10,7 +11,9 @@ use httpdate::HttpDate;
 use std::alloc::{AllocError, Global};
 
 /// Why a request is rejected. Of a request line in another version there is the text from there on.
-pub fn refused_of(why: Refusal, text: &[u8]) -> Refused {
+pub fn refused_of(why: Refusal, text: &[u8]) -> Refused
+    ensures { plain_of result ≡ server.refusal_text why }
+{
     match why {
         Refusal::Unreadable(ReadError::Parse(httparse::Error::Version))
             if has_other_version(text) => { Refused::VersionNotSupported }

@@ -1,11 +1,12 @@
 //! The service: what is answered to each request.
-ghost use Rattle.std.specs.Prelude.{◌≡◌, [], ◌∷◌, ◌++◌, IsTrue, OnOk, codes};
+ghost use Rattle.std.specs.Prelude.{◌≡◌, [], ◌∷◌, ◌++◌, IsOk, IsTrue, OnOk, codes};
 ghost use Rattle.http.specs.Request.{head_of, body_of};
 ghost use Rattle.http_header.specs.FieldValue.{is_visible_text};
 ghost use Rattle.http_server.specs.Response.{IsBlank, IsResponse};
 ghost use Rattle.use_http.specs.Answered.{AnswersRoute, IsAnswered, IsAnsweredSometime, IsJudged, form_texts, rule_texts};
 ghost use Rattle.use_http.specs.Judged.{Judges, problem_fields};
 ghost use Rattle.use_http.specs.Refused.{status_of, problem_of};
+ghost use Rattle.use_http.specs.Request.{IsRoute};
 
 use crate::answer::{judge, put_problem};
 use crate::czech::Czech;
@@ -87,8 +88,9 @@ fn answer_route(
     response: &mut Response,
 ) -> Result<(), AllocError>
     requires { IsBlank response.old }
-    ensures { OnOk result (AnswersRoute route (head_of request.now) (body_of request.now)
+    ensures told { OnOk result (AnswersRoute route (head_of request.now) (body_of request.now)
         response.new) }
+    ensures health { route ≡ Route.Health → IsOk result }
 {
     let other = Refused::MethodNotAllowed;
     match route {
@@ -106,7 +108,8 @@ fn answer_route(
     }
 }
 
-/// Fills a blank response with the answer to a request, at this date.
+/// Fills a blank response with the answer to a request, at this date. Whether the service runs is always
+/// answered: that takes no memory.
 pub fn answer(
     alloc: Global,
     date: Option<HttpDate>,
@@ -114,8 +117,9 @@ pub fn answer(
     response: &mut Response,
 ) -> Result<(), AllocError>
     requires { IsBlank response.old }
-    ensures { OnOk result (IsAnswered date (head_of request.now) (body_of request.now)
+    ensures told { OnOk result (IsAnswered date (head_of request.now) (body_of request.now)
         response.new) }
+    ensures health { IsRoute Route.Health (head_of request.now) → IsOk result }
 {
     let route = route_of(request);
     answer_route(alloc, route, request, response)?;

@@ -1,17 +1,16 @@
 //! The requests of a connection, and the answers to them.
-ghost use Rattle.std.specs.Prelude.{◌≡◌, ℕ, List, ◌++◌};
-ghost use Rattle.std.specs.Io.KnownBytes.{Appends, Consumes};
+ghost use Rattle.std.specs.Prelude.{◌≡◌, ◌≢◌, ℕ, List, Bool, [], ◌++◌, length, OnOk, IsTrue};
+ghost use Rattle.std.specs.Io.KnownBytes.{Appends, Consumes, IsAtEnd};
 ghost use Rattle.http_server.specs.Connection.{config_of, history};
 ghost use Rattle.http_server.specs.Exchange.{Calls};
 ghost use Rattle.use_http.specs.Ending.{Ends};
-ghost use Rattle.use_http.specs.Fits.{Fits};
 ghost use Rattle.use_http.specs.Wire.{IsTalk};
 
 use crate::date::date_of;
 use crate::refusal::{is_plain, refusal, refused_of};
 use crate::service::Orders;
 use bytes::Buf;
-use http_server::{Config, Connection, Reason, Refusal, Service, State, serve};
+use http_server::{Config, Connection, Reason, Refusal, Service, State};
 use std::alloc::Global;
 use std::hash::RandomState;
 use std::io;
@@ -25,9 +24,12 @@ fn talk<S: Service, R: Read, W: Write>(
     reader: &mut R,
     writer: &mut W,
 ) -> io::Result<()>
+    ensures closed { OnOk result ((history connection.new).state ≢ State.Open) }
     ensures read { (more : List ℕ)
         × Consumes (R.remaining reader.old) (R.remaining reader.new) more
         × ((history connection.new).received ≡ (history connection.old).received ++ more) }
+    ensures end { (IsTrue (history connection.old).ended → IsAtEnd (R.remaining reader.old))
+        → IsTrue (history connection.new).ended → IsAtEnd (R.remaining reader.new) }
     ensures written { (more : List ℕ)
         × Appends (W.contents writer.old) (W.contents writer.new) more
         × ((history connection.new).sent ≡ (history connection.old).sent ++ more) }
@@ -54,9 +56,10 @@ fn talk<S: Service, R: Read, W: Write>(
 
 /// Writes bytes, and flushes the writer.
 fn write_out<B: Buf, W: Write>(bytes: &mut B, writer: &mut W) -> io::Result<()>
-    ensures { (written : List ℕ)
+    ensures written { (written : List ℕ)
         × Appends (W.contents writer.old) (W.contents writer.new) written
         × (B.unread bytes.old ≡ written ++ B.unread bytes.new) }
+    ensures all { OnOk result (B.unread bytes.new ≡ []) }
 {
     while bytes.has_remaining() {
         match writer.write(bytes.chunk())? {
@@ -65,6 +68,17 @@ fn write_out<B: Buf, W: Write>(bytes: &mut B, writer: &mut W) -> io::Result<()>
         }
     }
     writer.flush()
+}
+
+/// Writes what is pending on a connection.
+fn finish<W: Write>(connection: Connection, writer: &mut W) -> io::Result<()>
+    ensures { (written : List ℕ) × (unwritten : List ℕ)
+        × Appends (W.contents writer.old) (W.contents writer.new) written
+        × ((history connection).pending ≡ written ++ unwritten)
+        × OnOk result (unwritten ≡ []) }
+{
+    let (_, mut pending) = connection.into_buffers();
+    write_out(&mut pending, writer)
 }
 
 /// Writes the last answer of a connection whose next request is rejected: where `http_server` has its
@@ -76,18 +90,38 @@ fn refuse<C: Clock, W: Write>(
     connection: Connection,
     writer: &mut W,
 ) -> io::Result<()>
-    ensures { (written : List ℕ)
+    requires { (history connection).state ≡ State.Closing (Reason.Refused why) }
+    ensures { (written : List ℕ) × (unwritten : List ℕ)
         × Appends (W.contents writer.old) (W.contents writer.new) written
-        × Ends (history connection).pending written }
+        × Ends (history connection).state (history connection).pending (written ++ unwritten)
+        × OnOk result (unwritten ≡ []) }
 {
     let (unread, mut pending) = connection.into_buffers();
-    let why = refused_of(why, unread.as_slice());
-    match refusal(alloc, why, date_of(clock)) {
-        Ok(text) if is_plain(why, &pending) => {
+    let kind = refused_of(why, unread.as_slice());
+    match refusal(alloc, kind, date_of(clock)) {
+        Ok(text) if is_plain(kind, &pending) => {
             let mut rest = text.as_str().as_bytes();
             write_out(&mut rest, writer)
         }
         _ => write_out(&mut pending, writer),
+    }
+}
+
+/// Writes what is pending on a connection that is done, or what stands in its place.
+fn close<C: Clock, W: Write>(
+    alloc: Global,
+    clock: Option<&C>,
+    connection: Connection,
+    writer: &mut W,
+) -> io::Result<()>
+    ensures { (written : List ℕ) × (unwritten : List ℕ)
+        × Appends (W.contents writer.old) (W.contents writer.new) written
+        × Ends (history connection).state (history connection).pending (written ++ unwritten)
+        × OnOk result (unwritten ≡ []) }
+{
+    match connection.state() {
+        State::Closing(Reason::Refused(why)) => refuse(alloc, clock, why, connection, writer),
+        _ => finish(connection, writer),
     }
 }
 
@@ -101,19 +135,16 @@ pub fn answer_all<C: Clock, R: Read, W: Write>(
     reader: &mut R,
     writer: &mut W,
 ) -> io::Result<State>
-    ensures { (read : List ℕ) × (written : List ℕ)
+    ensures { (read : List ℕ) × (written : List ℕ) × (ended : Bool)
         × Consumes (R.remaining reader.old) (R.remaining reader.new) read
         × Appends (W.contents writer.old) (W.contents writer.new) written
-        × ∥ IsTalk Fits config read written ∥₁ }
+        × (IsTrue ended → IsAtEnd (R.remaining reader.new))
+        × ∥ IsTalk config ended read written result ∥₁ }
 {
     let mut connection = Connection::new(alloc, keys, config);
     let mut orders = Orders { alloc, clock };
     talk(&mut connection, &mut orders, reader, writer)?;
-    let state = connection.state();
-    let State::Closing(Reason::Refused(why)) = state else {
-        serve(&mut connection, &mut orders, reader, writer)?;
-        return Ok(state);
-    };
-    refuse(alloc, clock, why, connection, writer)?;
-    Ok(state)
+    let stands = connection.state();
+    close(alloc, clock, connection, writer)?;
+    Ok(stands)
 }

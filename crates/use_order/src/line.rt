@@ -1,6 +1,6 @@
 //! A line of an order: how it is made, its rules, and what it costs.
 ghost use Rattle.std.specs.Prelude.{refl};
-ghost use Rattle.garde.specs.Author.{Known, codes, ◌and◌, field, prefix, unsigned_in};
+ghost use Rattle.garde.specs.Fields.{◌and◌, between, field, is, Known, prefix, range};
 
 use garde::Stated;
 use garde_schema::{FromParts, TextRef};
@@ -32,9 +32,9 @@ impl<'t> Stated for Line<'t> {
     type Context = ();
 
     ghost visits = { λ v _.
-        field (codes "code") (prefix (codes "P") v.code)
-        and field (codes "count") (unsigned_in 1 99 v.count)
-        and field (codes "cents") (unsigned_in 1 9999 v.cents) };
+        field "code" (is (prefix "P" v.code))
+        and field "count" (is (range (between 1 99) v.count))
+        and field "cents" (is (range (between 1 9999) v.cents)) };
 }
 
 /// What a line costs in cents. That of a valid line is no more than fits.

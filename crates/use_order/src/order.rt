@@ -1,6 +1,6 @@
 //! An order with its lines: how it is made, its rules, and code that relies on a valid one.
 ghost use Rattle.std.specs.Prelude.{Bool, true, false, refl};
-ghost use Rattle.garde.specs.Author.{codes, length, ◌and◌, char_count, field, items, length_in, optional, required, when};
+ghost use Rattle.garde.specs.Fields.{◌and◌, at_most, between, chars, each, field, if_some, is, items, length, required, when};
 ghost use Rattle.use_order.specs.declared.order.Delivery.TheVariants.{Counter, Post};
 
 use crate::line::Line;
@@ -60,7 +60,7 @@ pub struct AddressByPost;
 
 impl<A> Rules<(Delivery, Option<A>)> for AddressByPost {
     ghost asks = { λ _ v.
-        when (elim v.0 as (λ _. Bool) [ Post ↦ true | _ ↦ false ]) (required v.1) };
+        when (elim v.0 as (λ _. Bool) [ Post ↦ true | _ ↦ false ]) (is (required v.1)) };
 
     fn ask<'a, H: I18n>(
         &self,
@@ -82,7 +82,7 @@ pub struct FewAtTheCounter;
 
 impl<A, L> Rules<((Delivery, A), Items<L>)> for FewAtTheCounter {
     ghost asks = { λ _ v.
-        when (elim v.0.0 as (λ _. Bool) [ Counter ↦ true | _ ↦ false ]) (length_in 0 3 (length v.1)) };
+        when (elim v.0.0 as (λ _. Bool) [ Counter ↦ true | _ ↦ false ]) (is (items (at_most 3) v.1)) };
 
     fn ask<'a, H: I18n>(
         &self,
@@ -102,12 +102,12 @@ impl<'t> Stated for Order<'t> {
     type Context = ();
 
     ghost visits = { λ v _.
-        field (codes "customer") (length_in 1 80 (char_count v.customer))
-        and field (codes "address") (when (elim v.delivery as (λ _. Bool) [ Post ↦ true | _ ↦ false ]) (required v.address)
-        and optional (λ address. length_in 5 200 (char_count address)) v.address)
-        and field (codes "lines") (length_in 1 50 (length v.lines)
-        and when (elim v.delivery as (λ _. Bool) [ Counter ↦ true | _ ↦ false ]) (length_in 0 3 (length v.lines))
-        and items (λ line. ⟦<Line<'static> as Stated>⟧.visits line tt) v.lines) };
+        field "customer" (is (chars (between 1 80) v.customer))
+        and field "address" (when (elim v.delivery as (λ _. Bool) [ Post ↦ true | _ ↦ false ]) (is (required v.address))
+        and if_some (λ address. is (chars (between 5 200) address)) v.address)
+        and field "lines" (is (items (between 1 50) v.lines)
+        and when (elim v.delivery as (λ _. Bool) [ Counter ↦ true | _ ↦ false ]) (is (items (at_most 3) v.lines))
+        and each (λ line. ⟦<Line<'static> as Stated>⟧.visits line tt) v.lines) };
 }
 
 /// The first line. A valid order has one.

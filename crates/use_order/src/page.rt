@@ -1,5 +1,5 @@
 //! A page of values of any type, and its rules.
-ghost use Rattle.garde.specs.Author.{codes, length, ◌and◌, field, items, length_in, unsigned_in};
+ghost use Rattle.garde.specs.Fields.{◌and◌, at_least, at_most, each, field, is, items, range};
 
 use garde::Stated;
 use garde_schema::Items;
@@ -15,7 +15,7 @@ impl<T: Stated> Stated for Page<T> {
     type Context = T::Context;
 
     ghost visits = { λ v c.
-        field (codes "number") (unsigned_in 1 4294967295 v.number)
-        and field (codes "entries") (length_in 0 20 (length v.entries)
-        and items (λ entry. T.visits entry c) v.entries) };
+        field "number" (is (range (at_least 1) v.number))
+        and field "entries" (is (items (at_most 20) v.entries)
+        and each (λ entry. T.visits entry c) v.entries) };
 }

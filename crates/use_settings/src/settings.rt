@@ -1,5 +1,5 @@
 //! The settings of a program that copies files, and what is asked of them.
-ghost use Rattle.garde.specs.Fields.{◌and◌, IsAtMost, V4, each, field, ip, items_between, optional, product, range_between, required, suffix, vec_len, when};
+ghost use Rattle.garde.specs.Fields.{◌and◌, between, each, field, if_some, ip, is, IsAtMost, items, length, product, range, required, slice, str, suffix, V4, when};
 
 use clap::ArgMatches;
 use garde::fields::{Each, Field, Fields, IfSome, Ip, Is, Required, Suffix, When};
@@ -51,9 +51,9 @@ impl Stated for Settings {
     type Context = ();
 
     ghost visits = { λ v _.
-        field "--jobs" (range_between 1 16 v.jobs)
-        and field "--remote" (when v.upload (required v.remote) and optional (λ remote. ip V4 remote) v.remote)
-        and field "FILE" (items_between 1 3 v.files and each (λ file. suffix ".csv" file) v.files) };
+        field "--jobs" (is (range (between 1 16) v.jobs))
+        and field "--remote" (when v.upload (is (required v.remote)) and if_some (λ remote. is (ip V4 (str remote))) v.remote)
+        and field "FILE" (is (items (between 1 3) (slice v.files)) and each (λ file. is (suffix ".csv" (str file))) (slice v.files)) };
 }
 
 impl Validate for Settings {
@@ -85,7 +85,7 @@ impl Validate for Settings {
 /// How many files a job copies at most. Valid settings have a job, so nothing is tested.
 #[tactic(auto, unfolding(garde::specs::Fields::Known))]
 pub fn share(settings: &Valid<Settings>) -> usize
-    ensures { IsAtMost (vec_len settings.now.files) (product result settings.now.jobs) }
+    ensures { IsAtMost (length (slice settings.now.files)) (product result settings.now.jobs) }
 {
     settings.files.len().div_ceil(usize::from(settings.jobs))
 }

@@ -1,7 +1,7 @@
 -- The texts of the handler `Czech`: one line for each datum that a rule may find, and for each fault of form.
 use Rattle.std.specs.Prelude.{ℕ, List}
 use Rattle.garde.specs.Fields.{both, choose, nat_eq, nat_le}
-use Rattle.garde.specs.Handlers.{Datum, length_lower, length_greater, range_lower, range_greater, card, pattern, contains, url, prefix, suffix, phone, ip, matches, not_ascii, not_alphanumeric, not_set, decimal, ip_kind_text, phrase}
+use Rattle.garde.specs.Handlers.{Datum, length_lower, length_greater, range_lower, range_greater, card, pattern, contains, url, prefix, suffix, phone, ip, matches, not_ascii, not_alphanumeric, not_set, named, decimal, ip_kind_text, phrase}
 use Rattle.garde_schema.specs.declared.fault.FormFault.{FormFault}
 use Rattle.garde_schema.specs.declared.fault.FormFault.TheVariants as faults
 use Rattle.garde_schema.specs.declared.fault.Wanted.TheVariants as wants
@@ -28,6 +28,7 @@ czech_text (matches s) = phrase words.MATCHES.now s
 czech_text not_ascii = words.NOT_ASCII.now
 czech_text not_alphanumeric = words.NOT_ALPHANUMERIC.now
 czech_text not_set = words.NOT_SET.now
+czech_text (named code english) = english
 
 abbrev pub czech_form_text : FormFault → List ℕ
 czech_form_text (faults.Wrong wants.Whole found) = words.NOT_WHOLE.now
@@ -37,3 +38,4 @@ czech_form_text faults.Missing = words.MISSING.now
 czech_form_text faults.Repeated = words.REPEATED.now
 czech_form_text faults.Unknown = words.UNKNOWN.now
 czech_form_text faults.NotOneOf = words.NOT_ONE_OF.now
+czech_form_text faults.RowLength = words.ROW_LENGTH.now

@@ -3,8 +3,8 @@ ghost use Rattle.garde.specs.Fields.{Equals};
 ghost use Rattle.use_signup.specs.CzechText.{characters, czech_form_text, czech_text};
 
 use garde::I18n;
-use garde::i18n::{InvalidCreditCard, InvalidPhoneNumber, InvalidUrl, IpKind};
-use garde_schema::{FormI18n, Integer, Kind, Wanted};
+use garde::i18n::{InvalidCreditCard, InvalidPhoneNumber, InvalidUrl, IpKind, Named};
+use garde_schema::{FormFault, FormI18n, Wanted};
 use std::alloc::{AllocError, Global};
 use std::borrow::CowStr;
 
@@ -59,6 +59,8 @@ const REPEATED: &str = "pole se opakuje";
 const UNKNOWN: &str = "neznámé pole";
 
 const NOT_ONE_OF: &str = "neznámá hodnota";
+
+const ROW_LENGTH: &str = "jiný počet polí než v záhlaví";
 
 /// A handler whose texts are Czech. It names no reason.
 #[derive(Drop, Clone, Copy, Debug)]
@@ -171,40 +173,25 @@ impl I18n for Czech {
     fn required_not_set(&self, _alloc: Global) -> Result<CowStr<'static>, AllocError> {
         Ok(CowStr::Borrowed(NOT_SET))
     }
+
+    fn named(&self, alloc: Global, fault: Named<'_>) -> Result<CowStr<'static>, AllocError> {
+        Ok(CowStr::Owned(String::from_str(alloc, fault.english)?))
+    }
 }
 
 impl FormI18n for Czech {
     ghost form_text = { λ _ fault. czech_form_text fault };
 
-    fn wrong_form(
-        &self,
-        _alloc: Global,
-        wanted: Wanted,
-        _found: Kind,
-    ) -> Result<CowStr<'static>, AllocError> {
-        Ok(CowStr::Borrowed(match wanted {
-            Wanted::Whole => NOT_WHOLE,
-            _ => OTHER_FORM,
+    fn form_fault(&self, _alloc: Global, fault: FormFault) -> Result<CowStr<'static>, AllocError> {
+        Ok(CowStr::Borrowed(match fault {
+            FormFault::Wrong(Wanted::Whole, _) => NOT_WHOLE,
+            FormFault::Wrong(_, _) => OTHER_FORM,
+            FormFault::OutOfRange(_) => OUT_OF_RANGE,
+            FormFault::Missing => MISSING,
+            FormFault::Repeated => REPEATED,
+            FormFault::Unknown => UNKNOWN,
+            FormFault::NotOneOf => NOT_ONE_OF,
+            FormFault::RowLength => ROW_LENGTH,
         }))
-    }
-
-    fn out_of_range(&self, _alloc: Global, _of: Integer) -> Result<CowStr<'static>, AllocError> {
-        Ok(CowStr::Borrowed(OUT_OF_RANGE))
-    }
-
-    fn member_missing(&self, _alloc: Global) -> Result<CowStr<'static>, AllocError> {
-        Ok(CowStr::Borrowed(MISSING))
-    }
-
-    fn member_repeated(&self, _alloc: Global) -> Result<CowStr<'static>, AllocError> {
-        Ok(CowStr::Borrowed(REPEATED))
-    }
-
-    fn member_unknown(&self, _alloc: Global) -> Result<CowStr<'static>, AllocError> {
-        Ok(CowStr::Borrowed(UNKNOWN))
-    }
-
-    fn value_unknown(&self, _alloc: Global) -> Result<CowStr<'static>, AllocError> {
-        Ok(CowStr::Borrowed(NOT_ONE_OF))
     }
 }

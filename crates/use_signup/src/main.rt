@@ -6,12 +6,12 @@ mod czech;
 mod sign_up;
 
 use crate::czech::Czech;
-use crate::sign_up::{LISTS, SignUp, Words, read_sign_up};
+use crate::sign_up::{SignUp, Words, read_sign_up};
 use anyhow::{Context, Result};
-use garde::{DefaultI18n, I18n};
-use garde_form::form_to_json_with_lists;
+use garde::{DefaultI18n, I18n, ValidateError};
+use garde_form::form_fields;
 use garde_problem::Escaped;
-use garde_schema::{FormI18n, ReadError, Scratch};
+use garde_schema::FormI18n;
 use std::io::Read;
 use std::process::ExitCode;
 use std::{env, io};
@@ -89,14 +89,13 @@ fn answer<H: I18n + FormI18n>(
     h: &H,
 ) -> Result<ExitCode> {
     let alloc = rt.alloc();
-    let fields = form_to_json_with_lists(alloc, body, &LISTS)?;
-    let mut scratch = Scratch::new(alloc);
-    match read_sign_up(alloc, fields.as_bytes(), &mut scratch, words, h) {
+    let fields = form_fields(alloc, body)?;
+    match read_sign_up(alloc, fields.as_slice(), words, h) {
         Ok(who) => {
             welcome(rt, &who, words)?;
             Ok(ExitCode::SUCCESS)
         }
-        Err(ReadError::Report(report)) => {
+        Err(ValidateError::Report(report)) => {
             print!(rt; "{}", Escaped(alloc, &report))?;
             Ok(ExitCode::FAILURE)
         }

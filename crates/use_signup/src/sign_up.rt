@@ -1,14 +1,13 @@
 //! Who signs up: the form of each field and its rules, in one expression.
 ghost use Rattle.std.specs.Prelude.{bytes_eq, is_some};
-ghost use Rattle.garde.specs.Author.{codes, matches};
-ghost use Rattle.garde.specs.Fields.{own_unless};
+ghost use Rattle.garde.specs.Fields.{asks_text, is, matches};
 
 use garde::fields::{Alphanumeric, Is, Matches, Prefix, Required, Rule};
-use garde::{I18n, Report, RuleError, Trail, all, length, parts, range};
-use garde_form::{OrEmpty, Parsed};
+use garde::{I18n, Report, RuleError, Trail, ValidateError, all, length, parts, range};
+use garde_form::{FormField, OrEmpty, Parsed, read_form};
 use garde_schema::{
-    Checked, Closed, FormI18n, Items, ListUnder, Member, Object, OneOf, Optional, ReadError, Rules,
-    Scratch, Text, TextRef, U8, Under, read_json,
+    Checked, Closed, FormI18n, Items, ListUnder, Member, Object, OneOf, Optional, Rules, Text,
+    TextRef, U8, Under,
 };
 use std::alloc::{AllocError, Global};
 use std::borrow::CowStr;
@@ -26,7 +25,7 @@ pub struct Words {
 pub struct Accepted(pub &'static str);
 
 impl Rule<Option<bool>> for Accepted {
-    ghost finds = { λ rule accepted. own_unless rule.0.now (is_some accepted) };
+    ghost finds = { λ rule accepted. asks_text rule.0.now (is_some accepted) };
 
     fn find<H: I18n>(
         &self,
@@ -47,7 +46,7 @@ impl Rule<Option<bool>> for Accepted {
 pub struct Repeated;
 
 impl<'t> Rules<(TextRef<'t>, TextRef<'t>)> for Repeated {
-    ghost asks = { λ _ v. matches (codes "password") (bytes_eq v.1 v.0) };
+    ghost asks = { λ _ v. is (matches "password" (bytes_eq v.1 v.0)) };
 
     fn ask<'a, H: I18n>(
         &self,
@@ -67,7 +66,7 @@ impl<'t> Rules<(TextRef<'t>, TextRef<'t>)> for Repeated {
 }
 
 /// The fields that are sent once for each choice.
-pub const LISTS: [&str; 1] = ["topics"];
+const LISTS: [&str; 1] = ["topics"];
 
 /// The topics to choose from.
 const TOPICS: [(&str, &str); 2] = [("news", "news"), ("events", "events")];
@@ -85,11 +84,10 @@ pub struct SignUp<'t> {
 #[tactic(auto, unfolding(garde::specs::Fields::Known))]
 pub fn read_sign_up<'a, H: I18n + FormI18n>(
     alloc: Global,
-    fields: &'a [u8],
-    scratch: &'a mut Scratch,
+    fields: &'a [FormField<'_>],
     words: &Words,
     h: &H,
-) -> Result<SignUp<'a>, ReadError> {
+) -> Result<SignUp<'a>, ValidateError> {
     let adult = Parsed(U8, Is(range!(min = 18, max = 120)));
     let called = Text((Is(Prefix("+")), Is(length!(min = 9, max = 16))));
     let passwords = (
@@ -111,7 +109,7 @@ pub fn read_sign_up<'a, H: I18n + FormI18n>(
             Under("terms", Is(Accepted(words.terms))),
         )
     )));
-    match read_json(alloc, fields, scratch, &form, h) {
+    match read_form(alloc, fields, &LISTS, &form, h) {
         Ok(fields) => {
             let parts!(name, _, _, age, _, topics, _) = fields;
             let age = age.unwrap();

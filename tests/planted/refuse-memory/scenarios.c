@@ -11,7 +11,7 @@ static int say(const char *line)
 int main(int count, char **words)
 {
     if (count < 2 || !strcmp(words[1], "--list")) {
-        say("refusals::ends_well: test\nrefusals::asks_for_nothing: test\n");
+        say("refusals::ends_well: test\nrefusals::ends_well_too: test\nrefusals::asks_for_nothing: test\n");
         say("refusals::gives_another_answer: test\nrefusals::is_never_ample: test\n");
         return 0;
     }

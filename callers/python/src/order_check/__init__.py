@@ -1,7 +1,7 @@
 """Checks bodies in JSON by a library in C that was proved, and reports every fault.
 
 `check` returns a list of faults, `problem` the bytes of problem details (RFC 9457), and `is_valid` says yes or no. Any number
-of threads may call them at the same time. They release the GIL while the library works.
+of threads may call them at the same time. They release the GIL while the library works on a body of more than 512 bytes.
 """
 from __future__ import annotations
 

@@ -1,4 +1,5 @@
-"""The C functions of liborder.so, as its header declares them. ctypes releases the GIL while one of them runs."""
+"""The C functions of liborder.so, as its header declares them. ctypes releases the GIL while one of them runs, but for
+`check_small`."""
 from __future__ import annotations
 
 import ctypes
@@ -15,9 +16,8 @@ class CChecker(ctypes.Structure):
     _fields_ = [("room", ctypes.c_void_p), ("has_room", ctypes.c_bool)]
 
 
-def _loaded() -> ctypes.CDLL:
-    """The library beside this file, if its interface is the one that is declared here."""
-    path = pathlib.Path(__file__).with_name("liborder.so")
+def _loaded(path: pathlib.Path) -> ctypes.CDLL:
+    """The library, if its interface is the one that is declared here."""
     try:
         library = ctypes.CDLL(str(path))
     except OSError as error:
@@ -30,7 +30,8 @@ def _loaded() -> ctypes.CDLL:
     return library
 
 
-_library = _loaded()
+_PATH = pathlib.Path(__file__).with_name("liborder.so")
+_library = _loaded(_PATH)
 
 is_valid = _library.order_is_valid
 is_valid.argtypes = (ctypes.c_char_p, ctypes.c_size_t)
@@ -44,7 +45,11 @@ free = _library.order_free
 free.argtypes = (ctypes.POINTER(CChecker),)
 free.restype = None
 
-# This one has no argtypes, which would convert nine arguments in each call, and take as long as checking a small body. Its one
-# caller, `Room.check`, hands it `bytes`, and else what `from_param` or `byref` gave, most of it once.
+# These two have no argtypes, which would convert nine arguments in each call, and take as long as checking a small body. Their one
+# caller, `Room.check`, hands them `bytes`, and else what `from_param` or `byref` gave, most of it once.
 check_with = _library.order_check_with
 check_with.restype = ctypes.c_uint8
+
+# It keeps the GIL: to release and to take it again costs more than a small body.
+check_small = ctypes.PyDLL(str(_PATH)).order_check_with
+check_small.restype = ctypes.c_uint8

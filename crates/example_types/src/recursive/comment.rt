@@ -1,7 +1,7 @@
 //! Comments, which hold their replies in a vector.
 ghost use Rattle.std.proofs.Common.{arith};
 ghost use Rattle.garde.proofs.Author.{smaller_in};
-ghost use Rattle.garde.specs.Fields.{chars_between, field, in_vec, nest_visits};
+ghost use Rattle.garde.specs.Fields.{between, chars, field, in_vec, is, nest_visits, str};
 ghost use Rattle.example_types.specs.declared.recursive.comment.Comment.{out-Comment, size-Comment, size_is-Comment};
 
 use garde::fields::{Field, Fields, Is};
@@ -22,7 +22,7 @@ impl Recursive for Comment {
     type Children = Vec<Comment>;
 
     ghost nest = { record {
-      own = λ v _. field "text" (chars_between 1 280 (out-Comment v).text);
+      own = λ v _. field "text" (is (chars (between 1 280) (str (out-Comment v).text)));
       name = "replies";
       children = λ v. in_vec (out-Comment v).replies;
       size = size-Comment;

@@ -1,5 +1,5 @@
 //! Expressions, which hold their parts in boxes.
-ghost use Rattle.garde.specs.Author.{Visited, item};
+ghost use Rattle.garde.specs.Fields.{item, Visited};
 ghost use Rattle.example_types.specs.ExprVisits.{expr_visits};
 
 use garde::fields::{Field, Fields, Is};

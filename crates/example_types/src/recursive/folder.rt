@@ -1,7 +1,7 @@
 //! Folders, which hold folders in a vector.
 ghost use Rattle.std.proofs.Common.{arith};
 ghost use Rattle.garde.proofs.Author.{smaller_in};
-ghost use Rattle.garde.specs.Fields.{field, in_vec, length_between, nest_visits};
+ghost use Rattle.garde.specs.Fields.{between, bytes, field, in_vec, is, nest_visits, str};
 ghost use Rattle.example_types.specs.declared.recursive.folder.Folder.{out-Folder, size-Folder, size_is-Folder};
 
 use garde::fields::{Field, Fields, Is};
@@ -22,7 +22,7 @@ impl Recursive for Folder {
     type Children = Vec<Folder>;
 
     ghost nest = { record {
-      own = λ v _. field "name" (length_between 1 9 (out-Folder v).name);
+      own = λ v _. field "name" (is (bytes (between 1 9) (str (out-Folder v).name)));
       name = "folders";
       children = λ v. in_vec (out-Folder v).folders;
       size = size-Folder;

@@ -1,7 +1,7 @@
 //! Menus, which hold menus in a map.
 ghost use Rattle.std.proofs.Common.{arith};
 ghost use Rattle.garde.proofs.Author.{smaller_in};
-ghost use Rattle.garde.specs.Fields.{field, in_map, length_between, nest_visits};
+ghost use Rattle.garde.specs.Fields.{between, bytes, field, in_map, is, nest_visits, str};
 ghost use Rattle.example_types.specs.declared.recursive.menu.Menu.{out-Menu, size-Menu, size_is-Menu};
 
 use garde::fields::{Field, Fields, Is};
@@ -23,7 +23,7 @@ impl Recursive for Menu {
     type Children = BTreeMap<String, Menu>;
 
     ghost nest = { record {
-      own = λ v _. field "label" (length_between 1 20 (out-Menu v).label);
+      own = λ v _. field "label" (is (bytes (between 1 20) (str (out-Menu v).label)));
       name = "menus";
       children = λ v. in_map (out-Menu v).menus;
       size = size-Menu;

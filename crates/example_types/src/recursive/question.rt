@@ -1,7 +1,7 @@
 //! Questions with their answers, and the questions that follow from an answer: one type for both.
 ghost use Rattle.std.proofs.Common.{arith};
 ghost use Rattle.garde.proofs.Author.{smaller_in};
-ghost use Rattle.garde.specs.Fields.{◌and◌, Bool, true, false, chars_between, chars_max, field, in_vec, nest_visits, when};
+ghost use Rattle.garde.specs.Fields.{◌and◌, at_most, between, Bool, chars, false, field, in_vec, is, nest_visits, str, true, when};
 ghost use Rattle.example_types.specs.declared.recursive.question.Entry.{out-Entry, size-Entry, size_is-Entry};
 ghost use Rattle.example_types.specs.declared.recursive.question.Kind.TheVariants.{Answer, Question};
 
@@ -33,8 +33,8 @@ impl Recursive for Entry {
 
     ghost nest = { record {
       own = λ v _. field "text"
-          (when (elim (out-Entry v).kind as (λ _. Bool) [ Question ↦ true | _ ↦ false ]) (chars_between 1 200 (out-Entry v).text)
-          and when (elim (out-Entry v).kind as (λ _. Bool) [ Answer ↦ true | _ ↦ false ]) (chars_max 40 (out-Entry v).text));
+          (when (elim (out-Entry v).kind as (λ _. Bool) [ Question ↦ true | _ ↦ false ]) (is (chars (between 1 200) (str (out-Entry v).text)))
+          and when (elim (out-Entry v).kind as (λ _. Bool) [ Answer ↦ true | _ ↦ false ]) (is (chars (at_most 40) (str (out-Entry v).text))));
       name = "entries";
       children = λ v. in_vec (out-Entry v).entries;
       size = size-Entry;

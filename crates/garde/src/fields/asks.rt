@@ -1,5 +1,5 @@
 //! A condition with a message of its own.
-ghost use Rattle.garde.specs.Finds.{own_unless};
+ghost use Rattle.garde.specs.Fields.{asks_text};
 
 use garde_i18n::I18n;
 use garde_report::{Error, RuleError};
@@ -15,7 +15,7 @@ use std::alloc::Global;
 pub struct Asks<'m>(pub &'m str, pub bool);
 
 impl<T> Rule<T> for Asks<'_> {
-    ghost finds = { λ asks _. own_unless asks.0.now asks.1 };
+    ghost finds = { λ asks _. asks_text asks.0.now asks.1 };
 
     #[inline]
     fn holds(&self, _value: &T) -> bool {

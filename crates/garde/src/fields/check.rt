@@ -3,6 +3,7 @@ ghost use Rattle.std.specs.Prelude.{◌≡◌};
 ghost use Rattle.garde_report.specs.Part.{part_of};
 ghost use Rattle.garde.specs.Visits.{Visits, Visited, under, found, may_allocate, ◌and◌};
 
+use super::rules::{Is, IsInMemory, Rules};
 use crate::validate::Validate;
 use garde_i18n::I18n;
 use garde_report::{Component, Report, Trail};
@@ -10,7 +11,10 @@ use garde_rules::Rule;
 use garde_rules::values::MemoryRule;
 use std::alloc::{AllocError, Global};
 
-/// What is checked of a `T` that stands where the trail leads.
+/// What is checked of a `T` that stands where the trail leads and lives as long.
+///
+/// Each of the library's `Rules` is one, and so are the checks that borrow from the value: `Dive`, and
+/// what walks the keys of a map.
 pub trait Check<'a, T> {
     /// The visits of a value by this check.
     ghost visits: { Self → T → Visits };
@@ -31,10 +35,6 @@ pub trait Check<'a, T> {
             trail.old trail.new report.old report.new result };
 }
 
-/// The check that a rule holds of the value.
-#[derive(Clone, Copy, Debug)]
-pub struct Is<R>(pub R);
-
 impl<'a, T, R: Rule<T>> Check<'a, T> for Is<R> {
     ghost visits = { λ is v. found (R.finds is.0 v) };
 
@@ -47,34 +47,9 @@ impl<'a, T, R: Rule<T>> Check<'a, T> for Is<R> {
         report: &mut Report,
         h: &H,
     ) -> Result<(), AllocError> {
-        if self.0.holds(value) {
-            trail.put(report, Ok(()))
-        } else {
-            put_found(alloc, &self.0, value, trail, report, h)
-        }
+        self.ask(alloc, value, trail, report, h)
     }
 }
-
-// Asks the rule what it finds, and puts that. It stands out of line, so that a rule that holds is a
-// test.
-#[inline(never)]
-fn put_found<'a, T, R: Rule<T>, H: I18n>(
-    alloc: Global,
-    rule: &R,
-    value: &T,
-    trail: &mut Trail<'a>,
-    report: &mut Report,
-    h: &H,
-) -> Result<(), AllocError>
-    ensures { Visited (found (R.finds rule.now value.now)) (H.text h.now)
-        trail.old trail.new report.old report.new result }
-{
-    trail.put(report, rule.find(alloc, value, h))
-}
-
-/// The check that a rule holds of the value which may allocate for its answer.
-#[derive(Clone, Copy, Debug)]
-pub struct IsInMemory<R>(pub R);
 
 impl<'a, T, R: MemoryRule<T>> Check<'a, T> for IsInMemory<R> {
     ghost visits = { λ is v. may_allocate (found (R.finds is.0 v)) };
@@ -88,7 +63,7 @@ impl<'a, T, R: MemoryRule<T>> Check<'a, T> for IsInMemory<R> {
         report: &mut Report,
         h: &H,
     ) -> Result<(), AllocError> {
-        trail.put(report, self.0.find_in_memory(alloc, value, h))
+        self.ask(alloc, value, trail, report, h)
     }
 }
 

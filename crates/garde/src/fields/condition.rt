@@ -1,12 +1,13 @@
-//! Checks under a condition.
+//! Rules and checks under a condition.
 ghost use Rattle.garde.specs.Visits.{when};
 
 use super::check::Check;
+use super::rules::Rules;
 use garde_i18n::I18n;
 use garde_report::{Report, Trail};
 use std::alloc::{AllocError, Global};
 
-/// The check, where the condition holds, and else none.
+/// The rules or the check, where the condition holds, and else none.
 #[derive(Clone, Copy, Debug)]
 pub struct When<C>(pub bool, pub C);
 
@@ -23,6 +24,25 @@ impl<'a, T, C: Check<'a, T>> Check<'a, T> for When<C> {
     ) -> Result<(), AllocError> {
         if self.0 {
             self.1.check(alloc, value, trail, report, h)
+        } else {
+            Ok(())
+        }
+    }
+}
+
+impl<T, R: Rules<T>> Rules<T> for When<R> {
+    ghost asks = { λ rules value. when rules.0 (R.asks rules.1 value) };
+
+    fn ask<'a, H: I18n>(
+        &self,
+        alloc: Global,
+        value: &T,
+        trail: &mut Trail<'a>,
+        report: &mut Report,
+        h: &H,
+    ) -> Result<(), AllocError> {
+        if self.0 {
+            self.1.ask(alloc, value, trail, report, h)
         } else {
             Ok(())
         }

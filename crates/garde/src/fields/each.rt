@@ -1,6 +1,7 @@
-//! A check of each item.
+//! Rules and checks of each item.
 ghost use Rattle.garde.specs.Visits.{each_of_option};
 
+mod asked;
 mod loops;
 mod maps;
 mod part;
@@ -13,7 +14,7 @@ use garde_report::{Component, Report, Trail};
 pub use part::check_part;
 use std::alloc::{AllocError, Global};
 
-/// The check of each item of a value in turn: the items of a sequence, a set or a heap under their
+/// The rules or the check of each item of a value in turn: the items of a sequence, a set or a heap under their
 /// indexes, the values of a map under their keys, and what an option holds under the component
 /// without a name.
 #[derive(Clone, Copy, Debug)]

@@ -1,5 +1,5 @@
 //! Options that have to have a value under a condition.
-ghost use Rattle.garde.specs.Finds.{required_if};
+ghost use Rattle.garde.specs.Fields.{required_if};
 
 use garde_i18n::I18n;
 use garde_report::RuleError;

@@ -1,11 +1,12 @@
 //! Lists whose items differ from one another.
-ghost use Rattle.std.specs.Prelude.{◌≡◌, Bool, not};
-ghost use Rattle.std.specs.List.{list_any};
+ghost use Rattle.std.specs.Prelude.{◌≡◌, Bool};
 ghost use Rattle.garde.specs.Visits.{Visited};
-ghost use Rattle.garde.specs.Firsts.{unique};
+ghost use Rattle.garde.specs.Fields.{unique_text};
+ghost use Rattle.garde.specs.Firsts.{includes};
 
 use super::asks::Asks;
-use super::check::{Check, Is, check_under};
+use super::check::Check;
+use super::rules::{Is, Rules, ask_under};
 use garde_i18n::I18n;
 use garde_report::{Component, Report, Trail};
 use std::alloc::{AllocError, Global};
@@ -32,7 +33,7 @@ impl<T: PartialEq> Same<T> for Equal {
     }
 }
 
-/// The check that no two items of a list are the same. Each item that is the same as one before it
+/// That no two items of a list are the same. Each item that is the same as one before it
 /// is a fault, under its own index, with this message, which no handler changes.
 ///
 /// The comparison allocates nothing. Each item is compared with those before it, so a list of 1,000
@@ -40,21 +41,21 @@ impl<T: PartialEq> Same<T> for Equal {
 #[derive(Clone, Copy, Debug)]
 pub struct Unique<'m, S>(pub &'m str, pub S);
 
-impl<'a, T, S: Same<T>> Check<'a, Vec<T>> for Unique<'_, S> {
-    ghost visits = { λ check v. unique check.0.now (λ x y. S.same check.1 x y) v.items };
+impl<'s, T, S: Same<T>> Rules<&'s [T]> for Unique<'_, S> {
+    ghost asks = { λ rules v. unique_text rules.0.now (λ x y. S.same rules.1 x y) v.now };
 
-    fn check<H: I18n>(
+    fn ask<'a, H: I18n>(
         &self,
         alloc: Global,
-        value: &'a Vec<T>,
+        value: &&'s [T],
         trail: &mut Trail<'a>,
         report: &mut Report,
         h: &H,
     ) -> Result<(), AllocError> {
-        let items = value.as_slice();
+        let items = *value;
         for (index, item) in items.iter().enumerate() {
-            let asks = Asks(self.0, is_first(&self.1, &items[..index], item));
-            check_under(
+            let asks = Asks(self.0, !includes(&items[..index], &self.1, item));
+            ask_under(
                 alloc,
                 Component::index(index),
                 &Is(asks),
@@ -68,14 +69,44 @@ impl<'a, T, S: Same<T>> Check<'a, Vec<T>> for Unique<'_, S> {
     }
 }
 
-// Whether none of these is the same as the item.
-fn is_first<T, S: Same<T>>(same: &S, earlier: &[T], item: &T) -> bool
-    ensures { result ≡ not (list_any (λ x. S.same same.now x item.now) earlier.now) }
+impl<T, S: Same<T>> Rules<Vec<T>> for Unique<'_, S> {
+    ghost asks = { λ rules v. unique_text rules.0.now (λ x y. S.same rules.1 x y) v.items };
+
+    fn ask<'a, H: I18n>(
+        &self,
+        alloc: Global,
+        value: &Vec<T>,
+        trail: &mut Trail<'a>,
+        report: &mut Report,
+        h: &H,
+    ) -> Result<(), AllocError> {
+        self.ask(alloc, &value.as_slice(), trail, report, h)
+    }
+}
+
+impl<'a, T, S: Same<T>> Check<'a, Vec<T>> for Unique<'_, S> {
+    ghost visits = { λ check v. unique_text check.0.now (λ x y. S.same check.1 x y) v.items };
+
+    fn check<H: I18n>(
+        &self,
+        alloc: Global,
+        value: &'a Vec<T>,
+        trail: &mut Trail<'a>,
+        report: &mut Report,
+        h: &H,
+    ) -> Result<(), AllocError> {
+        self.ask(alloc, value, trail, report, h)
+    }
+}
+
+/// Whether a list includes an item that is the same as this one.
+pub fn includes<T, S: Same<T>>(items: &[T], same: &S, item: &T) -> bool
+    ensures { result ≡ includes (λ x y. S.same same.now x y) items.now item.now }
 {
-    for other in earlier {
+    for other in items {
         if same.are_same(other, item) {
-            return false;
+            return true;
         }
     }
-    true
+    false
 }

@@ -1,5 +1,5 @@
 //! What a path prints.
-ghost use Rattle.std.specs.Prelude.{drop};
+ghost use Rattle.std.specs.Prelude.{[], ◌∷◌, ◌++◌, drop};
 ghost use Rattle.std.specs.Fmt.{WritesOnOk};
 ghost use Rattle.std.specs.List.{flat_map};
 ghost use Rattle.garde_report.specs.Path.{path_text, root_text, part_text};
@@ -54,10 +54,22 @@ fn write_below<W: fmt::Write>(component: &OwnedComponent, f: &mut fmt::Formatter
 {
     let text = component.text();
     match component.kind() {
-        Kind::Index => write!(f, "[{text}]"),
-        Kind::Key => write!(f, ".{text}"),
-        Kind::None => write!(f, "{text}"),
+        Kind::Index => write_index(text, f),
+        Kind::Key => write_key(text, f),
+        Kind::None => f.write_str(text),
     }
+}
+
+fn write_index<W: fmt::Write>(text: &str, f: &mut fmt::Formatter<W>) -> fmt::Result
+    ensures { WritesOnOk W.write_str_gives f.old result (91 ∷ text.now ++ 93 ∷ []) f.new }
+{
+    write!(f, "[{text}]")
+}
+
+fn write_key<W: fmt::Write>(text: &str, f: &mut fmt::Formatter<W>) -> fmt::Result
+    ensures { WritesOnOk W.write_str_gives f.old result (46 ∷ text.now) f.new }
+{
+    write!(f, ".{text}")
 }
 
 // What it prints as the first component.
@@ -66,7 +78,7 @@ fn write_root<W: fmt::Write>(component: &OwnedComponent, f: &mut fmt::Formatter<
         (root_text component.now.kind component.now.text) f.new }
 {
     match component.kind() {
-        Kind::Key => write!(f, "{}", component.text()),
+        Kind::Key => f.write_str(component.text()),
         Kind::Index | Kind::None => write_below(component, f),
     }
 }

@@ -105,7 +105,7 @@ impl fmt::Display for Error {
     ghost output = { λ error. Some error };
 
     fn fmt<W: fmt::Write>(&self, f: &mut fmt::Formatter<W>) -> fmt::Result {
-        write!(f, "{}", self.message())
+        f.write_str(self.message())
     }
 }
 
@@ -176,7 +176,7 @@ impl fmt::Display for RuleError {
 
     fn fmt<W: fmt::Write>(&self, f: &mut fmt::Formatter<W>) -> fmt::Result {
         match self {
-            RuleError::Fault(error) => write!(f, "{error}"),
+            RuleError::Fault(error) => f.write_str(error.message()),
             RuleError::Memory => f.write_str("out of memory"),
         }
     }

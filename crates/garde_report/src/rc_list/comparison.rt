@@ -1,5 +1,5 @@
 //! How lists are compared and hashed.
-ghost use Rattle.std.specs.Prelude.{◌≡◌, length, reverse, refl, Some};
+ghost use Rattle.std.specs.Prelude.{◌≡◌, [], ◌∷◌, ◌++◌, length, reverse, refl, Some, MatchOption};
 ghost use Rattle.std.specs.Cmp.{partial_order_from_agreeing_total};
 ghost use Rattle.std.specs.Ordering.{ordering_then};
 ghost use Rattle.std.specs.Cmp.Lexicographic.{pointwise, slice_cmp, lists_per, lists_equiv};
@@ -7,7 +7,7 @@ ghost use Rattle.std.specs.Hash as fed;
 ghost use Rattle.garde_report.specs.Order.{shorter_first, shorter_first-total};
 ghost use Rattle.garde_report.specs.Order.{shorter_first-ties, reverse-fed};
 
-use super::List;
+use super::{Front, List};
 use std::cmp::Ordering;
 use std::hash::{Hash, Hasher};
 
@@ -20,13 +20,31 @@ impl<T: PartialEq> PartialEq for List<T> {
         if self.len() != other.len() {
             return false;
         }
-        for (item, like) in self.iter().zip(other.iter()) {
-            if item != like {
-                return false;
-            }
-        }
-        true
+        same_items(self.front(), other.front())
     }
+}
+
+// Whether lists of one length have the same items. From the last item on.
+#[tactic(auto, using(crate::proofs::Pairs::pointwise_push))]
+fn same_items<T: PartialEq>(mut list: Front<'_, T>, mut other: Front<'_, T>) -> bool
+    requires { length list ≡ length other }
+    ensures { result ≡ pointwise T.eq list.entry other.entry }
+{
+    while let Some((item, like)) = pop_both(&mut list, &mut other) {
+        if item != like {
+            return false;
+        }
+    }
+    true
+}
+
+// Takes the last item from each of two lists of one length, if there are any.
+fn pop_both<'a, 'b, T>(list: &mut Front<'a, T>, other: &mut Front<'b, T>) -> Option<(&'a T, &'b T)>
+    requires { length list.old ≡ length other.old }
+    ensures { MatchOption result ((list.old ≡ []) × (other.old ≡ []))
+        (λ both. (list.old ≡ list.new ++ both.0.now ∷ []) × (other.old ≡ other.new ++ both.1.now ∷ [])) }
+{
+    Some((list.pop_last()?, other.pop_last()?))
 }
 
 impl<T: Eq> Eq for List<T> {
@@ -48,7 +66,7 @@ impl<T: Ord> Ord for List<T> {
             return self.len().cmp(&other.len());
         }
         match cmp_first(self, other) {
-            Ordering::Equal => cmp_from_last(self, other),
+            Ordering::Equal => cmp_from_last(self.front(), other.front()),
             order => order,
         }
     }
@@ -68,12 +86,13 @@ fn cmp_first<T: Ord>(list: &List<T>, other: &List<T>) -> Ordering
 
 // How lists of one length compare. From the last item on, so an earlier item outweighs what was
 // found.
-fn cmp_from_last<T: Ord>(list: &List<T>, other: &List<T>) -> Ordering
-    requires { length list.now ≡ length other.now }
-    ensures { result ≡ slice_cmp T.cmp list.now other.now }
+#[tactic(auto, using(crate::proofs::Pairs::slice_cmp_push, crate::proofs::Pairs::then_assoc))]
+fn cmp_from_last<T: Ord>(mut list: Front<'_, T>, mut other: Front<'_, T>) -> Ordering
+    requires { length list ≡ length other }
+    ensures { result ≡ slice_cmp T.cmp list.entry other.entry }
 {
     let mut order = Ordering::Equal;
-    for (item, like) in list.iter().zip(other.iter()) {
+    while let Some((item, like)) = pop_both(&mut list, &mut other) {
         order = item.cmp(like).then(order);
     }
     order

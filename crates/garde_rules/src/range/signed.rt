@@ -1,10 +1,10 @@
 //! Ranges of whole numbers with a sign.
-ghost use Rattle.std.specs.Prelude.{◌≡◌, ◌-◌, ◌^◌, pos, negsuc};
+ghost use Rattle.std.specs.Prelude.{◌≡◌, ◌-◌, ◌^◌, int_lt, pos, negsuc};
 ghost use Rattle.std.specs.Fmt.{signed_decimal};
 ghost use Rattle.garde_rules.specs.Range.{int_bounds_answer};
 
 use super::Bounds;
-use garde_lengths::OutOfBounds;
+use garde_engines::OutOfBounds;
 use std::alloc::{AllocError, Global};
 
 // Holds a number against its bounds.
@@ -33,6 +33,10 @@ impl Bounds for i8 {
 
     ghost answer = { int_bounds_answer };
 
+    ghost below = { λ bound v. int_lt v bound };
+
+    ghost above = { int_lt };
+
     ghost text = { signed_decimal };
 
     fn validate_bounds(&self, lo: i8, hi: i8) -> Result<(), OutOfBounds> {
@@ -56,6 +60,10 @@ impl Bounds for i16 {
     const MAX: i16 = i16::MAX;
 
     ghost answer = { int_bounds_answer };
+
+    ghost below = { λ bound v. int_lt v bound };
+
+    ghost above = { int_lt };
 
     ghost text = { signed_decimal };
 
@@ -81,6 +89,10 @@ impl Bounds for i32 {
 
     ghost answer = { int_bounds_answer };
 
+    ghost below = { λ bound v. int_lt v bound };
+
+    ghost above = { int_lt };
+
     ghost text = { signed_decimal };
 
     fn validate_bounds(&self, lo: i32, hi: i32) -> Result<(), OutOfBounds> {
@@ -104,6 +116,10 @@ impl Bounds for i64 {
     const MAX: i64 = i64::MAX;
 
     ghost answer = { int_bounds_answer };
+
+    ghost below = { λ bound v. int_lt v bound };
+
+    ghost above = { int_lt };
 
     ghost text = { signed_decimal };
 
@@ -129,6 +145,10 @@ impl Bounds for i128 {
 
     ghost answer = { int_bounds_answer };
 
+    ghost below = { λ bound v. int_lt v bound };
+
+    ghost above = { int_lt };
+
     ghost text = { signed_decimal };
 
     fn validate_bounds(&self, lo: i128, hi: i128) -> Result<(), OutOfBounds> {
@@ -152,6 +172,10 @@ impl Bounds for isize {
     const MAX: isize = isize::MAX;
 
     ghost answer = { int_bounds_answer };
+
+    ghost below = { λ bound v. int_lt v bound };
+
+    ghost above = { int_lt };
 
     ghost text = { signed_decimal };
 

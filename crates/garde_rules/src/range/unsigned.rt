@@ -1,10 +1,10 @@
 //! Ranges of whole numbers without a sign.
-ghost use Rattle.std.specs.Prelude.{◌≡◌, ◌-◌, ◌^◌};
+ghost use Rattle.std.specs.Prelude.{◌≡◌, ◌-◌, ◌^◌, nat_lt};
 ghost use Rattle.std.specs.Fmt.{decimal};
-ghost use Rattle.garde_lengths.specs.Bounds.{bounds_answer};
+ghost use Rattle.garde_engines.specs.Bounds.{bounds_answer};
 
 use super::Bounds;
-use garde_lengths::OutOfBounds;
+use garde_engines::OutOfBounds;
 use std::alloc::{AllocError, Global};
 
 // Holds a number against its bounds.
@@ -33,6 +33,10 @@ impl Bounds for u8 {
 
     ghost answer = { bounds_answer };
 
+    ghost below = { λ bound v. nat_lt v bound };
+
+    ghost above = { nat_lt };
+
     ghost text = { decimal };
 
     fn validate_bounds(&self, lo: u8, hi: u8) -> Result<(), OutOfBounds> {
@@ -56,6 +60,10 @@ impl Bounds for u16 {
     const MAX: u16 = u16::MAX;
 
     ghost answer = { bounds_answer };
+
+    ghost below = { λ bound v. nat_lt v bound };
+
+    ghost above = { nat_lt };
 
     ghost text = { decimal };
 
@@ -81,6 +89,10 @@ impl Bounds for u32 {
 
     ghost answer = { bounds_answer };
 
+    ghost below = { λ bound v. nat_lt v bound };
+
+    ghost above = { nat_lt };
+
     ghost text = { decimal };
 
     fn validate_bounds(&self, lo: u32, hi: u32) -> Result<(), OutOfBounds> {
@@ -104,6 +116,10 @@ impl Bounds for u64 {
     const MAX: u64 = u64::MAX;
 
     ghost answer = { bounds_answer };
+
+    ghost below = { λ bound v. nat_lt v bound };
+
+    ghost above = { nat_lt };
 
     ghost text = { decimal };
 
@@ -129,6 +145,10 @@ impl Bounds for u128 {
 
     ghost answer = { bounds_answer };
 
+    ghost below = { λ bound v. nat_lt v bound };
+
+    ghost above = { nat_lt };
+
     ghost text = { decimal };
 
     fn validate_bounds(&self, lo: u128, hi: u128) -> Result<(), OutOfBounds> {
@@ -152,6 +172,10 @@ impl Bounds for usize {
     const MAX: usize = usize::MAX;
 
     ghost answer = { bounds_answer };
+
+    ghost below = { λ bound v. nat_lt v bound };
+
+    ghost above = { nat_lt };
 
     ghost text = { decimal };
 

@@ -1,5 +1,5 @@
 //! A value whose path is made by hand: push the component, ask the rule, pop.
-ghost use Rattle.garde.specs.Author.{codes, field, unsigned_in};
+ghost use Rattle.garde.specs.Fields.{at_least, field, is, range};
 
 use garde::rules::range;
 use garde::{Component, I18n, Report, Stated, Trail, Validate};
@@ -14,7 +14,7 @@ pub struct Badge {
 impl Stated for Badge {
     type Context = ();
 
-    ghost visits = { λ v _. field (codes "number") (unsigned_in 1 255 v.number) };
+    ghost visits = { λ v _. field "number" (is (range (at_least 1) v.number)) };
 }
 
 impl Validate for Badge {

@@ -1,5 +1,5 @@
 //! An enum, whose variants are checked each in its way.
-ghost use Rattle.garde.specs.Author.{Visits, codes, string_bytes, none, field, ascii};
+ghost use Rattle.garde.specs.Fields.{ascii, field, is, none, str, Visits};
 ghost use Rattle.test_garde.specs.declared.tests.contact.Contact.TheVariants.{Mail, Silent};
 
 use garde::fields::{Ascii, Field, Fields, Is};
@@ -17,7 +17,7 @@ impl Stated for Contact {
     type Context = ();
 
     ghost visits = { λ v _. elim v as (λ _. Visits) [
-      | Mail text ↦ field (codes "mail") (ascii (string_bytes text))
+      | Mail text ↦ field "mail" (is (ascii (str text)))
       | Silent ↦ none
     ] };
 }

@@ -1,5 +1,5 @@
 //! A generic struct, whose two parts are checked one after the other.
-ghost use Rattle.garde.specs.Author.{codes, ◌and◌, field};
+ghost use Rattle.garde.specs.Fields.{◌and◌, field};
 
 use garde::fields::{Dive, Field, Fields};
 use garde::{I18n, Report, Stated, Trail, Validate};
@@ -16,7 +16,7 @@ impl<T: Stated> Stated for Couple<T> {
     type Context = T::Context;
 
     ghost visits = { λ v c.
-        field (codes "left") (T.visits v.left c) and field (codes "right") (T.visits v.right c) };
+        field "left" (T.visits v.left c) and field "right" (T.visits v.right c) };
 }
 
 impl<T: Validate> Validate for Couple<T> {

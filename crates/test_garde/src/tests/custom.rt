@@ -5,9 +5,10 @@ ghost use Rattle.std.specs.Fmt.{decimal};
 ghost use Rattle.garde_i18n.specs.Datum as datum;
 ghost use Rattle.garde_i18n.specs.Reasons.{card_name, url_name, phone_name, ip_kind_text};
 
-use super::asked::{Asked, Row, assert_says};
+use super::asked::{Row, assert_says};
 use garde::I18n;
-use garde::i18n::{InvalidCreditCard, InvalidPhoneNumber, InvalidUrl, IpKind};
+use garde::i18n::{InvalidCreditCard, InvalidPhoneNumber, InvalidUrl, IpKind, Named};
+use garde_i18n::Datum;
 use std::alloc::{AllocError, Global};
 use std::borrow::CowStr;
 
@@ -62,6 +63,7 @@ impl I18n for Custom {
       | datum.not_ascii ↦ codes "custom: contains non-ASCII characters"
       | datum.not_alphanumeric ↦ codes "custom: only letters and numbers allowed"
       | datum.not_set ↦ codes "custom: this field is required"
+      | datum.named _ english ↦ codes "custom: " ++ (english ++ codes "")
     ] };
 
     fn length_lower_than(&self, alloc: Global, min: usize) -> Result<CowStr<'static>, AllocError> {
@@ -155,54 +157,70 @@ impl I18n for Custom {
     fn required_not_set(&self, _alloc: Global) -> Result<CowStr<'static>, AllocError> {
         Ok(CowStr::Borrowed("custom: this field is required"))
     }
+
+    fn named(&self, alloc: Global, fault: Named<'_>) -> Result<CowStr<'static>, AllocError> {
+        around(alloc, "custom: ", fault.english, "")
+    }
 }
 
 /// What the handler says of each request.
 static TEXTS: [Row; 17] = [
-    (Asked::LengthLower(3), "custom: too short, need at least 3"),
-    (Asked::LengthGreater(20), "custom: too long, maximum is 20"),
     (
-        Asked::RangeLower("1"),
+        Datum::LengthLowerThan(3),
+        "custom: too short, need at least 3",
+    ),
+    (
+        Datum::LengthGreaterThan(20),
+        "custom: too long, maximum is 20",
+    ),
+    (
+        Datum::RangeLowerThan("1"),
         "custom: value too small, minimum is 1",
     ),
     (
-        Asked::RangeGreater("99"),
+        Datum::RangeGreaterThan("99"),
         "custom: value too large, maximum is 99",
     ),
     (
-        Asked::Card(InvalidCreditCard::InvalidLength),
+        Datum::CreditCardInvalid(InvalidCreditCard::InvalidLength),
         "custom: invalid credit card - InvalidLength",
     ),
-    (Asked::Pattern("[a-z]+"), "custom: doesn't match /[a-z]+/"),
     (
-        Asked::Contains("hello"),
+        Datum::PatternNoMatch("[a-z]+"),
+        "custom: doesn't match /[a-z]+/",
+    ),
+    (
+        Datum::ContainsMissing("hello"),
         "custom: missing required text 'hello'",
     ),
     (
-        Asked::Url(InvalidUrl::Overflow),
+        Datum::UrlInvalid(InvalidUrl::Overflow),
         "custom: bad URL - Overflow",
     ),
-    (Asked::Prefix("www."), "custom: must start with 'www.'"),
-    (Asked::Suffix(".org"), "custom: must end with '.org'"),
     (
-        Asked::Phone(InvalidPhoneNumber::Invalid),
+        Datum::PrefixMissing("www."),
+        "custom: must start with 'www.'",
+    ),
+    (Datum::SuffixMissing(".org"), "custom: must end with '.org'"),
+    (
+        Datum::PhoneNumberInvalid(InvalidPhoneNumber::Invalid),
         "custom: phone number error - Invalid",
     ),
     (
-        Asked::Phone(InvalidPhoneNumber::TooShortNsn),
+        Datum::PhoneNumberInvalid(InvalidPhoneNumber::TooShortNsn),
         "custom: phone number error - TooShortNsn",
     ),
-    (Asked::Ip(IpKind::V6), "custom: not a valid IPv6 IP"),
+    (Datum::IpInvalid(IpKind::V6), "custom: not a valid IPv6 IP"),
     (
-        Asked::Matches("confirm_password"),
+        Datum::MatchesFieldMismatch("confirm_password"),
         "custom: must match confirm_password",
     ),
-    (Asked::Ascii, "custom: contains non-ASCII characters"),
+    (Datum::AsciiInvalid, "custom: contains non-ASCII characters"),
     (
-        Asked::Alphanumeric,
+        Datum::AlphanumericInvalid,
         "custom: only letters and numbers allowed",
     ),
-    (Asked::Required, "custom: this field is required"),
+    (Datum::RequiredNotSet, "custom: this field is required"),
 ];
 
 #[test]

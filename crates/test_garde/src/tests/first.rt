@@ -4,7 +4,7 @@ use crate::tests::OrEnd;
 use crate::tests::containers::user;
 use crate::tests::signup::Limits;
 use crate::tests::user::User;
-use garde::{DefaultI18n, Error, FirstError, Path, Report, Trail, Validate};
+use garde::{DefaultI18n, Error, FirstError, Path, Report, Trail, Validate, ValidateError};
 use std::alloc::{AllocError, Global};
 use std::collections::BTreeMap;
 use std::process::Abort;
@@ -224,4 +224,20 @@ fn the_first_faults_print_that_there_are_more(rt: HostRuntime) {
         )
     );
     assert!(rt; prints(&rt, rt.alloc(), Err(FirstError::Memory), "out of memory"));
+}
+
+/// Whether at most so many faults of five users print this as all of them.
+fn users_print_whole(rt: &impl Abort, alloc: Global, most: usize, text: &str) -> bool {
+    match users(rt, alloc, "é").validate_first(alloc, &(), most, &DefaultI18n) {
+        Ok(()) => text.is_empty(),
+        Err(error) => error.into_whole().to_string(alloc).or_end(rt).as_str() == text,
+    }
+}
+
+#[test]
+fn an_error_of_a_call_that_asks_for_all_faults(rt: HostRuntime) {
+    assert!(rt; users_print_whole(&rt, rt.alloc(), 0, ""));
+    assert!(rt; users_print_whole(&rt, rt.alloc(), 1, "[0].username: not ascii\n"));
+    let memory = FirstError::Memory.into_whole();
+    assert!(rt; matches!(memory, ValidateError::Memory));
 }

@@ -5,7 +5,7 @@ ghost use Rattle.std.specs.Fmt.{decimal};
 ghost use Rattle.garde_i18n.specs.Datum as datum;
 
 use garde::I18n;
-use garde::i18n::{InvalidCreditCard, InvalidPhoneNumber, InvalidUrl, IpKind};
+use garde::i18n::{InvalidCreditCard, InvalidPhoneNumber, InvalidUrl, IpKind, Named};
 use std::alloc::{AllocError, Global};
 use std::borrow::CowStr;
 
@@ -70,6 +70,7 @@ impl I18n for Labelled<'_> {
       | datum.not_ascii ↦ labelled.label.now
       | datum.not_alphanumeric ↦ labelled.label.now
       | datum.not_set ↦ labelled.label.now
+      | datum.named _ _ ↦ labelled.label.now
     ] };
 
     fn length_lower_than(&self, alloc: Global, min: usize) -> Result<CowStr<'static>, AllocError> {
@@ -161,6 +162,10 @@ impl I18n for Labelled<'_> {
     }
 
     fn required_not_set(&self, alloc: Global) -> Result<CowStr<'static>, AllocError> {
+        self.label(alloc)
+    }
+
+    fn named(&self, alloc: Global, _fault: Named<'_>) -> Result<CowStr<'static>, AllocError> {
         self.label(alloc)
     }
 }

@@ -5,7 +5,7 @@ ghost use Rattle.garde_report.specs.declared.error.component.Kind.TheVariants.{K
 use super::custom::weightless;
 use super::paths::indexes;
 use super::user::User;
-use super::walks::{Four, eight, is_told, twelve, user, walked};
+use super::walks::{is_told, user, walked};
 use crate::tests::OrEnd;
 use garde::error::{Kind, PathComponentKind};
 use garde::{
@@ -38,80 +38,6 @@ impl PathComponentKind for Hex {
     fn component(&self) -> Component<'_> {
         Component::text(Kind::Key, self.text.as_str())
     }
-}
-
-// Whether twelve lists round a valid user report nothing and make no path.
-fn is_silent_when_deep(rt: &impl Abort, alloc: Global) -> bool {
-    is_told(
-        rt,
-        alloc,
-        &twelve(alloc, "test").or_end(rt),
-        &(),
-        &DefaultI18n,
-        ("", 0),
-    )
-}
-
-#[test]
-fn a_deep_valid_value_makes_no_path(rt: HostRuntime) {
-    assert!(rt; is_silent_when_deep(&rt, rt.alloc()));
-}
-
-type Eight<T> = Four<Four<T>>;
-
-// A value in lists, sixteen deep.
-fn sixteen<T: Drop>(rt: &impl Abort, alloc: Global, value: T) -> Eight<Eight<T>> {
-    eight(alloc, eight(alloc, value).or_end(rt)).or_end(rt)
-}
-
-/// How many nodes a walk makes, and how many bytes it reports.
-type Size = (usize, usize);
-
-// Whether a walk of a value has this size.
-fn is_of_size<T: Validate<Context = ()>>(
-    rt: &impl Abort,
-    alloc: Global,
-    value: &T,
-    size: Size,
-) -> bool {
-    let (text, nodes) = walked(rt, alloc, value, &(), &DefaultI18n);
-    (nodes, text.len()) == size
-}
-
-// Whether a walk of a value in lists, sixteen deep, has this size.
-fn is_of_size_in_sixteen<T: Validate<Context = ()> + Drop>(
-    rt: &impl Abort,
-    alloc: Global,
-    value: T,
-    size: Size,
-) -> bool {
-    is_of_size(rt, alloc, &sixteen(rt, alloc, value), size)
-}
-
-// Whether a walk of a value in lists, thirty-two deep, has this size.
-fn is_of_size_in_thirty_two<T: Validate<Context = ()> + Drop>(
-    rt: &impl Abort,
-    alloc: Global,
-    value: T,
-    size: Size,
-) -> bool {
-    is_of_size_in_sixteen(rt, alloc, sixteen(rt, alloc, value), size)
-}
-
-// Whether forty lists round a wrong user report forty indexes, then the field and its fault.
-fn is_told_when_forty_deep(rt: &impl Abort, alloc: Global) -> bool {
-    let bytes = 40 * 3 + ".username: length is lower than 3\n".len();
-    is_of_size_in_thirty_two(
-        rt,
-        alloc,
-        eight(alloc, user(alloc, "ab").or_end(rt)).or_end(rt),
-        (41, bytes),
-    )
-}
-
-#[test]
-fn a_nest_of_forty_lists(rt: HostRuntime) {
-    assert!(rt; is_told_when_forty_deep(&rt, rt.alloc()));
 }
 
 // A user under a key that is computed.

@@ -1,6 +1,5 @@
 //! A type with a list of parts.
-ghost use Rattle.std.specs.Prelude.{◌-◌, ◌^◌};
-ghost use Rattle.garde.specs.Author.{codes, length, string_bytes, ◌and◌, items, field, ascii, length_in, unsigned_in};
+ghost use Rattle.garde.specs.Fields.{◌and◌, ascii, at_least, at_most, bytes, each, field, is, range, slice, str};
 
 use garde::fields::{Ascii, Dive, Each, Field, Fields, Is, Length, Range};
 use garde::{I18n, Report, Stated, Trail, Validate};
@@ -15,7 +14,7 @@ pub struct Identifier {
 impl Stated for Identifier {
     type Context = ();
 
-    ghost visits = { λ v _. field (codes "id") (unsigned_in 0 4 v.id) };
+    ghost visits = { λ v _. field "id" (is (range (at_most 4) v.id)) };
 }
 
 impl Validate for Identifier {
@@ -51,8 +50,8 @@ impl Stated for Item {
     type Context = ();
 
     ghost visits = { λ v c.
-        field (codes "name") (ascii (string_bytes v.name) and length_in 10 (2 ^ 64 - 1) (length (string_bytes v.name)))
-        and field (codes "identifiers") (items (λ part. ⟦<Identifier as Stated>⟧.visits part c) v.identifiers.items) };
+        field "name" (is (ascii (str v.name)) and is (bytes (at_least 10) (str v.name)))
+        and field "identifiers" (each (λ part. ⟦<Identifier as Stated>⟧.visits part c) (slice v.identifiers)) };
 }
 
 impl Validate for Item {

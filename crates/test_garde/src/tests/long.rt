@@ -1,6 +1,5 @@
 //! One text under one rule.
-ghost use Rattle.std.specs.Prelude.{◌-◌, ◌^◌};
-ghost use Rattle.garde.specs.Author.{codes, length, string_bytes, field, length_in};
+ghost use Rattle.garde.specs.Fields.{at_least, bytes, field, is, str};
 
 use garde::fields::{Field, Fields, Is, Length};
 use garde::{I18n, Report, Stated, Trail, Validate};
@@ -15,7 +14,7 @@ pub struct Long {
 impl Stated for Long {
     type Context = ();
 
-    ghost visits = { λ v _. field (codes "s") (length_in 5 (2 ^ 64 - 1) (length (string_bytes v.s))) };
+    ghost visits = { λ v _. field "s" (is (bytes (at_least 5) (str v.s))) };
 }
 
 impl Validate for Long {

@@ -1,6 +1,5 @@
 //! A list of names that may be missing, walked twice.
-ghost use Rattle.std.specs.Prelude.{◌-◌, ◌^◌};
-ghost use Rattle.garde.specs.Author.{codes, length, string_bytes, ◌and◌, items, each_of_option, field, ascii, length_in, required};
+ghost use Rattle.garde.specs.Fields.{◌and◌, ascii, at_least, bytes, each, each_of_option, field, is, items, required, slice, str};
 
 use garde::fields::{Ascii, Each, Field, Fields, Is, Length, Required};
 use garde::{I18n, Report, Stated, Trail, Validate};
@@ -16,9 +15,9 @@ impl Stated for Names {
     type Context = ();
 
     ghost visits = { λ v _.
-        field (codes "items") (length_in 1 (2 ^ 64 - 1) (length v.items.items)
-        and items (λ name. required name) v.items.items
-        and items (λ name. each_of_option (λ text. ascii (string_bytes text) and length_in 1 (2 ^ 64 - 1) (length (string_bytes text))) name) v.items.items) };
+        field "items" (is (items (at_least 1) (slice v.items))
+        and each (λ name. is (required name)) (slice v.items)
+        and each (λ name. each_of_option (λ text. is (ascii (str text)) and is (bytes (at_least 1) (str text))) name) (slice v.items)) };
 }
 
 impl Validate for Names {

@@ -1,7 +1,7 @@
 //! A list that is checked in two parts, each on a trail of its own and into a report of its own.
 ghost use Rattle.std.specs.Prelude.{◌≡◌, ◌+◌, ◌<◌, ◌^◌, [], ◌++◌, length, IfOk};
 ghost use Rattle.std.specs.List.{enumerate_from};
-ghost use Rattle.garde.specs.Author.{items, entries, index_part};
+ghost use Rattle.garde.specs.Fields.{each, each_value, index_part};
 ghost use Rattle.garde.specs.Tree.{Tree, flat};
 ghost use Rattle.garde.specs.Words.{default_text};
 
@@ -18,7 +18,7 @@ use std::process::Abort;
 fn report_of_part(alloc: Global, first: usize, part: &[User]) -> Result<Report, AllocError>
     requires { first + length part.now < 2 ^ 64 }
     ensures { IfOk result (λ report. (t : Tree)
-        × (entries index_part (λ user. ⟦<User as Stated>⟧.visits user tt) (enumerate_from first part.now)).trees t
+        × (each_value index_part (λ user. ⟦<User as Stated>⟧.visits user tt) (enumerate_from first part.now)).trees t
         × (report ≡ flat default_text [] t)) }
 {
     let mut trail = Trail::new(alloc);
@@ -50,7 +50,7 @@ fn joined(first: Report, second: Report) -> Result<Report, AllocError>
 fn report_of_parts(alloc: Global, first: &[User], second: &[User]) -> Result<Report, AllocError>
     requires { length first.now + length second.now < 2 ^ 64 }
     ensures { IfOk result (λ report. (t : Tree)
-        × (items (λ user. ⟦<User as Stated>⟧.visits user tt) (first.now ++ second.now)).trees t
+        × (each (λ user. ⟦<User as Stated>⟧.visits user tt) (first.now ++ second.now)).trees t
         × (report ≡ flat default_text [] t)) }
 {
     items_in_parts::<User, Dive<'_, ()>>();

@@ -1,6 +1,5 @@
 //! A type that asks each rule that the other types leave out.
-ghost use Rattle.std.specs.Prelude.{pos, negsuc};
-ghost use Rattle.garde.specs.Author.{Any, codes, string_bytes, char_count, ◌and◌, field, alphanumeric, contains, prefix, suffix, required, signed_in, length_in, ip, url};
+ghost use Rattle.garde.specs.Fields.{◌and◌, alphanumeric, Any, between, chars, contains, field, ip, is, is_in_memory, minus, plus, prefix, required, signed_range, str, suffix, url};
 
 use garde::fields::{
     Alphanumeric, CharLength, Contains, Field, Fields, Ip, Is, IsInMemory, Prefix, Range, Required,
@@ -25,15 +24,14 @@ impl Stated for Profile {
     type Context = ();
 
     ghost visits = { λ v _.
-        field (codes "tag") (alphanumeric (string_bytes v.tag) and length_in 1 20 (char_count (string_bytes v.tag)))
-        and field (codes "address")
-        (prefix (codes "https://") (string_bytes v.address)
-        and contains (codes ".") (string_bytes v.address)
-        and suffix (codes "/") (string_bytes v.address))
-        and field (codes "phone") (required v.phone)
-        and field (codes "host") (ip Any (string_bytes v.host))
-        and field (codes "site") (url (string_bytes v.site))
-        and field (codes "degrees") (signed_in (negsuc 9) (pos 10) v.degrees) };
+        field "tag" (is (alphanumeric (str v.tag)) and is (chars (between 1 20) (str v.tag)))
+        and field "address" (is (prefix "https://" (str v.address))
+        and is (contains "." (str v.address))
+        and is (suffix "/" (str v.address)))
+        and field "phone" (is (required v.phone))
+        and field "host" (is (ip Any (str v.host)))
+        and field "site" (is_in_memory (url (str v.site)))
+        and field "degrees" (is (signed_range (between (minus 10) (plus 10)) v.degrees)) };
 }
 
 impl Validate for Profile {

@@ -1,12 +1,5 @@
 //! Tests by what they are of.
-mod exact;
-mod handlers;
+mod label;
 mod leaks;
-mod lengths;
 mod long;
-mod numbers;
-mod parcel;
-mod printed;
-mod reasons;
-mod refused;
 mod walked;

@@ -1,6 +1,6 @@
 //! A form with a context, a rule of its own, and a part that validates itself.
 ghost use Rattle.std.specs.Prelude.{◌≡◌, None, Some, if◌then◌else◌, nat_lt};
-ghost use Rattle.garde.specs.Author.{codes, length, string_bytes, ◌and◌, items, found, own, field, ascii, length_in};
+ghost use Rattle.garde.specs.Fields.{◌and◌, ascii, at_most, between, bytes, codes, each, exactly, field, is, items, length, own, slice, str};
 
 use garde::fields::{Ascii, Dive, Each, Field, Fields, Is, Length};
 use garde::rules::Rule;
@@ -27,7 +27,7 @@ impl Default for Limits {
 pub struct Strong;
 
 impl Rule<String> for Strong {
-    ghost finds = { λ _ v. if nat_lt (length (string_bytes v)) 12 then Some (own (codes "weak")) else None };
+    ghost finds = { λ _ v. if nat_lt (length (str v)) 12 then Some (own (codes "weak")) else None };
 
     fn find<H: I18n>(&self, alloc: Global, value: &String, _h: &H) -> Result<(), RuleError> {
         if value.len() < 12 {
@@ -50,9 +50,9 @@ impl Stated for Address {
     type Context = Limits;
 
     ghost visits = { λ v c.
-        field (codes "street") (ascii (string_bytes v.street))
-        and field (codes "city") (length_in 1 c.most (length (string_bytes v.city)))
-        and field (codes "code") (length_in 5 5 (length (string_bytes v.code))) };
+        field "street" (is (ascii (str v.street)))
+        and field "city" (is (bytes (between 1 c.most) (str v.city)))
+        and field "code" (is (bytes (exactly 5) (str v.code))) };
 }
 
 impl Validate for Address {
@@ -94,10 +94,10 @@ impl Stated for Signup {
     type Context = Limits;
 
     ghost visits = { λ v c.
-        field (codes "name") (ascii (string_bytes v.name) and length_in 3 25 (length (string_bytes v.name)))
-        and field (codes "password") (found (if nat_lt (length (string_bytes v.password)) 12 then Some (own (codes "weak")) else None))
-        and field (codes "tags") (length_in 0 c.most (length v.tags.items) and items (λ tag. ascii (string_bytes tag)) v.tags.items)
-        and field (codes "address") (⟦<Address as Stated>⟧.visits v.address c) };
+        field "name" (is (ascii (str v.name)) and is (bytes (between 3 25) (str v.name)))
+        and field "password" (is (if nat_lt (length (str v.password)) 12 then Some (own (codes "weak")) else None))
+        and field "tags" (is (items (at_most c.most) (slice v.tags)) and each (λ tag. is (ascii (str tag))) (slice v.tags))
+        and field "address" (⟦<Address as Stated>⟧.visits v.address c) };
 }
 
 impl Validate for Signup {

@@ -1,6 +1,6 @@
 //! A value that is copied with no allocation, under a rule of its own.
 ghost use Rattle.std.specs.Prelude.{◌≡◌, None, Some, if◌then◌else◌, nat_lt};
-ghost use Rattle.garde.specs.Author.{codes, found, own};
+ghost use Rattle.garde.specs.Fields.{codes, is, own};
 
 use garde::fields::{Check, Is};
 use garde::rules::Rule;
@@ -35,7 +35,7 @@ impl Rule<Span> for InOrder {
 impl Stated for Span {
     type Context = ();
 
-    ghost visits = { λ span _. found (if nat_lt span.to span.from then Some (own (codes "backwards")) else None) };
+    ghost visits = { λ span _. is (if nat_lt span.to span.from then Some (own (codes "backwards")) else None) };
 }
 
 impl Validate for Span {

@@ -1,38 +1,45 @@
 //! The default handler's texts, handed on by a reference, where memory runs out.
 
-use super::asked::{Asked, Row, said};
+use super::asked::{Row, said};
 use garde::DefaultI18n;
 use garde::i18n::{InvalidCreditCard, InvalidPhoneNumber, InvalidUrl, IpKind};
+use garde_i18n::Datum;
 use std::alloc::{AllocError, Global};
 use test_memory::{Met, Scarce};
 
 /// Each text that the default handler makes with memory.
 static TEXTS: [Row; 13] = [
-    (Asked::LengthLower(5), "length is lower than 5"),
-    (Asked::LengthGreater(10), "length is greater than 10"),
-    (Asked::RangeLower("0"), "lower than 0"),
-    (Asked::RangeGreater("100"), "greater than 100"),
+    (Datum::LengthLowerThan(5), "length is lower than 5"),
+    (Datum::LengthGreaterThan(10), "length is greater than 10"),
+    (Datum::RangeLowerThan("0"), "lower than 0"),
+    (Datum::RangeGreaterThan("100"), "greater than 100"),
     (
-        Asked::Card(InvalidCreditCard::InvalidLuhn),
+        Datum::CreditCardInvalid(InvalidCreditCard::InvalidLuhn),
         "not a valid credit card number: invalid luhn",
     ),
-    (Asked::Pattern("[0-9]"), "does not match pattern /[0-9]/"),
-    (Asked::Contains("test"), "does not contain \"test\""),
     (
-        Asked::Url(InvalidUrl::EmptyHost),
+        Datum::PatternNoMatch("[0-9]"),
+        "does not match pattern /[0-9]/",
+    ),
+    (Datum::ContainsMissing("test"), "does not contain \"test\""),
+    (
+        Datum::UrlInvalid(InvalidUrl::EmptyHost),
         "not a valid url: empty host",
     ),
     (
-        Asked::Prefix("http://"),
+        Datum::PrefixMissing("http://"),
         "value does not begin with \"http://\"",
     ),
-    (Asked::Suffix(".com"), "does not end with \".com\""),
+    (Datum::SuffixMissing(".com"), "does not end with \".com\""),
     (
-        Asked::Phone(InvalidPhoneNumber::TooLong),
+        Datum::PhoneNumberInvalid(InvalidPhoneNumber::TooLong),
         "not a valid phone number: the number is too long",
     ),
-    (Asked::Ip(IpKind::V4), "not a valid IPv4 address"),
-    (Asked::Matches("password"), "does not match password field"),
+    (Datum::IpInvalid(IpKind::V4), "not a valid IPv4 address"),
+    (
+        Datum::MatchesFieldMismatch("password"),
+        "does not match password field",
+    ),
 ];
 
 pub fn texts(alloc: Global, memory: &mut Scarce) -> Result<Met, AllocError> {

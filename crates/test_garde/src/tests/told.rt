@@ -35,7 +35,7 @@ pub fn tells(answer: Result<(), RuleError>, wanted: Option<&str>) -> bool {
 
 /// Whether a value prints this text.
 pub fn prints<T: Display>(rt: &impl Abort, alloc: Global, value: &T, text: &str) -> bool {
-    format!(in alloc; "{value}").or_end(rt).as_str() == text
+    value.to_string(alloc).or_end(rt).as_str() == text
 }
 
 /// Whether the text of a value is this.

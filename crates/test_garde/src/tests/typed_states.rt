@@ -118,16 +118,3 @@ fn states_are_copied_and_shown(rt: HostRuntime) {
     assert!(rt; want_is_shown_as(&rt, rt.alloc(), "Memory(Span { from: 5, to: 2 })"));
     assert!(rt; is_reported(rt.alloc(), backwards()));
 }
-
-// Whether the unit is valid, and its copy is made.
-fn unit_is_copied(rt: &impl Abort, alloc: Global) -> bool {
-    let Ok(valid) = Unvalidated::new(()).validate_with(alloc, &()) else {
-        return false;
-    };
-    valid.clone().is_ok()
-}
-
-#[test]
-fn the_unit_is_valid(rt: HostRuntime) {
-    assert!(rt; unit_is_copied(&rt, rt.alloc()));
-}

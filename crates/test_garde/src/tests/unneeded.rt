@@ -1,6 +1,6 @@
 //! Calls that need no memory, and one that does, while each request for memory fails.
 
-use super::asked::{Asked, Row, said};
+use super::asked::{Row, said};
 use super::paths::keys;
 use super::rules::regex;
 use garde::i18n::InvalidPhoneNumber;
@@ -8,6 +8,7 @@ use garde::rules::Rule;
 use garde::rules::pattern::regex::Searcher;
 use garde::rules::values::{Length, WithMessage};
 use garde::{DefaultI18n, RuleError};
+use garde_i18n::Datum;
 use garde_problem::{Escaped, JsonPointer};
 use std::alloc::{AllocError, Global};
 use std::fmt::Write;
@@ -47,11 +48,11 @@ fn a_searcher_searches_without_memory(rt: HostRuntime) {
 
 /// The texts that the default handler has without memory.
 static STORED: [Row; 4] = [
-    (Asked::Ascii, "not ascii"),
-    (Asked::Alphanumeric, "not alphanumeric"),
-    (Asked::Required, "not set"),
+    (Datum::AsciiInvalid, "not ascii"),
+    (Datum::AlphanumericInvalid, "not alphanumeric"),
+    (Datum::RequiredNotSet, "not set"),
     (
-        Asked::Phone(InvalidPhoneNumber::Invalid),
+        Datum::PhoneNumberInvalid(InvalidPhoneNumber::Invalid),
         "not a valid phone number",
     ),
 ];

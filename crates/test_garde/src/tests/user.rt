@@ -1,5 +1,5 @@
 //! Users, as sets, heaps and maps can hold them.
-ghost use Rattle.garde.specs.Author.{codes, length, string_bytes, ◌and◌, field, ascii, length_in};
+ghost use Rattle.garde.specs.Fields.{◌and◌, ascii, between, bytes, field, is, str};
 
 use garde::fields::{Ascii, Field, Fields, Is, Length};
 use garde::{I18n, Report, Stated, Trail, Validate};
@@ -15,8 +15,7 @@ impl Stated for User {
     type Context = ();
 
     ghost visits = { λ user _.
-        field (codes "username")
-        (ascii (string_bytes user.username) and length_in 3 25 (length (string_bytes user.username))) };
+        field "username" (is (ascii (str user.username)) and is (bytes (between 3 25) (str user.username))) };
 }
 
 impl Validate for User {

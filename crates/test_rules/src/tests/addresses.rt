@@ -1,8 +1,6 @@
 //! Tests of IP addresses, on a table of texts.
-use super::tells;
 use crate::tests::OrEnd;
-use garde_i18n::DefaultI18n;
-use garde_rules::ip::{self, Ip, IpKind, is_ipv4, is_ipv6};
+use garde_rules::ip::{Ip, IpKind, is_ipv4, is_ipv6};
 use std::alloc::Global;
 use std::fmt::Display;
 use std::process::Abort;
@@ -304,30 +302,6 @@ fn tells_addresses_by_their_version(rt: HostRuntime) {
     assert_eq!(rt; first_other(&NEAR_V6, '-'), None);
 }
 
-/// Whether this is found in a text that is asked for an address of a kind.
-fn finds(alloc: Global, kind: IpKind, text: &str, fault: Option<&str>) -> bool {
-    tells(ip::apply(alloc, &text, (kind,), &DefaultI18n), fault)
-}
-
-/// The kind that is asked for, a text, and the fault that is found.
-static ASKED: [(IpKind, &str, Option<&str>); 8] = [
-    (IpKind::Any, "0.0.0.0", None),
-    (IpKind::Any, "::", None),
-    (IpKind::Any, "1.2.3", Some("not a valid IP address")),
-    (IpKind::Any, "::1.2.3.256", Some("not a valid IP address")),
-    (IpKind::V4, "0.0.0.0", None),
-    (IpKind::V4, "::", Some("not a valid IPv4 address")),
-    (IpKind::V6, "::", None),
-    (IpKind::V6, "0.0.0.0", Some("not a valid IPv6 address")),
-];
-
-#[test]
-fn asks_for_an_address_of_a_kind(rt: HostRuntime) {
-    for (kind, text, fault) in &ASKED {
-        assert!(rt; finds(rt.alloc(), *kind, text, *fault), "{text}");
-    }
-}
-
 /// Whether an error prints this.
 fn prints<E: Display>(rt: &impl Abort, alloc: Global, refusal: &E, printed: &str) -> bool {
     refusal.to_string(alloc).or_end(rt).as_str() == printed
@@ -405,16 +379,4 @@ fn prints_the_kind_through_an_option(rt: HostRuntime) {
             "{text}: {printed}"
         );
     }
-}
-
-/// Whether an option passes that is asked for an address of version 4.
-fn passes(option: Option<&str>) -> bool {
-    option.validate_ip(IpKind::V4).is_ok()
-}
-
-#[test]
-fn passes_an_option_without_an_address(rt: HostRuntime) {
-    assert!(rt; passes(None));
-    assert!(rt; !passes(Some("1.2.3")));
-    assert!(rt; passes(Some("1.2.3.4")));
 }

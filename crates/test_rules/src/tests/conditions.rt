@@ -1,7 +1,7 @@
 //! Tests of rules under a condition, and of rules of a view.
 ghost use Rattle.std.specs.Prelude.{string_bytes};
 ghost use Rattle.garde_i18n.specs.Datum.{not_ascii, prefix};
-ghost use Rattle.garde_lengths.specs.Applies.{Applies};
+ghost use Rattle.garde_engines.specs.Applies.{Applies};
 ghost use Rattle.garde_rules.specs.Holds.{fault_when, unless};
 ghost use Rattle.garde_rules.specs.Text.{has_prefix, is_ascii_text};
 

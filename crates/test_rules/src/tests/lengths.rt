@@ -7,9 +7,9 @@ mod texts;
 mod urls;
 
 use super::{OrEnd, tells};
+use garde_engines::OutOfBounds;
+use garde_engines::length::simple;
 use garde_i18n::DefaultI18n;
-use garde_lengths::OutOfBounds;
-use garde_lengths::length::simple;
 use garde_report::RuleError;
 use std::process::Abort;
 

@@ -1,33 +1,8 @@
-//! Tests of the rules of options.
+//! Tests of the rules of options of values that are no texts.
 use super::tells;
 use garde_i18n::DefaultI18n;
-use garde_rules::alphanumeric::Alphanumeric;
-use garde_rules::ascii::Ascii;
-use garde_rules::contains::Contains;
-use garde_rules::prefix::Prefix;
-use garde_rules::suffix::Suffix;
 use garde_rules::{matches, range, required};
 use std::alloc::Global;
-
-/// Whether an option passes the rule of texts of this index.
-fn passes(option: Option<&str>, rule: usize) -> bool {
-    match rule {
-        0 => option.validate_ascii(),
-        1 => option.validate_alphanumeric(),
-        2 => option.validate_contains("b"),
-        3 => option.validate_prefix("a"),
-        _ => option.validate_suffix("b"),
-    }
-}
-
-#[test]
-fn passes_an_option_without_a_value(rt: HostRuntime) {
-    for rule in 0..5 {
-        assert!(rt; passes(None, rule), "rule {rule}");
-        assert!(rt; !passes(Some("é_"), rule), "rule {rule}");
-        assert!(rt; passes(Some("ab"), rule), "rule {rule}");
-    }
-}
 
 /// Whether this is found in an option that is asked for a range up to 3.
 fn range_tells(alloc: Global, option: Option<u8>, fault: Option<&str>) -> bool {

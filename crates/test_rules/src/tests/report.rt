@@ -5,7 +5,6 @@ mod errors;
 mod json;
 mod json_read;
 mod json_text;
-mod laws;
 mod lists;
 mod numbers;
 mod problems;

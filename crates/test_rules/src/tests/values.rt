@@ -1,30 +1,15 @@
-//! Tests of the rules as values.
+//! Tests of the rules of other values than texts, as values.
 use super::tells;
 use crate::tests::OrEnd;
 use garde_i18n::DefaultI18n;
 use garde_rules::Rule;
-use garde_rules::values::{
-    Alphanumeric, Ascii, Contains, Matches, Prefix, Range, Required, Suffix,
-};
+use garde_rules::values::{Matches, Range, Required};
 use std::alloc::Global;
 use std::process::Abort;
 
 /// Whether a rule as a value finds this.
 fn finds<T, R: Rule<T>>(alloc: Global, rule: &R, value: &T, fault: Option<&str>) -> bool {
     tells(rule.find(alloc, value, &DefaultI18n), fault)
-}
-
-#[test]
-fn finds_the_same_in_texts(rt: HostRuntime) {
-    let alloc = rt.alloc();
-    let text = "a_é";
-    let no_part = Some("does not contain \"b\"");
-    let no_end = Some("does not end with \"_\"");
-    assert!(rt; finds(alloc, &Ascii, &text, Some("not ascii")));
-    assert!(rt; finds(alloc, &Alphanumeric, &text, Some("not alphanumeric")));
-    assert!(rt; finds(alloc, &Contains("b"), &text, no_part));
-    assert!(rt; finds(alloc, &Prefix("a"), &text, None));
-    assert!(rt; finds(alloc, &Suffix("_"), &text, no_end));
 }
 
 /// Whether a text that is owned matches itself.

@@ -51,7 +51,7 @@ fn read(alloc: Global, bytes: &[u8]) -> Result<String, AllocError> {
     let mut scratch = Scratch::new(alloc);
     match parse_bytes(alloc, bytes, &mut scratch) {
         Ok(tape) => drawn(alloc, &Tree::root(&tape)),
-        Err(error) => format!(in alloc; "{error}"),
+        Err(error) => error.to_string(alloc),
     }
 }
 

@@ -1,29 +1,9 @@
 //! Numbers that their type does not hold, under rules with bounds and without.
-ghost use Rattle.std.specs.Prelude.{◌==◌, ◌%◌};
-ghost use Rattle.garde.specs.Fields.{message_unless};
-
 use super::is_text;
-use garde::fields::{Is, Rule, When};
-use garde::{DefaultI18n, I18n, RuleError, all, range};
+use garde::fields::{Is, MultipleOf, When};
+use garde::{DefaultI18n, all, range};
 use garde_schema::{NumberRules, Scratch, U8, Whole, read_json};
 use std::alloc::{AllocError, Global};
-use std::borrow::CowStr;
-
-// The rule that a number is even, whose message says nothing of other numbers.
-#[derive(Clone, Copy)]
-struct Even;
-
-impl Rule<u8> for Even {
-    ghost finds = { λ _ n. message_unless "odd" (n % 2 == 0) };
-
-    fn find<H: I18n>(&self, alloc: Global, n: &u8, _h: &H) -> Result<(), RuleError> {
-        if *n % 2 == 0 {
-            Ok(())
-        } else {
-            Err(RuleError::of(alloc, Ok(CowStr::Borrowed("odd"))))
-        }
-    }
-}
 
 // What these rules report of a byte.
 fn report<R: NumberRules<u8> + Drop>(
@@ -40,13 +20,13 @@ fn report<R: NumberRules<u8> + Drop>(
         &DefaultI18n,
     ) {
         Ok(number) => format!(in alloc; "{number}"),
-        Err(error) => format!(in alloc; "{error}"),
+        Err(error) => error.to_string(alloc),
     }
 }
 
 // The same by so many rules, of which the last two have bounds.
 fn report_by(alloc: Global, count: usize, body: &str) -> Result<String, AllocError> {
-    let even = Is(Even);
+    let even = Is(MultipleOf(2));
     let least = Is(range!(min = 10));
     let most = Is(range!(max = 100));
     match count {
@@ -101,4 +81,15 @@ fn report_when(alloc: Global, condition: bool) -> Result<String, AllocError> {
 fn asks_a_bound_under_its_condition(rt: HostRuntime) {
     assert!(rt; is_text(report_when(rt.alloc(), true), "greater than 100\n"));
     assert!(rt; is_text(report_when(rt.alloc(), false), "out of range: 0 to 255\n"));
+}
+
+// What is reported of a number that has to be even.
+fn report_even(alloc: Global, body: &str) -> Result<String, AllocError> {
+    report(alloc, body, Is(MultipleOf(2)))
+}
+
+#[test]
+fn asks_for_a_multiple(rt: HostRuntime) {
+    assert!(rt; is_text(report_even(rt.alloc(), "6"), "6"));
+    assert!(rt; is_text(report_even(rt.alloc(), "7"), "not a multiple of 2\n"));
 }

@@ -1,6 +1,6 @@
 //! Values of user-defined types, and rules over several members.
 ghost use Rattle.std.specs.Prelude.{nat_le, refl};
-ghost use Rattle.garde.specs.Fields.{message_unless};
+ghost use Rattle.garde.specs.Fields.{asks};
 
 use super::told::{Case as Form, compare, told};
 use garde::fields::{Ascii, Is, Prefix, Rule};
@@ -96,7 +96,7 @@ fn makes_values_of_a_user_defined_type(rt: HostRuntime) {
 struct InOrder;
 
 impl Rule<(u32, u32)> for InOrder {
-    ghost finds = { λ _ ends. message_unless "not in order" (nat_le ends.0 ends.1) };
+    ghost finds = { λ _ ends. asks "not in order" (nat_le ends.0 ends.1) };
 
     fn find<H: I18n>(&self, alloc: Global, ends: &(u32, u32), _h: &H) -> Result<(), RuleError> {
         if ends.0 <= ends.1 {

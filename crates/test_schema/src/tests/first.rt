@@ -19,7 +19,7 @@ fn told(alloc: Global, bytes: &[u8], most: usize) -> Result<String, AllocError> 
     match read_json_first(alloc, bytes, &mut scratch, &form, most, &DefaultI18n) {
         Ok((name, ages)) => format!(in alloc; "{} {:?}", name.text(), ages.as_slice()),
         Err(FirstReadError::All(report)) => format!(in alloc; "all\n{report}"),
-        Err(error) => format!(in alloc; "{error}"),
+        Err(error) => error.to_string(alloc),
     }
 }
 
@@ -86,4 +86,30 @@ fn tells_the_first_nine_of_many(rt: HostRuntime) {
     let body = crowd(rt.alloc(), 10_000).or_end(&rt);
     let told = told(rt.alloc(), body.as_str().as_bytes(), 9).or_end(&rt);
     assert!(rt; has_nine(told.as_str()));
+}
+
+// What at most one fault of the bytes prints as all of them.
+fn told_whole(alloc: Global, bytes: &[u8]) -> Result<String, AllocError> {
+    let mut scratch = Scratch::new(alloc);
+    let form = List(Whole(U8, ()));
+    match read_json_first(alloc, bytes, &mut scratch, &form, 1, &DefaultI18n) {
+        Ok(numbers) => format!(in alloc; "{:?}", numbers.as_slice()),
+        Err(error) => format!(in alloc; "{}", error.into_whole()),
+    }
+}
+
+// A body, and what is told.
+static WHOLES: [(&str, &str); 4] = [
+    ("[1]", "[1]"),
+    ("[1,true]", "[1]: not a whole number\n"),
+    ("[true,1,true]", "[0]: not a whole number\n"),
+    ("[1,]", "not JSON at line 1 column 4"),
+];
+
+#[test]
+fn tells_an_error_as_one_of_a_read_that_asks_for_all_faults(rt: HostRuntime) {
+    for (body, text) in &WHOLES {
+        let told = told_whole(rt.alloc(), body.as_bytes()).or_end(&rt);
+        assert!(rt; told.as_str() == *text);
+    }
 }

@@ -1,7 +1,7 @@
 //! Bodies that are read by a form, with a handler that gives other texts: the whole report of each, or
 //! its value.
 ghost use Rattle.std.specs.Prelude.{nat_le, length};
-ghost use Rattle.garde.specs.Fields.{message_unless};
+ghost use Rattle.garde.specs.Fields.{asks};
 
 use super::OrEnd;
 use super::texts::Texts;
@@ -23,7 +23,7 @@ use std::fmt::Write;
 struct Least(usize);
 
 impl<'a> Rule<TextRef<'a>> for Least {
-    ghost finds = { λ least text. message_unless "too short" (nat_le least.0 (length text)) };
+    ghost finds = { λ least text. asks "too short" (nat_le least.0 (length text)) };
 
     fn find<H: I18n>(&self, alloc: Global, value: &TextRef<'a>, _h: &H) -> Result<(), RuleError> {
         if self.0 <= value.text().len() {
@@ -168,6 +168,11 @@ const FAULTS: &[(FormFault, &str, &str)] = &[
         FormFault::NotOneOf,
         "not one of these",
         "\u{1f}value_unknown\u{1f}not one of these\u{1f}",
+    ),
+    (
+        FormFault::RowLength,
+        "another number of fields",
+        "\u{1f}row_length\u{1f}another number of fields\u{1f}",
     ),
 ];
 

@@ -166,7 +166,7 @@ fn told_of_name(alloc: Global, bytes: &[u8]) -> Result<String, AllocError> {
     let mut scratch = Scratch::new(alloc);
     match read_json(alloc, bytes, &mut scratch, &form, &DefaultI18n) {
         Ok(name) => format!(in alloc; "{}", name.text()),
-        Err(error) => format!(in alloc; "{error}"),
+        Err(error) => error.to_string(alloc),
     }
 }
 

@@ -1,14 +1,17 @@
 //! Lists: the whole report of each body, or its values in order.
-ghost use Rattle.std.specs.Prelude.{nat_le};
-ghost use Rattle.garde.specs.Fields.{message_unless};
+ghost use Rattle.std.specs.Prelude.{bytes_eq, codes, nat_le};
+ghost use Rattle.garde.specs.Fields.{asks, is, required, when};
+ghost use Rattle.garde.specs.Firsts.{includes};
 
 use super::OrEnd;
 use super::told::{Case as Form, check_many, compare, told};
-use garde::fields::{Ascii, Is, Rule};
-use garde::{DefaultI18n, I18n, RuleError, length, range};
+use garde::fields::{
+    Ascii, Each, Equal, IfSome, Is, Required, Rule, Rules, Unique, When, includes,
+};
+use garde::{DefaultI18n, I18n, Report, RuleError, Trail, length, range};
 use garde_schema::{
-    Count, Flag, FormI18n, Items, List, ListUnder, Member, Object, Optional, Scratch, Text, U8,
-    U16, Whole, read_json,
+    Checked, Count, Flag, FormI18n, Items, List, ListUnder, Member, Object, Optional, Scratch,
+    Text, TextRef, U8, U16, Under, Whole, read_json,
 };
 use garde_tape::Tree;
 use std::alloc::{AllocError, Global};
@@ -21,6 +24,10 @@ pub enum Case {
     Tags,
     Few,
     Several,
+    Apart,
+    Each,
+    MaybeApart,
+    Rush,
     Numbers,
     Deep,
 }
@@ -36,6 +43,10 @@ pub fn told_by<H: I18n + FormI18n>(
         Case::Tags => tags(alloc, tree, h),
         Case::Few => few(alloc, tree, h),
         Case::Several => told(alloc, tree, &ListUnder(Is(Several), Whole(U8, ())), h),
+        Case::Apart => apart(alloc, tree, h),
+        Case::Each => each(alloc, tree, h),
+        Case::MaybeApart => maybe_apart(alloc, tree, h),
+        Case::Rush => rush(alloc, tree, h),
         Case::Numbers => told(alloc, tree, &List(Whole(U16, ())), h),
         Case::Deep => deep(alloc, tree, h),
     }
@@ -120,7 +131,7 @@ fn asks_the_rules_of_a_list_before_its_items(rt: HostRuntime) {
 struct Several;
 
 impl Rule<Count> for Several {
-    ghost finds = { λ _ count. message_unless "alone" (nat_le 2 count) };
+    ghost finds = { λ _ count. asks "alone" (nat_le 2 count) };
 
     fn find<H: I18n>(&self, alloc: Global, count: &Count, _h: &H) -> Result<(), RuleError> {
         if 2 <= count.get() {
@@ -142,6 +153,167 @@ static SEVERAL: [(&str, &str); 4] = [
 #[test]
 fn asks_a_rule_of_your_own_how_many_items_there_are(rt: HostRuntime) {
     compare(&rt, rt.alloc(), Form::Lists(Case::Several), &SEVERAL);
+}
+
+// At most four texts, of which no two are the same.
+fn apart<H: I18n + FormI18n>(
+    alloc: Global,
+    tree: &Tree<'_, '_>,
+    h: &H,
+) -> Result<String, AllocError> {
+    let rules = (Is(length!(max = 4)), Unique("stands before", Equal));
+    let form = ListUnder(rules, Text(Is(Ascii)));
+    told(alloc, tree, &form, h)
+}
+
+// Bodies, and what each reads as.
+static APART: [(&str, &str); 9] = [
+    ("[]", "Items([])"),
+    (
+        "[\"a\",\"b\",\"\",\"A\"]",
+        "Items([TextRef(\"a\"), TextRef(\"b\"), TextRef(\"\"), TextRef(\"A\")])",
+    ),
+    ("[\"a\",\"b\",\"a\"]", "[2]: stands before\n"),
+    ("[\"a\",\"\\u0061\"]", "[1]: stands before\n"),
+    (
+        "[\"a\",\"a\",\"b\",\"a\",\"b\"]",
+        "length is greater than 4\n[1]: stands before\n[3]: stands before\n[4]: stands before\n",
+    ),
+    (
+        "[\"\u{e9}\",\"\u{e9}\"]",
+        "[0]: not ascii\n[1]: not ascii\n[1]: stands before\n",
+    ),
+    ("[\"a\",1,\"a\"]", "[1]: not a text\n"),
+    (
+        "[\"a\",1,\"a\",\"a\",\"a\"]",
+        "length is greater than 4\n[1]: not a text\n",
+    ),
+    ("{\"a\":\"a\"}", "not a list\n"),
+];
+
+#[test]
+fn tells_each_item_that_stands_before_after_all_items(rt: HostRuntime) {
+    compare(&rt, rt.alloc(), Form::Lists(Case::Apart), &APART);
+}
+
+// Texts of two bytes at most, asked after all of them, unless there are two or more.
+fn each<H: I18n + FormI18n>(
+    alloc: Global,
+    tree: &Tree<'_, '_>,
+    h: &H,
+) -> Result<String, AllocError> {
+    let rules = When(
+        true,
+        (
+            Each(Is(length!(max = 2))),
+            When(false, Is(length!(max = 1))),
+        ),
+    );
+    told(alloc, tree, &ListUnder(&rules, Text(Is(Ascii))), h)
+}
+
+// Bodies, and what each reads as.
+static EACH: [(&str, &str); 3] = [
+    ("[\"ab\",\"c\"]", "Items([TextRef(\"ab\"), TextRef(\"c\")])"),
+    (
+        "[\"abc\",\"\u{e9}\",\"abc\"]",
+        "[1]: not ascii\n[0]: length is greater than 2\n[2]: length is greater than 2\n",
+    ),
+    ("[\"abc\",null]", "[1]: not a text\n"),
+];
+
+#[test]
+fn asks_each_item_after_all_items(rt: HostRuntime) {
+    compare(&rt, rt.alloc(), Form::Lists(Case::Each), &EACH);
+}
+
+// A list that may be missing, of texts that are all different.
+fn maybe_apart<H: I18n + FormI18n>(
+    alloc: Global,
+    tree: &Tree<'_, '_>,
+    h: &H,
+) -> Result<String, AllocError> {
+    let apart = Under("tags", IfSome(Unique("stands before", Equal)));
+    let tags = Checked(Optional("tags", List(Text(()))), apart);
+    told(alloc, tree, &Object((tags, Optional("end", Flag))), h)
+}
+
+// Bodies, and what each reads as.
+static MAYBE_APART: [(&str, &str); 4] = [
+    ("{}", "(None, None)"),
+    (
+        "{\"tags\":[\"b\",\"a\"]}",
+        "(Some(Items([TextRef(\"b\"), TextRef(\"a\")])), None)",
+    ),
+    ("{\"tags\":[\"a\",\"a\"]}", "tags[1]: stands before\n"),
+    (
+        "{\"tags\":[\"a\",\"b\",\"b\",\"a\"],\"end\":1}",
+        "tags[2]: stands before\ntags[3]: stands before\nend: not true or false\n",
+    ),
+];
+
+#[test]
+fn asks_the_items_of_a_list_that_may_be_missing(rt: HostRuntime) {
+    compare(&rt, rt.alloc(), Form::Lists(Case::MaybeApart), &MAYBE_APART);
+}
+
+// The rule that there is a phone number where the tags include `rush`.
+#[derive(Clone, Copy)]
+struct PhoneForRush;
+
+impl<'t, P> Rules<(Items<TextRef<'t>>, Option<P>)> for PhoneForRush {
+    ghost asks = { λ _ v. when (includes bytes_eq v.0 (codes "rush")) (is (required v.1)) };
+
+    fn ask<'a, H: I18n>(
+        &self,
+        alloc: Global,
+        value: &(Items<TextRef<'t>>, Option<P>),
+        trail: &mut Trail<'a>,
+        report: &mut Report,
+        h: &H,
+    ) -> Result<(), AllocError> {
+        let (tags, phone) = value;
+        let is_rush = includes(tags.as_slice(), &Equal, &TextRef::new("rush"));
+        When(is_rush, Is(Required)).ask(alloc, phone, trail, report, h)
+    }
+}
+
+// Tags, and a phone number that may be missing.
+fn rush<H: I18n + FormI18n>(
+    alloc: Global,
+    tree: &Tree<'_, '_>,
+    h: &H,
+) -> Result<String, AllocError> {
+    let members = (
+        Member("tags", List(Text(()))),
+        Optional("phone", Whole(U8, ())),
+    );
+    told(
+        alloc,
+        tree,
+        &Object(Checked(members, Under("phone", PhoneForRush))),
+        h,
+    )
+}
+
+// Bodies, and what each reads as.
+static RUSH: [(&str, &str); 5] = [
+    ("{\"tags\":[]}", "(Items([]), None)"),
+    (
+        "{\"tags\":[\"rus\",\"rush!\"]}",
+        "(Items([TextRef(\"rus\"), TextRef(\"rush!\")]), None)",
+    ),
+    ("{\"tags\":[\"a\",\"rush\"]}", "phone: not set\n"),
+    (
+        "{\"tags\":[\"rush\"],\"phone\":7}",
+        "(Items([TextRef(\"rush\")]), Some(7))",
+    ),
+    ("{\"tags\":[\"rush\",1]}", "tags[1]: not a text\n"),
+];
+
+#[test]
+fn asks_a_rule_where_a_list_includes_a_text(rt: HostRuntime) {
+    compare(&rt, rt.alloc(), Form::Lists(Case::Rush), &RUSH);
 }
 
 // A list of this many numbers, each behind this text.

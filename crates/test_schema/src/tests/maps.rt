@@ -2,9 +2,11 @@
 
 use super::OrEnd;
 use super::told::{Case as Form, check, compare, told, told_of};
-use garde::fields::{Ascii, Is};
-use garde::{DefaultI18n, I18n, length};
-use garde_schema::{Flag, FormI18n, List, Map, MapUnder, Member, Object, Text, U8, U16, Whole};
+use garde::fields::{Alphanumeric, Ascii, Is};
+use garde::{DefaultI18n, I18n, length, range};
+use garde_schema::{
+    Flag, FormI18n, Keys, List, Map, MapUnder, Member, Object, Text, U8, U16, Whole,
+};
 use garde_tape::Tree;
 use std::alloc::{AllocError, Global};
 use std::fmt::Write;
@@ -14,6 +16,7 @@ use std::fmt::Write;
 pub enum Case {
     Labels,
     FewLabels,
+    Named,
     Numbers,
     Nested,
 }
@@ -28,6 +31,7 @@ pub fn told_by<H: I18n + FormI18n>(
     match case {
         Case::Labels => labels(alloc, tree, h),
         Case::FewLabels => few_labels(alloc, tree, h),
+        Case::Named => named(alloc, tree, h),
         Case::Numbers => told(alloc, tree, &Map(Whole(U16, ())), h),
         Case::Nested => told(alloc, tree, &Map(List(Map(Map(Whole(U8, ()))))), h),
     }
@@ -108,6 +112,46 @@ static FEW_LABELS: [(&str, &str); 7] = [
 #[test]
 fn asks_how_many_members_there_are_before_their_values(rt: HostRuntime) {
     compare(&rt, rt.alloc(), Form::Maps(Case::FewLabels), &FEW_LABELS);
+}
+
+// An object of one or two numbers under short names of letters and digits.
+fn named<H: I18n + FormI18n>(
+    alloc: Global,
+    tree: &Tree<'_, '_>,
+    h: &H,
+) -> Result<String, AllocError> {
+    let names = Keys((Is(Alphanumeric), Is(length!(max = 3))));
+    let form = MapUnder(
+        (Is(length!(max = 2)), names),
+        Whole(U8, Is(range!(max = 9))),
+    );
+    told(alloc, tree, &form, h)
+}
+
+// Bodies, and what each reads as.
+static NAMED: [(&str, &str); 8] = [
+    ("{}", "Items([])"),
+    (
+        "{\"b2\":1,\"\":9}",
+        "Items([(TextRef(\"b2\"), 1), (TextRef(\"\"), 9)])",
+    ),
+    ("{\"a\":1,\"a-b\":2}", "a-b: not alphanumeric\n"),
+    (
+        "{\"a-bc\":10,\"abcd\":1}",
+        "a-bc: greater than 9\na-bc: not alphanumeric\na-bc: length is greater than 3\nabcd: length is greater than 3\n",
+    ),
+    (
+        "{\"a\":1,\"b\":2,\"\\u0063-\":3}",
+        "length is greater than 2\nc-: not alphanumeric\n",
+    ),
+    ("{\"a-b\":1,\"a-b\":2}", "a-b: repeated\n"),
+    ("{\"a-b\":null}", "a-b: not a whole number\n"),
+    ("[\"a-b\"]", "not an object\n"),
+];
+
+#[test]
+fn tells_a_wrong_name_under_itself_after_all_values(rt: HostRuntime) {
+    compare(&rt, rt.alloc(), Form::Maps(Case::Named), &NAMED);
 }
 
 // An object of this many members whose values are their numbers. The last one is named so.

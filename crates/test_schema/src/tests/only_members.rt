@@ -1,11 +1,11 @@
 //! Unions by the only member: the whole report of each body in English and as codes, or its value.
 
-use super::told::{Case as Form, compare, compare_codes, told};
+use super::told::{Case as Form, compare_codes, told};
 use garde::fields::Is;
 use garde::{I18n, range};
 use garde_schema::{
-    Closed, Flag, FormI18n, List, Member, Object, OneMember, OneOf, Optional, Text, TextOr, U8,
-    U64, Whole,
+    Closed, Flag, FormI18n, Member, Object, OneMember, OneOf, Optional, Text, TextOr, U8, U64,
+    Whole,
 };
 use garde_tape::Tree;
 use std::alloc::{AllocError, Global};
@@ -15,7 +15,6 @@ use std::marker::PhantomData;
 #[derive(Clone, Copy)]
 pub enum Case {
     Payment,
-    Deep,
     Mixed,
 }
 
@@ -28,7 +27,6 @@ pub fn told_by<H: I18n + FormI18n>(
 ) -> Result<String, AllocError> {
     match case {
         Case::Payment => payment(alloc, tree, h),
-        Case::Deep => deep(alloc, tree, h),
         Case::Mixed => mixed(alloc, tree, h),
     }
 }
@@ -121,47 +119,6 @@ static PAYMENTS: [(&str, &str, &str); 16] = [
 #[test]
 fn reads_the_variant_that_the_only_member_names(rt: HostRuntime) {
     compare_codes(&rt, rt.alloc(), Form::OnlyMembers(Case::Payment), &PAYMENTS);
-}
-
-// This form, in an object with one member of this name.
-macro_rules! one_deep {
-    ($name:expr, $form:expr) => {
-        OneMember(Member($name, $form), PhantomData)
-    };
-}
-
-// This form, four objects with one member deep.
-macro_rules! four_deep {
-    ($form:expr) => {
-        one_deep!("a", one_deep!("b", one_deep!("c", one_deep!("d", $form))))
-    };
-}
-
-// Lists of numbers that are eight objects deep.
-fn deep<H: I18n + FormI18n>(
-    alloc: Global,
-    tree: &Tree<'_, '_>,
-    h: &H,
-) -> Result<String, AllocError> {
-    let form = List(four_deep!(four_deep!(List(Whole(U8, ())))));
-    told(alloc, tree, &form, h)
-}
-
-// Bodies, and what each reads as.
-static DEEP: [(&str, &str); 2] = [
-    (
-        "[{\"a\":{\"b\":{\"c\":{\"d\":{\"a\":{\"b\":{\"c\":{\"d\":[1,2]}}}}}}}}]",
-        "Items([Items([1, 2])])",
-    ),
-    (
-        "[{\"a\":{\"b\":{\"c\":{\"d\":{\"a\":{\"b\":{\"c\":{\"d\":[1,true,256]}}}}}}}},{\"a\":{\"b\":{\"c\":{\"d\":{\"a\":{\"b\":{\"c\":{}}}}}}}},{\"a\":{\"e\":1}}]",
-        "[0].a.b.c.d.a.b.c.d[1]: not a whole number\n[0].a.b.c.d.a.b.c.d[2]: out of range: 0 to 255\n[1].a.b.c.d.a.b.c: not an object with one member\n[2].a.e: not known here\n",
-    ),
-];
-
-#[test]
-fn reads_unions_that_are_eight_deep(rt: HostRuntime) {
-    compare(&rt, rt.alloc(), Form::OnlyMembers(Case::Deep), &DEEP);
 }
 
 // A payment as serde has it by default: in cash or by a transfer, of which nothing more is known, or by

@@ -3,8 +3,8 @@ ghost use Rattle.std.specs.Prelude.{◌≡◌};
 ghost use Rattle.test_schema.specs.Texts.{kind_text, wanted_text, fault_text};
 
 use garde::I18n;
-use garde::i18n::{InvalidCreditCard, InvalidPhoneNumber, InvalidUrl, IpKind};
-use garde_schema::{FormI18n, Integer, Wanted};
+use garde::i18n::{Datum, Texts as OneMethod};
+use garde_schema::{FormFault, FormI18n, Wanted};
 use garde_tape::Kind;
 use std::alloc::{AllocError, Global};
 use std::borrow::CowStr;
@@ -53,130 +53,27 @@ fn wanted_text(wanted: Wanted) -> &'static str
 impl<H> FormI18n for Texts<H> {
     ghost form_text = { λ _ fault. fault_text fault };
 
-    fn wrong_form(
-        &self,
-        alloc: Global,
-        wanted: Wanted,
-        found: Kind,
-    ) -> Result<CowStr<'static>, AllocError> {
-        let found = kind_text(found);
-        let wanted = wanted_text(wanted);
-        Ok(CowStr::Owned(format!(in alloc; "{found} in place of {wanted}")?))
-    }
-
-    fn out_of_range(&self, _alloc: Global, _of: Integer) -> Result<CowStr<'static>, AllocError> {
-        Ok(CowStr::Borrowed("out of range"))
-    }
-
-    fn member_missing(&self, _alloc: Global) -> Result<CowStr<'static>, AllocError> {
-        Ok(CowStr::Borrowed("missing"))
-    }
-
-    fn member_repeated(&self, _alloc: Global) -> Result<CowStr<'static>, AllocError> {
-        Ok(CowStr::Borrowed("repeated"))
-    }
-
-    fn member_unknown(&self, _alloc: Global) -> Result<CowStr<'static>, AllocError> {
-        Ok(CowStr::Borrowed("unknown"))
-    }
-
-    fn value_unknown(&self, _alloc: Global) -> Result<CowStr<'static>, AllocError> {
-        Ok(CowStr::Borrowed("not one of these"))
+    fn form_fault(&self, alloc: Global, fault: FormFault) -> Result<CowStr<'static>, AllocError> {
+        Ok(CowStr::Borrowed(match fault {
+            FormFault::Wrong(wanted, found) => {
+                let found = kind_text(found);
+                let wanted = wanted_text(wanted);
+                return Ok(CowStr::Owned(format!(in alloc; "{found} in place of {wanted}")?));
+            }
+            FormFault::OutOfRange(_) => "out of range",
+            FormFault::Missing => "missing",
+            FormFault::Repeated => "repeated",
+            FormFault::Unknown => "unknown",
+            FormFault::NotOneOf => "not one of these",
+            FormFault::RowLength => "another number of fields",
+        }))
     }
 }
 
-impl<H: I18n> I18n for Texts<H> {
-    ghost text = { λ handler datum. H.text handler.0 datum };
+impl<H: I18n> OneMethod for Texts<H> {
+    ghost texts = { λ handler datum. H.text handler.0 datum };
 
-    fn length_lower_than(&self, alloc: Global, min: usize) -> Result<CowStr<'static>, AllocError> {
-        self.0.length_lower_than(alloc, min)
-    }
-
-    fn length_greater_than(
-        &self,
-        alloc: Global,
-        max: usize,
-    ) -> Result<CowStr<'static>, AllocError> {
-        self.0.length_greater_than(alloc, max)
-    }
-
-    fn range_lower_than(&self, alloc: Global, min: &str) -> Result<CowStr<'static>, AllocError> {
-        self.0.range_lower_than(alloc, min)
-    }
-
-    fn range_greater_than(&self, alloc: Global, max: &str) -> Result<CowStr<'static>, AllocError> {
-        self.0.range_greater_than(alloc, max)
-    }
-
-    fn credit_card_invalid(
-        &self,
-        alloc: Global,
-        reason: InvalidCreditCard,
-    ) -> Result<CowStr<'static>, AllocError> {
-        self.0.credit_card_invalid(alloc, reason)
-    }
-
-    fn pattern_no_match(
-        &self,
-        alloc: Global,
-        pattern: &str,
-    ) -> Result<CowStr<'static>, AllocError> {
-        self.0.pattern_no_match(alloc, pattern)
-    }
-
-    fn contains_missing(
-        &self,
-        alloc: Global,
-        pattern: &str,
-    ) -> Result<CowStr<'static>, AllocError> {
-        self.0.contains_missing(alloc, pattern)
-    }
-
-    fn url_invalid(
-        &self,
-        alloc: Global,
-        reason: InvalidUrl,
-    ) -> Result<CowStr<'static>, AllocError> {
-        self.0.url_invalid(alloc, reason)
-    }
-
-    fn prefix_missing(&self, alloc: Global, pattern: &str) -> Result<CowStr<'static>, AllocError> {
-        self.0.prefix_missing(alloc, pattern)
-    }
-
-    fn suffix_missing(&self, alloc: Global, pattern: &str) -> Result<CowStr<'static>, AllocError> {
-        self.0.suffix_missing(alloc, pattern)
-    }
-
-    fn phone_number_invalid(
-        &self,
-        alloc: Global,
-        reason: InvalidPhoneNumber,
-    ) -> Result<CowStr<'static>, AllocError> {
-        self.0.phone_number_invalid(alloc, reason)
-    }
-
-    fn ip_invalid(&self, alloc: Global, kind: IpKind) -> Result<CowStr<'static>, AllocError> {
-        self.0.ip_invalid(alloc, kind)
-    }
-
-    fn matches_field_mismatch(
-        &self,
-        alloc: Global,
-        field: &str,
-    ) -> Result<CowStr<'static>, AllocError> {
-        self.0.matches_field_mismatch(alloc, field)
-    }
-
-    fn ascii_invalid(&self, alloc: Global) -> Result<CowStr<'static>, AllocError> {
-        self.0.ascii_invalid(alloc)
-    }
-
-    fn alphanumeric_invalid(&self, alloc: Global) -> Result<CowStr<'static>, AllocError> {
-        self.0.alphanumeric_invalid(alloc)
-    }
-
-    fn required_not_set(&self, alloc: Global) -> Result<CowStr<'static>, AllocError> {
-        self.0.required_not_set(alloc)
+    fn text_of(&self, alloc: Global, datum: Datum<'_>) -> Result<CowStr<'static>, AllocError> {
+        (&&self.0).text_of(alloc, datum)
     }
 }

@@ -1,8 +1,8 @@
 //! What a body reads as by a form: its value, as it prints for debugging, or its whole report.
 
 use super::{
-    OrEnd, checked, enums, forms, json, lists, maps, nested, nulls, only_members, reports, signup,
-    tuples, unions, wide_numbers,
+    OrEnd, checked, enums, forms, json, lists, maps, nested, nulls, only_members, signup, tuples,
+    unions, wide_numbers,
 };
 use garde::{CodeI18n, DefaultI18n, I18n};
 use garde_schema::{Form, FormI18n, read};
@@ -23,13 +23,17 @@ pub enum Case {
     Nested(nested::Case),
     Nulls(nulls::Case),
     OnlyMembers(only_members::Case),
-    Reports,
     Signup,
     /// So many members.
     Tuples(usize),
     Unions,
     /// Of 128 bits, without a sign or with one.
     Wide(bool),
+}
+
+// A value, as it prints for debugging.
+fn shown<T: Debug>(alloc: Global, value: &T) -> Result<String, AllocError> {
+    format!(in alloc; "{value:?}")
 }
 
 /// The value of a tree of this form, as text, or its report.
@@ -43,8 +47,8 @@ where
     F::Out: Debug,
 {
     match read(alloc, form, tree, h) {
-        Ok(out) => format!(in alloc; "{out:?}"),
-        Err(error) => format!(in alloc; "{error}"),
+        Ok(out) => shown(alloc, &out),
+        Err(error) => error.to_string(alloc),
     }
 }
 
@@ -64,7 +68,6 @@ fn told_by<H: I18n + FormI18n>(
         Case::Nested(case) => nested::told_by(alloc, tree, case, h),
         Case::Nulls(case) => nulls::told_by(alloc, tree, case, h),
         Case::OnlyMembers(case) => only_members::told_by(alloc, tree, case, h),
-        Case::Reports => reports::signup(alloc, tree, h),
         Case::Signup => signup::signup(alloc, tree, h),
         Case::Tuples(size) => tuples::told_by(alloc, tree, size, h),
         Case::Unions => unions::payment(alloc, tree, h),
@@ -82,7 +85,7 @@ pub fn told_of<H: I18n + FormI18n>(
     let mut scratch = Scratch::new(alloc);
     match parse_bytes(alloc, bytes, &mut scratch) {
         Ok(tape) => told_by(alloc, &Tree::root(&tape), case, h),
-        Err(error) => format!(in alloc; "{error}"),
+        Err(error) => error.to_string(alloc),
     }
 }
 

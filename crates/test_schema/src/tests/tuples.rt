@@ -50,7 +50,7 @@ where
             let values = ((a, b, c, d, e, f, g, i), (j, k, l, m, n, o, p, q));
             format!(in alloc; "{values:?}")
         }
-        Err(error) => format!(in alloc; "{error}"),
+        Err(error) => error.to_string(alloc),
     }
 }
 

@@ -7,7 +7,7 @@ use std::alloc::{AllocError, Global};
 use test_memory::Scarce;
 
 /// A fault of each kind, and the text that the default handler has of it.
-static STORED: [(FormFault, &str); 16] = [
+static STORED: [(FormFault, &str); 17] = [
     (FormFault::Wrong(Wanted::List, Kind::Null), "not a list"),
     (
         FormFault::Wrong(Wanted::Character, Kind::Text),
@@ -42,6 +42,7 @@ static STORED: [(FormFault, &str); 16] = [
     (FormFault::Repeated, "repeated"),
     (FormFault::Unknown, "not known here"),
     (FormFault::NotOneOf, "not one of the known values"),
+    (FormFault::RowLength, "not as many fields as in the header"),
 ];
 
 // Whether a handler gives each of these texts.

@@ -1,6 +1,6 @@
 use Rattle.std.proofs.Common.{Some, Err}
 use Rattle.std.specs.Cow.{cow_str_bytes}
-use Rattle.garde.specs.Author.{own}
+use Rattle.garde.specs.Fields.{own}
 use Rattle.garde.proofs.Author.{visited_found}
 use Rattle.garde_form.proofs.Lemmas.{own_applies}
 use Rattle.garde_form.proofs.put.put.Goals as goal

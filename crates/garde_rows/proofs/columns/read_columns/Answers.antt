@@ -2,7 +2,7 @@ use Rattle.std.proofs.Common.{◌≡◌, Ok, Err, ap, ◌∙◌}
 use Rattle.csv.specs.Records.{fields_of}
 use Rattle.json.specs.Find.{as_object}
 use Rattle.json.specs.Json.{Json, object}
-use Rattle.garde.specs.Author.{Visits, ◌and◌}
+use Rattle.garde.specs.Visits.{Visits, ◌and◌}
 use Rattle.garde_tape.specs.Look.{kind_of}
 use Rattle.garde_tape.specs.Texts.{field_members}
 use Rattle.garde_schema.specs.Forms.{formed}

@@ -1,7 +1,8 @@
 use Rattle.std.proofs.Common.{◌≡◌, subst, sym, ap, ◌∙◌}
 use Rattle.csv.specs.Records.{fields_of}
 use Rattle.json.specs.Json.{Json, object}
-use Rattle.garde.specs.Author.{Visits, under, index_part}
+use Rattle.garde.specs.Fields.{index_part}
+use Rattle.garde.specs.Visits.{Visits, under}
 use Rattle.garde_schema.specs.Forms.{forget}
 use Rattle.garde_tape.specs.Texts.{field_members}
 use Rattle.garde_rows.specs.Rows.{AnswersRow, if_whole, is_whole, row_json}
@@ -16,9 +17,9 @@ returns-clause-answer g c =
     let visits : Json → Visits = λ j. g.F.Form.visits c.args.form.now texts j in
     let same : fields_of c.columns.inside.header.now ≡ columns = cc in
     let is_row = c.fields.ensures ∙ ap (λ fields. object (field_members fields)) c.as_slice.ensures.value ∙ c.in-Ok.ensures ∙ ap (λ columns. row_json columns cells) same in
-    subst (λ whole. AnswersRow (under (index_part c.args.index) (if_whole whole (visits (row_json columns cells)))) (g.H.I18n.text c.args.h.now) (forget c.read.result))
+    subst (λ whole. AnswersRow (under (index_part c.args.index) (if_whole texts whole (visits (row_json columns cells)))) (g.H.I18n.text c.args.h.now) (forget c.read.result))
     c.is_whole-is_whole.ensures
-    (answers_row (λ j. under (index_part c.args.index) (if_whole c.is_whole-is_whole.result (visits j))) (g.H.I18n.text c.args.h.now) _ (row_json columns cells) (forget c.read.result) is_row c.read.ensures.answer)
+    (answers_row (λ j. under (index_part c.args.index) (if_whole texts c.is_whole-is_whole.result (visits j))) (g.H.I18n.text c.args.h.now) _ (row_json columns cells) (forget c.read.result) is_row c.read.ensures.answer)
 
 pub returns-clause-value : goal.returns-clause-value
 returns-clause-value g c =

@@ -4,11 +4,10 @@ use crate::tests::custom::Custom;
 use crate::tests::paths::{keys, longer};
 use crate::tests::reports::add;
 use crate::tests::rules::regex;
-use crate::tests::starved::document;
 use garde::rc_list::List;
 use garde::rules::ascii;
 use garde::rules::pattern::regex::Regex;
-use garde::samples::Document;
+use garde::samples::{Document, Tag};
 use garde::{
     Component, Error, IntoValidError, Path, Report, RuleError, Trail, Unvalidated, Validate,
     ValidateError, select, with_i18n,
@@ -249,6 +248,25 @@ fn patterns(alloc: Global) -> Result<(), AllocError> {
     let pattern = regex(alloc, "^[0-9]+$")?;
     let _found = pattern.is_match(alloc, "12345")?;
     search(alloc, &pattern)
+}
+
+// The text, where there is one.
+fn owned(alloc: Global, text: Option<&str>) -> Result<Option<String>, AllocError> {
+    match text {
+        Some(text) => Ok(Some(String::from_str(alloc, text)?)),
+        None => Ok(None),
+    }
+}
+
+// A document with this content and this tag, of whose content no format and no length is asked.
+fn document(alloc: Global, content: Option<&str>, tag: &str) -> Result<Document, AllocError> {
+    let tag = Tag(String::from_str(alloc, tag)?);
+    Ok(Document {
+        check_format: false,
+        check_length: false,
+        content: owned(alloc, content)?,
+        tag,
+    })
 }
 
 // A value that becomes a valid one, and is taken out of it.

@@ -1,64 +1,15 @@
 //! Rules of long texts, by their functions and as values.
-use super::parcel::{Label, LabelText, Parcel};
+use super::label::{Label, LabelText};
 use crate::tests::OrEnd;
 use crate::tests::rules::regex;
-use crate::tests::told::{tells, tells_all};
-use garde::fields::{Adapt, Contains, Pattern, Prefix, Suffix, Url};
+use crate::tests::told::tells;
+use garde::fields::{Adapt, Pattern, Url};
 use garde::rules::pattern::regex::Regex;
 use garde::rules::values::MemoryRule;
-use garde::rules::{Rule, contains, pattern, prefix, suffix, url};
-use garde::{DefaultI18n, RuleError, Validate};
+use garde::rules::{pattern, url};
+use garde::{DefaultI18n, RuleError};
 use std::alloc::{AllocError, Global};
 use std::process::Abort;
-
-// What the rule of this index finds in a text.
-fn find(alloc: Global, index: usize, part: &str, text: &str) -> Result<(), RuleError> {
-    let h = &DefaultI18n;
-    match index {
-        0 => contains::apply(alloc, &text, (part,), h),
-        1 => prefix::apply(alloc, &text, (part,), h),
-        2 => suffix::apply(alloc, &text, (part,), h),
-        3 => Contains(part).find(alloc, &text, h),
-        4 => Prefix(part).find(alloc, &text, h),
-        _ => Suffix(part).find(alloc, &text, h),
-    }
-}
-
-/// How the fault of each rule begins.
-static FRONTS: [&str; 6] = [
-    "does not contain",
-    "value does not begin with",
-    "does not end with",
-    "does not contain",
-    "value does not begin with",
-    "does not end with",
-];
-
-// Whether the rule of this index passes a text of a kilobyte that is the part itself.
-fn passes_itself(rt: &impl Abort, alloc: Global, index: usize) -> bool {
-    let part = "0123456789abcdef".repeat(alloc, 64).or_end(rt);
-    tells(find(alloc, index, part.as_str(), part.as_str()), None)
-}
-
-// Whether the rule of this index finds a fault that begins so in a text of other characters.
-fn refuses_another(rt: &impl Abort, alloc: Global, index: usize, front: &str) -> bool {
-    let part = "0123456789abcdef".repeat(alloc, 64).or_end(rt);
-    let text = "fedcba9876543210".repeat(alloc, 64).or_end(rt);
-    let fault = format!(in alloc; "{front} \"{part}\"").or_end(rt);
-    let answer = find(alloc, index, part.as_str(), text.as_str());
-    tells(answer, Some(fault.as_str()))
-}
-
-#[test]
-fn parts_of_a_kilobyte(rt: HostRuntime) {
-    for (index, front) in FRONTS.iter().enumerate() {
-        assert!(rt; passes_itself(&rt, rt.alloc(), index), "at {index}");
-        assert!(rt;
-            refuses_another(&rt, rt.alloc(), index, front),
-            "at {index}"
-        );
-    }
-}
 
 // The answer for a label that may be a URL, or have a code, by a function or a value.
 fn answer(alloc: Global, way: usize, label: &Label, code: &Regex) -> Result<(), RuleError> {
@@ -138,28 +89,4 @@ fn links_of_four_and_codes_of_eight_kilobytes(rt: HostRuntime) {
         assert_answered(&rt, rt.alloc(), [0, 1, 2], *parts, *link);
         assert_answered(&rt, rt.alloc(), [3, 4, 5], *parts, *number);
     }
-}
-
-// A parcel of these texts, each so many times.
-fn parcel(rt: &impl Abort, alloc: Global, link: &str, code: &str) -> Parcel {
-    Parcel {
-        link: text(alloc, (link, "path/", 819)).or_end(rt),
-        code: code.repeat(alloc, 1024).or_end(rt),
-        label: label(rt, alloc, ("", code, 1024)),
-    }
-}
-
-// Whether this is reported for a parcel of these texts.
-fn is_told(rt: &impl Abort, alloc: Global, link: &str, digits: &str, wanted: &str) -> bool {
-    let code = regex(alloc, "^[0-9]+$").or_end(rt);
-    let answer = parcel(rt, alloc, link, digits).validate_with(alloc, &code);
-    tells_all(rt, alloc, answer, wanted)
-}
-
-#[test]
-fn a_walk_of_long_links_and_codes(rt: HostRuntime) {
-    let wanted =
-        "link: not a valid url: relative URL without a base\ncode: does not match pattern /^[0-9]+$/\nlabel: does not match pattern /^[0-9]+$/\n";
-    assert!(rt; is_told(&rt, rt.alloc(), "https://example.com/", "01234567", ""));
-    assert!(rt; is_told(&rt, rt.alloc(), "", "0123456x", wanted));
 }

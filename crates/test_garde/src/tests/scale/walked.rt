@@ -1,10 +1,9 @@
 //! A user-defined type: a length of its own, a check that reads the context, and two fields that
 //! match.
 ghost use Rattle.std.specs.Prelude.{if◌then◌else◌};
-ghost use Rattle.garde.specs.Author.{length_in};
-ghost use Rattle.garde.specs.Fields.{◌and◌, Some, None, nat_lt, byte_count, string_bytes, codes, own, found, field, matches_text};
+ghost use Rattle.garde.specs.Fields.{◌and◌, between, byte_count, codes, count, field, is, matches, nat_lt, None, own, Some, str, text_eq};
 
-use super::parcel::Label;
+use super::label::Label;
 use crate::tests::OrEnd;
 use crate::tests::told::{prints, tells_all};
 use garde::fields::{Field, Fields, Is, Length, Matches, Rule};
@@ -41,7 +40,7 @@ struct Strong<'c>(&'c Bank);
 
 impl Rule<String> for Strong<'_> {
     ghost finds = { λ rule v.
-        if nat_lt (byte_count (string_bytes v)) rule.0.now.least then Some (own (codes "weak")) else None };
+        if nat_lt (byte_count (str v)) rule.0.now.least then Some (own (codes "weak")) else None };
 
     fn find<H: I18n>(&self, alloc: Global, value: &String, _h: &H) -> Result<(), RuleError> {
         if value.len() < self.0.least {
@@ -64,10 +63,10 @@ impl Stated for Account {
     type Context = Bank;
 
     ghost visits = { λ v bank.
-        field "purse" (length_in 1 9 v.purse.coins)
+        field "purse" (is (count (between 1 9) v.purse.coins))
         and field "password"
-        (found (if nat_lt (byte_count (string_bytes v.password)) bank.least then Some (own (codes "weak")) else None))
-        and field "again" (matches_text "password" v.again v.password) };
+        (is (if nat_lt (byte_count (str v.password)) bank.least then Some (own (codes "weak")) else None))
+        and field "again" (is (matches "password" (text_eq (str v.again) (str v.password)))) };
 }
 
 impl Validate for Account {

@@ -1,8 +1,8 @@
 //! Tests of the counts of items.
 use super::assert_answer;
 use crate::tests::OrEnd;
+use garde_engines::length::{HasBytes, HasChars, HasSimpleLength, bytes, chars, simple};
 use garde_i18n::DefaultI18n;
-use garde_lengths::length::{HasBytes, HasChars, HasSimpleLength, bytes, chars, simple};
 use std::alloc::Global;
 use std::boxed::BoxedSlice;
 use std::collections::{BTreeMap, BTreeSet, BinaryHeap, HashMap, HashSet, LinkedList, VecDeque};

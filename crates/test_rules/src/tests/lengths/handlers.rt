@@ -8,7 +8,8 @@ mod with_codes;
 
 use crate::tests::OrEnd;
 use garde_i18n::{
-    Datum, DefaultI18n, I18n, InvalidCreditCard, InvalidPhoneNumber, InvalidUrl, IpKind, Texts,
+    Code, Datum, DefaultI18n, I18n, InvalidCreditCard, InvalidPhoneNumber, InvalidUrl, IpKind,
+    Named, Texts, Value,
 };
 use std::alloc::Global;
 use std::borrow::CowStr;
@@ -43,8 +44,25 @@ fn assert_answers<H: I18n>(
     }
 }
 
+/// What a rule without a method of its own found, with a parameter and without one.
+const ODD: Datum<'static> = Datum::Named(Named {
+    code: Code {
+        name: "odd_count",
+        param: Some(("count", Value::Number(3))),
+    },
+    english: "3 is odd",
+});
+
+const TAKEN: Datum<'static> = Datum::Named(Named {
+    code: Code {
+        name: "name_taken",
+        param: None,
+    },
+    english: "taken",
+});
+
 /// What is asked, and its text.
-static ROWS: [(Datum<'static>, &str); 17] = [
+static ROWS: [(Datum<'static>, &str); 19] = [
     (Datum::LengthLowerThan(5), "length is lower than 5"),
     (Datum::LengthGreaterThan(10), "length is greater than 10"),
     (Datum::RangeLowerThan("0"), "lower than 0"),
@@ -83,6 +101,8 @@ static ROWS: [(Datum<'static>, &str); 17] = [
     (Datum::AsciiInvalid, "not ascii"),
     (Datum::AlphanumericInvalid, "not alphanumeric"),
     (Datum::RequiredNotSet, "not set"),
+    (ODD, "3 is odd"),
+    (TAKEN, "taken"),
 ];
 
 #[test]

@@ -1,7 +1,7 @@
 //! Tests of the lengths of options.
 use super::assert_answer;
+use garde_engines::length::{bytes, chars, graphemes, simple, utf16};
 use garde_i18n::DefaultI18n;
-use garde_lengths::length::{bytes, chars, graphemes, simple, utf16};
 
 #[test]
 fn passes_an_option_without_a_value(rt: HostRuntime) {

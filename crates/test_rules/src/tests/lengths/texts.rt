@@ -1,15 +1,15 @@
 //! Tests of the counts of texts.
 use super::assert_answer;
 use crate::tests::OrEnd;
+use garde_engines::laws::units;
+use garde_engines::length::bytes::{self, ByteLength};
+use garde_engines::length::chars::{self, CharLength};
+use garde_engines::length::graphemes::{self, GraphemeLength};
+use garde_engines::length::simple::Length;
+use garde_engines::length::utf16::{self, Utf16Length};
+use garde_engines::length::{HasBytes, HasChars, HasGraphemes, HasSimpleLength, HasUtf16CodeUnits};
+use garde_engines::{OutOfBounds, Rule};
 use garde_i18n::DefaultI18n;
-use garde_lengths::laws::units;
-use garde_lengths::length::bytes::{self, ByteLength};
-use garde_lengths::length::chars::{self, CharLength};
-use garde_lengths::length::graphemes::{self, GraphemeLength};
-use garde_lengths::length::simple::Length;
-use garde_lengths::length::utf16::{self, Utf16Length};
-use garde_lengths::length::{HasBytes, HasChars, HasGraphemes, HasSimpleLength, HasUtf16CodeUnits};
-use garde_lengths::{OutOfBounds, Rule};
 use std::alloc::Global;
 use std::borrow::CowStr;
 use std::boxed::BoxedStr;

@@ -1,56 +1,100 @@
-//! The fields of a web form as JSON, where those of some names are lists: the whole text of each
-//! body.
+//! Web forms in which the fields of some names are lists: the lists of each body, and the names of its
+//! members.
 
 use crate::tests::{OrEnd, is_text};
-use garde_form::form_to_json_with_lists;
-use std::alloc::Global;
+use garde::DefaultI18n;
+use garde_form::{FormField, form_fields, read_form};
+use garde_schema::{Closed, List, Member, Object, Optional, Text};
+use std::alloc::{AllocError, Global};
 use std::process::Abort;
-
-static LISTS: [(&str, &str); 10] = [
-    ("", "{}"),
-    ("a=1&b&a=2", "{\"a\":\"1\",\"b\":\"\",\"a\":\"2\"}"),
-    ("tags=a", "{\"tags\":[\"a\"]}"),
-    ("tags=b&tags=a&tags=b", "{\"tags\":[\"b\",\"a\",\"b\"]}"),
-    (
-        "x=1&tags=a&x=2&tags=b&y=3",
-        "{\"x\":\"1\",\"tags\":[\"a\",\"b\"],\"x\":\"2\",\"y\":\"3\"}",
-    ),
-    (
-        "ids=1&tags=a&ids=2&tags=b&ids=3",
-        "{\"ids\":[\"1\",\"2\",\"3\"],\"tags\":[\"a\",\"b\"]}",
-    ),
-    ("tags=&tags&tags=+", "{\"tags\":[\"\",\"\",\" \"]}"),
-    ("t%61gs=a&tags=%62%", "{\"tags\":[\"a\",\"b%\"]}"),
-    (
-        "Tags=a&tag=b&tags[]=c&=d&tagss=e",
-        "{\"Tags\":\"a\",\"tag\":\"b\",\"tags[]\":\"c\",\"\":\"d\",\"tagss\":\"e\"}",
-    ),
-    (
-        "tags=%FF&tags=%00\"",
-        "{\"tags\":[\"\u{fffd}\",\"\\u0000\\\"\"]}",
-    ),
-];
 
 // The names whose fields are lists.
 const LISTED: &[&str] = &["ids", "tags", "tags"];
 
-// Whether a body is written as this text, where the fields of these names are lists.
-fn is_written(alloc: Global, body: &str, lists: &[&str], text: &str) -> bool {
-    is_text(form_to_json_with_lists(alloc, body.as_bytes(), lists), text)
+// The lists of the fields.
+fn lists(alloc: Global, fields: &[FormField<'_>]) -> Result<String, AllocError> {
+    let form = Object((
+        Optional("ids", List(Text(()))),
+        Optional("tags", List(Text(()))),
+    ));
+    match read_form(alloc, fields, LISTED, &form, &DefaultI18n) {
+        Ok(lists) => format!(in alloc; "{lists:?}"),
+        Err(error) => format!(in alloc; "{error}"),
+    }
 }
 
+// A line for each member: none of them is known.
+fn members(alloc: Global, fields: &[FormField<'_>]) -> Result<String, AllocError> {
+    let form = Object(Closed(Optional("none", Text(()))));
+    match read_form(alloc, fields, LISTED, &form, &DefaultI18n) {
+        Ok(_) => Ok(String::new(alloc)),
+        Err(error) => format!(in alloc; "{error}"),
+    }
+}
+
+fn told(alloc: Global, body: &[u8]) -> Result<String, AllocError> {
+    let fields = form_fields(alloc, body)?;
+    let lists = lists(alloc, fields.as_slice())?;
+    let members = members(alloc, fields.as_slice())?;
+    format!(in alloc; "{lists}\n{members}")
+}
+
+static LISTS: [(&str, &str); 11] = [
+    ("", "(None, None)\n"),
+    (
+        "a=1&b&a=2",
+        "(None, None)\na: not known here\nb: not known here\na: not known here\n",
+    ),
+    (
+        "tags=a",
+        "(None, Some(Items([TextRef(\"a\")])))\ntags: not known here\n",
+    ),
+    (
+        "tags=b&tags=a&tags=b",
+        "(None, Some(Items([TextRef(\"b\"), TextRef(\"a\"), TextRef(\"b\")])))\ntags: not known here\n",
+    ),
+    (
+        "x=1&tags=a&x=2&tags=b&y=3",
+        "(None, Some(Items([TextRef(\"a\"), TextRef(\"b\")])))\nx: not known here\ntags: not known here\nx: not known here\ny: not known here\n",
+    ),
+    (
+        "ids=1&tags=a&ids=2&tags=b&ids=3",
+        "(Some(Items([TextRef(\"1\"), TextRef(\"2\"), TextRef(\"3\")])), Some(Items([TextRef(\"a\"), TextRef(\"b\")])))\nids: not known here\ntags: not known here\n",
+    ),
+    (
+        "tags=b&ids=1",
+        "(Some(Items([TextRef(\"1\")])), Some(Items([TextRef(\"b\")])))\ntags: not known here\nids: not known here\n",
+    ),
+    (
+        "tags=&tags&tags=+",
+        "(None, Some(Items([TextRef(\"\"), TextRef(\"\"), TextRef(\" \")])))\ntags: not known here\n",
+    ),
+    (
+        "t%61gs=a&tags=%62%",
+        "(None, Some(Items([TextRef(\"a\"), TextRef(\"b%\")])))\ntags: not known here\n",
+    ),
+    (
+        "Tags=a&tag=b&tags[]=c&=d&tagss=e",
+        "(None, None)\nTags: not known here\ntag: not known here\ntags[]: not known here\n: not known here\ntagss: not known here\n",
+    ),
+    (
+        "tags=%FF&tags=%22",
+        "(None, Some(Items([TextRef(\"\u{fffd}\"), TextRef(\"\\\"\")])))\ntags: not known here\n",
+    ),
+];
+
 #[test]
-fn writes_the_fields_of_a_listed_name_as_a_list(rt: HostRuntime) {
+fn reads_the_fields_of_a_listed_name_as_a_list(rt: HostRuntime) {
     for (body, expected) in &LISTS {
         assert!(rt;
-            is_written(rt.alloc(), body, LISTED, expected),
-            "{expected}"
+            is_text(told(rt.alloc(), body.as_bytes()), expected),
+            "{body}"
         );
     }
 }
 
 // A body of ten thousand fields, of which each tenth is a number under `n`.
-fn fields(rt: &impl Abort, alloc: Global) -> String {
+fn body(rt: &impl Abort, alloc: Global) -> String {
     let mut body = String::new(alloc);
     for number in 0..1_000 {
         let piece = format!(in alloc; "n={number}&").or_end(rt);
@@ -61,28 +105,32 @@ fn fields(rt: &impl Abort, alloc: Global) -> String {
     body
 }
 
-// The object of these fields: the list of the numbers, and then nine thousand members.
-fn object(rt: &impl Abort, alloc: Global) -> String {
-    let mut text = String::from_str(alloc, "{\"n\":[\"0\"").or_end(rt);
-    for number in 1..1_000 {
-        let piece = format!(in alloc; ",\"{number}\"").or_end(rt);
-        text.push_str(piece.as_str()).or_end(rt);
+// The texts of the list under `n`, each behind a space.
+fn numbers(rt: &impl Abort, alloc: Global, body: &str) -> String {
+    let fields = form_fields(alloc, body.as_bytes()).or_end(rt);
+    let form = Object(Member("n", List(Text(()))));
+    let items = read_form(alloc, fields.as_slice(), &["n"], &form, &DefaultI18n).or_end(rt);
+    let mut text = String::new(alloc);
+    for item in items.as_slice() {
+        text.push_str(" ").or_end(rt);
+        text.push_str(item.text()).or_end(rt);
     }
-    text.push_str("]").or_end(rt);
-    for _ in 0..9_000 {
-        text.push_str(",\"a\":\"1\"").or_end(rt);
-    }
-    text.push_str("}").or_end(rt);
     text
 }
 
-// Whether a body is written as this object, where the fields of `n` are a list.
-fn is_the_object(rt: &impl Abort, alloc: Global, body: &str) -> bool {
-    is_written(alloc, body, &["n"], object(rt, alloc).as_str())
+// The numbers, each behind a space.
+fn expected(rt: &impl Abort, alloc: Global) -> String {
+    let mut text = String::new(alloc);
+    for number in 0..1_000 {
+        let piece = format!(in alloc; " {number}").or_end(rt);
+        text.push_str(piece.as_str()).or_end(rt);
+    }
+    text
 }
 
 #[test]
-fn writes_a_list_of_a_thousand_among_ten_thousand_fields(rt: HostRuntime) {
-    let body = fields(&rt, rt.alloc());
-    assert!(rt; is_the_object(&rt, rt.alloc(), body.as_str()));
+fn reads_a_list_of_a_thousand_among_ten_thousand_fields(rt: HostRuntime) {
+    let body = body(&rt, rt.alloc());
+    let numbers = numbers(&rt, rt.alloc(), body.as_str());
+    assert!(rt; numbers == expected(&rt, rt.alloc()));
 }

@@ -3,8 +3,8 @@
 use crate::tests::is_text;
 use garde::fields::Is;
 use garde::{DefaultI18n, length, range};
-use garde_form::{OrEmpty, Parsed, form_to_json};
-use garde_schema::{Closed, I8, Member, Object, Optional, Scratch, Text, U8, read_json};
+use garde_form::{OrEmpty, Parsed, form_fields, read_form};
+use garde_schema::{Closed, I8, Member, Object, Optional, Text, U8};
 use std::alloc::{AllocError, Global};
 
 // What is told of who signs up.
@@ -14,14 +14,13 @@ fn told(alloc: Global, body: &[u8]) -> Result<String, AllocError> {
         Member("age", Parsed(U8, Is(range!(min = 18, max = 120)))),
         Optional("shift", OrEmpty(Parsed(I8, ()))),
     )));
-    let text = form_to_json(alloc, body)?;
-    let mut scratch = Scratch::new(alloc);
-    match read_json(alloc, text.as_bytes(), &mut scratch, &form, &DefaultI18n) {
+    let fields = form_fields(alloc, body)?;
+    match read_form(alloc, fields.as_slice(), &[], &form, &DefaultI18n) {
         Ok((name, age, shift)) => {
             let name = name.text();
             format!(in alloc; "{name} {age} {shift:?}")
         }
-        Err(error) => format!(in alloc; "{error}"),
+        Err(error) => error.to_string(alloc),
     }
 }
 

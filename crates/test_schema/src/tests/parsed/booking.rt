@@ -1,11 +1,11 @@
 //! One schema with parsed texts, over JSON and over a web form: the values, or the whole report.
 ghost use Rattle.std.specs.Prelude.{int_le};
-ghost use Rattle.garde.specs.Fields.{message_unless};
+ghost use Rattle.garde.specs.Fields.{asks};
 
 use crate::tests::is_text;
 use garde::fields::{Is, Rule};
 use garde::{DefaultI18n, I18n, RuleError};
-use garde_form::{OrEmpty, Parsed, form_to_json};
+use garde_form::{FormField, OrEmpty, Parsed, form_fields, read_form};
 use garde_parsed::{Date, Ipv6, Time, Timestamp};
 use garde_schema::{Closed, Member, Object, Optional, Scratch, read_json};
 use std::alloc::{AllocError, Global};
@@ -16,7 +16,7 @@ use std::borrow::CowStr;
 struct Since(i16);
 
 impl Rule<jiff::civil::Date> for Since {
-    ghost finds = { λ rule date. message_unless "too early" (int_le rule.0 date.year) };
+    ghost finds = { λ rule date. asks "too early" (int_le rule.0 date.year) };
 
     fn find<H: I18n>(
         &self,
@@ -32,8 +32,25 @@ impl Rule<jiff::civil::Date> for Since {
     }
 }
 
+// What a booking is read from.
+enum Input<'a> {
+    Json(&'a [u8]),
+    Fields(&'a [FormField<'a>]),
+}
+
+// What is told of a booking without a fault.
+fn shown(
+    alloc: Global,
+    on: jiff::civil::Date,
+    at: jiff::civil::Time,
+    sent: Option<jiff::Timestamp>,
+    from: bool,
+) -> Result<String, AllocError> {
+    format!(in alloc; "{on} {at} {sent:?} {from}")
+}
+
 // What is told of a booking.
-fn told(alloc: Global, json: &[u8]) -> Result<String, AllocError> {
+fn told(alloc: Global, input: Input<'_>) -> Result<String, AllocError> {
     let form = Object(Closed((
         Member("on", Parsed(Date, Is(Since(2026)))),
         Member("at", Parsed(Time, ())),
@@ -41,12 +58,15 @@ fn told(alloc: Global, json: &[u8]) -> Result<String, AllocError> {
         Optional("from", OrEmpty(Parsed(Ipv6, ()))),
     )));
     let mut scratch = Scratch::new(alloc);
-    match read_json(alloc, json, &mut scratch, &form, &DefaultI18n) {
-        Ok((on, at, sent, from)) => {
-            let is_known = from.flatten().is_some();
-            format!(in alloc; "{on} {at} {sent:?} {is_known}")
-        }
-        Err(error) => format!(in alloc; "{error}"),
+    match input {
+        Input::Json(json) => match read_json(alloc, json, &mut scratch, &form, &DefaultI18n) {
+            Ok((on, at, sent, from)) => shown(alloc, on, at, sent, from.flatten().is_some()),
+            Err(error) => error.to_string(alloc),
+        },
+        Input::Fields(fields) => match read_form(alloc, fields, &[], &form, &DefaultI18n) {
+            Ok((on, at, sent, from)) => shown(alloc, on, at, sent, from.flatten().is_some()),
+            Err(error) => error.to_string(alloc),
+        },
     }
 }
 
@@ -81,7 +101,7 @@ static JSON: [(&str, &str); 6] = [
 fn tells_every_fault_of_json(rt: HostRuntime) {
     for (body, expected) in &JSON {
         assert!(rt;
-            is_text(told(rt.alloc(), body.as_bytes()), expected),
+            is_text(told(rt.alloc(), Input::Json(body.as_bytes())), expected),
             "{body}"
         );
     }
@@ -106,8 +126,8 @@ static FORMS: [(&str, &str); 5] = [
 
 // Whether this is told of the fields of a web form.
 fn is_told(alloc: Global, body: &str, text: &str) -> bool {
-    match form_to_json(alloc, body.as_bytes()) {
-        Ok(json) => is_text(told(alloc, json.as_bytes()), text),
+    match form_fields(alloc, body.as_bytes()) {
+        Ok(fields) => is_text(told(alloc, Input::Fields(fields.as_slice())), text),
         Err(_) => false,
     }
 }

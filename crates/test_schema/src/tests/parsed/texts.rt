@@ -20,7 +20,7 @@ where
     let form = Parsed(*parser, ());
     match read_json(alloc, json.as_bytes(), &mut scratch, &form, &DefaultI18n) {
         Ok(value) => format!(in alloc; "{value}"),
-        Err(error) => format!(in alloc; "{error}"),
+        Err(error) => error.to_string(alloc),
     }
 }
 

@@ -13,7 +13,7 @@ fn told(alloc: Global, text: &str) -> Result<String, AllocError> {
     let form = ParsedInMemory(Url, ());
     match read_json(alloc, json.as_bytes(), &mut scratch, &form, &DefaultI18n) {
         Ok(value) => String::from_str(alloc, value.as_str()),
-        Err(error) => format!(in alloc; "{error}"),
+        Err(error) => error.to_string(alloc),
     }
 }
 

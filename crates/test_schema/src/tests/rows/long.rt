@@ -29,7 +29,7 @@ fn columns(alloc: Global, header: &StringRecord) -> Result<Columns<'_>, Validate
 fn told_of_header(alloc: Global, header: &StringRecord) -> Result<String, AllocError> {
     match columns(alloc, header) {
         Ok(_) => Ok(String::new(alloc)),
-        Err(error) => format!(in alloc; "{error}"),
+        Err(error) => error.to_string(alloc),
     }
 }
 

@@ -27,7 +27,7 @@ pub(super) fn told_of_row<'a, 'c: 'a>(
             let (code, page) = (code.text(), page.flatten().map(|page| page.text()));
             format!(in alloc; "{code:?} {price} {page:?}\n")
         }
-        Err(error) => format!(in alloc; "{error}"),
+        Err(error) => error.to_string(alloc),
     }
 }
 
@@ -64,7 +64,7 @@ fn told(rt: &impl Abort, alloc: Global, header: &[&str], rows: &[&[&str]]) -> St
     let header = StringRecord::from_fields(alloc, header).or_end(rt);
     match columns(alloc, &header) {
         Ok(columns) => told_of_rows(rt, alloc, &columns, rows),
-        Err(error) => format!(in alloc; "{error}").or_end(rt),
+        Err(error) => error.to_string(alloc).or_end(rt),
     }
 }
 

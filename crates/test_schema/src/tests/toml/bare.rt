@@ -26,7 +26,7 @@ fn read_dates(alloc: Global, json: &[u8]) -> Result<String, AllocError> {
             let (from, sent) = (from.flatten(), sent.flatten());
             format!(in alloc; "{on:?} {at:?} {from:?} {sent:?}")
         }
-        Err(error) => format!(in alloc; "{error}"),
+        Err(error) => error.to_string(alloc),
     }
 }
 
@@ -129,7 +129,7 @@ fn read_others(alloc: Global, json: &[u8]) -> Result<String, AllocError> {
     let mut scratch = Scratch::new(alloc);
     match read_json(alloc, json, &mut scratch, &form, &DefaultI18n) {
         Ok(_) => format!(in alloc; "valid"),
-        Err(error) => format!(in alloc; "{error}"),
+        Err(error) => error.to_string(alloc),
     }
 }
 
@@ -142,7 +142,7 @@ fn told_of_each(alloc: Global, value: &str) -> Result<String, AllocError> {
     }
     match toml_to_json(alloc, text.as_str()) {
         Ok(json) => read_others(alloc, json.as_bytes()),
-        Err(error) => format!(in alloc; "{error}"),
+        Err(error) => error.to_string(alloc),
     }
 }
 

@@ -9,7 +9,7 @@ use std::process::Abort;
 fn printed(rt: &impl Abort, alloc: Global, text: &str) -> String {
     match toml_to_json(alloc, text) {
         Ok(json) => json,
-        Err(error) => format!(in alloc; "{error}").or_end(rt),
+        Err(error) => error.to_string(alloc).or_end(rt),
     }
 }
 

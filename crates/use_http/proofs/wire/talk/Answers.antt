@@ -1,9 +1,11 @@
-use Rattle.std.proofs.Common.{ℕ, List, ◌++◌, take, ap, ◌∙◌, append_assoc}
+use Rattle.std.proofs.Common.{◌≡◌, ◌==◌, ℕ, Bool, true, false, not, Ok, IsTrue, IsFalse, List, ◌++◌, length, take, ap, sym, subst, ◌∙◌, append_assoc}
 use Rattle.http_server.specs.Connection.{history}
 use Rattle.http_server.specs.History.{History}
 use Rattle.http_server.proofs.KnownLemmas.{Appends-then, Appends-kept, Consumes-then}
 use Rattle.http_server.proofs.StreamLemmas.{Calls-then}
-use Rattle.use_http.proofs.wire.talk.Goals.{then-not-wants_write+in_ok-flush+in_ok-read_from, else-not-wants_write+in_ok-write_to+else-branch-eq0}
+use Rattle.use_http.proofs.wire.talk.Goals.{in-Open, in_default, then-not-wants_write+in_ok-flush+in_ok-read_from, else-not-wants_write+in_ok-write_to+else-branch-eq0}
+use Rattle.use_http.proofs.Talk.{end_after, none_pending}
+use Rattle.std.proofs.lemmas.Bool.{true≢false}
 use Rattle.use_http.proofs.wire.talk.Goals as goal
 
 pub returns-then-not-matches-clause-calls : goal.returns-then-not-matches-clause-calls
@@ -33,6 +35,11 @@ loop-preserved g c =
     let written = c.loop.invariant.1 in
     let quiet = c.advance.ensures.quiet in
     let config = c.advance.ensures.config ∙ c.loop.invariant.3 in
+    let going : c.wants_write.result ≡ false → IsFalse (history c.advance.new.self).ended =
+    λ idle. elim c.match-matches.branch [
+      | in-Open m ↦ (c.advance.ensures.rests (sym c.state.ensures ∙ m.in-Open.is) (none_pending _ _ _ c.wants_write.ensures idle)).0
+      | in_default m ↦ absurd (true≢false (sym c.if-not-matches.false ∙ m.matches-is))
+    ] in
     let all = Calls-then g.S.Service.answers _ _ _ _ _ _ c.loop.invariant.2 c.advance.ensures.calls in
     elim c.if-not-wants_write.branch [
       | then-not-wants_write+in_ok-flush+in_ok-read_from w ↦
@@ -46,6 +53,9 @@ loop-preserved g c =
             (written.0, Appends-kept _ _ _ written.0 written.1 w.flush.ensures.bytes, ap (λ (h : History). h.sent) came.3 ∙ quiet.2 ∙ written.2),
             (all.0, ap (λ (h : History). h.calls) came.3 ∙ all.1, all.2),
             w.read_from.ensures.config ∙ config,
+            λ first found. end_after (history c.advance.new.self).ended came.0 _ (going w.if-not-wants_write.true)
+                (λ none. w.read_from.ensures.end (w.in_ok-read_from.was ∙ ap (λ (n : ℕ). Ok n) (sym came.1 ∙ none)) (going w.if-not-wants_write.true))
+                (subst (λ (b : Bool). IsTrue b) (ap (λ (h : History). h.ended) came.3) found),
           )
       | else-not-wants_write+in_ok-write_to+else-branch-eq0 w ↦
           let went = w.in_ok-write_to.ensures.ok in
@@ -59,5 +69,22 @@ loop-preserved g c =
             ),
             (all.0, ap (λ (h : History). h.calls) went.0 ∙ all.1, all.2),
             w.write_to.ensures.config ∙ config,
+            λ first found. c.loop.invariant.4 first (subst (λ (b : Bool). IsTrue b) (ap (λ (h : History). h.ended) went.0 ∙ quiet.1) found),
           )
     ]
+
+pub returns-then-not-matches-clause-end : goal.returns-then-not-matches-clause-end
+returns-then-not-matches-clause-end g c first found = c.loop.invariant.4 first (subst (λ (b : Bool). IsTrue b) c.advance.ensures.quiet.1 found)
+
+pub returns-in_err-write_to-clause-end : goal.returns-in_err-write_to-clause-end
+returns-in_err-write_to-clause-end g c first found =
+    c.loop.invariant.4 first
+    (subst (λ (b : Bool). IsTrue b) (ap (λ k. (history k).ended) c.in_err-write_to.ensures.err.0 ∙ c.advance.ensures.quiet.1) found)
+
+pub returns-then-branch-eq0-clause-end : goal.returns-then-branch-eq0-clause-end
+returns-then-branch-eq0-clause-end g c first found =
+    c.loop.invariant.4 first
+    (subst (λ (b : Bool). IsTrue b) (ap (λ (h : History). h.ended) c.in_ok-write_to.ensures.ok.0 ∙ c.advance.ensures.quiet.1) found)
+
+pub returns-clause-end : goal.returns-clause-end
+returns-clause-end g c first found = c.loop.invariant.4 first found

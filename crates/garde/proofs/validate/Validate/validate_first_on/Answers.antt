@@ -1,41 +1,8 @@
-use Rattle.std.proofs.Common.{Err, Ok, ap, sym, ◌∙◌, refl, arith}
-use Rattle.garde_report.specs.Trace.{with_limit}
-use Rattle.garde.specs.declared.first_error.FirstError.TheVariants.{All, First, Memory}
-use Rattle.garde.proofs.Answering.{answers_valid, answers_faults, empty_report, filled_report}
-use Rattle.garde.proofs.Firsts.{answers_first, answers_memory, answers_set_back, surely_first}
-use Rattle.garde.proofs.Known.{known_of}
+use Rattle.garde.proofs.Firsts.{surely_first, known_first}
 use Rattle.garde.proofs.validate.Validate.validate_first_on.Goals as goal
 
-pub returns-then-len-most-clause-on : goal.returns-then-len-most-clause-on
-returns-then-len-most-clause-on g c =
-    answers_set_back (g.Self.Stated.visits c.args.self.now c.args.ctx.now) (g.H.I18n.text c.args.h.now) c.args.most _ c.args.trail.now c.limit-before.new.self c.validate_into-walked.new.trail c.limit.new.self (Err (First c.truncate.new.self)) c.limit-before.ensures.set (c.limit.ensures.set ∙ ap (λ n. with_limit n c.validate_into-walked.new.trail) c.limit-before.ensures.answer)
-    (answers_first (g.Self.Stated.visits c.args.self.now c.args.ctx.now) c.args.most c.new-report.ensures (grind (arith, c.limit-before.ensures.set)) c.validate_into-walked.ensures (grind (arith, c.if-len-most.true, c.len.ensures)) c.truncate.ensures)
+pub returns-clause-sure : goal.returns-clause-sure
+returns-clause-sure g c = surely_first (g.Self.Stated.visits c.args.self.now c.args.ctx.now) _ _ _ _ c.walk.result c.walk.ensures.on
 
-pub returns-then-len-most-clause-sure : goal.returns-then-len-most-clause-sure
-returns-then-len-most-clause-sure g c =
-    surely_first (g.Self.Stated.visits c.args.self.now c.args.ctx.now) _ _ _ _ (Err (First c.truncate.new.self)) (returns-then-len-most-clause-on g c)
-
-pub returns-in-Ok-clause-on : goal.returns-in-Ok-clause-on
-returns-in-Ok-clause-on g c =
-    answers_set_back (g.Self.Stated.visits c.args.self.now c.args.ctx.now) (g.H.I18n.text c.args.h.now) c.args.most _ c.args.trail.now c.limit-before.new.self c.validate_into-walked.new.trail c.limit.new.self (Ok tt) c.limit-before.ensures.set (c.limit.ensures.set ∙ ap (λ n. with_limit n c.validate_into-walked.new.trail) c.limit-before.ensures.answer)
-    (answers_valid (g.Self.Stated.visits c.args.self.now c.args.ctx.now) c.new-report.ensures c.in-Ok.ensures.ok (empty_report _ (sym c.is_empty.ensures ∙ c.if-is_empty.true)))
-
-pub returns-in-Ok-clause-known : goal.returns-in-Ok-clause-known
-returns-in-Ok-clause-known g c =
-    known_of (g.Self.Stated.visits c.args.self.now c.args.ctx.now) (returns-in-Ok-clause-on g c).0
-
-pub returns-in-Ok-2-clause-on : goal.returns-in-Ok-2-clause-on
-returns-in-Ok-2-clause-on g c =
-    answers_set_back (g.Self.Stated.visits c.args.self.now c.args.ctx.now) (g.H.I18n.text c.args.h.now) c.args.most _ c.args.trail.now c.limit-before.new.self c.validate_into-walked.new.trail c.limit.new.self (Err (All c.validate_into-walked.new.report)) c.limit-before.ensures.set (c.limit.ensures.set ∙ ap (λ n. with_limit n c.validate_into-walked.new.trail) c.limit-before.ensures.answer) (
-      grind (arith, c.if-len-most.false, c.len.ensures),
-      answers_faults (g.Self.Stated.visits c.args.self.now c.args.ctx.now) c.new-report.ensures c.in-Ok-2.ensures.ok (filled_report _ (sym c.is_empty.ensures ∙ c.if-is_empty.false)),
-    )
-
-pub returns-in-Ok-2-clause-sure : goal.returns-in-Ok-2-clause-sure
-returns-in-Ok-2-clause-sure g c =
-    surely_first (g.Self.Stated.visits c.args.self.now c.args.ctx.now) _ _ _ _ (Err (All c.validate_into-walked.new.report)) (returns-in-Ok-2-clause-on g c)
-
-pub returns-in-Err-clause-on : goal.returns-in-Err-clause-on
-returns-in-Err-clause-on g c =
-    answers_set_back (g.Self.Stated.visits c.args.self.now c.args.ctx.now) (g.H.I18n.text c.args.h.now) c.args.most _ c.args.trail.now c.limit-before.new.self c.validate_into-walked.new.trail c.limit.new.self (Err Memory) c.limit-before.ensures.set (c.limit.ensures.set ∙ ap (λ n. with_limit n c.validate_into-walked.new.trail) c.limit-before.ensures.answer)
-    (answers_memory (g.Self.Stated.visits c.args.self.now c.args.ctx.now) c.args.most (grind (arith, c.limit-before.ensures.set)) c.in-Err.ensures refl)
+pub returns-clause-known : goal.returns-clause-known
+returns-clause-known g c = known_first (g.Self.Stated.visits c.args.self.now c.args.ctx.now) _ _ _ _ c.walk.result c.walk.ensures.on

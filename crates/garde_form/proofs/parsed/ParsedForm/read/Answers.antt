@@ -1,5 +1,5 @@
 use Rattle.std.specs.Prelude.{option_and_then}
-use Rattle.garde.specs.Author.{Known}
+use Rattle.garde.specs.Visits.{Known}
 use Rattle.garde_tape.specs.Look.{kind_of}
 use Rattle.garde_schema.specs.declared.fault.FormFault.TheVariants.{Wrong}
 use Rattle.garde_schema.specs.declared.fault.Wanted.TheVariants as wanted

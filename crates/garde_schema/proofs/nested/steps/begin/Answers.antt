@@ -1,7 +1,7 @@
 use Rattle.std.proofs.Common.{rules, refl}
 use Rattle.json.specs.Find.{as_object}
 use Rattle.garde_tape.specs.Reading.{member_list}
-use Rattle.garde.specs.Author.{◌and◌}
+use Rattle.garde.specs.Visits.{◌and◌}
 use Rattle.garde_schema.specs.Nested.{list_in, list_visits}
 use Rattle.garde_schema.proofs.Lemmas.{on_ok, read_and, read_stop}
 use Rattle.garde_schema.proofs.Recursion.{sound_begun, sound_no_object, told_list, told_no_list, told_object}

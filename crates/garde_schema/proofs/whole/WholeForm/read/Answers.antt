@@ -1,5 +1,5 @@
 use Rattle.std.proofs.Common.{sym, ◌∙◌}
-use Rattle.garde.specs.Author.{Known}
+use Rattle.garde.specs.Visits.{Known}
 use Rattle.garde_schema.specs.Whole.{is_negative, other_visits}
 use Rattle.garde_schema.proofs.Lemmas.{on_ok}
 use Rattle.garde_schema.proofs.Numbers.{other_is_fault, sound_other}

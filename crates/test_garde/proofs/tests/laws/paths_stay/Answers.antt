@@ -2,7 +2,7 @@ use Rattle.std.proofs.Common.{◌≡◌, ℕ, List, [], ◌∷◌, map, refl, sy
 use Rattle.garde_i18n.specs.Datum.{Datum}
 use Rattle.garde_report.specs.Part.{Part}
 use Rattle.garde_report.specs.Report.{Entry}
-use Rattle.garde.specs.Author.{Fault}
+use Rattle.garde.specs.Fields.{Fault}
 use Rattle.garde.specs.Reading.{entry_of}
 use Rattle.test_garde.proofs.tests.laws.paths_stay.Goals as goal
 

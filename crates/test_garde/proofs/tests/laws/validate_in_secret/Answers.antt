@@ -2,7 +2,7 @@ use Rattle.std.proofs.Common.{ℕ, List, [], ◌∷◌, length, map, sym, subst}
 use Rattle.garde_i18n.specs.Datum.{length_lower, length_greater}
 use Rattle.std.specs.Prelude.{codes, string_bytes}
 use Rattle.std.specs.List.{All, Contains}
-use Rattle.garde.specs.Author.{Fault, rule, field, ascii, length_in, ◌and◌, key_part}
+use Rattle.garde.specs.Fields.{◌and◌, ascii, between, bytes, Fault, field, is, key_part, rule}
 use Rattle.garde.specs.Redaction.{FoundByArguments, FindsAmong, length_faults}
 use Rattle.garde.specs.Words.{Entry, default_text, not_ascii, unless, is_ascii_text, length_fault, bounds_answer}
 use Rattle.garde.proofs.Among.{finds_rule, finds_and, finds_under}
@@ -17,10 +17,10 @@ abbrev user_texts : List (List ℕ)
 user_texts = map default_text (not_ascii ∷ length_lower 3 ∷ length_greater 25 ∷ [])
 
 -- whatever the name is
-name_faults : FoundByArguments → (name : List ℕ) → FindsAmong user_faults (field (codes "username") (ascii name and length_in 3 25 (length name)))
+name_faults : FoundByArguments → (name : List ℕ) → FindsAmong user_faults (field "username" (is (ascii name) and is (bytes (between 3 25) name)))
 name_faults found name =
-    finds_under user_faults (key_part (codes "username")) (ascii name and length_in 3 25 (length name))
-    (finds_and (rule not_ascii ∷ []) (length_faults 3 25) (ascii name) (length_in 3 25 (length name))
+    finds_under user_faults (key_part (codes "username")) (is (ascii name) and is (bytes (between 3 25) name))
+    (finds_and (rule not_ascii ∷ []) (length_faults 3 25) (is (ascii name)) (is (bytes (between 3 25) name))
     (finds_rule (rule not_ascii ∷ []) (unless (is_ascii_text name) not_ascii) (found.condition (is_ascii_text name) not_ascii))
     (finds_rule (length_faults 3 25) (length_fault 3 25 (bounds_answer 3 25 (length name))) (found.length 3 25 (bounds_answer 3 25 (length name)))))
 

@@ -1,9 +1,9 @@
 //! The texts of the handler of codes.
-use super::assert_answers;
+use super::{ODD, TAKEN, assert_answers};
 use garde_i18n::{CodeI18n, Datum, InvalidCreditCard, InvalidPhoneNumber, InvalidUrl, IpKind};
 
 /// What is asked, and its text.
-static ROWS: [(Datum<'static>, &str); 16] = [
+static ROWS: [(Datum<'static>, &str); 18] = [
     (Datum::LengthLowerThan(5), "length_lower_than min=5"),
     (
         Datum::LengthGreaterThan(usize::MAX),
@@ -41,6 +41,8 @@ static ROWS: [(Datum<'static>, &str); 16] = [
     (Datum::AsciiInvalid, "ascii_invalid"),
     (Datum::AlphanumericInvalid, "alphanumeric_invalid"),
     (Datum::RequiredNotSet, "required_not_set"),
+    (ODD, "odd_count count=3"),
+    (TAKEN, "name_taken"),
 ];
 
 #[test]

@@ -5,8 +5,8 @@ ghost use Rattle.garde_i18n.specs.Datum as datum;
 ghost use Rattle.garde_i18n.specs.Reasons.{ip_kind_text};
 ghost use Rattle.test_rules.specs.declared.tests.lengths.handlers.czech.TheConstants as words;
 
-use super::assert_answers;
-use garde_i18n::{Datum, I18n, InvalidCreditCard, InvalidPhoneNumber, InvalidUrl, IpKind};
+use super::{ODD, assert_answers};
+use garde_i18n::{Datum, I18n, InvalidCreditCard, InvalidPhoneNumber, InvalidUrl, IpKind, Named};
 use std::alloc::{AllocError, Global};
 use std::borrow::CowStr;
 
@@ -93,6 +93,7 @@ impl I18n for Czech {
           | datum.not_ascii ↦ words.NOT_ASCII.now
           | datum.not_alphanumeric ↦ words.NOT_ALPHANUMERIC.now
           | datum.not_set ↦ words.NOT_SET.now
+          | datum.named _ english ↦ english
         ] };
 
     fn length_lower_than(&self, alloc: Global, min: usize) -> Result<CowStr<'static>, AllocError> {
@@ -188,10 +189,14 @@ impl I18n for Czech {
     fn required_not_set(&self, _alloc: Global) -> Result<CowStr<'static>, AllocError> {
         Ok(CowStr::Borrowed(NOT_SET))
     }
+
+    fn named(&self, alloc: Global, fault: Named<'_>) -> Result<CowStr<'static>, AllocError> {
+        Ok(CowStr::Owned(String::from_str(alloc, fault.english)?))
+    }
 }
 
 /// What is asked, and its text.
-static ROWS: [(Datum<'static>, &str); 19] = [
+static ROWS: [(Datum<'static>, &str); 20] = [
     (Datum::LengthLowerThan(0), "délka je menší než 0 znaků"),
     (Datum::LengthLowerThan(1), "délka je menší než 1 znak"),
     (Datum::LengthLowerThan(2), "délka je menší než 2 znaky"),
@@ -226,6 +231,7 @@ static ROWS: [(Datum<'static>, &str); 19] = [
         "text má jiné znaky než písmena a číslice",
     ),
     (Datum::RequiredNotSet, "hodnota chybí"),
+    (ODD, "3 is odd"),
 ];
 
 #[test]

@@ -1,10 +1,10 @@
 //! The messages of codes beside sentences.
-use super::assert_answers;
+use super::{ODD, TAKEN, assert_answers};
 use garde_i18n::{Datum, DefaultI18n, InvalidCreditCard, InvalidPhoneNumber, InvalidUrl, IpKind};
 use garde_problem::WithCodes;
 
 /// What is asked, and its message.
-static ROWS: [(Datum<'static>, &str); 16] = [
+static ROWS: [(Datum<'static>, &str); 18] = [
     (
         Datum::LengthLowerThan(5),
         "\u{1f}length_lower_than\u{1f}length is lower than 5\u{1f}min\u{1f}5\u{1f}",
@@ -69,6 +69,8 @@ static ROWS: [(Datum<'static>, &str); 16] = [
         Datum::RequiredNotSet,
         "\u{1f}required_not_set\u{1f}not set\u{1f}",
     ),
+    (ODD, "\u{1f}odd_count\u{1f}3 is odd\u{1f}count\u{1f}3\u{1f}"),
+    (TAKEN, "\u{1f}name_taken\u{1f}taken\u{1f}"),
 ];
 
 #[test]

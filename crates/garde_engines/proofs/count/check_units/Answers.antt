@@ -1,0 +1,12 @@
+use Rattle.std.proofs.Common.{refl, arith}
+use Rattle.garde_engines.specs.Counts.{unit_count}
+use Rattle.garde_engines.proofs.Units.{units_law, char_bytes, within_answer}
+use Rattle.garde_engines.proofs.count.check_units.Goals as goal
+
+pub returns-then-is_surely_within : goal.returns-then-is_surely_within
+returns-then-is_surely_within c =
+    let n = unit_count c.args.text.now in
+    let law = units_law c.args.text.now c.utf8.text in
+    let few = char_bytes c.args.text.now c.utf8.text in
+    let within = c.if-is_surely_within.ensures refl n law.1 (omega (arith, law.0, few)) in
+    within_answer c.args.min c.args.max n within.0 within.1

@@ -1,2 +1,0 @@
-mod Starts
-mod Units

@@ -1,8 +1,0 @@
-use Rattle.std.proofs.Common.{◌≡◌, take}
-use Rattle.std.specs.Prelude.{count_by}
-use Rattle.garde_lengths.specs.Counts.{is_outside}
-use Rattle.garde_lengths.proofs.count.count_in_block.Given as goal
-
--- so many of the bytes before this one
-abbrev pub invariant-loop-byte : goal.invariant-loop-byte
-invariant-loop-byte l = l.count ≡ count_by (is_outside l.low l.high) (take l.byte-index l.block)

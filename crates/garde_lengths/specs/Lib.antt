@@ -1,4 +1,0 @@
-pub mod Applies
-pub mod Bounds
-pub mod Beyond
-pub mod Counts

@@ -1,5 +1,0 @@
-use Rattle.garde.proofs.Author.{visited_may_allocate}
-use Rattle.garde_schema.proofs.rules.IsInMemoryRules.ask.Goals as goal
-
-pub returns : goal.returns
-returns g c = visited_may_allocate _ _ c.put.ensures.valid c.find_in_memory.ensures c.put.ensures.ok c.put.ensures.err c.put.ensures.unchanged

@@ -1,0 +1,104 @@
+//! Tuples of rules of a list, of two to four. More are tuples in tuples, by `all!`.
+ghost use Rattle.garde.specs.Visits.{◌and◌};
+
+use super::{CountRules, ListRules};
+use crate::count::Count;
+use crate::items::Items;
+use garde::{I18n, Report, Trail};
+use std::alloc::{AllocError, Global};
+
+/// The one, and then the other.
+impl<A: CountRules, B: CountRules> CountRules for (A, B) {
+    ghost counts = { λ all count. A.counts all.0 count and B.counts all.1 count };
+
+    fn ask_count<'a, H: I18n>(
+        &self,
+        alloc: Global,
+        count: &Count,
+        trail: &mut Trail<'a>,
+        report: &mut Report,
+        h: &H,
+    ) -> Result<(), AllocError> {
+        self.0.ask_count(alloc, count, trail, report, h)?;
+        self.1.ask_count(alloc, count, trail, report, h)
+    }
+}
+
+impl<T, A: ListRules<T>, B: ListRules<T>> ListRules<T> for (A, B) {
+    ghost asks = { λ all values. A.asks all.0 values and B.asks all.1 values };
+
+    fn ask_values<'a, H: I18n>(
+        &self,
+        alloc: Global,
+        values: &Items<T>,
+        trail: &mut Trail<'a>,
+        report: &mut Report,
+        h: &H,
+    ) -> Result<(), AllocError> {
+        self.0.ask_values(alloc, values, trail, report, h)?;
+        self.1.ask_values(alloc, values, trail, report, h)
+    }
+}
+
+/// Three in turn.
+impl<A: CountRules, B: CountRules, C: CountRules> CountRules for (A, B, C) {
+    ghost counts = { λ all count. A.counts all.0 count and B.counts all.1 count and C.counts all.2 count };
+
+    fn ask_count<'a, H: I18n>(
+        &self,
+        alloc: Global,
+        count: &Count,
+        trail: &mut Trail<'a>,
+        report: &mut Report,
+        h: &H,
+    ) -> Result<(), AllocError> {
+        (&self.0, (&self.1, &self.2)).ask_count(alloc, count, trail, report, h)
+    }
+}
+
+impl<T, A: ListRules<T>, B: ListRules<T>, C: ListRules<T>> ListRules<T> for (A, B, C) {
+    ghost asks = { λ all values. A.asks all.0 values and B.asks all.1 values and C.asks all.2 values };
+
+    fn ask_values<'a, H: I18n>(
+        &self,
+        alloc: Global,
+        values: &Items<T>,
+        trail: &mut Trail<'a>,
+        report: &mut Report,
+        h: &H,
+    ) -> Result<(), AllocError> {
+        (&self.0, (&self.1, &self.2)).ask_values(alloc, values, trail, report, h)
+    }
+}
+
+/// Four in turn.
+impl<A: CountRules, B: CountRules, C: CountRules, D: CountRules> CountRules for (A, B, C, D) {
+    ghost counts = { λ all count. A.counts all.0 count and B.counts all.1 count and C.counts all.2 count and D.counts all.3 count };
+
+    fn ask_count<'a, H: I18n>(
+        &self,
+        alloc: Global,
+        count: &Count,
+        trail: &mut Trail<'a>,
+        report: &mut Report,
+        h: &H,
+    ) -> Result<(), AllocError> {
+        (&self.0, (&self.1, (&self.2, &self.3))).ask_count(alloc, count, trail, report, h)
+    }
+}
+
+impl<T, A: ListRules<T>, B: ListRules<T>, C: ListRules<T>, D: ListRules<T>> ListRules<T>
+    for (A, B, C, D) {
+    ghost asks = { λ all values. A.asks all.0 values and B.asks all.1 values and C.asks all.2 values and D.asks all.3 values };
+
+    fn ask_values<'a, H: I18n>(
+        &self,
+        alloc: Global,
+        values: &Items<T>,
+        trail: &mut Trail<'a>,
+        report: &mut Report,
+        h: &H,
+    ) -> Result<(), AllocError> {
+        (&self.0, (&self.1, (&self.2, &self.3))).ask_values(alloc, values, trail, report, h)
+    }
+}

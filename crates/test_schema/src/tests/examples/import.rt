@@ -1,0 +1,113 @@
+//! An import into a table in memory.
+
+mod database;
+
+use example_import::item::{Flaw, Item, Sink, Source};
+use example_import::memory::MemoryTable;
+use example_import::row::Row;
+use example_import::run::{Batch, import};
+use garde::Report;
+use garde_csv::Fault;
+use std::alloc::{AllocError, Global};
+use std::fmt::Write;
+use std::rt::HostRuntime;
+
+/// A list whose items are taken from the end of a vector.
+#[derive(Drop)]
+struct Items {
+    items: Vec<Item>,
+}
+
+impl Source for Items {
+    ghost use Rattle.std.specs.Prelude.{⊤};
+
+    type Error = AllocError;
+
+    ghost gives = { λ _ _ _. ⊤ };
+
+    fn next(&mut self) -> Result<Option<Item>, AllocError> {
+        Ok(self.items.pop())
+    }
+}
+
+/// The faults, a line each.
+#[derive(Drop)]
+struct Lines {
+    text: String,
+}
+
+impl Sink for Lines {
+    ghost use Rattle.std.specs.Prelude.{⊤};
+
+    type Error = AllocError;
+
+    ghost tells = { λ _ _ _. ⊤ };
+
+    fn tell(&mut self, report: &Report) -> Result<(), AllocError> {
+        write!(self.text, "{report}")
+    }
+}
+
+fn item(alloc: Global, code: &str, name: &str, quantity: Option<u64>) -> Result<Item, AllocError> {
+    Ok(Item::Row(Row {
+        code: String::from_str(alloc, code)?,
+        name: String::from_str(alloc, name)?,
+        quantity,
+        price: Some(5),
+        page: None,
+    }))
+}
+
+/// A list with an item of each kind.
+fn list(alloc: Global) -> Result<Items, AllocError> {
+    let mut items = Vec::new(alloc);
+    items.push(item(alloc, "P3", "Nut", Some(10_000))?)?;
+    items.push(Item::Broken(Flaw::Record(Fault::OpenQuote { line: 7 })))?;
+    items.push(item(alloc, "P1", "", Some(1))?)?;
+    items.push(item(alloc, "P1", "Other screw", Some(1))?)?;
+    items.push(Item::Broken(Flaw::Lengths))?;
+    items.push(item(alloc, "4", "Bolt", None)?)?;
+    items.push(item(alloc, "P1", "Screw", Some(1))?)?;
+    Ok(Items { items })
+}
+
+const REPORT: &str = "[1].code: value does not begin with \"P\"
+[1].quantity: not a number of pieces
+[2]: not as many fields as in the header
+[3].code: stored before
+[4].name: length is lower than 1
+[4].code: stored before
+[5]: a quote in line 7 is not closed
+";
+
+/// Whether an import under this batch reports all faults, counts so many stored rows, and keeps
+/// those of these names and leaves no other.
+fn imports(alloc: Global, batch: Batch, stored: usize, kept: &[&str]) -> Result<bool, AllocError> {
+    let mut table = MemoryTable::new(alloc);
+    let mut list = list(alloc)?;
+    let mut out = Lines {
+        text: String::new(alloc),
+    };
+    let counted = match import(alloc, &mut table, &mut list, &mut out, batch) {
+        Ok(done) => done.items == 7 && done.stored == stored,
+        Err(_) => false,
+    };
+    let names = table.kept_rows().iter().map(|row| row.name.as_str());
+    let same = names.eq(kept.iter().map(|name| *name)) && table.rows.len() == table.kept;
+    Ok(counted && out.text.as_str() == REPORT && same)
+}
+
+#[test]
+fn imports_into_memory(rt: HostRuntime) {
+    let alloc = rt.alloc();
+    let cases: [(Batch, usize, &[&str]); 4] = [
+        (Batch::Items(0), 2, &["Screw", "Nut"]),
+        (Batch::Items(1), 2, &["Screw", "Nut"]),
+        (Batch::Items(3), 2, &["Screw", "Nut"]),
+        (Batch::All, 0, &[]),
+    ];
+    for (batch, stored, kept) in cases {
+        let right = imports(alloc, batch, stored, kept).unwrap_or(false);
+        assert!(rt; right);
+    }
+}

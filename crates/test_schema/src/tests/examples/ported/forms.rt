@@ -1,0 +1,90 @@
+//! Types that are read from JSON by the forms that the port writes.
+use example_ported::bill::read_bill;
+use example_ported::parcel::read_parcel;
+use garde::DefaultI18n;
+use garde_schema::Scratch;
+use std::alloc::{AllocError, Global};
+use std::fmt::{Debug, Display};
+
+/// A type that is read.
+#[derive(Clone, Copy)]
+enum Of {
+    Bill,
+    Parcel,
+}
+
+const ROWS: &[(Of, &str, &str)] = &[
+    (
+        Of::Parcel,
+        "{\"number\":1,\"sentTo\":\"Ann\",\"phone\":\"+1\",\"grams\":30000,\"speed\":\"by_ship\",\"things\":[{\"name\":\"cup\"},{\"name\":\"lamp\",\"pieces\":99,\"fragile\":true}],\"marks\":[\"a1\"],\"labels\":{\"to\":\"x\"}}",
+        "Valid(Parcel { number: 1, sent_to: TextRef(\"Ann\"), phone: Some(TextRef(\"+1\")), weight: Some(30000), speed: Slow, things: Items([Thing { name: TextRef(\"cup\"), pieces: 1, fragile: false }, Thing { name: TextRef(\"lamp\"), pieces: 99, fragile: true }]), marks: Items([TextRef(\"a1\")]), labels: Items([(TextRef(\"to\"), TextRef(\"x\"))]) })",
+    ),
+    (
+        Of::Parcel,
+        "{\"number\":0,\"sentTo\":\"\",\"phone\":\"1\",\"grams\":null,\"speed\":\"fast\",\"things\":[],\"marks\":[\"-\"],\"labels\":[],\"note\":1}",
+        "number: lower than 1\nsentTo: length is lower than 1\nphone: value does not begin with \"+\"\ngrams: not set\nspeed: not one of the known values\nthings: length is lower than 1\nmarks[0]: not alphanumeric\nlabels: not an object\nnote: not known here\n",
+    ),
+    (
+        Of::Parcel,
+        "{\"number\":\"1\",\"things\":[{\"name\":\"\u{e9}\",\"pieces\":0},{\"pieces\":100},1]}",
+        "number: not a whole number\nsentTo: missing\ngrams: not set\nthings[0].name: not ascii\nthings[0].pieces: lower than 1\nthings[1].name: missing\nthings[1].pieces: greater than 99\nthings[2]: not an object\nmarks: missing\nlabels: missing\n",
+    ),
+    (Of::Parcel, "{\"number\":1", "not JSON at line 1 column 11"),
+    (
+        Of::Bill,
+        "{\"number\":\"B1\",\"cents\":1,\"payment\":{\"kind\":\"card\",\"cardNo\":\"1234567890123456\",\"year\":2030},\"origin\":{\"web-site\":\"https://a.org/\"}}",
+        "Valid(Bill { number: Number(TextRef(\"B1\")), cents: 1, payment: Card { card_no: TextRef(\"1234567890123456\"), year: 2030 }, origin: Some(WebSite(TextRef(\"https://a.org/\"))) })",
+    ),
+    (
+        Of::Bill,
+        "{\"origin\":{\"shop\":{\"till\":99}},\"payment\":{\"holder\":\"a\",\"kind\":\"account\"},\"cents\":2,\"number\":\"B\"}",
+        "Valid(Bill { number: Number(TextRef(\"B\")), cents: 2, payment: Account { holder: Some(TextRef(\"a\")) }, origin: Some(Shop { till: 99 }) })",
+    ),
+    (
+        Of::Bill,
+        "{\"number\":\"B\",\"cents\":2,\"payment\":{\"kind\":\"cash\"}}",
+        "Valid(Bill { number: Number(TextRef(\"B\")), cents: 2, payment: Cash, origin: None })",
+    ),
+    (
+        Of::Bill,
+        "{\"number\":\"C\",\"cents\":0,\"payment\":{\"kind\":\"card\",\"cardNo\":\"\u{e9}\",\"year\":2041},\"origin\":{\"shop\":{\"till\":100}}}",
+        "number: value does not begin with \"B\"\ncents: lower than 1\npayment.cardNo: not ascii\npayment.cardNo: length is lower than 16\npayment.year: greater than 2040\norigin.shop.till: greater than 99\n",
+    ),
+    (
+        Of::Bill,
+        "{\"number\":1,\"cents\":-1,\"payment\":{\"kind\":\"check\"},\"origin\":{\"web-site\":\"a\",\"shop\":{}}}",
+        "number: not a text\ncents: lower than 1\npayment.kind: not one of the known values\norigin: not an object with one member\n",
+    ),
+];
+
+/// What was read: the value, or what is wrong.
+fn told_of<T: Debug, E: Display>(alloc: Global, read: &Result<T, E>) -> Result<String, AllocError> {
+    match read {
+        Ok(value) => format!(in alloc; "{value:?}"),
+        Err(error) => error.to_string(alloc),
+    }
+}
+
+/// What was read of a body.
+fn told(alloc: Global, of: Of, body: &[u8]) -> Result<String, AllocError> {
+    let mut scratch = Scratch::new(alloc);
+    match of {
+        Of::Bill => told_of(alloc, &read_bill(alloc, body, &mut scratch, &DefaultI18n)),
+        Of::Parcel => told_of(alloc, &read_parcel(alloc, body, &mut scratch, &DefaultI18n)),
+    }
+}
+
+/// Whether this was read of a body.
+fn is_told(alloc: Global, of: Of, body: &str, text: &str) -> bool {
+    match told(alloc, of, body.as_bytes()) {
+        Ok(told) => told.as_str() == text,
+        Err(_) => false,
+    }
+}
+
+#[test]
+fn each_body_by_its_form(rt: HostRuntime) {
+    for (of, body, expected) in ROWS {
+        assert!(rt; is_told(rt.alloc(), *of, body, expected), "{body}");
+    }
+}
