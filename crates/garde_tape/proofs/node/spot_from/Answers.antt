@@ -39,11 +39,11 @@ loop-key-preserved c =
             left = record { linked = l.invariant.left.linked; members = subst HasMembers next others };
             tree = subst (λ o. IfSome o (λ i. HasTree (tokens_at ns i))) (sym w.first-is) tree;
             answer = start
-            ∙ ap (λ o. answer_from name (first o) ((key, m.json) ∷ member_list m.others)) none
-            ∙ at_hit name key m.json (member_list m.others) same
-            ∙ ap (λ j. answer_from name (Some j) (member_list m.others)) (sym found)
-            ∙ ap (λ o. answer_from name (first o) (member_list m.others)) (sym w.first-is)
-            ∙ end;
+                ∙ ap (λ o. answer_from name (first o) ((key, m.json) ∷ member_list m.others)) none
+                ∙ at_hit name key m.json (member_list m.others) same
+                ∙ ap (λ j. answer_from name (Some j) (member_list m.others)) (sym found)
+                ∙ ap (λ o. answer_from name (first o) (member_list m.others)) (sym w.first-is)
+                ∙ end;
           }
       | else-eq w ↦
           let other : bytes_eq key name ≡ false = grind arith in
@@ -51,8 +51,8 @@ loop-key-preserved c =
             left = record { linked = l.invariant.left.linked; members = subst HasMembers next others };
             tree = subst (λ o. IfSome o (λ i. HasTree (tokens_at ns i))) (sym w.first-is) l.invariant.tree;
             answer = start
-            ∙ at_miss name key m.json (first l.first) (member_list m.others) other
-            ∙ ap (λ o. answer_from name (first o) (member_list m.others)) (sym w.first-is)
-            ∙ end;
+                ∙ at_miss name key m.json (first l.first) (member_list m.others) other
+                ∙ ap (λ o. answer_from name (first o) (member_list m.others)) (sym w.first-is)
+                ∙ end;
           }
     ]
