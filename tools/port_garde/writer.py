@@ -7,7 +7,7 @@ from .implementation import Implementation
 from .layout import CALL, VARIANT, WIDTH, use_line
 from .rules import Expression
 from .schema import Schema
-from .scope import Uses
+from .scope import SIGNED, UNSIGNED, Uses
 from .second import faults_of_values, lost_of_names, lost_of_serde, passed_by
 from .source import all_rules, is_ported, read_type, type_names
 from .tokens import Refusal, Refusals, Tokens
@@ -53,7 +53,7 @@ class Writer:
 
     def __init__(self, source, module=None, own=None, left_out=(), schema=False, walks=True, checked=None):
         self.source, self.module, self.own, self.checked = source, module, own, checked
-        self.borrowed = Borrowed(source, left_out) if schema or checked else None
+        self.borrowed = Borrowed(source, left_out, bool(checked)) if schema or checked else None
         self.unwalked = self.borrowed.unwalked() if checked or schema and not walks else set()
         self.derives = Derives(source, left_out)
         self.uses = Uses()
@@ -144,7 +144,8 @@ class Writer:
     def stated_variants(self, item):
         """The variants that statements name."""
         made = self.borrowed and item.name in self.borrowed.items and any(it.fields for it in item.variants)
-        return item.variants if item.kind == "enum" and (is_ported(item) or made or self.checked) else ()
+        cited = item.name in self.uses.cited
+        return item.variants if item.kind == "enum" and (is_ported(item) or made or self.checked or cited) else ()
 
     # Types.
 
@@ -260,9 +261,20 @@ class Writer:
     # What rules ask for.
 
     def resolved(self, it):
-        """An expression, and of a constant its number."""
-        known = it.kind == "place" and len(it.value) == 1 and self.source.numbers.get(it.value[0]) is not None
-        return Expression("number", it.line, self.source.numbers[it.value[0]]) if known else it
+        """An expression, and of a constant its number: of one of the file, or of the greatest or least one of a type."""
+        if it.kind == "minus":
+            part = self.resolved(it.parts[0])
+            return Expression("number", it.line, -part.value) if part.kind == "number" else it
+        found = None
+        if it.kind == "path" and len(it.value) == 2:
+            found = end_of(*it.value)
+        if found is None and (it.kind == "place" and len(it.value) == 1 or it.kind == "path"):
+            found = self.source.numbers.get(it.value[-1])
+        return it if found is None else Expression("number", it.line, found)
+
+    def enum(self, name):
+        """The enum of this name in the file, or nothing."""
+        return next((it for it in self.source.items if it.name == name and it.kind == "enum"), None)
 
     def new_pattern(self, rule):
         """A place in the context of the type for a pattern in quotes, and its name."""
@@ -361,7 +373,7 @@ class Writer:
         lines, uses = [*self.source.head], self.uses
         prelude = {f"Rattle.std.specs.Prelude.{{{', '.join(sorted(uses.prelude))}}}"} if uses.prelude else set()
         cow = {"Rattle.std.specs.Cow.{cow_str_bytes}"} if uses.cow else set()
-        lines += [f"ghost use {it};" for it in (*prelude, *cow)]
+        lines += [f"ghost use {it};" for it in (*prelude, *cow, *sorted(uses.paths))]
         if uses.words:
             lines.append(f"ghost use Rattle.garde.specs.Fields.{{{', '.join(sorted(uses.words, key=word_order))}}};")
         lines += [f"ghost use Rattle.garde_library.specs.Spelling.{{{', '.join(sorted(uses.spelled))}}};"] if uses.spelled else []
@@ -399,6 +411,14 @@ class Writer:
             if path[0] not in WRITTEN and name in named:
                 kept.add("::".join(path) + (f" as {name}" if name != path[-1] else ""))
         return kept
+
+
+def end_of(name, end):
+    """The greatest or the least number of a type, as `u8::MAX`, or nothing."""
+    if name not in (*UNSIGNED, *SIGNED) or end not in ("MIN", "MAX"):
+        return None
+    bits, signed = 64 if name.endswith("size") else int(name[1:]), name in SIGNED
+    return 2 ** (bits - signed) - 1 if end == "MAX" else -(2 ** (bits - 1)) * signed
 
 
 def begun(what, source):

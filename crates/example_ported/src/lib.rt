@@ -2,6 +2,7 @@
 #![tactic(auto)]
 
 pub mod account;
+pub mod basket;
 pub mod bill;
 pub mod coupon;
 pub mod delivery;
@@ -17,6 +18,7 @@ pub mod pair;
 pub mod parcel;
 pub mod place;
 pub mod reading;
+pub mod shelf;
 pub mod shop;
 pub mod team;
 pub mod visitor;
