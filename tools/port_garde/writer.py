@@ -1,7 +1,7 @@
 """The Rattle source with the implementations."""
 import re
 
-from .borrowed import Borrowed
+from .borrowed import Borrowed, is_named
 from .derives import SERDE, Derives, kept_derives, literal_function, named_function, options, serde_lines
 from .implementation import Implementation
 from .layout import CALL, VARIANT, WIDTH, use_line
@@ -101,7 +101,8 @@ class Writer:
         texts = [] if self.notes.faults else schema.texts()
         if self.notes.faults:
             return []
-        for line, reason in lost_of_names(rust, self.borrowed.items.values(), texts):
+        read = [it for it in self.borrowed.items.values() if not is_named(it) or schema.is_held(it)]
+        for line, reason in lost_of_names(rust, read, texts):
             self.notes.refuse(line, reason)
         return texts
 
