@@ -13,20 +13,25 @@ HEAD = "// Written by tools/port-garde from {name}: edit that file, not this one
 WRITTEN = re.compile(rb"// Written by tools/port-garde from (\S+): edit that file, not this one\. Its sum is ([0-9a-f]{16})\.\n")
 
 
-def sum_of(body):
-    return hashlib.sha256(body).hexdigest()[:16]
+def sum_of(body, crate):
+    """The sum of a module, which is the same under another name of its crate."""
+    return hashlib.sha256(body.replace(f"Rattle.{crate}.".encode(), b"Rattle..")).hexdigest()[:16]
 
 
-def headed(text, name):
+def headed(text, source, crate):
     """A module behind the line that says from which file it is written."""
     body = text.encode("utf-8")
-    return HEAD.format(name=name, sum=sum_of(body)).encode("utf-8") + b"\n" + body
+    return HEAD.format(name=source.name, sum=sum_of(body, name_of(crate))).encode("utf-8") + b"\n" + body
 
 
-def is_as_written(file):
+def is_as_written(file, crate):
     """Whether a file is as the command wrote it, by the sum in its first line."""
     head = WRITTEN.match(file)
-    return bool(head) and sum_of(file[head.end() :]).encode() == head[2]
+    return bool(head) and sum_of(file[head.end() :], name_of(crate)).encode() == head[2]
+
+
+def name_of(crate):
+    return crate.resolve().name
 
 
 def shown_path(path):
@@ -59,7 +64,7 @@ def names_of(crate, source):
 
 
 def module_of(crate, source):
-    return "::".join([crate.resolve().name, *names_of(crate, source)])
+    return "::".join([name_of(crate), *names_of(crate, source)])
 
 
 def output_of(source):
@@ -89,7 +94,7 @@ def quoted(lines, at):
     return f"`{''.join(map(shown, text))}`" if at < len(lines) else "the end of the file"
 
 
-def fault_of_check(source, given):
+def fault_of_check(source, given, crate):
     """Why an output is not what its source gives, or nothing."""
     output, file = output_of(source), old(output_of(source))
     if file is None:
@@ -100,10 +105,10 @@ def fault_of_check(source, given):
     return f"{shown_path(output)}:{line}: here stands {here}, and {source.name} gives {there}"
 
 
-def fault_of_write(source, given):
+def fault_of_write(source, given, crate):
     """Why an output may not be written, or nothing: what was written or edited by hand is kept."""
     output, file = output_of(source), old(output_of(source))
-    if file in (None, given) or is_as_written(file):
+    if file in (None, given) or is_as_written(file, crate):
         return None
     line, here, there = first_difference(file, given)
     how = "edited" if WRITTEN.match(file) else "written"
@@ -143,18 +148,18 @@ def umask():
     return mask
 
 
-def faults_of(given, fault):
-    """What a judgement says of outputs, each with its source and what that gives."""
-    for source, text in given.items():
+def faults_of(given, judge):
+    """What is said of outputs, each with its source, what that gives, and its crate."""
+    for source, (text, crate) in given.items():
         try:
-            told = fault(source, text)
+            told = judge(source, text, crate)
         except OSError as error:
             told = f"{shown_path(output_of(source))}: {error.strerror or error}"
         if told:
             yield told
 
 
-def write(source, text):
+def write(source, text, crate):
     """Writes an output that is not what its source gives, and prints its name."""
     output = output_of(source)
     if old(output) != text:

@@ -16,8 +16,8 @@ READ = """{docs}
     alloc: Global,
     bytes: &'a [u8],
     scratch: &'a mut Scratch,
-    h: &H,
-) -> Result<{kind}, ReadError> {{
+{most}    h: &H,
+) -> Result<{kind}, {error}> {{
 {forms}
 {read}
 }}"""
@@ -44,7 +44,7 @@ impl{life} Rules<{kind}> for {name} {{
 {asked}
     }}
 }}"""
-VALID = """    match read_json(alloc, bytes, scratch, &{name}_form, h) {{
+VALID = """    match {call} {{
         Ok(value) => Ok(Valid::known(value, &())),
         Err(error) => Err(error),
     }}"""
@@ -82,18 +82,19 @@ class Schema:
 
     def reader(self, item):
         """The function that reads values of a type."""
-        self.use("read_json", "FormI18n", "ReadError", "Scratch")
+        call, error = ("read_json_first", "FirstReadError") if self.writer.first else ("read_json", "ReadError")
+        self.use(call, error, "FormI18n", "Scratch")
         self.writer.uses.others |= {"std::alloc::Global", "garde::I18n"}
         (name, made), forms = self.names_of(item), self.forms(item, 4)
-        docs = f"/// Reads a value of the type `{item.name}` in JSON, or reports every fault of its form"
-        docs += " and of its rules." if is_ported(item) else "."
+        told = "so many faults at most" if self.writer.first else "every fault of its form" + (" and of its rules" if is_ported(item) else "")
+        docs = f"/// Reads a value of the type `{item.name}` in JSON, or reports {told}."
+        call = f"{call}(alloc, bytes, scratch, &{name}_form, {'most, ' if self.writer.first else ''}h)"
+        said = {"docs": docs, "vis": item.vis, "name": name, "forms": forms, "error": error, "most": "    most: usize,\n" if self.writer.first else ""}
         if not is_ported(item):
-            read = f"    read_json(alloc, bytes, scratch, &{name}_form, h)"
-            return READ.format(docs=docs, tactic="", vis=item.vis, name=name, kind=made, forms=forms, read=read)
+            return READ.format(**said, tactic="", kind=made, read=f"    {call}")
         self.writer.uses.others.add("garde::Valid")
         tactic = "#[tactic(auto, unfolding(garde::specs::Fields::Known))]\n"
-        read = VALID.format(name=name)
-        return READ.format(docs=docs, tactic=tactic, vis=item.vis, name=name, kind=f"Valid<{made}>", forms=forms, read=read)
+        return READ.format(**said, tactic=tactic, kind=f"Valid<{made}>", read=VALID.format(call=call))
 
     def names_of(self, item):
         """What a type is called in the names of others, and the type as what reads it has it."""

@@ -49,10 +49,10 @@ impl{bound} View<{kind}> for {name} {{
 class Writer:
     """Writes what stands for a source. `module` is the path of what is written, `own` that of the rules of one's own, and
     `left_out` are the derives and attributes that are left out without a word. With `walks` types that a form reads have a walk too.
-    `checked` is the type that a static library checks: then they have none."""
+    `checked` is the type that a static library checks: then they have none. What reads reports the `first` faults alone, or all."""
 
-    def __init__(self, source, module=None, own=None, left_out=(), schema=False, walks=True, checked=None):
-        self.source, self.module, self.own, self.checked = source, module, own, checked
+    def __init__(self, source, module=None, own=None, left_out=(), schema=False, walks=True, checked=None, first=False):
+        self.source, self.module, self.own, self.checked, self.first = source, module, own, checked, first
         self.borrowed = Borrowed(source, left_out, bool(checked)) if schema or checked else None
         self.unwalked = self.borrowed.unwalked() if checked or schema and not walks else set()
         self.derives = Derives(source, left_out)

@@ -9,7 +9,7 @@ const MOST: u16 = 10 * DOZEN;
 const DOZEN: u16 = 12;
 
 /// How it is paid.
-#[derive(Clone, Copy, Deserialize)]
+#[derive(Clone, Copy, Debug, Deserialize)]
 #[serde(rename_all = "lowercase")]
 pub enum Payment {
     Cash,
@@ -18,7 +18,7 @@ pub enum Payment {
 }
 
 /// What is in it.
-#[derive(Deserialize, Validate)]
+#[derive(Debug, Deserialize, Validate)]
 #[serde(deny_unknown_fields)]
 pub struct Entry {
     #[garde(prefix("P"))]
@@ -30,7 +30,7 @@ pub struct Entry {
 }
 
 /// Who gets it, and how it is paid.
-#[derive(Deserialize, Validate)]
+#[derive(Debug, Deserialize, Validate)]
 #[serde(rename_all = "camelCase")]
 pub struct Basket {
     #[garde(length(chars, min = 1, max = 80))]
@@ -49,7 +49,7 @@ pub struct Basket {
 }
 
 /// What is said of it.
-#[derive(Deserialize, Validate)]
+#[derive(Debug, Deserialize, Validate)]
 pub struct Marks {
     #[garde(length(max = 5), custom(unique), custom(has_room), inner(ascii, length(max = 10)))]
     pub tags: Vec<String>,

@@ -21,7 +21,7 @@ use std::alloc::{AllocError, Global};
 use std::marker::PhantomData;
 
 /// How it is paid.
-#[derive(Clone, Copy)]
+#[derive(Clone, Copy, Debug)]
 pub enum Payment {
     Cash,
     Card,
@@ -29,7 +29,7 @@ pub enum Payment {
 }
 
 /// What is in it.
-#[derive(Drop)]
+#[derive(Debug, Drop)]
 pub struct Entry<'t> {
     pub code: TextRef<'t>,
     pub pieces: u16,
@@ -46,7 +46,7 @@ impl<'t> Stated for Entry<'t> {
 }
 
 /// Who gets it, and how it is paid.
-#[derive(Drop)]
+#[derive(Debug, Drop)]
 pub struct Basket<'t> {
     pub customer: TextRef<'t>,
     pub payment: Payment,
@@ -66,7 +66,7 @@ impl<'t> Stated for Basket<'t> {
 }
 
 /// What is said of it.
-#[derive(Drop)]
+#[derive(Debug, Drop)]
 pub struct Marks<'t> {
     pub tags: Items<TextRef<'t>>,
     pub seats: Items<u8>,
