@@ -23,10 +23,10 @@ pub enum Payment {
 pub struct Entry {
     #[garde(prefix("P"))]
     pub code: String,
-    #[garde(range(min = 1, max = MOST), custom(multiple_of(6)))]
-    pub pieces: u16,
     #[garde(range(max = self.pieces))]
     pub gifts: u16,
+    #[garde(range(min = 1, max = MOST), custom(multiple_of(6)))]
+    pub pieces: u16,
 }
 
 /// Who gets it, and how it is paid.

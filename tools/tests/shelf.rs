@@ -22,7 +22,7 @@ pub struct Shelf {
     pub height: u16,
     #[garde(custom(multiple_of(5)), range(min = -HIGH, max = HIGH))]
     pub tilt: i32,
-    #[garde(custom(multiple_of(2)))]
+    #[garde(custom(multiple_of(2)), if(cond = self.room != Room::Open, required))]
     pub rows: Option<u8>,
     #[garde(skip)]
     pub room: Room,

@@ -32,8 +32,8 @@ pub enum Payment {
 #[derive(Debug, Drop)]
 pub struct Entry<'t> {
     pub code: TextRef<'t>,
-    pub pieces: u16,
     pub gifts: u16,
+    pub pieces: u16,
 }
 
 impl<'t> Stated for Entry<'t> {
@@ -41,8 +41,8 @@ impl<'t> Stated for Entry<'t> {
 
     ghost visits = { λ v _.
         field "code" (is (prefix "P" v.code))
-        and field "pieces" (is (range (between 1 120) v.pieces) and is (multiple_of 6 v.pieces))
-        and field "gifts" (is (range (at_most v.pieces) v.gifts)) };
+        and field "gifts" (is (range (at_most v.pieces) v.gifts))
+        and field "pieces" (is (range (between 1 120) v.pieces) and is (multiple_of 6 v.pieces)) };
 }
 
 /// Who gets it, and how it is paid.
@@ -94,18 +94,18 @@ impl<'t> Stated for Marks<'t> {
 impl<'t> FromParts for Entry<'t> {
     type Parts = (TextRef<'t>, (u16, u16));
 
-    ghost builds = { λ parts. record { code = parts.0; pieces = parts.1.0; gifts = parts.1.1 } };
+    ghost builds = { λ parts. record { code = parts.0; gifts = parts.1.0; pieces = parts.1.1 } };
 
-    ghost parts_of = { λ v. (v.code, (v.pieces, v.gifts)) };
+    ghost parts_of = { λ v. (v.code, (v.gifts, v.pieces)) };
 
     ghost kept = { λ _. refl };
 
     fn from_parts(parts: Self::Parts) -> Self {
-        let (code, (pieces, gifts)) = parts;
+        let (code, (gifts, pieces)) = parts;
         Entry {
             code,
-            pieces,
             gifts,
+            pieces,
         }
     }
 }
@@ -115,7 +115,7 @@ impl<'t> FromParts for Entry<'t> {
 struct EntryGiftsRules;
 
 impl Rules<(u16, u16)> for EntryGiftsRules {
-    ghost asks = { λ _ v. is (range (at_most v.0) v.1) };
+    ghost asks = { λ _ v. is (range (at_most v.1) v.0) };
 
     fn ask<'a, H: I18n>(
         &self,
@@ -125,7 +125,7 @@ impl Rules<(u16, u16)> for EntryGiftsRules {
         report: &mut Report,
         h: &H,
     ) -> Result<(), AllocError> {
-        let (pieces, gifts) = value;
+        let (gifts, pieces) = value;
         Is(range!(max = *pieces)).ask(alloc, gifts, trail, report, h)
     }
 }
@@ -382,11 +382,11 @@ pub fn read_basket<'a, H: I18n + FormI18n>(
             Member("code", Text(Is(Prefix("P")))),
             Checked(
                 (
+                    Member("gifts", Whole(U16, ())),
                     Member(
                         "pieces",
                         Whole(U16, (Is(range!(min = 1, max = 120)), Is(MultipleOf(6)))),
                     ),
-                    Member("gifts", Whole(U16, ())),
                 ),
                 Under("gifts", EntryGiftsRules),
             ),

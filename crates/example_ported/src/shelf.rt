@@ -42,7 +42,7 @@ impl Stated for Shelf {
         and field "places" (unique "comes twice" nat_eq (slice v.places))
         and field "height" (is (multiple_of 25 v.height) and is (range (at_most 65535) v.height))
         and field "tilt" (is (signed_multiple_of (plus 5) v.tilt) and is (signed_range (between (minus 100) (plus 100)) v.tilt))
-        and field "rows" (if_some (λ x. is (multiple_of 2 x)) v.rows)
+        and field "rows" (if_some (λ x. is (multiple_of 2 x)) v.rows and when (not (elim v.room as (λ _. Bool) [ Open ↦ true | _ ↦ false ])) (is (required v.rows)))
         and field "lamp" (when ((elim v.room as (λ _. Bool) [ Cold _ ↦ true | Dry _ ↦ true | _ ↦ false ]) && (not (text_is "old" (str v.kind)))) (is (required v.lamp)))
         and field "note" (when (((elim v.room as (λ _. Bool) [ Open ↦ true | _ ↦ false ]) || (has_part (codes "new") (str v.kind))) || (includes nat_eq (slice v.places) 3)) (is (ascii (str v.note)))) };
 }
@@ -88,7 +88,14 @@ impl Validate for Shelf {
                 tilt,
                 (Is(MultipleOf(5)), Is(range!(min = -100, max = 100))),
             ),
-            Field("rows", rows, IfSome(Is(MultipleOf(2)))),
+            Field(
+                "rows",
+                rows,
+                (
+                    IfSome(Is(MultipleOf(2))),
+                    When(!matches!(room, Room::Open), Is(Required)),
+                ),
+            ),
             (
                 Field(
                     "lamp",

@@ -20,7 +20,7 @@ const ROWS: &[(Of, &str, &str)] = &[
     (
         Of::Basket,
         "{\"customer\":\"Ann\",\"payment\":\"card\",\"billTo\":\"12 Street\",\"entries\":[{\"code\":\"P1\",\"pieces\":6,\"gifts\":6}],\"again\":\"Ann\"}",
-        "Valid(Basket { customer: TextRef(\"Ann\"), payment: Card, bill_to: Some(TextRef(\"12 Street\")), entries: Items([Entry { code: TextRef(\"P1\"), pieces: 6, gifts: 6 }]), again: TextRef(\"Ann\") })",
+        "Valid(Basket { customer: TextRef(\"Ann\"), payment: Card, bill_to: Some(TextRef(\"12 Street\")), entries: Items([Entry { code: TextRef(\"P1\"), gifts: 6, pieces: 6 }]), again: TextRef(\"Ann\") })",
     ),
     (
         Of::Basket,
