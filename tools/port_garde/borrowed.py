@@ -3,7 +3,7 @@ borrow from the input; and what of them no form reads."""
 from dataclasses import replace
 
 from .derives import CASES, SERDE, literal_function, named_function, options, type_names
-from .groups import own_rules, shared_rules
+from .groups import others_of, own_rules, shared_rules
 from .names import of_field, of_variant, others_of_variant
 from .scope import SIGNED, UNSIGNED, is_option, is_path, is_text
 from .source import Param, Type, all_rules, is_ported
@@ -40,11 +40,18 @@ OF_LISTS = {True: ("inner", "dive", "length", "unique", "custom"), False: ("inne
 STATED = {True: ("inner", "dive", "length"), False: ("length",)}
 
 
-class Borrowed:
-    """The types of a source."""
+def below(item):
+    """The field of a struct that holds a list of values of the struct's own type, or nothing."""
+    held = [it for it in fields_of(item) if item.name in type_names(it.type)]
+    is_list = len(held) == 1 and is_path(held[0].type, "Vec") and is_path(held[0].type.args[0], item.name)
+    return held[0] if is_list and item.kind == "struct" and item.variants[0].shape == "named" and fields_of(item)[1:] else None
 
-    def __init__(self, source, left_out, is_stated=False):
-        self.source, self.left_out, self.is_stated = source, left_out, is_stated
+
+class Borrowed:
+    """The types of a source. Those that `is_walked` names have a walk too, and `is_stated` says that `--body` states them."""
+
+    def __init__(self, source, left_out, is_stated=False, is_walked=False):
+        self.source, self.left_out, self.is_stated, self.is_walked = source, left_out, is_stated, is_walked
         self.items = {it.name: it for it in source.items if is_read(it)}
         self.borrowing = self.found_borrowing()
 
@@ -120,7 +127,21 @@ class Borrowed:
             for it in variant.fields:
                 yield from self.of_field(it, item)
         if self.holds_itself(item, item, ()):
-            yield item.line, f"`{item.name}`, whose values hold values of its own type"
+            yield from self.of_nested(item)
+        elif is_ported(item):
+            nested = [it for it in fields_of(item) for name in type_names(it.type) if name in self.items and below(self.items[name])]
+            yield from ((it.line, f"the field `{it.name}` of a type that holds itself, whose rules `{item.name}` cannot state: take `Validate` out of its derives") for it in nested)
+
+    def of_nested(self, item):
+        """What a form wants of a type that holds itself."""
+        held, others = below(item), [it for it in fields_of(item) if self.items.get(it.type.name) is not item]
+        if held is None or any(self.holds_itself(self.items[name], item, ()) for it in others if it is not held for name in type_names(it.type) if name in self.items):
+            yield item.line, f"`{item.name}`, whose values hold values of its own type otherwise than in one list, beside other fields"
+            return
+        if any(rule.name != "dive" for rule in held.attributes.rules) or any(held.name in others_of(rule) for it in fields_of(item) for rule in it.attributes.rules):
+            yield held.line, f"the field `{held.name}` of a type that holds itself, with more than `dive`"
+        if self.is_walked or self.is_stated:
+            yield item.line, f"`{item.name}`, which holds itself: it has no walk, so say `--schema --no-walk`"
 
     def of_serde(self, item):
         """The attributes of serde that no form has."""
@@ -204,7 +225,7 @@ class Borrowed:
         yield from self.of_lists(it.type, own_rules(it))
         yield from ((it.line, f"{told}, which no form of `--schema` reads") for told in sorted(set(self.unread(it.type, item))))
         held = self.items.get(it.type.name)
-        if held is not None and is_ported(held) and asks(held) and not any(rule.name == "dive" for rule in all_rules(it.attributes.rules)):
+        if held is not None and held is not item and is_ported(held) and asks(held) and not below(held) and not any(rule.name == "dive" for rule in all_rules(it.attributes.rules)):
             yield it.line, f"the field `{it.name}` of the type `{held.name}`, whose rules its form asks: write `dive`"
 
     def of_rules(self, it):

@@ -59,7 +59,7 @@ class JsonSchema:
 
     def __init__(self, writer):
         self.writer, self.source, self.items = writer, writer.source, writer.borrowed.items
-        self.item = None
+        self.root = None
 
     def of(self, name):
         """The schema of the type of this name; without one of the only type that no other one holds."""
@@ -70,6 +70,7 @@ class JsonSchema:
         item = self.items.get(name or tops[0])
         if item is None:
             raise Refusal(1, f"no type `{name}` that derives `Deserialize`")
+        self.root = item.name
         held = [self.items[it] for it in dict.fromkeys(self.names_within(item)) if it != item.name]
         whole = self.of_type(item)
         told = "; ".join([COMMENT, *([whole.pop("$comment")] if "$comment" in whole else [])])
@@ -87,7 +88,6 @@ class JsonSchema:
     # Types.
 
     def of_type(self, item):
-        self.item = item
         if is_named(item):
             return {**kept_docs(item.docs), "enum": [name for it in item.variants for name in (of_variant(it, item), *others_of_variant(it))]}
         if item.kind == "enum":
@@ -164,7 +164,8 @@ class JsonSchema:
             whole = {"type": "array", "items": self.value(kind.args[0], inside)} if kind.name == "Vec" else {"type": "object", "additionalProperties": self.value(kind.args[1], inside)}
             return joined([whole, *self.said(kind, [it for it in rules if it.name not in ("inner", "dive")])])
         if kind.name in self.items:
-            return joined([{"$ref": f"#/$defs/{kind.name}"}, *self.said(kind, [it for it in rules if it.name != "dive"])])
+            place = "#" if kind.name == self.root else f"#/$defs/{kind.name}"
+            return joined([{"$ref": place}, *self.said(kind, [it for it in rules if it.name != "dive"])])
         if is_text(kind):
             return joined([{"type": "string"}, *self.said(kind, rules)])
         if is_path(kind, "bool"):

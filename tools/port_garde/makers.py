@@ -1,9 +1,30 @@
 """How values are made: what `Built` makes a value of a type of."""
 import textwrap
+from dataclasses import replace
 
+from .borrowed import below
 from .groups import filled, grouped
 from .layout import WIDTH, Angles, Call, Literal, Word, arm, call, statement
 
+NESTED = """/// A value of the type `{name}` is made of what its form reads, and of such values.
+impl{life} FromNested for {made} {{
+{own}
+
+    ghost builds = {{ λ own below.
+        roll-{name} (record {{ {rows} }}) }};
+
+    ghost parts_of = {{ λ v.
+        {parts} }};
+
+    fn from_nested(own: Self::Own, below: Items<Self>) -> Self
+        ensures {{ result ≡ roll-{name}
+            (record {{ {clauses} }}) }}
+    {{
+{body}
+    }}
+
+    ghost kept = {{ λ _ _. Prim.search (rules, the_lemmas) }};
+}}"""
 MAKER = """/// A value of the type `{name}` is made of what its form reads.
 impl{life} FromParts for {made} {{
 {parts}
@@ -108,15 +129,38 @@ class Makers:
 
     def text(self, item):
         """How a value of a type is made."""
+        self.writer.item = item
+        if self.writer.is_nested(item):
+            return self.nested(item)
         self.schema.use("FromParts")
         self.writer.uses.prelude.add("refl")
-        self.writer.item = item
         halves = self.of_enum(item) if item.kind == "enum" else self.of_struct(item)
         parts, builds, parts_of, kept, body = halves
         written = statement(parts, 4, "type Parts = ", ";")
         return MAKER.format(
             name=item.name, life=self.life(item), parts=written, made=self.type_name(item), builds=builds, parts_of=parts_of,
             kept=kept, body=body,
+        )
+
+    def nested(self, item):
+        """How a value of a type that holds itself is made."""
+        self.schema.use("FromNested")
+        self.writer.uses.prelude.add("◌≡◌")
+        self.writer.uses.paths.add("Rattle.std.proofs.Common.{rules}")
+        held, variant = below(self.schema.items[item.name]).name, item.variants[0]
+        own = replace(variant, fields=tuple(it for it in variant.fields if it.name != held))
+        names = [it.name for it in own.fields]
+
+        def rows(whole, rest):
+            return "; ".join(f"{name} = {place}" for name, place in [*zip(names, places(self.tree(own, names), whole)), (held, rest)])
+
+        taken = [statement(wide(tuple_of(self.tree(own, names))), 8, "let ", " = own;")]
+        made = tuple((it.name, Word("below" if it.name == held and held != "below" else it.name)) for it in variant.fields)
+        given = tuple_text(self.tree(own, [f"(out-{item.name} v).{it}" for it in names]))
+        return NESTED.format(
+            name=item.name, life=self.life(item), made=self.type_name(item), own=statement(self.types(own), 4, "type Own = ", ";"),
+            rows=rows("own", "below"), parts=f"({given}, (out-{item.name} v).{held})", clauses=rows("own.entry", "below.entry"),
+            body="\n".join([*taken, statement(Literal(item.name, made), 8)]),
         )
 
     def types(self, variant):

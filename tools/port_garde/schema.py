@@ -1,5 +1,7 @@
 """The forms of `garde_schema` that read values of a source's types, the makers of these values, and the functions that read them."""
-from .borrowed import fields_of, is_map, is_named, of_whole, within_option
+from dataclasses import replace
+
+from .borrowed import below, fields_of, is_map, is_named, of_whole, within_option
 from .derives import options, type_names
 from .groups import Group, filled, grouped, groups_in, numbers_in, own_rules, shared_rules
 from .layout import WIDTH, Method, Rows, Word, call, flat, statement
@@ -78,7 +80,7 @@ class Schema:
 
     def is_held(self, item):
         """Whether another type of the file holds values of this one."""
-        return any(item.name in type_names(it.type) for other in self.items.values() for it in fields_of(other))
+        return any(item.name in type_names(it.type) for other in self.items.values() if other is not item for it in fields_of(other))
 
     def reader(self, item):
         """The function that reads values of a type."""
@@ -86,11 +88,12 @@ class Schema:
         self.use(call, error, "FormI18n", "Scratch")
         self.writer.uses.others |= {"std::alloc::Global", "garde::I18n"}
         (name, made), forms = self.names_of(item), self.forms(item, 4)
+        is_valid = is_ported(item) and not self.writer.is_nested(item)
         told = "so many faults at most" if self.writer.first else "every fault of its form" + (" and of its rules" if is_ported(item) else "")
         docs = f"/// Reads a value of the type `{item.name}` in JSON, or reports {told}."
         call = f"{call}(alloc, bytes, scratch, &{name}_form, {'most, ' if self.writer.first else ''}h)"
         said = {"docs": docs, "vis": item.vis, "name": name, "forms": forms, "error": error, "most": "    most: usize,\n" if self.writer.first else ""}
-        if not is_ported(item):
+        if not is_valid:
             return READ.format(**said, tactic="", kind=made, read=f"    {call}")
         self.writer.uses.others.add("garde::Valid")
         tactic = "#[tactic(auto, unfolding(garde::specs::Fields::Known))]\n"
@@ -109,7 +112,7 @@ class Schema:
         return [self.items[name] for name in dict.fromkeys(self.names_before(item))]
 
     def names_before(self, item):
-        held = [name for it in fields_of(item) for name in sorted(type_names(it.type)) if name in self.items]
+        held = [name for it in fields_of(item) for name in sorted(type_names(it.type)) if name in self.items and name != item.name]
         return [*(found for name in held for found in self.names_before(self.items[name])), item.name]
 
     # Rules that speak of several fields.
@@ -118,7 +121,10 @@ class Schema:
         """The rules of a type's fields that speak of others, each as a type."""
         self.writer.item = item
         for variant in self.turned[item.name].variants:
-            for group in groups_in(grouped(variant.fields)):
+            held = below(self.items[item.name])
+            fields = tuple(it for it in variant.fields if held is None or it.name != held.name)
+            variant = replace(variant, fields=fields)
+            for group in groups_in(grouped(fields)):
                 for number in group.asked:
                     yield self.shared(variant.fields[number], group, variant, item)
 
@@ -161,8 +167,17 @@ class Schema:
         if is_named(item):
             rows = [call("", f'"{name}"', f"{item.name}::{it.name}") for it in item.variants for name in self.names(it, item)]
             return call(self.use("OneOf"), Rows(tuple(rows)))
+        if below(item):
+            return self.of_nested(item)
         form = self.of_enum(item) if item.kind == "enum" else self.of_struct(item)
         return call(self.use("Built"), form, self.makers.value(self.turned[item.name]))
+
+    def of_nested(self, item):
+        """An object that holds a list of objects of the same form."""
+        held, variant = below(item), item.variants[0]
+        own = replace(variant, fields=tuple(it for it in variant.fields if it is not held))
+        name = f'"{of_field(held, variant, item)}"'
+        return self.closed(call(self.use("Nested"), name, self.members(own, item), self.makers.value(self.turned[item.name])), item)
 
     def names(self, variant, item):
         return [of_variant(variant, item), *others_of_variant(variant)]

@@ -1,7 +1,7 @@
 """The Rattle source with the implementations."""
 import re
 
-from .borrowed import Borrowed, is_named
+from .borrowed import Borrowed, below, is_named
 from .derives import SERDE, Derives, kept_derives, literal_function, named_function, options, serde_lines
 from .implementation import Implementation
 from .layout import CALL, VARIANT, WIDTH, use_line
@@ -53,7 +53,7 @@ class Writer:
 
     def __init__(self, source, module=None, own=None, left_out=(), schema=False, walks=True, checked=None, first=False):
         self.source, self.module, self.own, self.checked, self.first = source, module, own, checked, first
-        self.borrowed = Borrowed(source, left_out, bool(checked)) if schema or checked else None
+        self.borrowed = Borrowed(source, left_out, bool(checked), walks) if schema or checked else None
         self.unwalked = self.borrowed.unwalked() if checked or schema and not walks else set()
         self.derives = Derives(source, left_out)
         self.uses = Uses()
@@ -83,7 +83,7 @@ class Writer:
             if not self.notes.faults and not self.borrowed:
                 for line, reason in lost_of_serde(rust, item, texts[0]):
                     self.notes.refuse(line, reason)
-            if is_ported(item) and not self.notes.faults:
+            if is_ported(item) and not self.notes.faults and not self.is_nested(item):
                 for line, reason in faults_of_values(rust, item, texts):
                     self.notes.refuse(line, reason)
             return texts
@@ -112,11 +112,15 @@ class Writer:
         for line, reason in self.derives.faults(item):
             self.notes.refuse(line, reason)
         self.renamed = {"'a": free_lifetime(item.params)}
-        if not is_ported(item):
+        if not is_ported(item) or self.is_nested(item):
             return [self.declaration(item)]
         implementation = self.implementation(item)
         patterns = [self.pattern_struct(item)] if item.name in self.patterns else []
         return [self.declaration(item), *patterns, implementation]
+
+    def is_nested(self, item):
+        """Whether a form reads a type that holds itself: what its rules ask is known by the form, and no statement says it."""
+        return bool(self.borrowed and item.name in self.borrowed.items and below(self.borrowed.items[item.name]))
 
     def implementation(self, item):
         """The implementations for a type. What only a walk imports is not imported for one without."""
@@ -380,18 +384,26 @@ class Writer:
         lines += [f"ghost use Rattle.garde_library.specs.Spelling.{{{', '.join(sorted(uses.spelled))}}};"] if uses.spelled else []
         lines += ["ghost use Rattle.garde_schema.specs.declared.either.Either.TheVariants.{Left, Right};"] if uses.sides else []
         lines += [self.variants_use(it) for it in self.source.items if self.stated_variants(it)]
+        lines += [self.nested_use(it) for it in self.source.items if self.is_nested(it)]
         return "\n".join(lines)
+
+    def declared(self, item):
+        """The path of what the toolchain declares of a type."""
+        crate, *modules = self.module.split("::")
+        return ".".join(["Rattle", crate, "specs", "declared", *modules, item.name])
 
     def variants_use(self, item):
         """What imports the variants of an enum."""
-        crate, *modules = self.module.split("::")
-        path = ".".join(["Rattle", crate, "specs", "declared", *modules, item.name, "TheVariants"])
-        return f"ghost use {path}.{{{', '.join(it.name for it in item.variants)}}};"
+        return f"ghost use {self.declared(item)}.TheVariants.{{{', '.join(it.name for it in item.variants)}}};"
+
+    def nested_use(self, item):
+        """What imports how a value of a type that holds itself is made of its fields."""
+        return f"ghost use {self.declared(item)}.{{out-{item.name}, roll-{item.name}, the_lemmas}};"
 
     def use_lines(self):
         """What the code imports."""
         paths = {f"garde::fields::{name}" for name in self.uses.fields} | self.uses.others | self.crate_imports()
-        paths |= {"garde::Stated"} if any(map(is_ported, self.source.items)) else set()
+        paths |= {"garde::Stated"} if any(is_ported(it) and not self.is_nested(it) for it in self.source.items) else set()
         if self.own:
             paths |= {f"{self.own}::{name}" for name in self.skeletons}
         elif self.skeletons:

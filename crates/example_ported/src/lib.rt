@@ -9,6 +9,7 @@ pub mod delivery;
 pub mod depot;
 pub mod draft;
 pub mod event;
+pub mod folder;
 pub mod generic;
 pub mod guest;
 pub mod label;
