@@ -120,7 +120,11 @@ def strays(crate, sources):
     """The outputs whose source is not there."""
     outputs = set(map(output_of, sources))
     for file in sorted((crate / "src").rglob("*.rt")):
-        head = WRITTEN.match(file.read_bytes()[:400]) if file.is_file() and file not in outputs else None
+        try:
+            head = WRITTEN.match(file.read_bytes()[:400]) if file.is_file() and file not in outputs else None
+        except OSError as error:
+            yield f"{shown_path(file)}: {error.strerror or error}"
+            continue
         if head:
             name = shown_path(head[1].decode("utf-8", "backslashreplace"))
             yield f"{shown_path(file)}: it is written from {name}, which is not there: remove it"
