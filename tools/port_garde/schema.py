@@ -126,7 +126,14 @@ class Schema:
             variant = replace(variant, fields=fields)
             for group in groups_in(grouped(fields)):
                 for number in group.asked:
+                    self.refuse_name(variant.fields[number], variant, item)
                     yield self.shared(variant.fields[number], group, variant, item)
+
+    def refuse_name(self, it, variant, item):
+        """Refuses a type of the file that has the name of the rules of a field, or of what they are asked of."""
+        name = self.shared_name(it, variant, item)
+        for taken in {name, f"{name.removesuffix('Rules')}Parts"} & set(self.turned):
+            self.writer.notes.refuse(it.line, f"the field `{it.name}`, whose rules are a type `{taken}`: give that of the file another name")
 
     def shared_name(self, it, variant, item):
         return f"{item.name}{variant.name if item.kind == 'enum' else ''}{camel(it.name)}Rules"
