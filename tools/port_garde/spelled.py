@@ -5,7 +5,7 @@ from dataclasses import dataclass
 from .borrowed import fields_of, is_map, is_named, within_option
 from .derives import options
 from .layout import WIDTH
-from .makers import nested, places
+from .makers import places
 from .names import of_field
 from .scope import SIGNED, Scope, Seen, is_option, is_path, is_text
 from .source import is_ported
@@ -152,7 +152,7 @@ class Spellings:
             return said(self.word("a_name"), Said(f"({' ∷ '.join(rows)} ∷ [])"))
         variant = item.variants[0]
         names = [it.name or str(at) for at, it in enumerate(variant.fields)]
-        rows = [f"{name} = {place}" for name, place in zip(names, places(nested(names), "parts"))]
+        rows = [f"{name} = {place}" for name, place in zip(names, places(self.schema.makers.tree(variant, names), "parts"))]
         return said(self.word("made"), Record(rows), self.of_struct(variant, item))
 
     def of_struct(self, variant, item):
