@@ -211,8 +211,12 @@ class Makers:
         return (types, *cases, "\n".join(["        match parts {", *arms, "        }"]))
 
     def arm(self, item, variant, at, count, names):
-        """The arm that makes a variant."""
-        taken = wide(tuple_of(self.tree(variant, names))) if names else Word("()")
+        """The arm that makes a variant. The borrow checker takes no parts of parts out of a variant, so such are bound in the arm."""
+        tree = self.tree(variant, names) if names else []
+        taken = wide(tuple_of(tree)) if names else Word("()")
         path = f"{item.name}::{variant.name}"
         made = Literal(path, tuple((it, Word(it)) for it in names)) if variant.shape == "named" else call(path, *names) if names else Word(path)
+        if any(isinstance(it, list) for it in tree):
+            head = statement(side_pattern(at, count, Word("parts")), 12, "", " => {")
+            return "\n".join([head, statement(taken, 16, "let ", " = parts;"), statement(made, 16), "            }"])
         return arm(side_pattern(at, count, taken), made, 12)

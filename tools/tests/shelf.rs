@@ -22,14 +22,51 @@ pub struct Shelf {
     pub height: u16,
     #[garde(custom(multiple_of(5)), range(min = -HIGH, max = HIGH))]
     pub tilt: i32,
-    #[garde(custom(multiple_of(2)), if(cond = self.room != Room::Open, required))]
+    #[garde(custom(multiple_of(2)))]
     pub rows: Option<u8>,
+}
+
+/// A lamp for it.
+#[derive(Validate)]
+pub struct Lamp {
     #[garde(skip)]
     pub room: Room,
+    #[garde(if(cond = self.room != Room::Open, required))]
+    pub watts: Option<u8>,
+}
+
+/// A heater for it.
+#[derive(Validate)]
+pub struct Heater {
+    #[garde(skip)]
+    pub room: Room,
+    #[garde(if(cond = matches!(self.room, Room::Cold { .. } | Room::Dry(..)), range(min = 5)))]
+    pub watts: u16,
+}
+
+/// What stands on it.
+#[derive(Validate)]
+pub struct Thing {
     #[garde(skip)]
     pub kind: String,
-    #[garde(if(cond = matches!(self.room, Room::Cold { .. } | Room::Dry(..)) && self.kind != "old", required))]
-    pub lamp: Option<u8>,
-    #[garde(if(cond = self.room == Room::Open || self.kind.contains("new") || self.places.contains(3), ascii))]
-    pub note: String,
+    #[garde(if(cond = self.kind == "old", ascii))]
+    pub name: String,
+}
+
+/// What is said of it.
+#[derive(Validate)]
+pub struct Note {
+    #[garde(skip)]
+    pub places: Vec<u16>,
+    #[garde(if(cond = self.places.contains(3), ascii))]
+    pub text: String,
+}
+
+/// A mark on it.
+#[derive(Validate)]
+pub struct Mark {
+    #[garde(skip)]
+    pub kind: String,
+    #[garde(if(cond = self.kind.contains("new"), ascii))]
+    pub text: String,
 }

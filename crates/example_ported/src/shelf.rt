@@ -1,8 +1,7 @@
 //! Rules that the Rust crate does not have, and conditions on enums and texts, in a walk.
-ghost use Rattle.std.specs.Prelude.{◌&&◌, ◌||◌};
 ghost use Rattle.garde.specs.Firsts.{includes};
 ghost use Rattle.garde.specs.Words.{has_part};
-ghost use Rattle.garde.specs.Fields.{◌and◌, ascii, at_most, between, Bool, codes, each, false, field, if_some, is, items, minus, multiple_of, nat_eq, not, plus, range, required, signed_multiple_of, signed_range, slice, str, text_eq, text_is, true, unique, when};
+ghost use Rattle.garde.specs.Fields.{◌and◌, ascii, at_least, at_most, between, Bool, codes, each, false, field, if_some, is, items, minus, multiple_of, nat_eq, not, plus, range, required, signed_multiple_of, signed_range, slice, str, text_eq, text_is, true, unique, when};
 ghost use Rattle.example_ported.specs.declared.shelf.Room.TheVariants.{Cold, Dry, Open};
 
 use garde::fields::{
@@ -28,10 +27,6 @@ pub struct Shelf {
     pub height: u16,
     pub tilt: i32,
     pub rows: Option<u8>,
-    pub room: Room,
-    pub kind: String,
-    pub lamp: Option<u8>,
-    pub note: String,
 }
 
 impl Stated for Shelf {
@@ -42,9 +37,7 @@ impl Stated for Shelf {
         and field "places" (unique "comes twice" nat_eq (slice v.places))
         and field "height" (is (multiple_of 25 v.height) and is (range (at_most 65535) v.height))
         and field "tilt" (is (signed_multiple_of (plus 5) v.tilt) and is (signed_range (between (minus 100) (plus 100)) v.tilt))
-        and field "rows" (if_some (λ x. is (multiple_of 2 x)) v.rows and when (not (elim v.room as (λ _. Bool) [ Open ↦ true | _ ↦ false ])) (is (required v.rows)))
-        and field "lamp" (when ((elim v.room as (λ _. Bool) [ Cold _ ↦ true | Dry _ ↦ true | _ ↦ false ]) && (not (text_is "old" (str v.kind)))) (is (required v.lamp)))
-        and field "note" (when (((elim v.room as (λ _. Bool) [ Open ↦ true | _ ↦ false ]) || (has_part (codes "new") (str v.kind))) || (includes nat_eq (slice v.places) 3)) (is (ascii (str v.note)))) };
+        and field "rows" (if_some (λ x. is (multiple_of 2 x)) v.rows) };
 }
 
 impl Validate for Shelf {
@@ -62,10 +55,6 @@ impl Validate for Shelf {
             height,
             tilt,
             rows,
-            room,
-            kind,
-            lamp,
-            note,
         } = self;
         (
             Field(
@@ -88,35 +77,174 @@ impl Validate for Shelf {
                 tilt,
                 (Is(MultipleOf(5)), Is(range!(min = -100, max = 100))),
             ),
-            Field(
-                "rows",
-                rows,
-                (
-                    IfSome(Is(MultipleOf(2))),
-                    When(!matches!(room, Room::Open), Is(Required)),
-                ),
-            ),
-            (
-                Field(
-                    "lamp",
-                    lamp,
-                    When(
-                        matches!(room, Room::Cold { .. } | Room::Dry(..)) && kind.as_str() != "old",
-                        Is(Required),
-                    ),
-                ),
-                Field(
-                    "note",
-                    note,
-                    When(
-                        matches!(room, Room::Open)
-                            || contains::Contains::validate_contains(kind, "new")
-                            || includes(places.as_slice(), &Equal, &3),
-                        Is(Ascii),
-                    ),
-                ),
-            ),
+            Field("rows", rows, IfSome(Is(MultipleOf(2)))),
         )
             .visit(alloc, trail, report, h)
+    }
+}
+
+/// A lamp for it.
+#[derive(Drop)]
+pub struct Lamp {
+    pub room: Room,
+    pub watts: Option<u8>,
+}
+
+impl Stated for Lamp {
+    type Context = ();
+
+    ghost visits = { λ v _.
+        field "watts" (when (not (elim v.room as (λ _. Bool) [ Open ↦ true | _ ↦ false ])) (is (required v.watts))) };
+}
+
+impl Validate for Lamp {
+    fn validate_into<'a, H: I18n>(
+        &'a self,
+        alloc: Global,
+        _ctx: &(),
+        trail: &mut Trail<'a>,
+        report: &mut Report,
+        h: &H,
+    ) -> Result<(), AllocError> {
+        let Self { room, watts } = self;
+        Field(
+            "watts",
+            watts,
+            When(!matches!(room, Room::Open), Is(Required)),
+        )
+        .visit(alloc, trail, report, h)
+    }
+}
+
+/// A heater for it.
+#[derive(Drop)]
+pub struct Heater {
+    pub room: Room,
+    pub watts: u16,
+}
+
+impl Stated for Heater {
+    type Context = ();
+
+    ghost visits = { λ v _.
+        field "watts" (when (elim v.room as (λ _. Bool) [ Cold _ ↦ true | Dry _ ↦ true | _ ↦ false ]) (is (range (at_least 5) v.watts))) };
+}
+
+impl Validate for Heater {
+    fn validate_into<'a, H: I18n>(
+        &'a self,
+        alloc: Global,
+        _ctx: &(),
+        trail: &mut Trail<'a>,
+        report: &mut Report,
+        h: &H,
+    ) -> Result<(), AllocError> {
+        let Self { room, watts } = self;
+        Field(
+            "watts",
+            watts,
+            When(
+                matches!(room, Room::Cold { .. } | Room::Dry(..)),
+                Is(range!(min = 5)),
+            ),
+        )
+        .visit(alloc, trail, report, h)
+    }
+}
+
+/// What stands on it.
+#[derive(Drop)]
+pub struct Thing {
+    pub kind: String,
+    pub name: String,
+}
+
+impl Stated for Thing {
+    type Context = ();
+
+    ghost visits = { λ v _.
+        field "name" (when (text_is "old" (str v.kind)) (is (ascii (str v.name)))) };
+}
+
+impl Validate for Thing {
+    fn validate_into<'a, H: I18n>(
+        &'a self,
+        alloc: Global,
+        _ctx: &(),
+        trail: &mut Trail<'a>,
+        report: &mut Report,
+        h: &H,
+    ) -> Result<(), AllocError> {
+        let Self { kind, name } = self;
+        Field("name", name, When(kind.as_str() == "old", Is(Ascii))).visit(alloc, trail, report, h)
+    }
+}
+
+/// What is said of it.
+#[derive(Drop)]
+pub struct Note {
+    pub places: Vec<u16>,
+    pub text: String,
+}
+
+impl Stated for Note {
+    type Context = ();
+
+    ghost visits = { λ v _.
+        field "text" (when (includes nat_eq (slice v.places) 3) (is (ascii (str v.text)))) };
+}
+
+impl Validate for Note {
+    fn validate_into<'a, H: I18n>(
+        &'a self,
+        alloc: Global,
+        _ctx: &(),
+        trail: &mut Trail<'a>,
+        report: &mut Report,
+        h: &H,
+    ) -> Result<(), AllocError> {
+        let Self { places, text } = self;
+        Field(
+            "text",
+            text,
+            When(includes(places.as_slice(), &Equal, &3), Is(Ascii)),
+        )
+        .visit(alloc, trail, report, h)
+    }
+}
+
+/// A mark on it.
+#[derive(Drop)]
+pub struct Mark {
+    pub kind: String,
+    pub text: String,
+}
+
+impl Stated for Mark {
+    type Context = ();
+
+    ghost visits = { λ v _.
+        field "text" (when (has_part (codes "new") (str v.kind)) (is (ascii (str v.text)))) };
+}
+
+impl Validate for Mark {
+    fn validate_into<'a, H: I18n>(
+        &'a self,
+        alloc: Global,
+        _ctx: &(),
+        trail: &mut Trail<'a>,
+        report: &mut Report,
+        h: &H,
+    ) -> Result<(), AllocError> {
+        let Self { kind, text } = self;
+        Field(
+            "text",
+            text,
+            When(
+                contains::Contains::validate_contains(kind, "new"),
+                Is(Ascii),
+            ),
+        )
+        .visit(alloc, trail, report, h)
     }
 }
