@@ -77,8 +77,7 @@ pub(crate) fn name_at<'a>(nodes: &[Node<'a>], at: usize) -> Option<&'a str>
 }
 
 // Where a name stands among the members at `from`. A read asks for each member this way, so the loop
-// asks nothing of a member but its name and where the next one is, and keeps an index alone. It asks
-// for the next one first: then LLVM reckons the address of a member once.
+// asks nothing of a member but its name and where the next one is, and keeps an index alone.
 #[inline(never)]
 pub(crate) fn spot_from(nodes: &[Node<'_>], from: usize, name: &str) -> Spot
     requires { AreMembersAt nodes.now from }
@@ -88,14 +87,13 @@ pub(crate) fn spot_from(nodes: &[Node<'_>], from: usize, name: &str) -> Spot
     let mut first = None;
     let mut at = from;
     while let Some(key) = name_at(nodes, at) {
-        let value = at + 1;
-        at = after(nodes, value);
         if key == name {
             if first.is_some() {
                 return Spot::Repeated;
             }
-            first = Some(value);
+            first = Some(at + 1);
         }
+        at = after(nodes, at + 1);
     }
     match first {
         Some(at) => Spot::Once(at),
