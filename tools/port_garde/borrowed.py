@@ -230,10 +230,7 @@ class Borrowed:
 
     def of_rules(self, it):
         """The rules of a field that no form asks, or that `--body` does not state."""
-        shared = shared_rules(it)
-        for rule in shared if self.is_stated else ():
-            yield rule.line, f"`{rule.name}` with another field, which `--body` does not state"
-        for rule in all_rules(shared):
+        for rule in all_rules(shared_rules(it)):
             if rule.name == "dive":
                 yield rule.line, "`dive` under a condition, which a form cannot leave out"
         for rule in all_rules(it.attributes.rules):

@@ -49,12 +49,14 @@ impl{bound} View<{kind}> for {name} {{
 class Writer:
     """Writes what stands for a source. `module` is the path of what is written, `own` that of the rules of one's own, and
     `left_out` are the derives and attributes that are left out without a word. With `walks` types that a form reads have a walk too.
-    `checked` is the type that a static library checks: then they have none. What reads reports the `first` faults alone, or all."""
+    `body` is the type that a static library checks, and `spelled` one of which JSON spells what a program reads: then they have none.
+    What reads reports the `first` faults alone, or all."""
 
-    def __init__(self, source, module=None, own=None, left_out=(), schema=False, walks=True, checked=None, first=False):
-        self.source, self.module, self.own, self.checked, self.first = source, module, own, checked, first
-        self.borrowed = Borrowed(source, left_out, bool(checked), walks) if schema or checked else None
-        self.unwalked = self.borrowed.unwalked() if checked or schema and not walks else set()
+    def __init__(self, source, module=None, own=None, left_out=(), schema=False, walks=True, body=None, first=False, spelled=None):
+        self.source, self.module, self.own, self.first = source, module, own, first
+        self.checked, self.is_library = body or spelled, body is not None
+        self.borrowed = Borrowed(source, left_out, bool(self.checked), walks) if schema or self.checked else None
+        self.unwalked = self.borrowed.unwalked() if self.checked or schema and not walks else set()
         self.derives = Derives(source, left_out)
         self.uses = Uses()
         self.patterns, self.skeletons, self.closures, self.copied = {}, {}, {}, {}

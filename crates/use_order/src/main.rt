@@ -6,10 +6,11 @@
 mod order;
 mod rely;
 
-use crate::order::{Order, Page, read_page};
+use crate::order::{Order, Page};
 use crate::rely::{cost, destination, first};
 use anyhow::Result;
 use garde::{DefaultI18n, Valid};
+use garde_library::ReadBody;
 use garde_problem::Escaped;
 use garde_schema::{FirstReadError, Scratch};
 use std::io::Read;
@@ -88,9 +89,9 @@ fn judge(rt: &HostRuntime, most: usize) -> Result<bool> {
     let mut body = Vec::new(alloc);
     rt.stdin().read_to_end(&mut body)?;
     let mut scratch = Scratch::new(alloc);
-    match read_page(alloc, body.as_slice(), &mut scratch, most, &DefaultI18n) {
+    match Page::read_body(alloc, body.as_slice(), &mut scratch, most, &DefaultI18n) {
         Ok(page) => {
-            confirm_all(rt, page)?;
+            confirm_all(rt, Valid::known(page, &()))?;
             Ok(true)
         }
         Err(FirstReadError::All(report)) => {

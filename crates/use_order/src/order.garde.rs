@@ -1,5 +1,5 @@
 //! A page of orders with their lines.
-//@ --schema --no-walk --first
+//@ --spelled Page
 use garde::Validate;
 use serde::Deserialize;
 

@@ -1,11 +1,13 @@
-// Written by tools/port-garde from order.garde.rs: edit that file, not this one. Its sum is b07c8aa404aa704c.
+// Written by tools/port-garde from order.garde.rs: edit that file, not this one. Its sum is 8a0e522d61f25e92.
 //! A page of orders with their lines.
-ghost use Rattle.std.specs.Prelude.{refl};
-ghost use Rattle.garde.specs.Fields.{◌and◌, at_least, at_most, between, Bool, chars, each, false, field, if_some, is, items, prefix, range, required, true, when};
+ghost use Rattle.std.specs.Prelude.{[], refl, ◌∷◌};
+ghost use Rattle.garde.specs.Fields.{◌and◌, at_least, at_most, between, Bool, chars, count, each, false, field, if_some, is, items, prefix, range, required, true, when};
+ghost use Rattle.garde_library.specs.Spelling.{a_list_of, a_name, a_number, a_text, an_object, closed, made, member, nullish, ruled, three, two, u32_numbers};
 ghost use Rattle.use_order.specs.declared.order.Delivery.TheVariants.{Counter, Post};
 
 use garde::fields::{Is, Prefix, Required, Rules, When};
 use garde::{I18n, Report, Stated, Trail, Valid, length, range};
+use garde_library::{ReadBody, Spelled};
 use garde_schema::{
     Built, Checked, Closed, FirstReadError, FormI18n, FromParts, Items, ListUnder, Member, Nullish,
     Object, OneOf, Scratch, Text, TextRef, U32, Under, Whole, read_json_first,
@@ -176,55 +178,94 @@ impl<'t> FromParts for Page<'t> {
     }
 }
 
-/// Reads a value of the type `Page` in JSON, or reports so many faults at most.
+impl Spelled for Delivery {
+    ghost spelled = { a_name (("counter", Counter) ∷ ("post", Post) ∷ []) };
+}
+
+impl<'t> Spelled for Line<'t> {
+    ghost spelled = { made (λ parts. record { code = parts.0; count = parts.1; cents = parts.2 })
+        (an_object (closed (three
+        (member "code" (a_text (λ v. is (prefix "P" v))))
+        (member "count" (a_number u32_numbers (range (between 1 99) ∷ [])))
+        (member "cents" (a_number u32_numbers (range (between 1 9999) ∷ [])))))) };
+}
+
+impl<'t> Spelled for Order<'t> {
+    ghost spelled = { made (λ parts. record {
+      customer = parts.0;
+      delivery = parts.1.0.0;
+      address = parts.1.0.1;
+      lines = parts.1.1;
+    }) (an_object (closed (two
+        (member "customer" (a_text (λ v. is (chars (between 1 80) v))))
+        (ruled
+        (two
+        (ruled
+        (two
+        (member "delivery" ⟦<Delivery as Spelled>⟧.spelled)
+        (nullish "address" (a_text (λ v. is (chars (between 5 200) v)))))
+        (λ v. field "address" (when (elim v.0 as (λ _. Bool) [ Post ↦ true | _ ↦ false ]) (is (required v.1)))))
+        (member "lines" (a_list_of (λ v. is (count (between 1 50) v)) ⟦<Line<'t> as Spelled>⟧.spelled)))
+        (λ v. field "lines" (when (elim v.0.0 as (λ _. Bool) [ Counter ↦ true | _ ↦ false ]) (is (items (at_most 3) v.1)))))))) };
+}
+
+impl<'t> Spelled for Page<'t> {
+    ghost spelled = { made (λ parts. record { number = parts.0; entries = parts.1 })
+        (an_object (closed (two
+        (member "number" (a_number u32_numbers (range (at_least 1) ∷ [])))
+        (member "entries" (a_list_of (λ v. is (count (at_most 20) v)) ⟦<Order<'t> as Spelled>⟧.spelled))))) };
+}
+
 #[tactic(auto, unfolding(garde::specs::Fields::Known))]
-pub fn read_page<'a, H: I18n + FormI18n>(
-    alloc: Global,
-    bytes: &'a [u8],
-    scratch: &'a mut Scratch,
-    most: usize,
-    h: &H,
-) -> Result<Valid<Page<'a>>, FirstReadError> {
-    let delivery_form = OneOf(&[("counter", Delivery::Counter), ("post", Delivery::Post)]);
-    let line_form = Built(
-        Object(Closed((
-            Member("code", Text(Is(Prefix("P")))),
-            Member("count", Whole(U32, Is(range!(min = 1, max = 99)))),
-            Member("cents", Whole(U32, Is(range!(min = 1, max = 9999)))),
-        ))),
-        PhantomData::<&Line<'_>>,
-    );
-    let order_form = Built(
-        Object(Closed((
-            Member("customer", Text(Is(length!(chars, min = 1, max = 80)))),
-            Checked(
-                (
-                    Checked(
-                        (
-                            Member("delivery", delivery_form),
-                            Nullish("address", Text(Is(length!(chars, min = 5, max = 200)))),
+impl<'a> ReadBody<'a> for Page<'a> {
+    fn read_body<H: I18n + FormI18n>(
+        alloc: Global,
+        bytes: &'a [u8],
+        scratch: &'a mut Scratch,
+        most: usize,
+        h: &H,
+    ) -> Result<Page<'a>, FirstReadError> {
+        let delivery_form = OneOf(&[("counter", Delivery::Counter), ("post", Delivery::Post)]);
+        let line_form = Built(
+            Object(Closed((
+                Member("code", Text(Is(Prefix("P")))),
+                Member("count", Whole(U32, Is(range!(min = 1, max = 99)))),
+                Member("cents", Whole(U32, Is(range!(min = 1, max = 9999)))),
+            ))),
+            PhantomData::<&Line<'_>>,
+        );
+        let order_form = Built(
+            Object(Closed((
+                Member("customer", Text(Is(length!(chars, min = 1, max = 80)))),
+                Checked(
+                    (
+                        Checked(
+                            (
+                                Member("delivery", delivery_form),
+                                Nullish("address", Text(Is(length!(chars, min = 5, max = 200)))),
+                            ),
+                            Under("address", OrderAddressRules),
                         ),
-                        Under("address", OrderAddressRules),
+                        Member(
+                            "lines",
+                            ListUnder(Is(length!(min = 1, max = 50)), line_form),
+                        ),
                     ),
-                    Member(
-                        "lines",
-                        ListUnder(Is(length!(min = 1, max = 50)), line_form),
-                    ),
+                    Under("lines", OrderLinesRules),
                 ),
-                Under("lines", OrderLinesRules),
-            ),
-        ))),
-        PhantomData::<&Order<'_>>,
-    );
-    let page_form = Built(
-        Object(Closed((
-            Member("number", Whole(U32, Is(range!(min = 1)))),
-            Member("entries", ListUnder(Is(length!(max = 20)), order_form)),
-        ))),
-        PhantomData::<&Page<'_>>,
-    );
-    match read_json_first(alloc, bytes, scratch, &page_form, most, h) {
-        Ok(value) => Ok(Valid::known(value, &())),
-        Err(error) => Err(error),
+            ))),
+            PhantomData::<&Order<'_>>,
+        );
+        let page_form = Built(
+            Object(Closed((
+                Member("number", Whole(U32, Is(range!(min = 1)))),
+                Member("entries", ListUnder(Is(length!(max = 20)), order_form)),
+            ))),
+            PhantomData::<&Page<'_>>,
+        );
+        match read_json_first(alloc, bytes, scratch, &page_form, most, h) {
+            Ok(value) => Ok(Valid::known(value, &()).into_inner()),
+            Err(error) => Err(error),
+        }
     }
 }
