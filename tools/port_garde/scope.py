@@ -207,13 +207,13 @@ class Conditions:
         place, asked = it.parts[0], it.value
         code, spec, kind = self.scope.place(place.value, it.line)
         code = code.lstrip("*")
-        if kind is not None and is_text(kind) and asked.kind == "text":
-            return self.part_of_text(code, spec, kind, asked)
+        if kind is not None and is_path(kind, "TextRef") and asked.kind == "text":
+            return self.part_of_text(code, spec, asked)
         held = kind.args[0] if kind is not None and is_path(kind, "Vec", "Items") and kind.args else None
         texts = held is not None and is_path(held, "TextRef") and asked.kind == "text"
         if not texts and not (held is not None and is_path(held, *UNSIGNED) and asked.kind == "number" and asked.value >= 0):
             told = f"`contains` of `{'.'.join(place.value)}`"
-            raise Refusal(it.line, f"{told}: it is written of a text, of a list of texts that a form reads, and of a list of numbers without a sign")
+            raise Refusal(it.line, f"{told}: it is written of texts and lists of texts that a form reads, and of lists of numbers without a sign")
         self.uses.paths.add("Rattle.garde.specs.Firsts.{includes}")
         self.uses.fields |= {"includes", "Equal"}
         self.uses.words |= {"text_eq", "codes"} if texts else {"nat_eq"} | ({"slice"} if kind.name == "Vec" else set())
@@ -222,14 +222,11 @@ class Conditions:
         item, same, stated = (f'&TextRef::new("{asked.value}")', "text_eq", f'(codes "{asked.value}")') if texts else (f"&{asked.value}", "nat_eq", asked.value)
         return f"includes({code}.as_slice(), &Equal, {item})", f"(includes {same} {listed} {stated})"
 
-    def part_of_text(self, code, spec, kind, asked):
-        """Whether a text has this part."""
-        if not is_path(kind, "String", "TextRef"):
-            raise Refusal(asked.line, "`contains` of a text that is neither a `String` nor read by a form")
+    def part_of_text(self, code, spec, asked):
+        """Whether a text that a form reads has this part."""
         self.uses.paths.add("Rattle.garde.specs.Words.{has_part}")
-        self.uses.words |= {"codes"} | ({"str"} if kind.name == "String" else set())
+        self.uses.words.add("codes")
         self.uses.others.add("garde::rules::contains")
-        spec = f"(str {spec})" if kind.name == "String" else spec
         return f'contains::Contains::validate_contains({code}, "{asked.value}")', f'(has_part (codes "{asked.value}") {spec})'
 
     def comparison(self, it):

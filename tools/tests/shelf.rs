@@ -61,12 +61,3 @@ pub struct Note {
     #[garde(if(cond = self.places.contains(3), ascii))]
     pub text: String,
 }
-
-/// A mark on it.
-#[derive(Validate)]
-pub struct Mark {
-    #[garde(skip)]
-    pub kind: String,
-    #[garde(if(cond = self.kind.contains("new"), ascii))]
-    pub text: String,
-}

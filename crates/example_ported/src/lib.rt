@@ -15,7 +15,6 @@ pub mod guest;
 pub mod label;
 pub mod own;
 pub mod page;
-pub mod paid;
 pub mod pair;
 pub mod parcel;
 pub mod place;

@@ -1,13 +1,11 @@
 //! Rules that the Rust crate does not have, and conditions on enums and texts, in a walk.
 ghost use Rattle.garde.specs.Firsts.{includes};
-ghost use Rattle.garde.specs.Words.{has_part};
-ghost use Rattle.garde.specs.Fields.{◌and◌, ascii, at_least, at_most, between, Bool, codes, each, false, field, if_some, is, items, minus, multiple_of, nat_eq, not, plus, range, required, signed_multiple_of, signed_range, slice, str, text_eq, text_is, true, unique, when};
+ghost use Rattle.garde.specs.Fields.{◌and◌, ascii, at_least, at_most, between, Bool, each, false, field, if_some, is, items, minus, multiple_of, nat_eq, not, plus, range, required, signed_multiple_of, signed_range, slice, str, text_eq, text_is, true, unique, when};
 ghost use Rattle.example_ported.specs.declared.shelf.Room.TheVariants.{Cold, Dry, Open};
 
 use garde::fields::{
     Ascii, Each, Equal, Field, Fields, IfSome, Is, MultipleOf, Required, Unique, When, includes,
 };
-use garde::rules::contains;
 use garde::{I18n, Report, Stated, Trail, Validate, length, range};
 use std::alloc::{AllocError, Global};
 
@@ -208,42 +206,6 @@ impl Validate for Note {
             "text",
             text,
             When(includes(places.as_slice(), &Equal, &3), Is(Ascii)),
-        )
-        .visit(alloc, trail, report, h)
-    }
-}
-
-/// A mark on it.
-#[derive(Drop)]
-pub struct Mark {
-    pub kind: String,
-    pub text: String,
-}
-
-impl Stated for Mark {
-    type Context = ();
-
-    ghost visits = { λ v _.
-        field "text" (when (has_part (codes "new") (str v.kind)) (is (ascii (str v.text)))) };
-}
-
-impl Validate for Mark {
-    fn validate_into<'a, H: I18n>(
-        &'a self,
-        alloc: Global,
-        _ctx: &(),
-        trail: &mut Trail<'a>,
-        report: &mut Report,
-        h: &H,
-    ) -> Result<(), AllocError> {
-        let Self { kind, text } = self;
-        Field(
-            "text",
-            text,
-            When(
-                contains::Contains::validate_contains(kind, "new"),
-                Is(Ascii),
-            ),
         )
         .visit(alloc, trail, report, h)
     }

@@ -46,9 +46,9 @@ pub struct Bad {
     pub guard: u8,
     #[garde(if(cond = self.flag == "x", range(max = 3)))] //~ a comparison of `self.flag` with a text, which is neither a `String` nor a `&str` nor read by a form
     pub text: u8,
-    #[garde(if(cond = self.name.contains(3), range(max = 3)))] //~ `contains` of `self.name`: it is written of a text, of a list of texts that a form reads, and of a list of numbers without a sign
+    #[garde(if(cond = self.name.contains(3), range(max = 3)))] //~ `contains` of `self.name`: it is written of texts and lists of texts that a form reads, and of lists of numbers without a sign
     pub number: u8,
-    #[garde(if(cond = self.set.contains("x"), range(max = 3)))] //~ `contains` of `self.set`: it is written of a text, of a list of texts that a form reads, and of a list of numbers without a sign
+    #[garde(if(cond = self.set.contains("x"), range(max = 3)))] //~ `contains` of `self.set`: it is written of texts and lists of texts that a form reads, and of lists of numbers without a sign
     pub within: u8,
     #[garde(if(cond = self.name.contains(self.name), range(max = 3)))] //~ `contains` of what is neither a text in quotes nor a number
     pub itself: u8,

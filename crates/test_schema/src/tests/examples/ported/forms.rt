@@ -2,7 +2,6 @@
 use example_ported::basket::{read_basket, read_marks};
 use example_ported::bill::read_bill;
 use example_ported::folder::read_disk;
-use example_ported::paid::read_paid;
 use example_ported::parcel::read_parcel;
 use garde::DefaultI18n;
 use garde_schema::Scratch;
@@ -16,7 +15,6 @@ enum Of {
     Bill,
     Disk,
     Marks,
-    Paid,
     Parcel,
 }
 
@@ -31,23 +29,6 @@ const ROWS: &[(Of, &str, &str)] = &[
         "{\"label\":1,\"top\":[{\"name\":\"\",\"size\":1001,\"folders\":[{\"name\":\"b\",\"size\":9,\"folders\":[],\"note\":\"abcd\",\"x\":0}],\"note\":\"abcd\"}]}",
         "label: not a text\ntop[0].name: length is lower than 1\ntop[0].size: greater than 1000\ntop[0].note: length is greater than 3\ntop[0].folders[0].note: length is greater than 3\ntop[0].folders[0].x: not known here\n",
     ),
-    (
-        Of::Paid,
-        "{\"by\":\"card\",\"number\":\"1234\",\"again\":\"1234\",\"value\":7}",
-        "Valid(Card { number: TextRef(\"1234\"), again: TextRef(\"1234\"), value: 7 })",
-    ),
-    (
-        Of::Paid,
-        "{\"by\":\"card\",\"number\":\"123\",\"again\":\"1234\",\"value\":true,\"days\":1}",
-        "number: length is lower than 4\nagain: does not match number field\nvalue: not a whole number\ndays: not known here\n",
-    ),
-    (Of::Paid, "{\"by\":\"bill\",\"days\":4}", "to: not set\n"),
-    (
-        Of::Paid,
-        "{\"by\":\"bill\",\"days\":3}",
-        "Valid(Bill { to: None, days: 3 })",
-    ),
-    (Of::Paid, "{\"by\":\"cash\"}", "Valid(Cash)"),
     (
         Of::Basket,
         "{\"customer\":\"Ann\",\"payment\":\"card\",\"billTo\":\"12 Street\",\"entries\":[{\"code\":\"P1\",\"pieces\":6,\"gifts\":6}],\"again\":\"Ann\"}",
@@ -137,7 +118,6 @@ fn told(alloc: Global, of: Of, body: &[u8]) -> Result<String, AllocError> {
         Of::Bill => told_of(alloc, &read_bill(alloc, body, &mut scratch, &DefaultI18n)),
         Of::Disk => told_of(alloc, &read_disk(alloc, body, &mut scratch, &DefaultI18n)),
         Of::Marks => told_of(alloc, &read_marks(alloc, body, &mut scratch, &DefaultI18n)),
-        Of::Paid => told_of(alloc, &read_paid(alloc, body, &mut scratch, &DefaultI18n)),
         Of::Parcel => told_of(alloc, &read_parcel(alloc, body, &mut scratch, &DefaultI18n)),
     }
 }
