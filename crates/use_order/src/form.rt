@@ -1,4 +1,10 @@
 //! The form of a page of orders in JSON.
+ghost use Rattle.std.specs.Prelude.{◌≡◌, Some, IfOk};
+ghost use Rattle.garde_tape.specs.Input.{without_mark};
+ghost use Rattle.garde_schema.specs.Bytes.{OfDocument};
+ghost use Rattle.garde_schema.specs.FirstRead.{AnswersFirstBytes};
+ghost use Rattle.garde_schema.specs.Forms.{forget};
+ghost use Rattle.use_order.specs.Page.{page};
 
 use crate::line::Line;
 use crate::order::{AddressByPost, Delivery, FewAtTheCounter, Order};
@@ -27,7 +33,12 @@ pub fn read_orders<'a, H: I18n + FormI18n>(
     scratch: &'a mut Scratch,
     most: usize,
     h: &H,
-) -> Result<Valid<Page<Order<'a>>>, FirstReadError> {
+) -> Result<Valid<Page<Order<'a>>>, FirstReadError>
+    ensures answer { AnswersFirstBytes (λ j. page.visits (H.form_text h.now) j) (H.text h.now)
+        most (without_mark bytes.now) (forget result) }
+    ensures value { IfOk result (λ orders. OfDocument (without_mark bytes.now)
+        (λ j. page.value j ≡ Some (orders.number, orders.entries))) }
+{
     let line = Built(
         Object(Closed((
             Member("code", Text(Is(Prefix("P")))),
