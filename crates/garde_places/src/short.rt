@@ -50,11 +50,7 @@ fn escaped(alloc: Global, text: &str) -> Result<String, AllocError>
 }
 
 // Writes the name of a file.
-fn write_file<W: fmt::Write>(
-    alloc: Global,
-    file: &str,
-    f: &mut fmt::Formatter<W>,
-) -> fmt::Result
+fn write_file<W: fmt::Write>(alloc: Global, file: &str, f: &mut fmt::Formatter<W>) -> fmt::Result
     ensures { WritesOnOk W.write_str_gives f.old result (file_text file.now) f.new }
 {
     let shown = escaped(alloc, file)?;

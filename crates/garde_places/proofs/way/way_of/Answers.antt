@@ -19,6 +19,6 @@ loop-component-preserved c = (
     ap length c.push_reserved.ensures.items,
     length-append c.loop-component.way.items (c.in-Some.component ∷ []),
     ap length c.in-Some.ensures.steps,
-    length-append c.next_back.new.self (item_part c.in-Some.component ∷ [])
+    length-append c.next_back.new.self (item_part c.in-Some.component ∷ []),
   ),
 )

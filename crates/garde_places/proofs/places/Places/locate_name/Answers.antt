@@ -20,7 +20,7 @@ returns-in_default-clause-place c j e =
     inr (
       root,
       subst (λ t. IsPlaceOf t [] j c.place_at_token.result) c.self.view_is
-      (subst (IsPlaceOf text [] j) (sym same) (located text j read [] a.spots.items text_start c.self.invariant.places)),
+          (subst (IsPlaceOf text [] j) (sym same) (located text j read [] a.spots.items text_start c.self.invariant.places)),
     )
 
 pub returns-clause-place : goal.returns-clause-place
@@ -43,5 +43,5 @@ returns-clause-place c j e =
       item_part c.in-Some.last.now,
       whole,
       subst (λ t. IsNamePlaceOf t before name j c.place_at_token-2.result) c.self.view_is
-      (subst (IsNamePlaceOf text before name j) (sym same) (located_name text j read before name a.spots.items text_start c.self.invariant.places)),
+          (subst (IsNamePlaceOf text before name j) (sym same) (located_name text j read before name a.spots.items text_start c.self.invariant.places)),
     )
