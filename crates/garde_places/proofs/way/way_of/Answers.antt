@@ -1,7 +1,6 @@
 use Rattle.std.proofs.Common.{◌++◌, [], ◌∷◌, map, reverse, sym, ap, ◌∙◌, append_assoc, arith, length, length-append}
-use Rattle.std.proofs.lemmas.List.{map-append}
+use Rattle.std.proofs.lemmas.List.{reverse-append, map-append}
 use Rattle.garde_report.specs.Part.{item_part}
-use Rattle.garde_problem.proofs.Backwards.{turned_more}
 use Rattle.garde_places.proofs.way.way_of.Goals as goal
 
 -- one component more is taken, and one less is left
@@ -10,7 +9,7 @@ loop-component-preserved c = (
   ap (λ xs. map item_part xs ++ reverse c.next_back.new.self) c.push_reserved.ensures.items
       ∙ ap (λ xs. xs ++ reverse c.next_back.new.self) (map-append item_part c.loop-component.way.items (c.in-Some.component ∷ []))
       ∙ append_assoc (map item_part c.loop-component.way.items) (item_part c.in-Some.component ∷ []) (reverse c.next_back.new.self)
-      ∙ ap (λ ps. map item_part c.loop-component.way.items ++ ps) (sym (turned_more _ _ _ c.in-Some.ensures.steps))
+      ∙ ap (λ ps. map item_part c.loop-component.way.items ++ ps) (sym (ap reverse c.in-Some.ensures.steps ∙ reverse-append c.next_back.new.self (item_part c.in-Some.component ∷ [])))
       ∙ c.loop-component.invariant.0,
   omega (
     arith,
