@@ -21,10 +21,10 @@ returns-then-eq-4 c h =
             | else-len-eq5 w0 ↦ (
                 let five : (c.len.result == 5) ≡ true = sym w0.value-is ∙ w1.if-eq.true in
                 absurd (grind (arith, nat_tests, five, w0.if-len-eq5.false)))
-            ]
-          | else-eq w1 ↦ absurd (true≢false (sym w2.if-eq-2.true ∙ w1.value-is ∙ w1.if-eq.false))
           ]
-        | else-eq-2 w2 ↦ absurd (true≢false (sym w3.if-eq-3.true ∙ w2.value-is ∙ w2.if-eq-2.false))
+          | else-eq w1 ↦ absurd (true≢false (sym w2.if-eq-2.true ∙ w1.value-is ∙ w1.if-eq.false))
         ]
+        | else-eq-2 w2 ↦ absurd (true≢false (sym w3.if-eq-3.true ∙ w2.value-is ∙ w2.if-eq-2.false))
+      ]
       | else-eq-3 w3 ↦ absurd (true≢false (sym c.if-eq-4.true ∙ w3.value-is ∙ w3.if-eq-3.false))
     ]

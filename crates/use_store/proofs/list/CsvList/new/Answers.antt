@@ -10,7 +10,7 @@ pub returns-in-Row : goal.returns-in-Row
 returns-in-Row g c =
     let start = c.in_ok-records.records in
     let P : List (List ℕ) → Next → Type 0 = λ fields answer.
-        GivesNext (rest_of g.R.Read.remaining start) (rest_of g.R.Read.remaining c.read.new.self) start c.read.new.self fields answer in
+    GivesNext (rest_of g.R.Read.remaining start) (rest_of g.R.Read.remaining c.read.new.self) start c.read.new.self fields answer in
     let named : fields_of c.read.new.cells ≡ columns = c.has_columns.ensures c.if-has_columns.true in
     record {
       start = start;
