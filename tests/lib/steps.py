@@ -14,7 +14,7 @@ from lib.repository import ROOT
 
 # the steps that need no prover
 QUICK = (
-    "tests/documents", "tests/sources", "tests/words", "tests/layout", "tests/promises", "tests/ported", "tests/vendored",
+    "tests/documents", "tests/sources", "tests/words", "tests/layout", "tests/promises", "tests/languages", "tests/ported", "tests/vendored",
     "tests/bind", "tests/why", "tests/why-finds", "tests/random-finds", "tests/finds",
 )
 COUNTS = re.compile(r"(?:[\w-]+: )?(\d+) passed, (\d+) failed$")
