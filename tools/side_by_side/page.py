@@ -8,6 +8,7 @@ HEAD = "docs/reference/languages/head.md"
 CRATE = "crates/garde_catalog/src/"
 ENTRY = re.compile(r'\(\s*Key::(\w+),\s*"((?:[^"\\]|\\.)*)",?\s*\)')
 KEY = re.compile(r"^    /// (.*)\n    (\w+),$", re.MULTILINE)
+PARAM = re.compile(r'Key::(\w+) => "(\w+)"')
 OFFERED = re.compile(r'tagged\("([\w-]+)", &(\w+)\)')
 TABLE = re.compile(r"pub static (\w+):")
 
@@ -16,6 +17,14 @@ def keys():
     """The keys in their order, each with what it says."""
     source = repository.text_of(CRATE + "key.rt").partition("pub enum Key {")[2].partition("\n}\n")[0]
     return [(name, said) for said, name in KEY.findall(source)]
+
+
+def params():
+    """The parameters of each key that has any."""
+    found = {}
+    for key, name in PARAM.findall(repository.text_of(CRATE + "key.rt")):
+        found.setdefault(key, set()).add(name)
+    return found
 
 
 def offered():
