@@ -163,7 +163,7 @@ pub(crate) fn read_template<'t>(
 
 // Appends a value.
 fn push_value(whole: &mut String, value: Value<'_>) -> Result<(), AllocError>
-    ensures { OnOk result (string_bytes whole.new ≡ string_bytes whole.old ++ value_text value) }
+    ensures { OnOk result (string_bytes whole.new ≡ string_bytes whole.old ++ value_text value.entry) }
 {
     match value {
         Value::Text(text) => whole.push_str(text)?,
