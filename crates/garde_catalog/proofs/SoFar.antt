@@ -43,7 +43,7 @@ abbrev pub no_tag : Bor (List ℕ)
 no_tag = record { ref_ptr = (0, 0); now = [] }
 
 abbrev pub no_language : Language
-no_language = record { tag = no_tag; table = record { ref_ptr = ((0, 0), 0); now = [] } }
+no_language = record { tag = no_tag; table = record { ref_ptr = (0, 0); now = [] } }
 
 abbrev pub no_range : Range
 no_range = record { tag = no_tag; weight = 0 }
