@@ -1,5 +1,5 @@
 -- A text that is read piece by piece.
-use Rattle.std.proofs.Common.{◌≡◌, ◌≢◌, ◌++◌, ◌∷◌, ◌∙◌, ◌<◌, ℕ, List, [], All, Bool, true, false, ◌||◌, ◌&&◌, IsTrue, bytes_eq, length, get_or, refl, sym, ap, subst, append_assoc, append-nil, arith}
+use Rattle.std.proofs.Common.{suc, ◌≡◌, ◌≢◌, ◌++◌, ◌∷◌, ◌∙◌, ◌<◌, ℕ, List, [], All, Bool, true, false, ◌||◌, ◌&&◌, IsTrue, bytes_eq, length, get_or, refl, sym, ap, subst, append_assoc, append-nil, arith}
 use Rattle.std.specs.List.{list_any, list_all}
 use Rattle.std.proofs.lemmas.Grind.{flat_map-append}
 use Rattle.std.proofs.lemmas.List.Elements.{All-from_get_or, All-nil, All-push}
