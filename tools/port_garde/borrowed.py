@@ -3,6 +3,7 @@ borrow from the input; and what of them no form reads."""
 from dataclasses import replace
 
 from .derives import CASES, SERDE, literal_function, named_function, options, type_names
+from .groups import others_of, own_rules, shared_rules
 from .names import of_field, of_variant, others_of_variant
 from .scope import SIGNED, UNSIGNED, is_option, is_path, is_text
 from .source import Param, Type, all_rules, is_ported
@@ -33,15 +34,24 @@ def is_named(item):
 def fields_of(item):
     return [it for variant in item.variants for it in variant.fields]
 
-# what a rule of a list or a map is told, and `inner` of a map
-OF_LISTS = (", which `--schema` does not write", ", which `--schema` does not write: the form of the values stands within `MapUnder(.., HERE)`, by hand")
+
+# The rules of lists and of maps that a form asks, and those that `--body` states.
+OF_LISTS = {True: ("inner", "dive", "length", "unique", "custom"), False: ("inner", "length", "keys", "custom")}
+STATED = {True: ("inner", "dive", "length"), False: ("length",)}
+
+
+def below(item):
+    """The field of a struct that holds a list of values of the struct's own type, or nothing."""
+    held = [it for it in fields_of(item) if item.name in type_names(it.type)]
+    is_list = len(held) == 1 and is_path(held[0].type, "Vec") and is_path(held[0].type.args[0], item.name)
+    return held[0] if is_list and item.kind == "struct" and item.variants[0].shape == "named" and fields_of(item)[1:] else None
 
 
 class Borrowed:
-    """The types of a source."""
+    """The types of a source. Those that `is_walked` names have a walk too, and `is_stated` says that `--body` states them."""
 
-    def __init__(self, source, left_out):
-        self.source, self.left_out = source, left_out
+    def __init__(self, source, left_out, is_stated=False, is_walked=False):
+        self.source, self.left_out, self.is_stated, self.is_walked = source, left_out, is_stated, is_walked
         self.items = {it.name: it for it in source.items if is_read(it)}
         self.borrowing = self.found_borrowing()
 
@@ -117,7 +127,21 @@ class Borrowed:
             for it in variant.fields:
                 yield from self.of_field(it, item)
         if self.holds_itself(item, item, ()):
-            yield item.line, f"`{item.name}`, whose values hold values of its own type"
+            yield from self.of_nested(item)
+        elif is_ported(item):
+            nested = [it for it in fields_of(item) for name in type_names(it.type) if name in self.items and below(self.items[name])]
+            yield from ((it.line, f"the field `{it.name}` of a type that holds itself, whose rules `{item.name}` cannot state: take `Validate` out of its derives") for it in nested)
+
+    def of_nested(self, item):
+        """What a form wants of a type that holds itself."""
+        held, others = below(item), [it for it in fields_of(item) if self.items.get(it.type.name) is not item]
+        if held is None or any(self.holds_itself(self.items[name], item, ()) for it in others if it is not held for name in type_names(it.type) if name in self.items):
+            yield item.line, f"`{item.name}`, whose values hold values of its own type otherwise than in one list, beside other fields"
+            return
+        if any(rule.name != "dive" for rule in held.attributes.rules) or any(held.name in others_of(rule) for it in fields_of(item) for rule in it.attributes.rules):
+            yield held.line, f"the field `{held.name}` of a type that holds itself, with more than `dive`"
+        if self.is_walked or self.is_stated:
+            yield item.line, f"`{item.name}`, which holds itself: it has no walk, so say `--schema --no-walk`"
 
     def of_serde(self, item):
         """The attributes of serde that no form has."""
@@ -191,22 +215,29 @@ class Borrowed:
         """What no form of a field asks or reads."""
         if it.name in RESERVED:
             yield it.line, f"the field `{it.name}`, whose name is a word of the statements"
-        for rule in all_rules(it.attributes.rules):
-            if rule.name == "matches" or any(it.value[0] == "self" for it in places_of(rule)):
-                yield rule.line, f"`{rule.name}` with another field, which the form of one member does not see: write it by `Checked` and `Under`, by hand, as `use_signup` does"
-            if rule.name == "pattern":
-                yield rule.line, "`pattern`, which stands in a context: the form of `--schema` has none"
+        yield from self.of_rules(it)
         if it.attributes.adapter:
             yield it.line, "`adapt`, of which `--schema` writes no form"
         try:
             self.default(it, item)
         except Refusal as refusal:
             yield refusal.line, refusal.reason
-        yield from self.of_lists(it.type, it.attributes.rules)
+        yield from self.of_lists(it.type, own_rules(it))
         yield from ((it.line, f"{told}, which no form of `--schema` reads") for told in sorted(set(self.unread(it.type, item))))
         held = self.items.get(it.type.name)
-        if held is not None and is_ported(held) and asks(held) and not any(rule.name == "dive" for rule in all_rules(it.attributes.rules)):
+        if held is not None and held is not item and is_ported(held) and asks(held) and not below(held) and not any(rule.name == "dive" for rule in all_rules(it.attributes.rules)):
             yield it.line, f"the field `{it.name}` of the type `{held.name}`, whose rules its form asks: write `dive`"
+
+    def of_rules(self, it):
+        """The rules of a field that no form asks, or that `--body` does not state."""
+        for rule in all_rules(shared_rules(it)):
+            if rule.name == "dive":
+                yield rule.line, "`dive` under a condition, which a form cannot leave out"
+        for rule in all_rules(it.attributes.rules):
+            if rule.name == "pattern":
+                yield rule.line, "`pattern`, which stands in a context: the form of `--schema` has none"
+        if self.is_stated and is_option(it.type):
+            yield from ((rule.line, "`custom` of an option, which `--body` does not state") for rule in of_whole(own_rules(it)) if rule.name == "custom")
 
     def default(self, it, item):
         """The value that stands for a missing member, as code, or nothing."""
@@ -234,10 +265,10 @@ class Borrowed:
         if is_option(kind):
             yield from self.of_lists(kind.args[0], within_option(rules))
         elif is_path(kind, "Vec") or is_map(kind):
-            inside = ("inner", "dive") if kind.name == "Vec" else ()
+            is_list = kind.name == "Vec"
             for it in rules:
-                if it.name not in inside and (it.name != "length" or it.mode != "simple"):
-                    yield it.line, f"`{it.name}` of a {'list' if inside else 'map'}{OF_LISTS[it.name == 'inner']}"
+                if it.name not in (STATED if self.is_stated else OF_LISTS)[is_list] or it.name == "length" and it.mode != "simple":
+                    yield it.line, f"`{it.name}` of a {'list' if is_list else 'map'}, which `--{'body' if self.is_stated else 'schema'}` does not write"
             within = [found for it in rules if it.name == "inner" for found in it.rules]
             yield from self.of_lists(kind.args[-1], within)
 
@@ -261,9 +292,15 @@ class Borrowed:
         return False
 
 
+def of_whole(rules):
+    """The rules that are asked of an option as a whole."""
+    return [it for it in rules if it.name in ("required", "custom")]
+
+
 def within_option(rules):
     """The rules of what an option holds."""
-    return [found for it in rules if it.name != "required" for found in (it.rules if it.name == "inner" else [it])]
+    whole = of_whole(rules)
+    return [found for it in rules if it not in whole for found in (it.rules if it.name == "inner" else [it])]
 
 
 def is_map(kind):
@@ -273,13 +310,3 @@ def is_map(kind):
 def asks(item):
     """Whether something is asked of a type's fields."""
     return any(it.attributes.rules for it in fields_of(item))
-
-
-def places_of(rule):
-    """The places that a rule speaks of."""
-    return [found for it in (rule.place, *rule.bounds.values()) if it is not None for found in places_in(it)]
-
-
-def places_in(expression):
-    found = [expression] if expression.kind == "place" else []
-    return found + [it for part in expression.parts for it in places_in(part)]

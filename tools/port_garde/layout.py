@@ -15,6 +15,14 @@ class Word:
 
 
 @dataclass(frozen=True)
+class Chain:
+    """Conditions that are joined by `&&`, or by `||`."""
+
+    mark: str
+    parts: tuple
+
+
+@dataclass(frozen=True)
 class Call:
     """A call, a constructor or its pattern, or, with an empty head, a tuple."""
 
@@ -74,6 +82,8 @@ def flat(tree):
     """The code on one line."""
     if isinstance(tree, Word):
         return tree.text
+    if isinstance(tree, Chain):
+        return f" {tree.mark} ".join(tree.parts)
     if isinstance(tree, Lent):
         return f"&{flat(tree.part)}"
     if isinstance(tree, Method):
@@ -97,7 +107,7 @@ def fields_of(literal):
 
 def may_be_flat(tree):
     """Whether nothing in the code is too wide for one line."""
-    if isinstance(tree, Word):
+    if isinstance(tree, (Word, Chain)):
         return True
     if isinstance(tree, Lent):
         return may_be_flat(tree.part)
@@ -114,6 +124,8 @@ def lay(tree, column, indent, after=0):
         return flat(tree)
     if isinstance(tree, Word):
         return tree.text
+    if isinstance(tree, Chain):
+        return f"\n{' ' * (indent + 4)}{tree.mark} ".join(tree.parts)
     if isinstance(tree, Lent):
         return "&" + lay(tree.part, column + 1, indent, after)
     if isinstance(tree, Method):

@@ -1,8 +1,30 @@
 """How values are made: what `Built` makes a value of a type of."""
 import textwrap
+from dataclasses import replace
 
+from .borrowed import below
+from .groups import filled, grouped
 from .layout import WIDTH, Angles, Call, Literal, Word, arm, call, statement
 
+NESTED = """/// A value of the type `{name}` is made of what its form reads, and of such values.
+impl{life} FromNested for {made} {{
+{own}
+
+    ghost builds = {{ λ own below.
+        roll-{name} (record {{ {rows} }}) }};
+
+    ghost parts_of = {{ λ v.
+        {parts} }};
+
+    fn from_nested(own: Self::Own, below: Items<Self>) -> Self
+        ensures {{ result ≡ roll-{name}
+            (record {{ {clauses} }}) }}
+    {{
+{body}
+    }}
+
+    ghost kept = {{ λ _ _. Prim.search (rules, the_lemmas) }};
+}}"""
 MAKER = """/// A value of the type `{name}` is made of what its form reads.
 impl{life} FromParts for {made} {{
 {parts}
@@ -17,12 +39,6 @@ impl{life} FromParts for {made} {{
 {body}
     }}
 }}"""
-MOST = 6
-
-
-def nested(parts, most=MOST):
-    """Parts as `together` nests them: all in a row, or the rest in the last."""
-    return list(parts) if len(parts) <= most else [*parts[: most - 1], nested(parts[most - 1 :], most)]
 
 
 def places(parts, name):
@@ -113,9 +129,11 @@ class Makers:
 
     def text(self, item):
         """How a value of a type is made."""
+        self.writer.item = item
+        if self.writer.is_nested(item):
+            return self.nested(item)
         self.schema.use("FromParts")
         self.writer.uses.prelude.add("refl")
-        self.writer.item = item
         halves = self.of_enum(item) if item.kind == "enum" else self.of_struct(item)
         parts, builds, parts_of, kept, body = halves
         written = statement(parts, 4, "type Parts = ", ";")
@@ -124,16 +142,41 @@ class Makers:
             kept=kept, body=body,
         )
 
+    def nested(self, item):
+        """How a value of a type that holds itself is made."""
+        self.schema.use("FromNested")
+        self.writer.uses.prelude.add("◌≡◌")
+        self.writer.uses.paths.add("Rattle.std.proofs.Common.{rules}")
+        held, variant = below(self.schema.items[item.name]).name, item.variants[0]
+        own = replace(variant, fields=tuple(it for it in variant.fields if it.name != held))
+        names = [it.name for it in own.fields]
+
+        def rows(whole, rest):
+            return "; ".join(f"{name} = {place}" for name, place in [*zip(names, places(self.tree(own, names), whole)), (held, rest)])
+
+        taken = [statement(wide(tuple_of(self.tree(own, names))), 8, "let ", " = own;")]
+        made = tuple((it.name, Word("below" if it.name == held and held != "below" else it.name)) for it in variant.fields)
+        given = tuple_text(self.tree(own, [f"(out-{item.name} v).{it}" for it in names]))
+        return NESTED.format(
+            name=item.name, life=self.life(item), made=self.type_name(item), own=statement(self.types(own), 4, "type Own = ", ";"),
+            rows=rows("own", "below"), parts=f"({given}, (out-{item.name} v).{held})", clauses=rows("own.entry", "below.entry"),
+            body="\n".join([*taken, statement(Literal(item.name, made), 8)]),
+        )
+
     def types(self, variant):
         """The types of the parts of a variant."""
-        return tuple_of(nested([self.writer.type_text(it.type) for it in variant.fields])) if variant.fields else Word("()")
+        return tuple_of(self.tree(variant, [self.writer.type_text(it.type) for it in variant.fields])) if variant.fields else Word("()")
+
+    def tree(self, variant, values):
+        """These values, one for each field, as the form of the fields nests what it reads."""
+        return filled(grouped(variant.fields), values)
 
     def of_struct(self, item):
         variant = item.variants[0]
         names = [it.name or str(at) for at, it in enumerate(variant.fields)]
-        rows = [f"{name} = {place}" for name, place in zip(names, places(nested(names), "parts"))]
+        rows = [f"{name} = {place}" for name, place in zip(names, places(self.tree(variant, names), "parts"))]
         builds = ghost("builds", "λ parts. record", "{ " + "; ".join(rows) + " }", [f"{it};" for it in rows])
-        given = tuple_text(nested([f"v.{it}" for it in names]))
+        given = tuple_text(self.tree(variant, [f"v.{it}" for it in names]))
         parts_of = wrapped("parts_of", "λ v.", given)
         return self.types(variant), builds, parts_of, "    ghost kept = { λ _. refl };", self.body(item, variant)
 
@@ -144,7 +187,7 @@ class Makers:
             return f"        {item.name}(parts)"
         if len(names) == 1:
             return statement(Literal(item.name, ((names[0], Word("parts")),)), 8)
-        taken = statement(wide(tuple_of(nested(names))), 8, "let ", " = parts;")
+        taken = statement(wide(tuple_of(self.tree(variant, names))), 8, "let ", " = parts;")
         return taken + "\n" + statement(Literal(item.name, tuple((it, Word(it)) for it in names)), 8)
 
     def of_enum(self, item):
@@ -158,9 +201,9 @@ class Makers:
         builds, parts_of, kept, arms = [], [], [], []
         for at, it in enumerate(variants):
             names = [field.name or "value" for field in it.fields]
-            values = places(nested(names), "parts") if names else []
+            values = places(self.tree(it, names), "parts") if names else []
             builds.append(f"{side(at, count, 'parts' if names else '_')} ↦ {' '.join([it.name, *values])}")
-            given = tuple_text(nested(names)) if names else "tt"
+            given = tuple_text(self.tree(it, names)) if names else "tt"
             parts_of.append(f"{' '.join([it.name, *names])} ↦ {side(at, count, given)}")
             kept.append(f"{side(at, count, '_')} ↦ refl")
             arms.append(self.arm(item, it, at, count, names))
@@ -168,8 +211,12 @@ class Makers:
         return (types, *cases, "\n".join(["        match parts {", *arms, "        }"]))
 
     def arm(self, item, variant, at, count, names):
-        """The arm that makes a variant."""
-        taken = wide(tuple_of(nested(names))) if names else Word("()")
+        """The arm that makes a variant. The borrow checker takes no parts of parts out of a variant, so such are bound in the arm."""
+        tree = self.tree(variant, names) if names else []
+        taken = wide(tuple_of(tree)) if names else Word("()")
         path = f"{item.name}::{variant.name}"
         made = Literal(path, tuple((it, Word(it)) for it in names)) if variant.shape == "named" else call(path, *names) if names else Word(path)
+        if any(isinstance(it, list) for it in tree):
+            head = statement(side_pattern(at, count, Word("parts")), 12, "", " => {")
+            return "\n".join([head, statement(taken, 16, "let ", " = parts;"), statement(made, 16), "            }"])
         return arm(side_pattern(at, count, taken), made, 12)

@@ -12,13 +12,16 @@ NO_PORT = {
     "credit_card": "the rule `credit_card` is not ported: give the number a type of its own that implements `CreditCard`",
     "phone_number": "the rule `phone_number` is not ported: give the number a type of its own that implements `PhoneNumber`",
 }
+# Rules that the Rust crate does not have, within `custom`.
+OURS = ("unique", "keys", "multiple_of")
 ABOUT_TYPES = ("context", "allow_unvalidated", "transparent")
 
 
 @dataclass(frozen=True)
 class Expression:
-    """An expression. Its kind: `number` with its value, `bool`, `unit`, `place` with its names, `not`, `and`, `or` with its
-    parts, a comparison with its operator as kind, `call` of a method without arguments, with its place and its name."""
+    """An expression. Its kind: `number` with its value, `bool`, `unit`, `place` with its names, `path` with its names, `text`,
+    `minus`, `not`, `and`, `or` with its parts, a comparison with its operator as kind, `call` of a method without arguments, with its place
+    and its name, `contains` with its place and what is asked for, `matches` with its place and the paths of variants."""
 
     kind: str
     line: int
@@ -197,7 +200,27 @@ def read_custom(tokens, line):
     """Reads the path of a function, or a closure as it stands."""
     if tokens.opens("|") or tokens.sees("||") or tokens.sees("move"):
         return Rule("custom", line, source=tokens.source())
+    if tokens.first.text in OURS and tokens.tokens[tokens.at + 1].text != "::":
+        return read_ours(tokens, line)
     return Rule("custom", line, text="::".join(read_names(tokens, "custom")))
+
+
+def read_ours(tokens, line):
+    """Reads a rule that the Rust crate does not have: `unique` with its message, `keys` with rules, `multiple_of` with a number."""
+    word = tokens.take().text
+    if word == "unique" and tokens.ended():
+        return Rule(word, line, text="stands before")
+    inside = argument(tokens, word)
+    if word == "unique":
+        found = Rule(word, line, text=read_text(inside, line))
+    elif word == "keys":
+        found = Rule(word, line, rules=present(inside.items(read_rule)))
+    else:
+        found = Rule(word, line, bounds={"equal": read_expression(inside)})
+    for it in (inside, tokens):
+        if not it.ended():
+            raise Refusal(line, f"`{word}` with more than the port reads, from `{it.first.text}` on")
+    return found
 
 
 def read_names(tokens, word):
@@ -282,9 +305,13 @@ def read_unary(tokens):
     if tokens.takes("&") or tokens.takes("*"):
         return read_unary(tokens)
     if tokens.takes("-"):
+        if tokens.first.kind == "name":
+            return Expression("minus", line, parts=(read_place(tokens),))
         return Expression("number", line, value=-read_number(tokens))
     if tokens.first.kind in ("number", "float"):
         return Expression("number", line, value=read_number(tokens))
+    if tokens.first.kind in ("text", "raw"):
+        return Expression("text", line, value=read_text(tokens, line))
     if tokens.opens("("):
         return read_all(tokens.group())
     return read_place(tokens)
@@ -310,17 +337,61 @@ def number_of(token):
 
 
 def read_place(tokens):
-    """Reads a field of the value or of the context, or a method of it that takes no arguments."""
+    """Reads a field of the value or of the context, a method of it that takes no arguments, `contains`, `matches!` or a path."""
     line = tokens.line
     if tokens.first.kind != "name":
         raise Refusal(line, f"an expression that the port cannot read, at `{tokens.first.text}`")
     names = [tokens.name("a place")]
     if names[0] in ("true", "false"):
         return Expression("bool", line, value=names[0])
+    if names == ["matches"] and tokens.sees("!") and tokens.tokens[tokens.at + 1].text == "(":
+        tokens.take()
+        return read_variants(tokens.group(), line)
+    while tokens.takes("::"):
+        names.append(tokens.name("a path"))
+    if names[1:]:
+        return Expression("path", line, value=tuple(names))
     while tokens.takes("."):
         names.append(tokens.take().text)
         if tokens.opens("("):
-            if not tokens.group().ended():
-                raise Refusal(line, f"the method `{names[-1]}` with arguments")
-            return Expression("call", line, value=names.pop(), parts=(Expression("place", line, value=tuple(names)),))
+            return read_method(tokens.group(), names, line)
     return Expression("place", line, value=tuple(names))
+
+
+def read_method(tokens, names, line):
+    """Reads what a method of a place is given: `contains` a text or a number, and others nothing."""
+    place = (Expression("place", line, value=tuple(names[:-1])),)
+    if names[-1] == "contains" and not tokens.ended():
+        asked = read_all(tokens)
+        if asked.kind not in ("text", "number"):
+            raise Refusal(line, "`contains` of what is neither a text in quotes nor a number")
+        return Expression("contains", line, value=asked, parts=place)
+    if not tokens.ended():
+        raise Refusal(line, f"the method `{names[-1]}` with arguments")
+    return Expression("call", line, value=names[-1], parts=place)
+
+
+def read_variants(tokens, line):
+    """Reads what `matches!` is given: a place, and variants by their paths, with whatever they hold."""
+    place, paths = read_unary(tokens), []
+    tokens.expect(",")
+    while True:
+        paths.append(read_variant(tokens))
+        if not tokens.takes("|"):
+            break
+    tokens.takes(",")
+    if not tokens.ended() or place.kind != "place":
+        raise Refusal(line, "`matches!` of what is no field and variants, as `matches!(self.kind, Kind::One | Kind::Two)`")
+    return Expression("matches", line, value=tuple(paths), parts=(place,))
+
+
+def read_variant(tokens):
+    """Reads the path of a variant; behind it may stand `(..)` or `{ .. }`."""
+    names = [tokens.name("a variant")]
+    while tokens.takes("::"):
+        names.append(tokens.name("a variant"))
+    if tokens.opens("(") or tokens.opens("{"):
+        inside = tokens.group()
+        if not inside.takes("..") or not inside.ended():
+            raise Refusal(inside.line, "a pattern of a variant with more than `..` in it")
+    return tuple(names)

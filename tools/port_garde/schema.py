@@ -1,26 +1,52 @@
 """The forms of `garde_schema` that read values of a source's types, the makers of these values, and the functions that read them."""
-from .borrowed import fields_of, is_map, is_named, within_option
+from dataclasses import replace
+
+from .borrowed import below, fields_of, is_map, is_named, of_whole, within_option
 from .derives import options, type_names
-from .layout import Rows, Word, call, statement
-from .makers import Makers
+from .groups import Group, filled, grouped, groups_in, numbers_in, own_rules, shared_rules
+from .layout import WIDTH, Method, Rows, Word, call, flat, statement
+from .makers import Makers, places, tuple_of, wide
 from .names import of_field, of_variant, others_of_variant
-from .scope import Scope, Seen, is_option, is_path, is_text
+from .implementation import OWN
+from .scope import Place, Scope, Seen, is_option, is_path, is_text
 from .source import is_ported
 from .spelled import Spellings
-from .words import Checks, together
+from .words import Checks, camel, together
 
-MOST = 6
 READ = """{docs}
 {tactic}{vis}fn read_{name}<'a, H: I18n + FormI18n>(
     alloc: Global,
     bytes: &'a [u8],
     scratch: &'a mut Scratch,
-    h: &H,
-) -> Result<{kind}, ReadError> {{
+{most}    h: &H,
+) -> Result<{kind}, {error}> {{
 {forms}
 {read}
 }}"""
-VALID = """    match read_json(alloc, bytes, scratch, &{name}_form, h) {{
+PARTS = """/// What rules of `{item}` are asked of together.
+{written}
+
+"""
+SHARED = """{parts}/// What the field `{field}` of `{item}` asks beside others.
+#[derive(Clone, Copy)]
+struct {name};
+
+impl{life} Rules<{kind}> for {name} {{
+    ghost asks = {{ λ _ v.{stated} }};
+
+    fn ask<'a, H: I18n>(
+        &self,
+        alloc: Global,
+        value: &{kind},
+        trail: &mut Trail<'a>,
+        report: &mut Report,
+        h: &H,
+    ) -> Result<(), AllocError> {{
+{taken}
+{asked}
+    }}
+}}"""
+VALID = """    match {call} {{
         Ok(value) => Ok(Valid::known(value, &())),
         Err(error) => Err(error),
     }}"""
@@ -47,29 +73,31 @@ class Schema:
     def texts(self):
         """The makers and the functions that read; or of a body, the statements and the implementation by which a library reads it."""
         made = [it for it in self.items.values() if not is_named(it)]
-        makers = [self.makers.text(self.turned[it.name]) for it in made]
+        makers = [text for it in made for text in (self.makers.text(self.turned[it.name]), *self.shared_texts(it))]
         if self.spellings:
             return [*makers, *self.spellings.texts()]
         return [*makers, *(self.reader(it) for it in made if not self.is_held(it))]
 
     def is_held(self, item):
         """Whether another type of the file holds values of this one."""
-        return any(item.name in type_names(it.type) for other in self.items.values() for it in fields_of(other))
+        return any(item.name in type_names(it.type) for other in self.items.values() if other is not item for it in fields_of(other))
 
     def reader(self, item):
         """The function that reads values of a type."""
-        self.use("read_json", "FormI18n", "ReadError", "Scratch")
+        call, error = ("read_json_first", "FirstReadError") if self.writer.first else ("read_json", "ReadError")
+        self.use(call, error, "FormI18n", "Scratch")
         self.writer.uses.others |= {"std::alloc::Global", "garde::I18n"}
         (name, made), forms = self.names_of(item), self.forms(item, 4)
-        docs = f"/// Reads a value of the type `{item.name}` in JSON, or reports every fault of its form"
-        docs += " and of its rules." if is_ported(item) else "."
-        if not is_ported(item):
-            read = f"    read_json(alloc, bytes, scratch, &{name}_form, h)"
-            return READ.format(docs=docs, tactic="", vis=item.vis, name=name, kind=made, forms=forms, read=read)
+        is_valid = is_ported(item) and not self.writer.is_nested(item)
+        told = "so many faults at most" if self.writer.first else "every fault of its form" + (" and of its rules" if is_ported(item) else "")
+        docs = f"/// Reads a value of the type `{item.name}` in JSON, or reports {told}."
+        call = f"{call}(alloc, bytes, scratch, &{name}_form, {'most, ' if self.writer.first else ''}h)"
+        said = {"docs": docs, "vis": item.vis, "name": name, "forms": forms, "error": error, "most": "    most: usize,\n" if self.writer.first else ""}
+        if not is_valid:
+            return READ.format(**said, tactic="", kind=made, read=f"    {call}")
         self.writer.uses.others.add("garde::Valid")
         tactic = "#[tactic(auto, unfolding(garde::specs::Fields::Known))]\n"
-        read = VALID.format(name=name)
-        return READ.format(docs=docs, tactic=tactic, vis=item.vis, name=name, kind=f"Valid<{made}>", forms=forms, read=read)
+        return READ.format(**said, tactic=tactic, kind=f"Valid<{made}>", read=VALID.format(call=call))
 
     def names_of(self, item):
         """What a type is called in the names of others, and the type as what reads it has it."""
@@ -84,8 +112,59 @@ class Schema:
         return [self.items[name] for name in dict.fromkeys(self.names_before(item))]
 
     def names_before(self, item):
-        held = [name for it in fields_of(item) for name in sorted(type_names(it.type)) if name in self.items]
+        held = [name for it in fields_of(item) for name in sorted(type_names(it.type)) if name in self.items and name != item.name]
         return [*(found for name in held for found in self.names_before(self.items[name])), item.name]
+
+    # Rules that speak of several fields.
+
+    def shared_texts(self, item):
+        """The rules of a type's fields that speak of others, each as a type."""
+        self.writer.item = item
+        for variant in self.turned[item.name].variants:
+            held = below(self.items[item.name])
+            fields = tuple(it for it in variant.fields if held is None or it.name != held.name)
+            variant = replace(variant, fields=fields)
+            for group in groups_in(grouped(fields)):
+                for number in group.asked:
+                    self.refuse_name(variant.fields[number], variant, item)
+                    yield self.shared(variant.fields[number], group, variant, item)
+
+    def refuse_name(self, it, variant, item):
+        """Refuses a type of the file that has the name of the rules of a field, or of what they are asked of."""
+        name = self.shared_name(it, variant, item)
+        for taken in {name, f"{name.removesuffix('Rules')}Parts"} & set(self.turned):
+            self.writer.notes.refuse(it.line, f"the field `{it.name}`, whose rules are a type `{taken}`: give that of the file another name")
+
+    def shared_name(self, it, variant, item):
+        return f"{item.name}{variant.name if item.kind == 'enum' else ''}{camel(it.name)}Rules"
+
+    def shared(self, it, group, variant, item):
+        """What a field asks of a group of members, which are given as the form has them."""
+        uses, numbers = self.writer.uses, numbers_in(group)
+        uses.others |= {"garde::fields::Rules", "garde::I18n", "garde::Report", "garde::Trail", "std::alloc::AllocError", "std::alloc::Global"}
+        names = {at: f"the_{variant.fields[at].name}" if variant.fields[at].name in OWN else variant.fields[at].name for at in numbers}
+        stated = dict(zip(numbers, places(filled(group, names), "v")))
+        own = {variant.fields[at].name: Place(names[at], stated[at], variant.fields[at].type) for at in numbers}
+        scope, self.writer.spot = Scope("ctx", own, set(), True), it.name
+        place = own[it.name]
+        code, said = Checks(scope, uses, self.writer).of(shared_rules(it), Seen(it.type, place.name))
+        bound = {at: name if variant.fields[at].name in scope.bound | {it.name} else "_" for at, name in names.items()}
+        line = f"    ghost asks = {{ λ _ v. {said} }};"
+        words = tuple(map(Word, ("alloc", place.binding, "trail", "report", "h")))
+        return SHARED.format(
+            **self.shared_type(it, group, variant, item), stated=f" {said}" if len(line) <= WIDTH else f"\n        {said}",
+            taken=statement(wide(tuple_of(filled(group, bound))), 8, "let ", " = value;"), asked=statement(Method(code, "ask", words), 8),
+        )
+
+    def shared_type(self, it, group, variant, item):
+        """The names of what a field asks of a group, and of the type of that: the group has one where it does not fit into a line."""
+        tree = tuple_of(filled(group, [self.writer.type_text(it.type) for it in variant.fields]))
+        kind, name = flat(tree), self.shared_name(it, variant, item)
+        life, parts, first = "<'t>" if "'t" in kind else "", "", variant.fields[group.asked[0]]
+        if len(f"impl{life} Rules<{kind}> for {name} {{") > WIDTH:
+            kind = f"{self.shared_name(first, variant, item).removesuffix('Rules')}Parts{life}"
+            parts = PARTS.format(item=item.name, written=statement(tree, 0, f"type {kind} = ", ";")) if it is first else ""
+        return {"field": it.name, "item": item.name, "parts": parts, "name": name, "life": life, "kind": kind}
 
     # Forms.
 
@@ -95,8 +174,17 @@ class Schema:
         if is_named(item):
             rows = [call("", f'"{name}"', f"{item.name}::{it.name}") for it in item.variants for name in self.names(it, item)]
             return call(self.use("OneOf"), Rows(tuple(rows)))
+        if below(item):
+            return self.of_nested(item)
         form = self.of_enum(item) if item.kind == "enum" else self.of_struct(item)
         return call(self.use("Built"), form, self.makers.value(self.turned[item.name]))
+
+    def of_nested(self, item):
+        """An object that holds a list of objects of the same form."""
+        held, variant = below(item), item.variants[0]
+        own = replace(variant, fields=tuple(it for it in variant.fields if it is not held))
+        name = f'"{of_field(held, variant, item)}"'
+        return self.closed(call(self.use("Nested"), name, self.members(own, item), self.makers.value(self.turned[item.name])), item)
 
     def names(self, variant, item):
         return [of_variant(variant, item), *others_of_variant(variant)]
@@ -115,7 +203,18 @@ class Schema:
         return call(self.use("Closed"), members) if "deny_unknown_fields" in options(item) else members
 
     def members(self, variant, item):
-        return together([self.member(it, variant, item) for it in variant.fields], MOST)
+        return self.of_group(grouped(variant.fields), variant, item)
+
+    def of_group(self, group, variant, item):
+        """Members, and then the rules that are asked of all of them, each under its own member."""
+        fields = variant.fields
+        parts = [self.of_group(it, variant, item) if isinstance(it, Group) else self.member(fields[it], variant, item) for it in group]
+        whole = parts[0] if len(parts) == 1 else call("", *parts)
+        if not group.asked:
+            return whole
+        self.use("Checked", "Under")
+        asked = [(of_field(fields[it], variant, item), self.shared_name(fields[it], variant, item)) for it in group.asked]
+        return call("Checked", whole, together([call("Under", f'"{name}"', rules) for name, rules in asked]))
 
     def of_enum(self, item):
         """A union: by its tag, or by the name of its only member."""
@@ -150,14 +249,10 @@ class Schema:
     def member(self, it, variant, item):
         """A member of an object."""
         self.writer.spot = it.name
-        name, kind, rules = f'"{of_field(it, variant, item)}"', it.type, it.attributes.rules
+        name, kind, rules = f'"{of_field(it, variant, item)}"', it.type, own_rules(it)
         if is_option(kind):
-            asked = [rule for rule in rules if rule.name == "required"]
-            form = call(self.use("Nullish"), name, self.form(kind.args[0], within_option(rules)))
-            if not asked:
-                return form
-            self.writer.uses.fields |= {"Is", "Required"}
-            return call(self.use("Checked", "Under"), form, call("Under", name, call("Is", "Required")))
+            form, asked = call(self.use("Nullish"), name, self.form(kind.args[0], within_option(rules))), of_whole(rules)
+            return call(self.use("Checked", "Under"), form, call("Under", name, self.checks(kind, asked))) if asked else form
         default = self.borrowed.default(it, item)
         if default is None:
             return call(self.use("Member"), name, self.form(kind, rules))
@@ -169,7 +264,7 @@ class Schema:
     def form(self, kind, rules):
         """The form of a value under rules."""
         if is_option(kind):
-            return call(self.use("Nullable"), self.form(kind.args[0], within_option(rules)))
+            return self.ruled(call(self.use("Nullable"), self.form(kind.args[0], within_option(rules))), kind, of_whole(rules))
         if is_path(kind, "Vec"):
             return self.list(kind, rules)
         if is_map(kind):
@@ -184,16 +279,20 @@ class Schema:
         return call(self.use("Whole", number), number, self.checks(kind, rules))
 
     def list(self, kind, rules):
-        """A list: rules of how many items it has, and those of each item."""
-        of_list = [it for it in rules if it.name not in ("inner", "dive")]
-        of_items = [found for it in rules if it not in of_list for found in (it.rules if it.name == "inner" else [it])]
+        """A list: rules of how many items it has and of all of them, those of each item, and then one's own of the whole."""
+        of_items = [found for it in rules if it.name in ("inner", "dive") for found in (it.rules if it.name == "inner" else [it])]
         inside = self.form(kind.args[0], of_items)
-        return call(self.use("ListUnder"), self.checks(kind, of_list), inside) if of_list else call(self.use("List"), inside)
+        return self.several(kind, rules, "List", inside)
 
     def map(self, kind, rules):
-        """A map: rules of how many members it has."""
-        inside = self.form(kind.args[1], [])
-        return call(self.use("MapUnder"), self.checks(kind, rules), inside) if rules else call(self.use("Map"), inside)
+        """A map: rules of how many members it has and of their names, those of each value, and then one's own of the whole."""
+        inside = self.form(kind.args[1], [found for it in rules if it.name == "inner" for found in it.rules])
+        return self.several(kind, rules, "Map", inside)
+
+    def several(self, kind, rules, name, inside):
+        under = [it for it in rules if it.name in ("length", "unique", "keys")]
+        form = call(self.use(f"{name}Under"), self.checks(kind, under), inside) if under else call(self.use(name), inside)
+        return self.ruled(form, kind, [it for it in rules if it.name == "custom"])
 
     def ruled(self, form, kind, rules):
         """A form that has no place for rules, under these."""

@@ -1,12 +1,16 @@
 """What rules may speak of: the value, its fields and its context; and the conditions of `if`."""
 from dataclasses import dataclass, field
 
+from .layout import Chain
+from .rules import Expression
 from .source import Type
 from .tokens import Refusal
 
 UNSIGNED = ("u8", "u16", "u32", "u64", "u128", "usize")
 SIGNED = ("i8", "i16", "i32", "i64", "i128", "isize")
 VARIABLES = ("x", "y", "z", "w", "u")
+# What stands behind the name of a variant in a pattern that looks at nothing in it.
+SHAPES = {"unit": "", "tuple": "(..)", "named": " { .. }"}
 COMPARISONS = {
     "==": "nat_eq {0} {1}", "!=": "not (nat_eq {0} {1})", "<": "nat_lt {0} {1}", "<=": "nat_le {0} {1}",
     ">": "nat_lt {1} {0}", ">=": "nat_le {1} {0}",
@@ -23,6 +27,8 @@ class Uses:
     others: set = field(default_factory=set)
     cow: bool = False
     sides: bool = False
+    cited: set = field(default_factory=set)
+    paths: set = field(default_factory=set)
     spelled: set = field(default_factory=set)
     rules: dict = field(default_factory=dict)
 
@@ -88,15 +94,17 @@ class Scope:
 class Conditions:
     """The conditions of `if`, as code and as they are stated."""
 
-    def __init__(self, scope, uses, resolved):
-        self.scope, self.uses, self.resolved = scope, uses, resolved
+    def __init__(self, scope, uses, writer):
+        self.scope, self.uses, self.writer = scope, uses, writer
 
     def of(self, it):
         """A condition that stands in a place where it needs brackets if it has parts."""
         readers = {"bool": self.truth, "place": self.flag, "not": self.negation, "call": self.method}
-        readers.update({"and": self.both, "or": self.both})
+        readers.update({"and": self.both, "or": self.both, "matches": self.variants, "contains": self.contains})
         if it.kind in readers:
             return readers[it.kind](it)
+        if it.kind in ("==", "!=") and it.parts[1].kind in ("path", "text") and it.parts[0].kind == "place":
+            return self.equality(it)
         if it.kind == "number":
             raise Refusal(it.line, "a condition that is a number")
         return self.comparison(it)
@@ -118,15 +126,26 @@ class Conditions:
 
     def both(self, it):
         """A condition of two parts; a part of another kind than the whole stands in brackets."""
+        tree, spec = self.chain(it)
+        return f" {tree.mark} ".join(tree.parts), spec
+
+    def chain(self, it):
+        """The same as the parts of its code."""
         mark = "&&" if it.kind == "and" else "||"
         self.uses.prelude.add(f"◌{mark}◌")
-        codes, specs = zip(*(self.of(part) for part in it.parts))
-        other = "or" if it.kind == "and" else "and"
-        codes = [f"({code})" if part.kind == other else code for part, code in zip(it.parts, codes)]
-        return f" {mark} ".join(codes), f"({f' {mark} '.join(specs)})"
+        other, codes, specs = "or" if it.kind == "and" else "and", [], []
+        for part in it.parts:
+            if part.kind == it.kind:
+                tree, spec = self.chain(part)
+                codes += tree.parts
+            else:
+                code, spec = self.of(part)
+                codes.append(f"({code})" if part.kind == other else code)
+            specs.append(spec)
+        return Chain(mark, tuple(codes)), f"({f' {mark} '.join(specs)})"
 
     def grouped(self, it, code):
-        return code if it.kind in ("place", "call", "bool", "not") else f"({code})"
+        return code if it.kind in ("place", "call", "bool", "not", "matches", "contains") else f"({code})"
 
     def method(self, it):
         """`is_some` and `is_none` of an option."""
@@ -139,6 +158,77 @@ class Conditions:
         self.uses.words.add("not")
         return f"{code.lstrip('*')}.is_none()", f"(not (is_some {spec}))"
 
+    def equality(self, it):
+        """Whether a value is a variant, or a text."""
+        place, other = it.parts
+        if other.kind == "path" and self.constant(other) is not None:
+            return self.comparison(it)
+        code, spec = self.variants(Expression("matches", it.line, (other.value,), (place,))) if other.kind == "path" else self.text(place, other)
+        if it.kind == "==":
+            return code, spec
+        self.uses.words.add("not")
+        return (f"!{code}" if other.kind == "path" else code.replace(" == ", " != ")), f"(not {spec})"
+
+    def text(self, place, other):
+        """Whether a text is this one."""
+        code, spec, kind = self.scope.place(place.value, place.line)
+        binding, borrowed = code.lstrip("*"), kind is not None and kind.kind == "ref" and is_text(kind)
+        given = f"*{binding}" if borrowed else {"String": f"{binding}.as_str()", "TextRef": f"{binding}.text()"}.get(kind.name if kind else "")
+        if given is None:
+            raise Refusal(place.line, f"a comparison of `{'.'.join(place.value)}` with a text, which is neither a `String` nor a `&str` nor read by a form")
+        self.uses.words |= {"text_is"} | ({"str"} if kind.name == "String" else set())
+        spec = f"{spec}.now" if borrowed else f"(str {spec})" if kind.name == "String" else spec
+        return f'{given} == "{other.value}"', f'(text_is "{other.value}" {spec})'
+
+    def variants(self, it):
+        """Whether a value is one of some variants of an enum of the file."""
+        place = it.parts[0]
+        code, spec, kind = self.scope.place(place.value, it.line)
+        item = self.writer.enum(kind.name if kind is not None and kind.kind == "path" else it.value[0][0])
+        if item is None:
+            raise Refusal(it.line, f"a condition on `{'.'.join(place.value)}`, which is no enum of this file")
+        if self.writer.module is None:
+            raise Refusal(it.line, "a condition on an enum, whose statement names its module: say it by `--module CRATE::MODULE`")
+        known = {one.name: one for one in item.variants}
+        for path in it.value:
+            if path[:-1] != (item.name,) or path[-1] not in known:
+                raise Refusal(it.line, f"`{'::'.join(path)}`, which is no variant of `{item.name}`")
+        self.uses.words |= {"Bool", "true"}
+        self.uses.cited.add(item.name)
+        names = list(dict.fromkeys(path[-1] for path in it.value))
+        rest = [] if len(names) == len(known) else ["_ ↦ false"]
+        self.uses.words |= {"false"} if rest else set()
+        cases = [f"{' '.join([name, *'_' * len(known[name].fields)])} ↦ true" for name in names]
+        patterns = " | ".join(f"{item.name}::{name}{SHAPES[known[name].shape]}" for name in names)
+        return f"matches!({code.lstrip('*')}, {patterns})", f"(elim {spec} as (λ _. Bool) [ {' | '.join([*cases, *rest])} ])"
+
+    def contains(self, it):
+        """Whether a text has this part, or a list this item."""
+        place, asked = it.parts[0], it.value
+        code, spec, kind = self.scope.place(place.value, it.line)
+        code = code.lstrip("*")
+        if kind is not None and is_path(kind, "TextRef") and asked.kind == "text":
+            return self.part_of_text(code, spec, asked)
+        held = kind.args[0] if kind is not None and is_path(kind, "Vec", "Items") and kind.args else None
+        texts = held is not None and is_path(held, "TextRef") and asked.kind == "text"
+        if not texts and not (held is not None and is_path(held, *UNSIGNED) and asked.kind == "number" and asked.value >= 0):
+            told = f"`contains` of `{'.'.join(place.value)}`"
+            raise Refusal(it.line, f"{told}: it is written of texts and lists of texts that a form reads, and of lists of numbers without a sign")
+        self.uses.paths.add("Rattle.garde.specs.Firsts.{includes}")
+        self.uses.fields |= {"includes", "Equal"}
+        self.uses.words |= {"text_eq", "codes"} if texts else {"nat_eq"} | ({"slice"} if kind.name == "Vec" else set())
+        self.uses.others |= {"garde_schema::TextRef"} if texts else set()
+        listed = f"(slice {spec})" if kind.name == "Vec" else spec
+        item, same, stated = (f'&TextRef::new("{asked.value}")', "text_eq", f'(codes "{asked.value}")') if texts else (f"&{asked.value}", "nat_eq", asked.value)
+        return f"includes({code}.as_slice(), &Equal, {item})", f"(includes {same} {listed} {stated})"
+
+    def part_of_text(self, code, spec, asked):
+        """Whether a text that a form reads has this part."""
+        self.uses.paths.add("Rattle.garde.specs.Words.{has_part}")
+        self.uses.words.add("codes")
+        self.uses.others.add("garde::rules::contains")
+        return f'contains::Contains::validate_contains({code}, "{asked.value}")', f'(has_part (codes "{asked.value}") {spec})'
+
     def comparison(self, it):
         """A comparison of numbers without a sign."""
         (left, low), (right, high) = (self.number(part) for part in it.parts)
@@ -146,8 +236,12 @@ class Conditions:
         self.uses.words |= {word for word in ("nat_eq", "nat_lt", "nat_le", "not") if word in spec.split() or f"({word}" in spec}
         return f"{left} {it.kind} {right}", f"({spec})"
 
+    def constant(self, it):
+        found = self.writer.resolved(it)
+        return found.value if found.kind == "number" else None
+
     def number(self, it):
-        it = self.resolved(it)
+        it = self.writer.resolved(it)
         if it.kind == "number" and it.value >= 0:
             return str(it.value), str(it.value)
         if it.kind != "place":

@@ -104,6 +104,7 @@ class Source:
     imports: list = field(default_factory=list)
     functions: dict = field(default_factory=dict)
     numbers: dict = field(default_factory=dict)
+    sums: dict = field(default_factory=dict)
     aliases: set = field(default_factory=set)
     notes: Notes = field(default_factory=Notes)
 
@@ -126,6 +127,7 @@ def read_source(text):
             read_of_the_file(tokens)
         else:
             read_item(tokens, source, text)
+    read_sums(tokens, source)
     return source
 
 
@@ -225,13 +227,48 @@ def read_constant(tokens, source, conditional):
     while not tokens.ended() and not tokens.sees("="):
         tokens.group() if any(map(tokens.opens, "([{")) else tokens.take()
     tokens.takes("=")
-    minus, value = tokens.takes("-"), tokens.first
-    whole = value.kind == "number" and tokens.tokens[tokens.at + 1].text == ";"
-    if whole and not conditional and name not in source.numbers:
-        source.numbers[name] = -number_of(value) if minus else number_of(value)
+    if not conditional and name not in source.numbers:
+        source.sums[name] = tokens.at
     else:
-        source.numbers[name] = None
+        source.sums.pop(name, None)
+    source.numbers[name] = None
     pass_to_end(tokens)
+
+
+def read_sums(tokens, source):
+    """Reads the values of the constants, each once those are known that it speaks of."""
+    known = None
+    while known != source.numbers:
+        known = dict(source.numbers)
+        for name, tokens.at in source.sums.items():
+            value = read_sum(tokens, source.numbers)
+            source.numbers[name] = value if tokens.sees(";") else None
+
+
+def read_sum(tokens, known):
+    """Reads numbers and constants, with `+`, `-` and `*`: the number that they make, or nothing."""
+    value = read_product(tokens, known)
+    while value is not None and (tokens.sees("+") or tokens.sees("-")):
+        sign, more = tokens.take().text, read_product(tokens, known)
+        value = None if more is None else value + more if sign == "+" else value - more
+    return value
+
+
+def read_product(tokens, known):
+    value = read_factor(tokens, known)
+    while value is not None and tokens.takes("*"):
+        more = read_factor(tokens, known)
+        value = None if more is None else value * more
+    return value
+
+
+def read_factor(tokens, known):
+    minus, token = tokens.takes("-"), tokens.take()
+    if token.kind == "number":
+        value = number_of(token)
+    else:
+        value = known.get(token.text) if token.kind == "name" else None
+    return -value if minus and value is not None else value
 
 
 def read_outer(tokens):

@@ -4,10 +4,11 @@ from dataclasses import dataclass
 
 from .borrowed import fields_of, is_map, is_named, within_option
 from .derives import options
+from .groups import Group, filled, grouped, numbers_in, own_rules, shared_rules
 from .layout import WIDTH
-from .makers import nested, places
+from .makers import places
 from .names import of_field
-from .scope import SIGNED, Scope, Seen, is_option, is_path, is_text
+from .scope import SIGNED, Place, Scope, Seen, is_option, is_path, is_text
 from .source import is_ported
 from .tokens import Refusal
 from .words import Checks
@@ -15,13 +16,14 @@ from .words import Checks
 # What begins a further line of a statement.
 NEXT = "\n" + " " * 8
 SEVERAL = {2: "two", 3: "three", 4: "four", 5: "five", 6: "six"}
-BODY = """/// The title of the problem details.
+LIBRARY = """/// The title of the problem details.
 pub const TITLE: &str = "the {words} has faults";
 
 /// What the library checks.
 pub type Body<'a> = {made};
 
-#[tactic(auto, unfolding(garde::specs::Fields::Known))]
+"""
+BODY = """#[tactic(auto, unfolding(garde::specs::Fields::Known))]
 impl<'a> ReadBody<'a> for {made} {{
     fn read_body<H: I18n + FormI18n>(
         alloc: Global,
@@ -95,7 +97,7 @@ def lay_bracketed(tree, column, after):
 
 
 class Spellings:
-    """The statements of a source, of whose types `body` is the one that a library checks."""
+    """The statements of a source, of whose types `body` is the one whose bytes are read."""
 
     def __init__(self, schema, body):
         self.schema, self.writer, self.body = schema, schema.writer, body
@@ -110,7 +112,7 @@ class Spellings:
         """Notes what no statement says of the type that is checked."""
         notes, item = self.writer.notes, self.items.get(self.body)
         if item is None or not is_ported(item):
-            notes.refuse(item.line if item else 1, f"the body `{self.body}`: there is no type of that name which derives `Deserialize` and `Validate`")
+            notes.refuse(item.line if item else 1, f"the {'body' if self.writer.is_library else 'type'} `{self.body}`: there is no type of that name which derives `Deserialize` and `Validate`")
             return
         for it in self.schema.order(item):
             if it.kind == "enum" and not is_named(it):
@@ -133,7 +135,8 @@ class Spellings:
         self.schema.use("read_json_first", "FormI18n", "FirstReadError", "Scratch")
         self.writer.uses.others |= {"std::alloc::Global", "garde::I18n", "garde::Valid", "garde_library::ReadBody"}
         name, made = self.schema.names_of(item)
-        return BODY.format(words=name.replace("_", " "), made=made, name=name, forms=self.schema.forms(item, 8))
+        head = LIBRARY.format(words=name.replace("_", " "), made=made) if self.writer.is_library else ""
+        return head + BODY.format(made=made, name=name, forms=self.schema.forms(item, 8))
 
     def statement(self, item):
         """What JSON spells of a type."""
@@ -152,16 +155,37 @@ class Spellings:
             return said(self.word("a_name"), Said(f"({' ∷ '.join(rows)} ∷ [])"))
         variant = item.variants[0]
         names = [it.name or str(at) for at, it in enumerate(variant.fields)]
-        rows = [f"{name} = {place}" for name, place in zip(names, places(nested(names), "parts"))]
+        rows = [f"{name} = {place}" for name, place in zip(names, places(self.schema.makers.tree(variant, names), "parts"))]
         return said(self.word("made"), Record(rows), self.of_struct(variant, item))
 
     def of_struct(self, variant, item):
         if variant.shape != "named" or "transparent" in options(item):
             return self.value(variant.fields[0].type, variant.fields[0].attributes.rules)
-        members = self.together([self.member(it, variant, item) for it in variant.fields])
+        members = self.of_group(grouped(variant.fields), variant, item)
         if "deny_unknown_fields" in options(item):
             members = said(self.word("closed"), members)
         return said(self.word("an_object"), members)
+
+    def of_group(self, group, variant, item):
+        """Members, and then the rules that are asked of all of them, each under its own member."""
+        fields = variant.fields
+        members = self.together([self.of_group(it, variant, item) if isinstance(it, Group) else self.member(fields[it], variant, item) for it in group])
+        if not group.asked:
+            return members
+        self.writer.uses.words.add("field")
+        numbers = numbers_in(group)
+        at = dict(zip(numbers, places(filled(group, [it.name for it in fields]), "v")))
+        turned = self.turned[item.name].variants[0].fields
+        own = {fields[it].name: Place(fields[it].name, at[it], turned[it].type) for it in numbers}
+        asked = [f'field "{of_field(fields[it], variant, item)}" ({self.shared(turned[it], own)})' for it in group.asked]
+        if len(asked) > 1:
+            self.writer.uses.words.add("◌and◌")
+        return said(self.word("ruled"), members, f"(λ v. {' and '.join(asked)})")
+
+    def shared(self, it, own):
+        """What a field asks beside others."""
+        _, text = Checks(Scope("ctx", own, set(), True), self.writer.uses, self.writer).of(shared_rules(it), Seen(it.type, own[it.name].name))
+        return text
 
     def together(self, members):
         """Members in turn, of which the last word holds the rest, as the form has them."""
@@ -175,7 +199,7 @@ class Spellings:
 
     def member(self, it, variant, item):
         self.writer.spot = it.name
-        name, kind, rules = f'"{of_field(it, variant, item)}"', it.type, it.attributes.rules
+        name, kind, rules = f'"{of_field(it, variant, item)}"', it.type, own_rules(it)
         if is_option(kind):
             found = said(self.word("nullish"), name, self.value(kind.args[0], within_option(rules)))
             if not any(rule.name == "required" for rule in rules):
@@ -232,11 +256,7 @@ class Spellings:
         if not whole:
             return said(self.word(word), one)
         self.writer.uses.words.add("count")
-        asked = self.asked(kind, whole).replace("is (items ", "is (count ")
-        if len(whole) == 1:
-            return said(self.word(f"{word}_of"), asked, one)
-        self.writer.uses.words |= {"none", "◌and◌"}
-        return said(self.word(f"{word}_under"), asked, f"({' and '.join(['none'] * len(whole))})", one)
+        return said(self.word(f"{word}_of"), self.asked(kind, whole).replace("is (items ", "is (count "), one)
 
     def ruled(self, one, kind, rules):
         return said(self.word("a_ruled"), one, self.asked(kind, rules)) if rules else one

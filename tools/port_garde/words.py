@@ -1,6 +1,6 @@
 """What a rule becomes: a value of `garde::fields` in the code, and a word of `garde.specs.Fields` in `visits`."""
 from .layout import Lent, Literal, Word, call
-from .rules import PLAIN, TEXTS
+from .rules import OURS, PLAIN, TEXTS
 from .scope import SIGNED, UNSIGNED, Conditions, Seen, is_option, is_path, is_text
 from .source import Type
 from .tokens import Refusal
@@ -20,8 +20,12 @@ EACH_VALUE = {"BTreeMap": "each_value", "HashMap": "each_value_in_any_order"}
 KEYS = {"String": "text_key", "usize": "index_part"}
 BOUNDS = {"min": "at_least", "max": "at_most", "equal": "exactly", "between": "between"}
 IPS = {"ip": "Any", "ipv4": "V4", "ipv6": "V6"}
+# How two items of a list are compared.
+SAME = {"String": "text_eq (str x) (str y)", "TextRef": "text_eq", **dict.fromkeys(UNSIGNED, "nat_eq")}
+# A text that a form reads.
+TEXT = Type("path", "TextRef", 0, path=("TextRef",), args=("'t",))
 # The rules that are asked of what an option holds.
-INSIDE = (*PLAIN[1:], *TEXTS, "length", "range", "pattern")
+INSIDE = (*PLAIN[1:], *TEXTS, "length", "range", "pattern", *OURS)
 # Types of one value, which do not validate themselves.
 SIMPLE = (*UNSIGNED, *SIGNED, "bool", "char", "str", "String")
 
@@ -58,7 +62,9 @@ class Checks:
             held = seen.part(seen.type.args[0])
             code, spec = self.of(group, held)
             return call(self.field("IfSome"), code), f"{self.word('if_some')} (λ {held.name}. {spec}) {seen.name}"
-        parts = {"dive": self.dive, "inner": self.inner, "if": self.under, "custom": self.custom}
+        parts = {"dive": self.dive, "inner": self.inner, "if": self.under, "custom": self.custom, "unique": self.unique, "keys": self.keys}
+        if rule.name in OURS and rule.name in self.writer.source.functions:
+            raise Refusal(rule.line, f"`{rule.name}`, which is a rule here and a function of this file: give the function another name")
         if rule.name in parts:
             return parts[rule.name](rule, seen, adapter)
         if adapter:
@@ -81,7 +87,8 @@ class Checks:
 
     def under(self, rule, seen, adapter):
         """Rules under a condition."""
-        condition, stated = Conditions(self.scope, self.uses, self.writer.resolved).of(rule.place)
+        conditions = Conditions(self.scope, self.uses, self.writer)
+        condition, stated = (conditions.chain if rule.place.kind in ("and", "or") else conditions.of)(rule.place)
         code, spec = self.of(rule.rules, seen, adapter)
         return call(self.field("When"), condition, code), f"{self.word('when')} {stated} ({spec})"
 
@@ -101,9 +108,41 @@ class Checks:
         key = kind.args[0].name if len(kind.args) == 2 and isinstance(kind.args[0], Type) else ""
         if kind.name in EACH_VALUE and key in KEYS:
             return seen.part(kind.args[1]), f"{self.word(EACH_VALUE[kind.name])} {self.word(KEYS[key])}", self.held(kind, seen)
-        if self.writer.borrowed and kind.name == "Entries":
-            return seen.part(Type("unread", "", rule.line)), "each", seen.name
+        if kind.name == "Entries":
+            return seen.part(kind.args[1]), f"{self.word('each_value')} {self.word('key_part')}", seen.name
         raise Refusal(rule.line, f"`{rule.name}` of the type `{self.writer.type_text(kind, True)}`, whose items the port does not know")
+
+    def unique(self, rule, seen, adapter):
+        """That no two items of a list are the same."""
+        kind = seen.type
+        item = kind.args[0] if is_path(kind, "Vec", "Items") and kind.args else None
+        same = SAME.get(item.name) if item is not None and item.kind == "path" else None
+        if same is None:
+            told = f"`unique` of the type `{self.writer.type_text(kind, True)}`"
+            raise Refusal(rule.line, f"{told}: it is written of lists of texts and of numbers without a sign")
+        if kind.name == "Items":
+            self.refuse_walk(rule)
+        self.uses.words |= {"unique", same.split()[0]} | ({"str"} if "str" in same else set())
+        code = call(self.field("Unique"), f'"{rule.text}"', self.field("Equal"))
+        stated = f"(λ x y. {same})" if " " in same else same
+        return code, f'unique "{rule.text}" {stated} {self.held(kind, seen)}'
+
+    def keys(self, rule, seen, adapter):
+        """Rules of the names of a map that a form reads."""
+        if not is_path(seen.type, "Entries"):
+            told = f"`keys` of the type `{self.writer.type_text(seen.type, True)}`"
+            raise Refusal(rule.line, f"{told}: it is asked of maps that are read by `--schema --no-walk`")
+        self.refuse_walk(rule)
+        name = seen.part(seen.type.args[0]) if not isinstance(seen.type.args[0], str) else seen.part(TEXT)
+        code, spec = self.of(rule.rules, name)
+        self.uses.paths.add("Rattle.garde_schema.specs.Maps.{each_key, names_of}")
+        self.uses.others.add("garde_schema::Keys")
+        return call("Keys", code), f"each_key (λ {name.name}. {spec}) (names_of {seen.name})"
+
+    def refuse_walk(self, rule):
+        """Refuses a rule that a form alone asks, of a type with a walk."""
+        if self.writer.item.name not in self.writer.unwalked:
+            raise Refusal(rule.line, f"`{rule.name}` of what a form reads, in a type with a walk, which has no such rule: say `--no-walk`")
 
     def held(self, kind, seen):
         """What a collection holds, as a list."""
@@ -170,6 +209,8 @@ class Checks:
             return (*self.length(rule, seen), False)
         if rule.name == "range":
             return (*self.range(rule, seen), False)
+        if rule.name == "multiple_of":
+            return (*self.multiple(rule, seen), False)
         if rule.name == "required":
             if not is_option(seen.type):
                 raise Refusal(rule.line, "`required` of a value that is no `Option`")
@@ -215,16 +256,17 @@ class Checks:
 
     def equal(self, rule, seen, other):
         """How it is stated that a value equals that of another field: two texts, two options of texts, or two numbers."""
-        if self.writer.borrowed:
-            return "none"
         kinds = [self.writer.type_text(it, True) for it in (seen.type, other.type)]
+        if is_path(seen.type, "TextRef") and is_path(other.type, "TextRef", ""):
+            self.uses.words |= {"matches", "text_eq"}
+            return f'matches "{rule.text}" (text_eq {seen.name} {other.name})'
         if kinds[0] == "String" and kinds[1] in ("String", "_"):
             return f'{self.word("matches")} "{rule.text}" ({self.word("text_eq")} {self.text_of(seen)} ({self.word("str")} {other.name}))'
-        same = {"Option<String>": "option_eq (λ x y. text_eq (str x) (str y))", **dict.fromkeys(UNSIGNED, "nat_eq")}.get(kinds[0])
+        same = {"Option<String>": "option_eq (λ x y. text_eq (str x) (str y))", "Option<TextRef<'t>>": "option_eq (λ x y. text_eq x y)", **dict.fromkeys(UNSIGNED, "nat_eq")}.get(kinds[0])
         if same is None or kinds[1] not in (kinds[0], "_"):
             told = " and ".join(f"`{it}`" for it in dict.fromkeys(kinds))
             raise Refusal(rule.line, f"`matches` of {told}: it is written of two texts, options of texts or numbers without a sign, each of one type, so compare others by a rule of your own, by `custom`")
-        self.uses.words |= {"matches", *({"option_eq", "text_eq", "str"} if same != "nat_eq" else {same})}
+        self.uses.words |= {"matches", same.split()[0]} | {it for it in ("text_eq", "str") if it in same}
         return f'matches "{rule.text}" ({same} {seen.name} {other.name})'
 
     def pattern(self, rule, seen):
@@ -265,6 +307,18 @@ class Checks:
         self.refuse_bounds(rule, kind, signed)
         code = self.bounds_code(rule, signed)
         return code, f"{self.word('signed_range' if signed else 'range')} {self.stated_bounds(rule, signed)} {seen.name}"
+
+    def multiple(self, rule, seen):
+        """The rule that a number is a multiple of another one, by its type."""
+        kind = seen.type.name
+        if not is_path(seen.type, *UNSIGNED, *SIGNED):
+            raise Refusal(rule.line, f"`multiple_of` of the type `{self.writer.type_text(seen.type, True)}`, which is no whole number")
+        it, signed = self.writer.resolved(rule.bounds["equal"]), kind in SIGNED
+        if it.kind != "number" or it.value < 1:
+            raise Refusal(rule.line, "`multiple_of` of what is no number from 1 on")
+        self.refuse_bounds(rule, kind, signed)
+        code, stated = self.bound(it, signed)
+        return call(self.field("MultipleOf"), code), f"{self.word('signed_multiple_of' if signed else 'multiple_of')} {stated} {seen.name}"
 
     def stated_bounds(self, rule, signed):
         """The bounds of a rule as they are stated."""

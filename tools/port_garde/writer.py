@@ -1,13 +1,13 @@
 """The Rattle source with the implementations."""
 import re
 
-from .borrowed import Borrowed
+from .borrowed import Borrowed, below, is_named
 from .derives import SERDE, Derives, kept_derives, literal_function, named_function, options, serde_lines
 from .implementation import Implementation
 from .layout import CALL, VARIANT, WIDTH, use_line
 from .rules import Expression
 from .schema import Schema
-from .scope import Uses
+from .scope import SIGNED, UNSIGNED, Uses
 from .second import faults_of_values, lost_of_names, lost_of_serde, passed_by
 from .source import all_rules, is_ported, read_type, type_names
 from .tokens import Refusal, Refusals, Tokens
@@ -49,12 +49,14 @@ impl{bound} View<{kind}> for {name} {{
 class Writer:
     """Writes what stands for a source. `module` is the path of what is written, `own` that of the rules of one's own, and
     `left_out` are the derives and attributes that are left out without a word. With `walks` types that a form reads have a walk too.
-    `checked` is the type that a static library checks: then they have none."""
+    `body` is the type that a static library checks, and `spelled` one of which JSON spells what a program reads: then they have none.
+    What reads reports the `first` faults alone, or all."""
 
-    def __init__(self, source, module=None, own=None, left_out=(), schema=False, walks=True, checked=None):
-        self.source, self.module, self.own, self.checked = source, module, own, checked
-        self.borrowed = Borrowed(source, left_out) if schema or checked else None
-        self.unwalked = self.borrowed.unwalked() if checked or schema and not walks else set()
+    def __init__(self, source, module=None, own=None, left_out=(), schema=False, walks=True, body=None, first=False, spelled=None):
+        self.source, self.module, self.own, self.first = source, module, own, first
+        self.checked, self.is_library = body or spelled, body is not None
+        self.borrowed = Borrowed(source, left_out, bool(self.checked), walks) if schema or self.checked else None
+        self.unwalked = self.borrowed.unwalked() if self.checked or schema and not walks else set()
         self.derives = Derives(source, left_out)
         self.uses = Uses()
         self.patterns, self.skeletons, self.closures, self.copied = {}, {}, {}, {}
@@ -83,7 +85,7 @@ class Writer:
             if not self.notes.faults and not self.borrowed:
                 for line, reason in lost_of_serde(rust, item, texts[0]):
                     self.notes.refuse(line, reason)
-            if is_ported(item) and not self.notes.faults:
+            if is_ported(item) and not self.notes.faults and not self.is_nested(item):
                 for line, reason in faults_of_values(rust, item, texts):
                     self.notes.refuse(line, reason)
             return texts
@@ -101,7 +103,8 @@ class Writer:
         texts = [] if self.notes.faults else schema.texts()
         if self.notes.faults:
             return []
-        for line, reason in lost_of_names(rust, self.borrowed.items.values(), texts):
+        read = [it for it in self.borrowed.items.values() if not is_named(it) or schema.is_held(it)]
+        for line, reason in lost_of_names(rust, read, texts):
             self.notes.refuse(line, reason)
         return texts
 
@@ -111,11 +114,15 @@ class Writer:
         for line, reason in self.derives.faults(item):
             self.notes.refuse(line, reason)
         self.renamed = {"'a": free_lifetime(item.params)}
-        if not is_ported(item):
+        if not is_ported(item) or self.is_nested(item):
             return [self.declaration(item)]
         implementation = self.implementation(item)
         patterns = [self.pattern_struct(item)] if item.name in self.patterns else []
         return [self.declaration(item), *patterns, implementation]
+
+    def is_nested(self, item):
+        """Whether a form reads a type that holds itself: what its rules ask is known by the form, and no statement says it."""
+        return bool(self.borrowed and item.name in self.borrowed.items and below(self.borrowed.items[item.name]))
 
     def implementation(self, item):
         """The implementations for a type. What only a walk imports is not imported for one without."""
@@ -144,7 +151,8 @@ class Writer:
     def stated_variants(self, item):
         """The variants that statements name."""
         made = self.borrowed and item.name in self.borrowed.items and any(it.fields for it in item.variants)
-        return item.variants if item.kind == "enum" and (is_ported(item) or made or self.checked) else ()
+        cited = item.name in self.uses.cited
+        return item.variants if item.kind == "enum" and (is_ported(item) or made or self.checked or cited) else ()
 
     # Types.
 
@@ -260,9 +268,20 @@ class Writer:
     # What rules ask for.
 
     def resolved(self, it):
-        """An expression, and of a constant its number."""
-        known = it.kind == "place" and len(it.value) == 1 and self.source.numbers.get(it.value[0]) is not None
-        return Expression("number", it.line, self.source.numbers[it.value[0]]) if known else it
+        """An expression, and of a constant its number: of one of the file, or of the greatest or least one of a type."""
+        if it.kind == "minus":
+            part = self.resolved(it.parts[0])
+            return Expression("number", it.line, -part.value) if part.kind == "number" else it
+        found = None
+        if it.kind == "path" and len(it.value) == 2:
+            found = end_of(*it.value)
+        if found is None and (it.kind == "place" and len(it.value) == 1 or it.kind == "path"):
+            found = self.source.numbers.get(it.value[-1])
+        return it if found is None else Expression("number", it.line, found)
+
+    def enum(self, name):
+        """The enum of this name in the file, or nothing."""
+        return next((it for it in self.source.items if it.name == name and it.kind == "enum"), None)
 
     def new_pattern(self, rule):
         """A place in the context of the type for a pattern in quotes, and its name."""
@@ -361,24 +380,32 @@ class Writer:
         lines, uses = [*self.source.head], self.uses
         prelude = {f"Rattle.std.specs.Prelude.{{{', '.join(sorted(uses.prelude))}}}"} if uses.prelude else set()
         cow = {"Rattle.std.specs.Cow.{cow_str_bytes}"} if uses.cow else set()
-        lines += [f"ghost use {it};" for it in (*prelude, *cow)]
+        lines += [f"ghost use {it};" for it in (*prelude, *cow, *sorted(uses.paths))]
         if uses.words:
             lines.append(f"ghost use Rattle.garde.specs.Fields.{{{', '.join(sorted(uses.words, key=word_order))}}};")
         lines += [f"ghost use Rattle.garde_library.specs.Spelling.{{{', '.join(sorted(uses.spelled))}}};"] if uses.spelled else []
         lines += ["ghost use Rattle.garde_schema.specs.declared.either.Either.TheVariants.{Left, Right};"] if uses.sides else []
         lines += [self.variants_use(it) for it in self.source.items if self.stated_variants(it)]
+        lines += [self.nested_use(it) for it in self.source.items if self.is_nested(it)]
         return "\n".join(lines)
+
+    def declared(self, item):
+        """The path of what the toolchain declares of a type."""
+        crate, *modules = self.module.split("::")
+        return ".".join(["Rattle", crate, "specs", "declared", *modules, item.name])
 
     def variants_use(self, item):
         """What imports the variants of an enum."""
-        crate, *modules = self.module.split("::")
-        path = ".".join(["Rattle", crate, "specs", "declared", *modules, item.name, "TheVariants"])
-        return f"ghost use {path}.{{{', '.join(it.name for it in item.variants)}}};"
+        return f"ghost use {self.declared(item)}.TheVariants.{{{', '.join(it.name for it in item.variants)}}};"
+
+    def nested_use(self, item):
+        """What imports how a value of a type that holds itself is made of its fields."""
+        return f"ghost use {self.declared(item)}.{{out-{item.name}, roll-{item.name}, the_lemmas}};"
 
     def use_lines(self):
         """What the code imports."""
         paths = {f"garde::fields::{name}" for name in self.uses.fields} | self.uses.others | self.crate_imports()
-        paths |= {"garde::Stated"} if any(map(is_ported, self.source.items)) else set()
+        paths |= {"garde::Stated"} if any(is_ported(it) and not self.is_nested(it) for it in self.source.items) else set()
         if self.own:
             paths |= {f"{self.own}::{name}" for name in self.skeletons}
         elif self.skeletons:
@@ -399,6 +426,14 @@ class Writer:
             if path[0] not in WRITTEN and name in named:
                 kept.add("::".join(path) + (f" as {name}" if name != path[-1] else ""))
         return kept
+
+
+def end_of(name, end):
+    """The greatest or the least number of a type, as `u8::MAX`, or nothing."""
+    if name not in (*UNSIGNED, *SIGNED) or end not in ("MIN", "MAX"):
+        return None
+    bits, signed = 64 if name.endswith("size") else int(name[1:]), name in SIGNED
+    return 2 ** (bits - signed) - 1 if end == "MAX" else -(2 ** (bits - 1)) * signed
 
 
 def begun(what, source):

@@ -2,12 +2,14 @@
 #![tactic(auto)]
 
 pub mod account;
+pub mod basket;
 pub mod bill;
 pub mod coupon;
 pub mod delivery;
 pub mod depot;
 pub mod draft;
 pub mod event;
+pub mod folder;
 pub mod generic;
 pub mod guest;
 pub mod label;
@@ -17,6 +19,7 @@ pub mod pair;
 pub mod parcel;
 pub mod place;
 pub mod reading;
+pub mod shelf;
 pub mod shop;
 pub mod team;
 pub mod visitor;

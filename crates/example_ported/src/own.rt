@@ -1,10 +1,11 @@
-//! The rules and the view that the types of `coupon` and `label` name: what is written by hand after a port.
+//! The rules and the view that the types of `basket`, `coupon` and `label` name: what is written by hand after a port.
 ghost use Rattle.std.specs.Prelude.{◌==◌, ◌%◌, if◌then◌else◌};
-ghost use Rattle.garde.specs.Fields.{None, Some, byte_count, codes, nat_le, own};
+ghost use Rattle.garde.specs.Fields.{None, Some, asks, byte_count, codes, is_some, length, nat_le, own};
 
 use crate::coupon::{Season, Tag};
 use garde::fields::{Rule, View};
 use garde::{I18n, RuleError};
+use garde_schema::{Entries, Items, TextRef};
 use std::alloc::Global;
 use std::borrow::CowStr;
 
@@ -69,6 +70,69 @@ impl<'t> Rule<&'t str> for IsShort {
             Ok(())
         } else {
             Err(RuleError::of(alloc, Ok(CowStr::Borrowed("not short"))))
+        }
+    }
+}
+
+/// The rule that there are 4 tags at most.
+#[derive(Clone, Copy)]
+pub struct HasRoom;
+
+impl<'t> Rule<Items<TextRef<'t>>> for HasRoom {
+    ghost finds = { λ _ tags. asks "no room" (nat_le (length tags) 4) };
+
+    fn find<H: I18n>(
+        &self,
+        alloc: Global,
+        value: &Items<TextRef<'t>>,
+        _h: &H,
+    ) -> Result<(), RuleError> {
+        if value.as_slice().len() <= 4 {
+            Ok(())
+        } else {
+            Err(RuleError::of(alloc, Ok(CowStr::Borrowed("no room"))))
+        }
+    }
+}
+
+/// The rule that there are 6 labels at most.
+#[derive(Clone, Copy)]
+pub struct FitsOnAPage;
+
+impl<'t> Rule<Entries<'t, TextRef<'t>>> for FitsOnAPage {
+    ghost finds = { λ _ labels. asks "no page" (nat_le (length labels) 6) };
+
+    fn find<H: I18n>(
+        &self,
+        alloc: Global,
+        value: &Entries<'t, TextRef<'t>>,
+        _h: &H,
+    ) -> Result<(), RuleError> {
+        if value.as_slice().len() <= 6 {
+            Ok(())
+        } else {
+            Err(RuleError::of(alloc, Ok(CowStr::Borrowed("no page"))))
+        }
+    }
+}
+
+/// The rule that an agent has a name.
+#[derive(Clone, Copy)]
+pub struct IsNamed;
+
+impl<'t> Rule<Option<TextRef<'t>>> for IsNamed {
+    ghost finds = { λ _ agent. asks "no name" (is_some agent) };
+
+    fn find<H: I18n>(
+        &self,
+        alloc: Global,
+        value: &Option<TextRef<'t>>,
+        _h: &H,
+    ) -> Result<(), RuleError> {
+        if value.is_some() {
+            Ok(())
+        } else {
+            Err(RuleError::of(alloc, Ok(CowStr::Borrowed("no name"))))
         }
     }
 }

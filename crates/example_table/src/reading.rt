@@ -21,7 +21,7 @@ pub enum Stored {
     Faulty(Report),
 }
 
-/// The rows of a table that were not read yet, in their order.
+/// The rows of a table that were not read yet.
 #[derive(Drop)]
 pub struct Rows<'a, S: Alter> {
     stock: &'a mut Stock<S>,

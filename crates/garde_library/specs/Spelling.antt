@@ -160,18 +160,13 @@ a_list item = record {
   visits = λ texts j. formed (texts (Wrong wanted.List (kind_of j))) (λ js. each_item (λ x. item.visits texts x) js) (list_of j);
 }
 
--- The same under rules of how many items it has. They ask nothing of its values: `none` for each rule.
-abbrev pub a_list_under : {A : Type 0} → (ℕ → Visits) → Visits → Spelling A → Spelling (List A)
-a_list_under asks nothing item = record {
+-- the same under rules of how many items it has
+abbrev pub a_list_of : {A : Type 0} → (ℕ → Visits) → Spelling A → Spelling (List A)
+a_list_of asks item = record {
   value = λ j. (a_list item).value j;
   visits = λ texts j. formed (texts (Wrong wanted.List (kind_of j)))
-      (λ js. (asks (length js) and each_item (λ x. item.visits texts x) js)
-      and rules_on_value (λ _. nothing) (all_values (λ x. item.value x) js)) (list_of j);
+      (λ js. asks (length js) and each_item (λ x. item.visits texts x) js) (list_of j);
 }
-
--- under one rule
-abbrev pub a_list_of : {A : Type 0} → (ℕ → Visits) → Spelling A → Spelling (List A)
-a_list_of asks item = a_list_under asks none item
 
 -- an object of any names, in the order of the text
 abbrev pub a_map : {A : Type 0} → Spelling A → Spelling (List (List ℕ × A))
@@ -181,18 +176,13 @@ a_map item = record {
       (λ ms. each_entry texts (λ v. item.visits texts v) (members_first ms)) (map_of j);
 }
 
--- The same under rules of how many members it has. They ask nothing of its names: `none` for each rule.
-abbrev pub a_map_under : {A : Type 0} → (ℕ → Visits) → Visits → Spelling A → Spelling (List (List ℕ × A))
-a_map_under asks nothing item = record {
+-- the same under rules of how many members it has
+abbrev pub a_map_of : {A : Type 0} → (ℕ → Visits) → Spelling A → Spelling (List (List ℕ × A))
+a_map_of asks item = record {
   value = λ j. (a_map item).value j;
   visits = λ texts j. formed (texts (Wrong wanted.Object (kind_of j)))
-      (λ ms. (asks (length ms) and each_entry texts (λ v. item.visits texts v) (members_first ms))
-      and rules_on_value (λ _. nothing) (all_values (entry_value (λ v. item.value v)) (members_first ms))) (map_of j);
+      (λ ms. asks (length ms) and each_entry texts (λ v. item.visits texts v) (members_first ms)) (map_of j);
 }
-
--- under one rule
-abbrev pub a_map_of : {A : Type 0} → (ℕ → Visits) → Spelling A → Spelling (List (List ℕ × A))
-a_map_of asks item = a_map_under asks none item
 
 -- a value under rules, which are asked where the value is spelled
 abbrev pub a_ruled : {A : Type 0} → Spelling A → (A → Visits) → Spelling A

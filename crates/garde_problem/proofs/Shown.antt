@@ -1,16 +1,23 @@
--- No character of an escaped text acts, and a text in which none does is not changed.
-use Rattle.std.proofs.Common.{◌≡◌, ℕ, zero, suc, ◌/◌, ◌%◌, ◌<◌, ◌≤◌, Bool, true, false, ◌||◌, ◌==◌, cond, List, [], ◌∷◌, ◌++◌, inl, inr, refl, sym, ap, ap₂, ◌∙◌, subst, arith, append-nil}
+-- No character of an escaped text acts, none of an escaped report but its line feeds, and a text in which none does is not changed.
+use Rattle.std.proofs.Common.{◌≡◌, ℕ, zero, suc, ◌/◌, ◌%◌, ◌<◌, ◌≤◌, Bool, true, false, ◌||◌, ◌==◌, cond, List, [], ◌∷◌, ◌++◌, length, inl, inr, refl, sym, ap, ap₂, ◌∙◌, subst, arith, append-nil}
+use Rattle.std.specs.Prelude.{◌&&◌, not, All}
 use Rattle.std.specs.Char.{encode_utf8}
 use Rattle.std.specs.Fmt.{digits, digits_onto, digit_glyph}
 use Rattle.std.specs.List.{flat_map}
-use Rattle.std.specs.Str.{chars, IsAscii, NonePass}
+use Rattle.std.specs.Str.{chars, IsAscii, IsUtf8, NonePass}
 use Rattle.std.proofs.lemmas.Bool.{cases_eq, and_parts, and_from}
 use Rattle.std.proofs.lemmas.Bool.Decides.{nat_tests}
+use Rattle.std.proofs.lemmas.List.Elements.{All-head, All-tail}
 use Rattle.std.proofs.lemmas.Str.{encodes-append, encodes-IsAscii, encodes-chars, scalars-chars, chars-encodes}
 use Rattle.std.proofs.lemmas.Str.Ascii.{IsAscii-nil, IsAscii-cons}
 use lib.Utf8.{scalar, scalars, encodes, low_scalar}
-use Rattle.garde_problem.specs.Escaped.{is_acting, escape_letter, escaped_char}
-use Rattle.garde_problem.specs.Laws.{EscapedTextsAreShown, ShownTextsStay}
+use Rattle.garde_report.specs.declared.error.component.Kind.{Kind}
+use Rattle.garde_report.specs.declared.error.component.Kind.TheVariants.{None, Key, Index}
+use Rattle.garde_report.specs.Part.{Part}
+use Rattle.garde_report.specs.Path.{child_text, root_text, part_text}
+use Rattle.garde_report.specs.Report.{Entry, entry_text}
+use Rattle.garde_problem.specs.Escaped.{is_acting, escape_letter, escaped_char, escaped_text, escaped_part, escaped_path, escaped_path_text, escaped_report_text}
+use Rattle.garde_problem.specs.Laws.{IsText, acts_within_a_line, EscapedTextsAreShown, EscapedReportsAreShown, ShownTextsStay}
 
 -- ---- printable ASCII
 
@@ -133,6 +140,76 @@ pub escaped_texts_are_shown : EscapedTextsAreShown
 escaped_texts_are_shown text is =
     let (cs, spells, are, none) = shown_chars (chars text) (scalars-chars text is) in
     subst (NonePass is_acting) (sym (chars-encodes cs are) ∙ ap chars spells) none
+
+-- ---- and for a report
+
+-- the text spells characters, none of which acts but line feeds
+abbrev AreLines : List ℕ → Type 0
+AreLines text = (cs : List ℕ) × (encodes cs ≡ text) × (scalars cs ≡ true) × NonePass acts_within_a_line cs
+
+weaker : (cs : List ℕ) → NonePass is_acting cs → NonePass acts_within_a_line cs
+weaker [] none = tt
+weaker (c ∷ cs) none = (ap (λ b. b && not (c == 10)) none.0, weaker cs none.1)
+
+shown_lines : (text : List ℕ) → IsShown text → AreLines text
+shown_lines text (cs, spells, are, none) = (cs, spells, are, weaker cs none)
+
+both_lines : (xs ys : List ℕ) → NonePass acts_within_a_line xs → NonePass acts_within_a_line ys → NonePass acts_within_a_line (xs ++ ys)
+both_lines [] ys left right = right
+both_lines (x ∷ xs) ys left right = (left.0, both_lines xs ys left.1 right)
+
+lines-append : (left right : List ℕ) → AreLines left → AreLines right → AreLines (left ++ right)
+lines-append left right (cs, spells, are, none) (ds, told, be, few) =
+    (cs ++ ds, encodes-append cs ds ∙ ap₂ (λ (a b : List ℕ). a ++ b) spells told, scalars-append cs ds are be, both_lines cs ds none few)
+
+lines_none : AreLines []
+lines_none = ([], refl, refl, tt)
+
+line_end : AreLines (10 ∷ [])
+line_end = (10 ∷ [], encodes-IsAscii (10 ∷ []) (IsAscii-cons 10 [] (omega arith) IsAscii-nil), and_from _ _ (low_scalar 10 (omega arith)) refl, (refl, tt))
+
+lines_mark : (b : ℕ) → 32 ≤ b → b < 127 → AreLines (b ∷ [])
+lines_mark b low high = shown_lines (b ∷ []) (shown_printable (b ∷ []) (low, high, tt))
+
+lines_text : (text : List ℕ) → IsUtf8 text → AreLines (escaped_text text)
+lines_text text is = shown_lines (escaped_text text) (shown_chars (chars text) (scalars-chars text is))
+
+lines_child : (kind : Kind) (text : List ℕ) → AreLines text → AreLines (child_text kind text)
+lines_child Index text are = lines-append (91 ∷ []) (text ++ 93 ∷ []) (lines_mark 91 (omega arith) (omega arith)) (lines-append text (93 ∷ []) are (lines_mark 93 (omega arith) (omega arith)))
+lines_child Key text are = lines-append (46 ∷ []) text (lines_mark 46 (omega arith) (omega arith)) are
+lines_child None text are = are
+
+lines_root : (kind : Kind) (text : List ℕ) → AreLines text → AreLines (root_text kind text)
+lines_root Index text are = lines_child Index text are
+lines_root Key text are = are
+lines_root None text are = are
+
+lines_below : (path : List Part) → All (λ (p : Part). IsUtf8 p.text) path → AreLines (flat_map part_text (escaped_path path))
+lines_below [] are = lines_none
+lines_below (p ∷ ps) are = lines-append (part_text (escaped_part p)) (flat_map part_text (escaped_path ps)) (lines_child p.kind (escaped_text p.text) (lines_text p.text (All-head (λ (q : Part). IsUtf8 q.text) p ps are)))
+    (lines_below ps (All-tail (λ (q : Part). IsUtf8 q.text) p ps are))
+
+lines_path : (path : List Part) → All (λ (p : Part). IsUtf8 p.text) path → AreLines (escaped_path_text path)
+lines_path [] are = lines_none
+lines_path (p ∷ ps) are = lines-append (root_text p.kind (escaped_text p.text)) (flat_map part_text (escaped_path ps)) (lines_root p.kind (escaped_text p.text) (lines_text p.text (All-head (λ (q : Part). IsUtf8 q.text) p ps are)))
+    (lines_below ps (All-tail (λ (q : Part). IsUtf8 q.text) p ps are))
+
+lines_entry : (e : Entry) → IsText e → AreLines (entry_text (escaped_path e.0) (escaped_text e.1))
+lines_entry e is =
+    by_end AreLines (length (escaped_path e.0) == 0) (escaped_text e.1) (escaped_path_text e.0 ++ 58 ∷ 32 ∷ escaped_text e.1) (lines_text e.1 is.1)
+    (lines-append (escaped_path_text e.0) (58 ∷ 32 ∷ escaped_text e.1) (lines_path e.0 is.0)
+    (lines-append (58 ∷ 32 ∷ []) (escaped_text e.1) (lines-append (58 ∷ []) (32 ∷ []) (lines_mark 58 (omega arith) (omega arith)) (lines_mark 32 (omega arith) (omega arith))) (lines_text e.1 is.1)))
+
+lines_report : (entries : List Entry) → All IsText entries → AreLines (escaped_report_text entries)
+lines_report [] are = lines_none
+lines_report (e ∷ es) are =
+    let text = entry_text (escaped_path e.0) (escaped_text e.1) in
+    lines-append (text ++ 10 ∷ []) (escaped_report_text es) (lines-append text (10 ∷ []) (lines_entry e (All-head IsText e es are)) line_end) (lines_report es (All-tail IsText e es are))
+
+pub escaped_reports_are_shown : EscapedReportsAreShown
+escaped_reports_are_shown entries are =
+    let (cs, spells, real, none) = lines_report entries are in
+    subst (NonePass acts_within_a_line) (sym (chars-encodes cs real) ∙ ap chars spells) none
 
 -- ---- what is not changed
 

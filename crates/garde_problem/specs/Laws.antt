@@ -1,5 +1,5 @@
 -- Laws of what reports print.
-use Rattle.std.specs.Prelude.{◌≡◌, ◌==◌, ◌||◌, ℕ, false, List, ◌∷◌, length, Some, All}
+use Rattle.std.specs.Prelude.{◌≡◌, ◌==◌, ◌||◌, ◌&&◌, not, ℕ, Bool, false, List, ◌∷◌, length, Some, All}
 use Rattle.std.specs.List.{count_by}
 use Rattle.std.specs.Str.{IsUtf8, NonePass, chars}
 use Rattle.garde_report.specs.Part.{Part}
@@ -27,6 +27,18 @@ FaultsAreLines = (entries : List Entry) → line_feeds (escaped_report_text entr
 -- no character of an escaped text acts
 abbrev pub EscapedTextsAreShown : Type 0
 EscapedTextsAreShown = (text : List ℕ) → IsUtf8 text → NonePass is_acting (chars (escaped_text text))
+
+-- the message of a fault is text, and so is each component of its path
+abbrev pub IsText : Entry → Type 0
+IsText e = All (λ (p : Part). IsUtf8 p.text) e.0 × IsUtf8 e.1
+
+-- a character that acts, other than the line feed
+abbrev pub acts_within_a_line : ℕ → Bool
+acts_within_a_line c = is_acting c && not (c == 10)
+
+-- no character of an escaped report acts, but for its line feeds
+abbrev pub EscapedReportsAreShown : Type 0
+EscapedReportsAreShown = (entries : List Entry) → All IsText entries → NonePass acts_within_a_line (chars (escaped_report_text entries))
 
 -- a text in which no character acts, and none is a backslash, is not changed
 abbrev pub ShownTextsStay : Type 0

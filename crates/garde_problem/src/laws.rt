@@ -1,6 +1,6 @@
 //! Laws of what reports print. Each function does nothing, and its contract is a law for all values.
 ghost use Rattle.garde_problem.specs.Laws.{CodedMessagesAreRead, OtherMessagesAreCustom};
-ghost use Rattle.garde_problem.specs.Laws.{EscapedTextsAreShown, FaultsAreLines};
+ghost use Rattle.garde_problem.specs.Laws.{EscapedReportsAreShown, EscapedTextsAreShown, FaultsAreLines};
 ghost use Rattle.garde_problem.specs.Laws.{PointersAreRead, PointersDiffer, ShownTextsStay};
 
 /// The pointer of a path, read by the rules of RFC 6901, gives the texts of its components, whatever
@@ -24,6 +24,12 @@ pub fn faults_are_lines()
 /// paragraphs, or one that turns the order of reading.
 pub fn escaped_texts_are_shown()
     ensures { EscapedTextsAreShown }
+{}
+
+/// In an escaped report no character acts but its line feeds, of which `faults_are_lines` says that
+/// there is one for each fault.
+pub fn escaped_reports_are_shown()
+    ensures { EscapedReportsAreShown }
 {}
 
 /// A text in which no character acts, and none is a backslash, is the same when it is escaped.

@@ -10,3 +10,4 @@ mod Wide
 mod Making
 mod Recursion
 mod AllFaults
+mod EachObject

@@ -1,3 +1,4 @@
+pub mod AsksNothing
 pub mod Bound
 pub mod Bytes
 pub mod FirstRead

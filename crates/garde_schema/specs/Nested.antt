@@ -1,5 +1,5 @@
 -- Objects that hold a list of objects of the same form.
-use Rattle.std.specs.Prelude.{ℕ, zero, suc, nat_lt, ⊤, ◌||◌, List, Bool, Option, Some, None, Result, Ok, Err, option_map, option_and_then, if◌then◌else◌}
+use Rattle.std.specs.Prelude.{◌≡◌, ℕ, zero, suc, nat_lt, ⊤, ◌||◌, ◌↔◌, List, Bool, Option, Some, None, Result, Ok, Err, option_map, option_and_then, if◌then◌else◌}
 use Rattle.std.specs.List.{All}
 use Rattle.std.specs.Str.{bytes_eq}
 use Rattle.json.specs.Json.{Json}
@@ -9,6 +9,7 @@ use Rattle.garde_report.specs.Part.{key_part}
 use Rattle.garde_tape.specs.Look.{kind_of, find_answer}
 use Rattle.garde_tape.specs.declared.found.Found.{Found}
 use Rattle.garde_tape.specs.declared.found.Found.TheVariants.{Missing, Once, Repeated}
+use Rattle.garde.specs.Tree.{Tree}
 use Rattle.garde.specs.Visits.{Visits, none, ◌and◌, under, when}
 use Rattle.garde.specs.Nest.{recursive_visits}
 use Rattle.garde_schema.specs.declared.fault.FormFault.{FormFault}
@@ -110,6 +111,18 @@ level_value name own builds child j = made_of builds (own j) (below_value child 
 -- the value of an object of the form: it is made of that of its own members and of those of the objects in it
 abbrev pub nested_value : {A B : Type 0} → List ℕ → (Json → Option A) → (A → List B → B) → Json → Option B
 nested_value name own builds j = recursive_value (level_value name (own_value own) builds) depth j
+
+-- ---- nothing is left out
+
+-- The trees of an object are those of what is asked of it, and of each object in it under the list's name and its index, at whatever
+-- depth. No depth and no size is in this.
+abbrev pub VisitsWhole : List ℕ → Bool → (FormTexts → Json → Visits) → (List ℕ → Bool) → FormTexts → Json → Type 0
+VisitsWhole name closed own names texts j = (t : Tree) → (nested_visits name closed own names texts j).trees t
+    ↔ (level_visits name (first_visits name (own texts) texts) (last_visits closed name names texts) (nested_visits name closed own names texts) j).trees t
+
+-- so its value is made of those of its own members and of each object in it
+abbrev pub ValueWhole : {A B : Type 0} → List ℕ → (Json → Option A) → (A → List B → B) → Json → Type 0
+ValueWhole name own builds j = nested_value name own builds j ≡ level_value name (own_value own) builds (nested_value name own builds) j
 
 -- ---- what is known
 

@@ -15,6 +15,7 @@ mod form;
 mod from_bytes;
 mod handler;
 mod items;
+pub mod laws;
 mod leaf;
 mod list;
 mod list_rules;

@@ -1,7 +1,8 @@
 //! Rules of a list.
-ghost use Rattle.std.specs.Prelude.{List};
+ghost use Rattle.std.specs.Prelude.{◌≡◌, List, Bool, true, false};
 ghost use Rattle.garde.specs.Visits.{Visits, Visited, none, items, when};
 ghost use Rattle.garde.specs.Fields.{unique_text};
+ghost use Rattle.garde_schema.specs.AsksNothing.{AsksNothing, none_asks_nothing, when_asks_nothing, never};
 ghost use Rattle.garde_schema.specs.RulesOnValue.{rules_on_value};
 
 mod counts;
@@ -23,6 +24,12 @@ use std::alloc::{AllocError, Global};
 pub trait ListRules<T>: CountRules {
     /// What the rules find in the values.
     ghost asks: { Self → List T → Visits };
+
+    /// Whether there are rules of the values.
+    ghost of_values: { Self → Bool };
+
+    /// Where there are no rules of the values, nothing is found in them.
+    ghost idle: { (rules : Self) → of_values rules ≡ false → (values : List T) → AsksNothing (asks rules values) };
 
     /// Appends what the rules find in the values to the report.
     ///
@@ -62,6 +69,10 @@ pub(crate) fn ask_all<'a, T, R: ListRules<T>, H: I18n>(
 impl<T> ListRules<T> for () {
     ghost asks = { λ _ _. none };
 
+    ghost of_values = { λ _. false };
+
+    ghost idle = { λ _ _ _. none_asks_nothing };
+
     fn ask_values<'a, H: I18n>(
         &self,
         alloc: Global,
@@ -77,6 +88,10 @@ impl<T> ListRules<T> for () {
 /// The rule asks nothing of the values.
 impl<T, R: Rule<Count>> ListRules<T> for Is<R> {
     ghost asks = { λ _ _. none };
+
+    ghost of_values = { λ _. false };
+
+    ghost idle = { λ _ _ _. none_asks_nothing };
 
     fn ask_values<'a, H: I18n>(
         &self,
@@ -94,6 +109,10 @@ impl<T, R: Rule<Count>> ListRules<T> for Is<R> {
 impl<T, R: MemoryRule<Count>> ListRules<T> for IsInMemory<R> {
     ghost asks = { λ _ _. none };
 
+    ghost of_values = { λ _. false };
+
+    ghost idle = { λ _ _ _. none_asks_nothing };
+
     fn ask_values<'a, H: I18n>(
         &self,
         alloc: Global,
@@ -109,6 +128,10 @@ impl<T, R: MemoryRule<Count>> ListRules<T> for IsInMemory<R> {
 /// The rules ask nothing of the values.
 impl<T, R: Rules<Count>> ListRules<T> for Under<R> {
     ghost asks = { λ _ _. none };
+
+    ghost of_values = { λ _. false };
+
+    ghost idle = { λ _ _ _. none_asks_nothing };
 
     fn ask_values<'a, H: I18n>(
         &self,
@@ -126,6 +149,10 @@ impl<T, R: Rules<Count>> ListRules<T> for Under<R> {
 impl<T, S: Same<T>> ListRules<T> for Unique<'_, S> {
     ghost asks = { λ rules values. unique_text rules.0.now (λ x y. S.same rules.1 x y) values };
 
+    ghost of_values = { λ _. true };
+
+    ghost idle = { λ _ is _. never is };
+
     fn ask_values<'a, H: I18n>(
         &self,
         alloc: Global,
@@ -142,6 +169,10 @@ impl<T, S: Same<T>> ListRules<T> for Unique<'_, S> {
 impl<T, R: Rules<T>> ListRules<T> for Each<R> {
     ghost asks = { λ each values. items (λ x. R.asks each.0 x) values };
 
+    ghost of_values = { λ _. true };
+
+    ghost idle = { λ _ is _. never is };
+
     fn ask_values<'a, H: I18n>(
         &self,
         alloc: Global,
@@ -157,6 +188,10 @@ impl<T, R: Rules<T>> ListRules<T> for Each<R> {
 /// The rules, where the condition holds, and else none.
 impl<T, R: ListRules<T>> ListRules<T> for When<R> {
     ghost asks = { λ rules values. when rules.0 (R.asks rules.1 values) };
+
+    ghost of_values = { λ rules. R.of_values rules.1 };
+
+    ghost idle = { λ rules is values. when_asks_nothing rules.0 _ (R.idle rules.1 is values) };
 
     fn ask_values<'a, H: I18n>(
         &self,
@@ -177,6 +212,10 @@ impl<T, R: ListRules<T>> ListRules<T> for When<R> {
 /// The rules that are referred to.
 impl<'r, T, R: ListRules<T>> ListRules<T> for &'r R {
     ghost asks = { λ rules values. R.asks rules.now values };
+
+    ghost of_values = { λ rules. R.of_values rules.now };
+
+    ghost idle = { λ rules is values. R.idle rules.now is values };
 
     fn ask_values<'a, H: I18n>(
         &self,

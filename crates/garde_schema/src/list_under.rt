@@ -7,7 +7,7 @@ ghost use Rattle.garde_schema.specs.declared.fault.FormFault.TheVariants.{Wrong}
 ghost use Rattle.garde_schema.specs.declared.fault.Wanted.TheVariants as wanted;
 ghost use Rattle.garde_schema.specs.Forms.{forget, formed, Sound};
 ghost use Rattle.garde_schema.specs.Lists.{all_values, each_item, list_of};
-ghost use Rattle.garde_schema.specs.RulesOnValue.{rules_on_value};
+ghost use Rattle.garde_schema.specs.RulesOnValue.{then_rules};
 
 use crate::count::Count;
 use crate::fault::{FormFault, Wanted};
@@ -59,14 +59,14 @@ fn read_ruled<'t, 'a, R: ListRules<F::Out>, F: Form<'a>, H: I18n + FormI18n>(
 ) -> Result<Option<Items<F::Out>>, AllocError>
     requires fits { length items < 2 ^ 64 }
     requires counted { count ≡ length items }
-    ensures answer { Visited ((R.counts form.now.0 (length items.entry)
+    ensures answer { Visited (then_rules (R.of_values form.now.0) (R.counts form.now.0 (length items.entry)
         and each_item (λ x. F.visits form.now.1 (H.form_text h.now) x) items.entry)
-        and rules_on_value (λ v. R.asks form.now.0 v) (all_values (λ x. F.value form.now.1 x) items.entry))
+        (λ v. R.asks form.now.0 v) (all_values (λ x. F.value form.now.1 x) items.entry))
         (H.text h.now) trail.old trail.new report.old report.new (forget result) }
     ensures value { IfOk result (λ out. out ≡ all_values (λ x. F.value form.now.1 x) items.entry) }
-    ensures sound { OnOk result (Sound ((R.counts form.now.0 (length items.entry)
+    ensures sound { OnOk result (Sound (then_rules (R.of_values form.now.0) (R.counts form.now.0 (length items.entry)
         and each_item (λ x. F.visits form.now.1 (H.form_text h.now) x) items.entry)
-        and rules_on_value (λ v. R.asks form.now.0 v) (all_values (λ x. F.value form.now.1 x) items.entry))
+        (λ v. R.asks form.now.0 v) (all_values (λ x. F.value form.now.1 x) items.entry))
         (λ out. (Known (R.counts form.now.0 (length out)) × All (λ x. F.keeps form.now.1 x) out)
         × Known (R.asks form.now.0 out)) (all_values (λ x. F.value form.now.1 x) items.entry)) }
 {
@@ -88,8 +88,8 @@ impl<'a, F: Form<'a>, R: ListRules<F::Out>> Form<'a> for ListUnder<R, F> {
     type Out = Items<F::Out>;
 
     ghost visits = { λ form texts j. formed (texts (Wrong wanted.List (kind_of j)))
-        (λ js. (R.counts form.0 (length js) and each_item (λ x. F.visits form.1 texts x) js)
-        and rules_on_value (λ v. R.asks form.0 v) (all_values (λ x. F.value form.1 x) js)) (list_of j) };
+        (λ js. then_rules (R.of_values form.0) (R.counts form.0 (length js) and each_item (λ x. F.visits form.1 texts x) js)
+        (λ v. R.asks form.0 v) (all_values (λ x. F.value form.1 x) js)) (list_of j) };
 
     ghost value = { λ form j. option_and_then (λ js. all_values (λ x. F.value form.1 x) js) (list_of j) };
 

@@ -8,7 +8,7 @@ ghost use Rattle.garde_schema.specs.declared.fault.Wanted.TheVariants as wanted;
 ghost use Rattle.garde_schema.specs.Forms.{forget, formed, Sound};
 ghost use Rattle.garde_schema.specs.Lists.{all_values};
 ghost use Rattle.garde_schema.specs.Maps.{each_entry, entry_value, map_of, members_first, names_of};
-ghost use Rattle.garde_schema.specs.RulesOnValue.{rules_on_value};
+ghost use Rattle.garde_schema.specs.RulesOnValue.{rules_on_value, then_rules};
 
 use crate::count::Count;
 use crate::fault::{FormFault, Wanted};
@@ -81,18 +81,18 @@ fn read_ruled<'t, 'a, R: NameRules<'a>, F: Form<'a>, H: I18n + FormI18n>(
 ) -> Result<Option<Entries<'a, F::Out>>, AllocError>
     requires fits { length members < 2 ^ 64 }
     requires counted { count ≡ length members }
-    ensures answer { Visited ((R.counts form.now.0 (length members.entry)
+    ensures answer { Visited (then_rules (R.of_names form.now.0) (R.counts form.now.0 (length members.entry)
         and each_entry (H.form_text h.now)
         (λ v. F.visits form.now.1 (H.form_text h.now) v) (members_first members.entry))
-        and rules_on_value (λ v. R.names form.now.0 (names_of v))
+        (λ v. R.names form.now.0 (names_of v))
         (all_values (entry_value (λ v. F.value form.now.1 v)) (members_first members.entry)))
         (H.text h.now) trail.old trail.new report.old report.new (forget result) }
     ensures value { IfOk result (λ out.
         out ≡ all_values (entry_value (λ v. F.value form.now.1 v)) (members_first members.entry)) }
-    ensures sound { OnOk result (Sound ((R.counts form.now.0 (length members.entry)
+    ensures sound { OnOk result (Sound (then_rules (R.of_names form.now.0) (R.counts form.now.0 (length members.entry)
         and each_entry (H.form_text h.now)
         (λ v. F.visits form.now.1 (H.form_text h.now) v) (members_first members.entry))
-        and rules_on_value (λ v. R.names form.now.0 (names_of v))
+        (λ v. R.names form.now.0 (names_of v))
         (all_values (entry_value (λ v. F.value form.now.1 v)) (members_first members.entry)))
         (λ out. (Known (R.counts form.now.0 (length out)) × All (λ e. F.keeps form.now.1 e.1) out)
         × Known (R.names form.now.0 (names_of out)))
@@ -116,9 +116,9 @@ impl<'a, R: NameRules<'a>, F: Form<'a>> Form<'a> for MapUnder<R, F> {
     type Out = Entries<'a, F::Out>;
 
     ghost visits = { λ form texts j. formed (texts (faults.Wrong wanted.Object (kind_of j)))
-        (λ ms. (R.counts form.0 (length ms)
+        (λ ms. then_rules (R.of_names form.0) (R.counts form.0 (length ms)
         and each_entry texts (λ v. F.visits form.1 texts v) (members_first ms))
-        and rules_on_value (λ v. R.names form.0 (names_of v))
+        (λ v. R.names form.0 (names_of v))
         (all_values (entry_value (λ v. F.value form.1 v)) (members_first ms))) (map_of j) };
 
     ghost value = { λ form j. option_and_then

@@ -1,6 +1,7 @@
 //! Rules of the names of an object with any names.
-ghost use Rattle.std.specs.Prelude.{ℕ, List};
+ghost use Rattle.std.specs.Prelude.{◌≡◌, ℕ, List, Bool, true, false};
 ghost use Rattle.garde.specs.Visits.{Visits, Visited, none, when};
+ghost use Rattle.garde_schema.specs.AsksNothing.{AsksNothing, none_asks_nothing, when_asks_nothing, never};
 ghost use Rattle.garde_schema.specs.Maps.{each_key, names_of};
 
 mod tuples;
@@ -22,6 +23,12 @@ use std::alloc::{AllocError, Global};
 pub trait NameRules<'a>: CountRules {
     /// What the rules find in the names.
     ghost names: { Self → List (List ℕ) → Visits };
+
+    /// Whether there are rules of the names.
+    ghost of_names: { Self → Bool };
+
+    /// Where there are no rules of the names, nothing is found in them.
+    ghost idle: { (rules : Self) → of_names rules ≡ false → (found : List (List ℕ)) → AsksNothing (names rules found) };
 
     /// Appends what the rules find in the names to the report.
     ///
@@ -64,6 +71,10 @@ impl<R> CountRules for Keys<R> {
 impl<'a, R: Rules<TextRef<'a>>> NameRules<'a> for Keys<R> {
     ghost names = { λ keys names. each_key (λ name. R.asks keys.0 name) names };
 
+    ghost of_names = { λ _. true };
+
+    ghost idle = { λ _ is _. never is };
+
     fn ask_names<T, H: I18n>(
         &self,
         alloc: Global,
@@ -86,6 +97,10 @@ impl<'a, R: Rules<TextRef<'a>>> NameRules<'a> for Keys<R> {
 impl<'a> NameRules<'a> for () {
     ghost names = { λ _ _. none };
 
+    ghost of_names = { λ _. false };
+
+    ghost idle = { λ _ _ _. none_asks_nothing };
+
     fn ask_names<T, H: I18n>(
         &self,
         alloc: Global,
@@ -101,6 +116,10 @@ impl<'a> NameRules<'a> for () {
 /// The rule asks nothing of the names.
 impl<'a, R: Rule<Count>> NameRules<'a> for Is<R> {
     ghost names = { λ _ _. none };
+
+    ghost of_names = { λ _. false };
+
+    ghost idle = { λ _ _ _. none_asks_nothing };
 
     fn ask_names<T, H: I18n>(
         &self,
@@ -118,6 +137,10 @@ impl<'a, R: Rule<Count>> NameRules<'a> for Is<R> {
 impl<'a, R: MemoryRule<Count>> NameRules<'a> for IsInMemory<R> {
     ghost names = { λ _ _. none };
 
+    ghost of_names = { λ _. false };
+
+    ghost idle = { λ _ _ _. none_asks_nothing };
+
     fn ask_names<T, H: I18n>(
         &self,
         alloc: Global,
@@ -134,6 +157,10 @@ impl<'a, R: MemoryRule<Count>> NameRules<'a> for IsInMemory<R> {
 impl<'a, R: Rules<Count>> NameRules<'a> for Under<R> {
     ghost names = { λ _ _. none };
 
+    ghost of_names = { λ _. false };
+
+    ghost idle = { λ _ _ _. none_asks_nothing };
+
     fn ask_names<T, H: I18n>(
         &self,
         alloc: Global,
@@ -149,6 +176,10 @@ impl<'a, R: Rules<Count>> NameRules<'a> for Under<R> {
 /// The rules, where the condition holds, and else none.
 impl<'a, R: NameRules<'a>> NameRules<'a> for When<R> {
     ghost names = { λ rules names. when rules.0 (R.names rules.1 names) };
+
+    ghost of_names = { λ rules. R.of_names rules.1 };
+
+    ghost idle = { λ rules is names. when_asks_nothing rules.0 _ (R.idle rules.1 is names) };
 
     fn ask_names<T, H: I18n>(
         &self,
@@ -169,6 +200,10 @@ impl<'a, R: NameRules<'a>> NameRules<'a> for When<R> {
 /// The rules that are referred to.
 impl<'a, 'r, R: NameRules<'a>> NameRules<'a> for &'r R {
     ghost names = { λ rules names. R.names rules.now names };
+
+    ghost of_names = { λ rules. R.of_names rules.now };
+
+    ghost idle = { λ rules is names. R.idle rules.now is names };
 
     fn ask_names<T, H: I18n>(
         &self,

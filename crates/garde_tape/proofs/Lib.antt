@@ -4,3 +4,4 @@ pub mod Marks
 pub mod Nesting
 pub mod Reading
 pub mod Sizes
+mod Nodes

@@ -10,3 +10,6 @@ pub mod Input
 pub mod Nesting
 pub mod Surrogate
 pub mod Refusals
+pub mod Node
+pub mod Walk
+pub mod Spot

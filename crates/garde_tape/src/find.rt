@@ -1,6 +1,6 @@
 //! Looking members and fields up by name.
-ghost use Rattle.std.specs.Prelude.{◌≡◌, None, nat_lt};
-ghost use Rattle.garde_tape.specs.Look.{get_in, answer_from, times_in};
+ghost use Rattle.std.specs.Prelude.{◌≡◌, None};
+ghost use Rattle.garde_tape.specs.Look.{get_in, answer_from};
 ghost use Rattle.garde_tape.specs.Texts.{field_list};
 
 use crate::field::FieldValue;
@@ -9,42 +9,7 @@ use crate::source::Source;
 use crate::tape_members::TapeMembers;
 use crate::tree::Tree;
 
-// Whether one of these members has that name.
-#[inline(always)]
-fn has_member(all: TapeMembers<'_, '_>, name: &str) -> bool
-    ensures { result ≡ nat_lt 0 (times_in name.now all.entry) }
-{
-    let mut members = all;
-    while let Some((key, _)) = members.take_member() {
-        if key == name {
-            return true;
-        }
-    }
-    false
-}
-
-// The member of that name among these, if just one has it. A read asks for each member this way, so
-// it stands in its caller, and the walk over fields does not. Each of the two walks keeps as little as
-// it needs: that to the first member of the name has found none, and that behind it asks for no value.
-#[inline(always)]
-pub(crate) fn find_member<'t, 'a>(all: TapeMembers<'t, 'a>, name: &str) -> Found<'t, 'a>
-    ensures { result ≡ answer_from name.now None all.entry }
-{
-    let mut members = all;
-    while let Some((key, tree)) = members.take_member() {
-        if key == name {
-            if has_member(members, name) {
-                return Found::Repeated;
-            }
-            return Found::Once(Tree {
-                source: Source::Tape(tree),
-            });
-        }
-    }
-    Found::Missing
-}
-
-// The same among fields.
+// The member of that name among fields, if just one has it.
 #[inline(never)]
 pub(crate) fn find_field<'t, 'a>(
     fields: &[(&'a str, FieldValue<'t, 'a>)],
@@ -79,6 +44,22 @@ pub(crate) fn get_field<'t, 'a>(
     for field in fields {
         if field.0 == name {
             last = Some(field.1.tree());
+        }
+    }
+    last
+}
+
+// The same of the members of a JSON text.
+pub(crate) fn get_member<'t, 'a>(all: TapeMembers<'t, 'a>, name: &str) -> Option<Tree<'t, 'a>>
+    ensures { result ≡ get_in name.now all.entry }
+{
+    let mut members = all;
+    let mut last = None;
+    while let Some((key, tree)) = members.take_member() {
+        if key == name {
+            last = Some(Tree {
+                source: Source::Tape(tree),
+            });
         }
     }
     last

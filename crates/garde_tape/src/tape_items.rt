@@ -1,29 +1,32 @@
 //! The items of a list.
 ghost use Rattle.std.specs.Prelude.{◌≡◌, [], ◌∷◌, MatchOption};
 
+use crate::node::{after, has_item};
 use crate::tape_tree::TapeTree;
-use json::Items;
+use json::Node;
 use std::marker::Model;
 
 /// The items of a list that are left, in the order of the text.
 #[derive(Drop)]
 pub(crate) struct TapeItems<'t, 'a> {
-    pub(crate) items: Items<'t, 'a>,
+    pub(crate) nodes: &'t [Node<'a>],
+    pub(crate) at: usize,
 }
 
 impl<'t, 'a> Model for TapeItems<'t, 'a> {
     ghost use Rattle.std.specs.Prelude.{List};
     ghost use Rattle.json.specs.Json as spec;
-    ghost use Rattle.garde_tape.specs.Reading.{items_of, item_list, HasItems};
+    ghost use Rattle.garde_tape.specs.Reading.{items_of, item_list};
+    ghost use Rattle.garde_tape.specs.Walk.{tokens_at, AreItemsAt};
     ghost use Rattle.garde_tape.specs.Code.{jsons_code};
 
     ghost Value = { List spec.Json };
 
     ghost coded = { jsons_code };
 
-    ghost view = { λ a. item_list (items_of a.items) };
+    ghost view = { λ a. item_list (items_of (tokens_at a.nodes.now a.at)) };
 
-    ghost invariant = { λ a. HasItems a.items };
+    ghost invariant = { λ a. AreItemsAt a.nodes.now a.at };
 }
 
 impl<'t, 'a> TapeItems<'t, 'a> {
@@ -32,9 +35,11 @@ impl<'t, 'a> TapeItems<'t, 'a> {
         ensures { MatchOption result ((self.old ≡ []) × (self.new ≡ []))
             (λ item. self.old ≡ item ∷ self.new) }
     {
-        match self.items.next() {
-            Some(element) => Some(TapeTree { element }),
-            None => None,
+        let (nodes, at) = (self.nodes, self.at);
+        if !has_item(nodes, at) {
+            return None;
         }
+        self.at = after(nodes, at);
+        Some(TapeTree { nodes, at })
     }
 }

@@ -9,7 +9,7 @@ ghost use Rattle.garde_tape.specs.Look.{find_answer, kind_of};
 ghost use Rattle.garde_tape.specs.Texts.{text_items, field_members};
 
 use crate::field::FieldValue;
-use crate::find::{find_field, find_member, get_field};
+use crate::find::{find_field, get_field, get_member};
 use crate::found::Found;
 use crate::items::TreeItems;
 use crate::kind::Kind;
@@ -235,10 +235,8 @@ impl<'t, 'a> Tree<'t, 'a> {
         ensures { result ≡ get name.now self.now }
     {
         match &self.source {
-            Source::Tape(tree) => match tree.get(name) {
-                Some(tree) => Some(Tree {
-                    source: Source::Tape(tree),
-                }),
+            Source::Tape(tree) => match tree.members() {
+                Some(members) => get_member(members, name),
                 None => None,
             },
             Source::Fields(fields) => get_field(fields, name),
@@ -253,10 +251,7 @@ impl<'t, 'a> Tree<'t, 'a> {
         ensures { result ≡ find_answer name.now self.now }
     {
         match &self.source {
-            Source::Tape(tree) => match tree.members() {
-                Some(members) => find_member(members, name),
-                None => Found::Missing,
-            },
+            Source::Tape(tree) => tree.find(name),
             Source::Fields(fields) => find_field(fields, name),
             _ => Found::Missing,
         }

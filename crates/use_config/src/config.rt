@@ -1,6 +1,10 @@
 //! The whole configuration, and its form.
-ghost use Rattle.std.specs.Prelude.{IfOk};
+ghost use Rattle.std.specs.Prelude.{◌≡◌, Some, IfOk};
 ghost use Rattle.garde.specs.Fields.{between, is, Known, range};
+ghost use Rattle.garde_tape.specs.Input.{without_mark};
+ghost use Rattle.garde_schema.specs.Bytes.{AnswersBytes, OfDocument};
+ghost use Rattle.garde_schema.specs.Forms.{forget};
+ghost use Rattle.use_config.specs.Config.{config};
 
 use crate::limit::{InOrder, Limit};
 use crate::logging::{FileForDebug, LEVELS, Logging};
@@ -33,7 +37,11 @@ pub fn read_config<'a, H: I18n + FormI18n>(
     names: &Regex,
     h: &H,
 ) -> Result<Config<'a>, ReadError>
-    ensures { IfOk result (λ config. Known (is (range (between 1 64) config.server.workers))) }
+    ensures answer { AnswersBytes (λ j. (config names.now).visits (H.form_text h.now) j) (H.text h.now)
+        (without_mark bytes.now) (forget result) }
+    ensures value { IfOk result (λ it. OfDocument (without_mark bytes.now)
+        (λ j. (config names.now).value j ≡ Some (it.server, it.logging, it.limits))) }
+    ensures workers { IfOk result (λ it. Known (is (range (between 1 64) it.server.workers))) }
 {
     let pem = Is(Suffix(".pem"));
     let tls = Object(Closed((Member("certificate", Text(pem)), Member("key", Text(pem)))));

@@ -3,17 +3,14 @@
 //! word says.
 #![tactic(auto)]
 
-mod form;
-mod line;
 mod order;
-mod page;
+mod rely;
 
-use crate::form::read_orders;
-use crate::line::cost;
-use crate::order::{Order, destination, first};
-use crate::page::Page;
+use crate::order::{Order, Page};
+use crate::rely::{cost, destination, first};
 use anyhow::Result;
 use garde::{DefaultI18n, Valid};
+use garde_library::ReadBody;
 use garde_problem::Escaped;
 use garde_schema::{FirstReadError, Scratch};
 use std::io::Read;
@@ -78,7 +75,7 @@ fn confirm(rt: &impl Print, order: &Valid<Order<'_>>) -> io::Result<()> {
 
 /// Confirms each order of a page.
 #[tactic(auto, unfolding(garde::specs::Fields::Known))]
-fn confirm_all(rt: &impl Print, page: Valid<Page<Order<'_>>>) -> io::Result<()> {
+fn confirm_all(rt: &impl Print, page: Valid<Page<'_>>) -> io::Result<()> {
     for order in page.into_inner().entries.into_vec() {
         let order = Valid::known(order, &());
         confirm(rt, &order)?;
@@ -92,9 +89,9 @@ fn judge(rt: &HostRuntime, most: usize) -> Result<bool> {
     let mut body = Vec::new(alloc);
     rt.stdin().read_to_end(&mut body)?;
     let mut scratch = Scratch::new(alloc);
-    match read_orders(alloc, body.as_slice(), &mut scratch, most, &DefaultI18n) {
+    match Page::read_body(alloc, body.as_slice(), &mut scratch, most, &DefaultI18n) {
         Ok(page) => {
-            confirm_all(rt, page)?;
+            confirm_all(rt, Valid::known(page, &()))?;
             Ok(true)
         }
         Err(FirstReadError::All(report)) => {

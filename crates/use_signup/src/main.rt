@@ -75,7 +75,7 @@ fn welcome(rt: &impl Print, who: &SignUp<'_>, words: &Words) -> io::Result<()> {
     println!(rt; "{welcome}, {name:?} ({age})")?;
     if let Some(topics) = &who.topics {
         for topic in topics.as_slice() {
-            println!(rt; "    {topic}")?;
+            println!(rt; "    {}", topic.name())?;
         }
     }
     Ok(())

@@ -1,6 +1,10 @@
 //! Who signs up: the form of each field and its rules, in one expression.
-ghost use Rattle.std.specs.Prelude.{bytes_eq, is_some};
+ghost use Rattle.std.specs.Prelude.{◌≡◌, ◌≢◌, [], ◌∷◌, Err, IfOk, bytes_eq, codes, is_some, map};
+ghost use Rattle.garde.specs.Answers.{Answers};
 ghost use Rattle.garde.specs.Fields.{asks_text, is, matches};
+ghost use Rattle.garde_form.specs.WebForm.{field_texts};
+ghost use Rattle.garde_schema.specs.Forms.{forget};
+ghost use Rattle.use_signup.specs.SignUp.{OfForm, Spells, sign_up};
 
 use garde::fields::{Alphanumeric, Is, Matches, Prefix, Required, Rule};
 use garde::{I18n, Report, RuleError, Trail, ValidateError, all, length, parts, range};
@@ -66,17 +70,38 @@ impl<'t> Rules<(TextRef<'t>, TextRef<'t>)> for Repeated {
 }
 
 /// The fields that are sent once for each choice.
-const LISTS: [&str; 1] = ["topics"];
+fn listed() -> [&'static str; 1]
+    ensures { map (λ name. name.now) result ≡ codes "topics" ∷ [] }
+{
+    ["topics"]
+}
 
-/// The topics to choose from.
-const TOPICS: [(&str, &str); 2] = [("news", "news"), ("events", "events")];
+/// A topic to choose.
+#[derive(Clone, Copy, Debug)]
+pub enum Topic {
+    News,
+    Events,
+}
+
+impl Topic {
+    /// Its name, as it is printed.
+    pub fn name(self) -> &'static str {
+        match self {
+            Topic::News => "news",
+            Topic::Events => "events",
+        }
+    }
+}
+
+/// The names of the topics in a form.
+const TOPICS: [(&str, Topic); 2] = [("news", Topic::News), ("events", Topic::Events)];
 
 /// Who may sign up.
 #[derive(Drop)]
 pub struct SignUp<'t> {
     pub name: TextRef<'t>,
     pub age: u8,
-    pub topics: Option<Items<&'static str>>,
+    pub topics: Option<Items<Topic>>,
 }
 
 /// Reads who signs up, or reports every fault of the form and of the rules. A valid form has an
@@ -87,7 +112,12 @@ pub fn read_sign_up<'a, H: I18n + FormI18n>(
     fields: &'a [FormField<'_>],
     words: &Words,
     h: &H,
-) -> Result<SignUp<'a>, ValidateError> {
+) -> Result<SignUp<'a>, ValidateError>
+    ensures answer { result ≢ Err ValidateError.Memory → OfForm (field_texts fields.now)
+        (λ j. Answers ((sign_up words.now.terms.now).visits (H.form_text h.now) j) (H.text h.now) (forget result)) }
+    ensures value { IfOk result (λ who. OfForm (field_texts fields.now)
+        (λ j. Spells words.now.terms.now j who)) }
+{
     let adult = Parsed(U8, Is(range!(min = 18, max = 120)));
     let called = Text((Is(Prefix("+")), Is(length!(min = 9, max = 16))));
     let passwords = (
@@ -109,7 +139,8 @@ pub fn read_sign_up<'a, H: I18n + FormI18n>(
             Under("terms", Is(Accepted(words.terms))),
         )
     )));
-    match read_form(alloc, fields, &LISTS, &form, h) {
+    let lists = listed();
+    match read_form(alloc, fields, &lists, &form, h) {
         Ok(fields) => {
             let parts!(name, _, _, age, _, topics, _) = fields;
             let age = age.unwrap();

@@ -1,9 +1,12 @@
 -- What a list in CSV gives.
-use Rattle.std.specs.Prelude.{◌≡◌, ◌≢◌, ℕ, false, List, [], ◌∷◌, length, Option, Some, None, IsSomeAnd, unwrap_or, ◌<◌, ◌^◌}
+use Rattle.std.specs.Prelude.{◌≡◌, ◌≢◌, ℕ, false, List, [], ◌∷◌, codes, length, Option, Some, None, IsSomeAnd, option_map, unwrap_or, ◌<◌, ◌^◌}
+use Rattle.std.specs.Io.KnownBytes.{Keeps}
 use Rattle.std.specs.String.{string_bytes}
 use Rattle.std.specs.Str.Parse.{IsNumeral, digits_value, without_leading_plus}
+use Rattle.csv.specs.Reading.{strip_bom}
 use Rattle.csv.specs.Records.{field_at}
-use Rattle.garde_csv.specs.Lists.{GivesNext, has_stopped, rest_of}
+use Rattle.csv.specs.declared.parser.State.TheVariants.{StartRecord}
+use Rattle.garde_csv.specs.Lists.{GivesNext, has_stopped, list_state, next_line, rest_of}
 use Rattle.garde_csv.specs.declared.records.Next.{Next}
 use Rattle.garde_csv.specs.declared.records.Next.TheVariants as next
 use Rattle.garde_csv.specs.declared.records.Records.{Records}
@@ -58,3 +61,17 @@ pub record Gives {R : Type 0} (remaining : R → Option (List ℕ)) (old : Recor
   pub read : GivesNext (rest_of remaining old) (rest_of remaining new) old new fields answer
   pub is_item : IsItem fields answer given
   pub goes : has_stopped new ≡ false
+
+-- the columns of a list, in their order
+abbrev pub columns : List (List ℕ)
+columns = codes "code" ∷ codes "name" ∷ codes "quantity" ∷ codes "price" ∷ codes "page" ∷ []
+
+-- A list that was opened: its text was read from the first line on, without a byte order mark. The first record is the header, which
+-- names the columns, and what is left of the text is the rest.
+pub record Opens {R : Type 0} (remaining : R → Option (List ℕ)) (source : R) (list : Records R) : Type 0 where
+  pub start : Records R
+  pub bytes : Keeps (option_map strip_bom (remaining source)) (rest_of remaining start)
+  pub state : list_state start ≡ StartRecord
+  pub line : next_line start ≡ 1
+  pub header : GivesNext (rest_of remaining start) (rest_of remaining list) start list columns next.Row
+  pub goes : has_stopped list ≡ false

@@ -1,8 +1,7 @@
 //! A stock list in CSV, read a row at a time.
-ghost use Rattle.std.specs.Prelude.{◌≡◌, false, length, IfOk};
+ghost use Rattle.std.specs.Prelude.{◌≡◌, length, IfOk, IsTrue};
 ghost use Rattle.csv.specs.Records.{fields_of};
-ghost use Rattle.garde_csv.specs.Lists.{has_stopped};
-ghost use Rattle.use_store.specs.List.{field, Spells, Writes, IsRecord};
+ghost use Rattle.use_store.specs.List.{columns, field, Spells, Writes, IsRecord, Opens};
 
 use anyhow::{Result, anyhow};
 use csv::StringRecord;
@@ -22,21 +21,24 @@ pub struct CsvList<R> {
     pub alloc: Global,
 }
 
-/// Whether a header row has the columns of a list.
-fn has_columns(header: &StringRecord) -> bool {
-    for (place, column) in COLUMNS.iter().enumerate() {
-        if header.get(place) != Some(*column) {
-            return false;
-        }
-    }
-    header.len() == COLUMNS.len()
-}
-
 /// The field of a record at a place, or an empty one where there is none.
 fn field_at(fields: &StringRecord, place: usize) -> &str
     ensures { result.now ≡ field (fields_of fields.now) place }
 {
     fields.get(place).unwrap_or("")
+}
+
+/// Whether a header row has the columns of a list.
+fn has_columns(header: &StringRecord) -> bool
+    ensures { IsTrue result → fields_of header.now ≡ columns }
+{
+    let [code, name, quantity, price, page] = COLUMNS;
+    header.len() == COLUMNS.len()
+        && field_at(header, 0) == code
+        && field_at(header, 1) == name
+        && field_at(header, 2) == quantity
+        && field_at(header, 3) == price
+        && field_at(header, 4) == page
 }
 
 /// The number that a text writes, or none.
@@ -79,7 +81,7 @@ fn item_of(alloc: Global, fields: &StringRecord) -> Result<Item, AllocError>
 impl<R: Read + Drop> CsvList<R> {
     /// The list that is read from here. Its header row has to name the columns.
     pub fn new(alloc: Global, list: R) -> Result<CsvList<R>>
-        ensures { IfOk result (λ list. has_stopped list.records ≡ false) }
+        ensures { IfOk result (λ it. Opens R.remaining list it.records) }
     {
         let mut records = Records::new(alloc, list)?;
         let mut header = StringRecord::new(alloc);

@@ -42,7 +42,7 @@ pub struct Under {
 }
 
 #[derive(Deserialize, Validate)]
-pub struct Folder { //~ `Folder`, whose values hold values of its own type
+pub struct Folder { //~ `Folder`, whose values hold values of its own type otherwise than in one list, beside other fields
     #[garde(skip)]
     folders: Vec<Folder>,
 }

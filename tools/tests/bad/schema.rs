@@ -19,9 +19,9 @@ pub struct Order {
     #[garde(dive)]
     #[serde(flatten)] //~ `flatten` of serde, of which `--schema` writes no form
     pub sum: Sum,
-    #[garde(matches(code))] //~ `matches` with another field, which the form of one member does not see: write it by `Checked` and `Under`, by hand, as `use_signup` does
+    #[garde(matches(code))]
     pub again: String,
-    #[garde(range(max = self.most))] //~ `range` with another field, which the form of one member does not see: write it by `Checked` and `Under`, by hand, as `use_signup` does
+    #[garde(range(max = self.most))]
     pub count: u8,
     #[garde(range(min = 1))]
     #[serde(default)]
@@ -44,11 +44,11 @@ pub struct Order {
     pub own: bool,
     #[garde(pattern("a+"))] //~ `pattern`, which stands in a context: the form of `--schema` has none
     pub mark: String,
-    #[garde(inner(ascii))] //~ `inner` of a map, which `--schema` does not write: the form of the values stands within `MapUnder(.., HERE)`, by hand
+    #[garde(inner(ascii))]
     pub names: BTreeMap<String, String>,
     #[garde(skip)]
     pub part: Part, //~ the field `part` of the type `Part`, whose rules its form asks: write `dive`
-    #[garde(inner(inner(ascii)), custom(are_apart))] //~ `custom` of a list, which `--schema` does not write
+    #[garde(inner(inner(ascii)), custom(are_apart))]
     pub rows: Vec<Vec<String>>,
 }
 

@@ -1,6 +1,6 @@
 use garde::Validate;
 
-const MOST: u8 = 3 + 4;
+const MOST: u8 = most();
 
 #[derive(Validate)]
 pub struct Bad {

@@ -8,7 +8,7 @@ use uuid::Uuid;
 
 pub type Names = Vec<String>;
 
-const MAX: usize = 10 * 3;
+const MAX: usize = ten() * 3;
 static WORDS: [&str; 2] = ["a", "b"];
 
 /// One: a user.
@@ -84,7 +84,7 @@ pub struct Node {
 /// Seven.
 #[derive(Validate)]
 pub struct Conditional<'a> {
-    #[garde(if(cond = self.kind == "x", required))] //~ an expression that the port cannot read, at `"x"`
+    #[garde(if(cond = self.kind == "x", required))]
     pub maybe: Option<u8>,
     #[garde(if(cond = self.kind.is_empty(), ascii, url))] //~ a condition with the method `is_empty`, which the port cannot read there
     pub kind: &'a str,
@@ -102,7 +102,7 @@ pub struct Row {
     #[garde(credit_card, phone_number)] //~ the rule `credit_card` is not ported: give the number a type of its own that implements `CreditCard` //~ the rule `phone_number` is not ported: give the number a type of its own that implements `PhoneNumber`
     #[sqlx(rename = "nr")] //~ the attribute `sqlx`, which the port does not know: take it out, or leave it out by `--leave-out sqlx`
     pub number: String,
-    #[garde(range(min = Self::LOW))] //~ a bound that the port cannot read, from `::` on
+    #[garde(range(min = Self::LOW))] //~ a bound that the port cannot read: it reads numbers and fields of `self` and of the context
     pub low: i32,
     #[garde(adapt(ext), length(max = 3))]
     pub id: Uuid,

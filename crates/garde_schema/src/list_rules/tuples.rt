@@ -1,5 +1,7 @@
 //! Tuples of rules of a list, of two to four. More are tuples in tuples, by `all!`.
+ghost use Rattle.std.specs.Prelude.{◌||◌};
 ghost use Rattle.garde.specs.Visits.{◌and◌};
+ghost use Rattle.garde_schema.specs.AsksNothing.{both_ask_nothing};
 
 use super::{CountRules, ListRules};
 use crate::count::Count;
@@ -26,6 +28,10 @@ impl<A: CountRules, B: CountRules> CountRules for (A, B) {
 
 impl<T, A: ListRules<T>, B: ListRules<T>> ListRules<T> for (A, B) {
     ghost asks = { λ all values. A.asks all.0 values and B.asks all.1 values };
+
+    ghost of_values = { λ all. A.of_values all.0 || B.of_values all.1 };
+
+    ghost idle = { λ all is values. both_ask_nothing _ _ (λ is. A.idle all.0 is values) (λ is. B.idle all.1 is values) is };
 
     fn ask_values<'a, H: I18n>(
         &self,
@@ -59,6 +65,10 @@ impl<A: CountRules, B: CountRules, C: CountRules> CountRules for (A, B, C) {
 impl<T, A: ListRules<T>, B: ListRules<T>, C: ListRules<T>> ListRules<T> for (A, B, C) {
     ghost asks = { λ all values. A.asks all.0 values and B.asks all.1 values and C.asks all.2 values };
 
+    ghost of_values = { λ all. A.of_values all.0 || (B.of_values all.1 || C.of_values all.2) };
+
+    ghost idle = { λ all is values. both_ask_nothing _ _ (λ is. A.idle all.0 is values) (λ is. both_ask_nothing _ _ (λ is. B.idle all.1 is values) (λ is. C.idle all.2 is values) is) is };
+
     fn ask_values<'a, H: I18n>(
         &self,
         alloc: Global,
@@ -90,6 +100,10 @@ impl<A: CountRules, B: CountRules, C: CountRules, D: CountRules> CountRules for 
 impl<T, A: ListRules<T>, B: ListRules<T>, C: ListRules<T>, D: ListRules<T>> ListRules<T>
     for (A, B, C, D) {
     ghost asks = { λ all values. A.asks all.0 values and B.asks all.1 values and C.asks all.2 values and D.asks all.3 values };
+
+    ghost of_values = { λ all. A.of_values all.0 || (B.of_values all.1 || (C.of_values all.2 || D.of_values all.3)) };
+
+    ghost idle = { λ all is values. both_ask_nothing _ _ (λ is. A.idle all.0 is values) (λ is. both_ask_nothing _ _ (λ is. B.idle all.1 is values) (λ is. both_ask_nothing _ _ (λ is. C.idle all.2 is values) (λ is. D.idle all.3 is values) is) is) is };
 
     fn ask_values<'a, H: I18n>(
         &self,

@@ -1,5 +1,7 @@
 //! Tuples of rules of an object with any names, of two to four. More are tuples in tuples, by `all!`.
+ghost use Rattle.std.specs.Prelude.{◌||◌};
 ghost use Rattle.garde.specs.Visits.{◌and◌};
+ghost use Rattle.garde_schema.specs.AsksNothing.{both_ask_nothing};
 
 use super::NameRules;
 use crate::map::Entries;
@@ -9,6 +11,10 @@ use std::alloc::{AllocError, Global};
 /// The one, and then the other.
 impl<'a, A: NameRules<'a>, B: NameRules<'a>> NameRules<'a> for (A, B) {
     ghost names = { λ all names. A.names all.0 names and B.names all.1 names };
+
+    ghost of_names = { λ all. A.of_names all.0 || B.of_names all.1 };
+
+    ghost idle = { λ all is names. both_ask_nothing _ _ (λ is. A.idle all.0 is names) (λ is. B.idle all.1 is names) is };
 
     fn ask_names<T, H: I18n>(
         &self,
@@ -27,6 +33,10 @@ impl<'a, A: NameRules<'a>, B: NameRules<'a>> NameRules<'a> for (A, B) {
 impl<'a, A: NameRules<'a>, B: NameRules<'a>, C: NameRules<'a>> NameRules<'a> for (A, B, C) {
     ghost names = { λ all names. A.names all.0 names and B.names all.1 names and C.names all.2 names };
 
+    ghost of_names = { λ all. A.of_names all.0 || (B.of_names all.1 || C.of_names all.2) };
+
+    ghost idle = { λ all is names. both_ask_nothing _ _ (λ is. A.idle all.0 is names) (λ is. both_ask_nothing _ _ (λ is. B.idle all.1 is names) (λ is. C.idle all.2 is names) is) is };
+
     fn ask_names<T, H: I18n>(
         &self,
         alloc: Global,
@@ -43,6 +53,10 @@ impl<'a, A: NameRules<'a>, B: NameRules<'a>, C: NameRules<'a>> NameRules<'a> for
 impl<'a, A: NameRules<'a>, B: NameRules<'a>, C: NameRules<'a>, D: NameRules<'a>> NameRules<'a>
     for (A, B, C, D) {
     ghost names = { λ all names. A.names all.0 names and B.names all.1 names and C.names all.2 names and D.names all.3 names };
+
+    ghost of_names = { λ all. A.of_names all.0 || (B.of_names all.1 || (C.of_names all.2 || D.of_names all.3)) };
+
+    ghost idle = { λ all is names. both_ask_nothing _ _ (λ is. A.idle all.0 is names) (λ is. both_ask_nothing _ _ (λ is. B.idle all.1 is names) (λ is. both_ask_nothing _ _ (λ is. C.idle all.2 is names) (λ is. D.idle all.3 is names) is) is) is };
 
     fn ask_names<T, H: I18n>(
         &self,

@@ -7,6 +7,7 @@ mod json_read;
 mod json_text;
 mod lists;
 mod numbers;
+mod places;
 mod problems;
 mod refusals;
 mod samples;

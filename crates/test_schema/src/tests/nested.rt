@@ -8,7 +8,8 @@ use super::told::{Case as Form, check_many, compare, told, told_of};
 use garde::fields::{Ascii, Is};
 use garde::{DefaultI18n, I18n, length, range};
 use garde_schema::{
-    Closed, FormI18n, FromNested, Items, Member, Nested, Optional, Text, TextRef, U16, Whole,
+    Closed, FormI18n, FromNested, Items, Member, Members, Nested, Optional, Text, TextRef, U16,
+    Whole, laws,
 };
 use garde_tape::Tree;
 use std::alloc::{AllocError, Global};
@@ -137,7 +138,13 @@ fn open<H: I18n + FormI18n>(
 ) -> Result<String, AllocError> {
     let members = (Member("name", Text(())), Optional("size", Whole(U16, ())));
     let form = Nested("folders", members, PhantomData::<&Folder<'_>>);
+    leaves_none_out(&form);
     told(alloc, tree, &form, h)
+}
+
+// Calls the law of objects in objects for this form.
+fn leaves_none_out<'a, T: FromNested, M: Members<'a, Out = T::Own>>(_form: &Nested<'a, M, T>) {
+    laws::nested_objects::<'a, T, M>();
 }
 
 // Bodies, and what each reads as.

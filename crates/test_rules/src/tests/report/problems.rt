@@ -326,6 +326,7 @@ fn the_laws_of_problems_are_called(_rt: HostRuntime) {
     laws::pointers_differ();
     laws::faults_are_lines();
     laws::escaped_texts_are_shown();
+    laws::escaped_reports_are_shown();
     laws::shown_texts_stay();
     laws::coded_messages_are_read();
     laws::other_messages_are_custom();

@@ -1,12 +1,20 @@
-use Rattle.std.proofs.Common.{◌≡◌, sym, ap, ◌∙◌}
+use Rattle.std.proofs.Common.{◌≡◌, option_map, sym, ap, ◌∙◌}
 use Rattle.json.specs.Json.{object}
-use Rattle.json.specs.Find.{get}
+use Rattle.json.specs.Find.{get, as_object}
 use Rattle.garde_tape.specs.Look.{get_in}
+use Rattle.garde_tape.specs.Reading.{member_list}
 use Rattle.garde_tape.specs.Source.{source_json}
 use Rattle.garde_tape.specs.Texts.{field_members}
 use Rattle.garde_tape.proofs.Fields.{field_members-list}
-use Rattle.garde_tape.proofs.Finding.{get_in-list}
+use Rattle.garde_tape.proofs.Finding.{get_in-list, got_in}
 use Rattle.garde_tape.proofs.tree.Tree.get.Goals as goal
+
+pub returns-in-Some : goal.returns-in-Some
+returns-in-Some c =
+    let name = c.args.name.now in
+    let whole : c.in-Tape.tree ≡ c.args.self.now = ap source_json (sym c.in-Tape.is) ∙ c.self.view_is in
+    let all = c.in-Some.ensures.value ∙ ap (λ j. option_map member_list (as_object j)) whole in
+    c.get_member.ensures ∙ got_in name c.args.self.now _ all
 
 pub returns-in-Fields : goal.returns-in-Fields
 returns-in-Fields c =

@@ -1,5 +1,7 @@
 //! Types that are read from JSON by the forms that the port writes.
+use example_ported::basket::{read_basket, read_marks};
 use example_ported::bill::read_bill;
+use example_ported::folder::read_disk;
 use example_ported::parcel::read_parcel;
 use garde::DefaultI18n;
 use garde_schema::Scratch;
@@ -9,11 +11,54 @@ use std::fmt::{Debug, Display};
 /// A type that is read.
 #[derive(Clone, Copy)]
 enum Of {
+    Basket,
     Bill,
+    Disk,
+    Marks,
     Parcel,
 }
 
 const ROWS: &[(Of, &str, &str)] = &[
+    (
+        Of::Disk,
+        "{\"label\":\"c\",\"top\":[{\"name\":\"a\",\"folders\":[{\"name\":\"b\",\"size\":9,\"folders\":[],\"note\":\"abc\"}],\"note\":\"abcd\"}]}",
+        "Disk { label: TextRef(\"c\"), top: Items([Folder { name: TextRef(\"a\"), size: None, folders: Items([Folder { name: TextRef(\"b\"), size: Some(9), folders: Items([]), note: TextRef(\"abc\") }]), note: TextRef(\"abcd\") }]) }",
+    ),
+    (
+        Of::Disk,
+        "{\"label\":1,\"top\":[{\"name\":\"\",\"size\":1001,\"folders\":[{\"name\":\"b\",\"size\":9,\"folders\":[],\"note\":\"abcd\",\"x\":0}],\"note\":\"abcd\"}]}",
+        "label: not a text\ntop[0].name: length is lower than 1\ntop[0].size: greater than 1000\ntop[0].note: length is greater than 3\ntop[0].folders[0].note: length is greater than 3\ntop[0].folders[0].x: not known here\n",
+    ),
+    (
+        Of::Basket,
+        "{\"customer\":\"Ann\",\"payment\":\"card\",\"billTo\":\"12 Street\",\"entries\":[{\"code\":\"P1\",\"pieces\":6,\"gifts\":6}],\"again\":\"Ann\"}",
+        "Valid(Basket { customer: TextRef(\"Ann\"), payment: Card, bill_to: Some(TextRef(\"12 Street\")), entries: Items([Entry { code: TextRef(\"P1\"), gifts: 6, pieces: 6 }]), again: TextRef(\"Ann\") })",
+    ),
+    (
+        Of::Basket,
+        "{\"customer\":\"Ann\",\"payment\":\"bill\",\"entries\":[{\"code\":\"Q\",\"pieces\":121,\"gifts\":122},{\"code\":\"P\",\"pieces\":7,\"gifts\":8}],\"again\":\"Bob\"}",
+        "billTo: not set\nentries[0].code: value does not begin with \"P\"\nentries[0].pieces: greater than 120\nentries[0].pieces: not a multiple of 6\nentries[0].gifts: greater than 121\nentries[1].pieces: not a multiple of 6\nentries[1].gifts: greater than 7\nagain: does not match customer field\n",
+    ),
+    (
+        Of::Basket,
+        "{\"customer\":\"Ann\",\"payment\":\"cash\",\"billTo\":null,\"entries\":[{\"code\":\"P\",\"pieces\":6,\"gifts\":0},{\"code\":\"P\",\"pieces\":6,\"gifts\":0},{\"code\":\"P\",\"pieces\":6,\"gifts\":0},{\"code\":\"P\",\"pieces\":6,\"gifts\":0}],\"again\":1}",
+        "entries: length is greater than 3\nagain: not a text\n",
+    ),
+    (
+        Of::Marks,
+        "{\"tags\":[\"a\",\"b\"],\"seats\":[1,2],\"labels\":{\"to\":\"x\"},\"note\":\"none\",\"copies\":0,\"agent\":\"Eve\"}",
+        "Valid(Marks { tags: Items([TextRef(\"a\"), TextRef(\"b\")]), seats: Items([1, 2]), phone: None, labels: Items([(TextRef(\"to\"), TextRef(\"x\"))]), note: TextRef(\"none\"), copies: 0, agent: Some(TextRef(\"Eve\")) })",
+    ),
+    (
+        Of::Marks,
+        "{\"tags\":[\"a\",\"rush\",\"a\",\"b\",\"c\"],\"seats\":[1,1],\"labels\":{\"\u{e9}\":\"x\",\"name\":\"-\"},\"note\":\"@\",\"copies\":0}",
+        "tags[2]: stands before\ntags: no room\nseats[1]: comes twice\nlabels.name: not alphanumeric\nlabels.\u{e9}: not ascii\nphone: not set\nnote: length is lower than 3\ncopies: lower than 1\nagent: no name\n",
+    ),
+    (
+        Of::Marks,
+        "{\"tags\":[\"rush\"],\"seats\":[7],\"labels\":{\"\u{e9}\":\"x\"},\"note\":\"@\",\"copies\":0,\"agent\":\"\"}",
+        "labels.\u{e9}: not ascii\nnote: length is lower than 3\ncopies: lower than 1\n",
+    ),
     (
         Of::Parcel,
         "{\"number\":1,\"sentTo\":\"Ann\",\"phone\":\"+1\",\"grams\":30000,\"speed\":\"by_ship\",\"things\":[{\"name\":\"cup\"},{\"name\":\"lamp\",\"pieces\":99,\"fragile\":true}],\"marks\":[\"a1\"],\"labels\":{\"to\":\"x\"}}",
@@ -69,7 +114,10 @@ fn told_of<T: Debug, E: Display>(alloc: Global, read: &Result<T, E>) -> Result<S
 fn told(alloc: Global, of: Of, body: &[u8]) -> Result<String, AllocError> {
     let mut scratch = Scratch::new(alloc);
     match of {
+        Of::Basket => told_of(alloc, &read_basket(alloc, body, &mut scratch, &DefaultI18n)),
         Of::Bill => told_of(alloc, &read_bill(alloc, body, &mut scratch, &DefaultI18n)),
+        Of::Disk => told_of(alloc, &read_disk(alloc, body, &mut scratch, &DefaultI18n)),
+        Of::Marks => told_of(alloc, &read_marks(alloc, body, &mut scratch, &DefaultI18n)),
         Of::Parcel => told_of(alloc, &read_parcel(alloc, body, &mut scratch, &DefaultI18n)),
     }
 }

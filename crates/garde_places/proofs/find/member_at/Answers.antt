@@ -1,0 +1,43 @@
+use Rattle.std.proofs.Common.{◌≡◌, ◌+◌, ◌∷◌, map, drop, get_or, sym, ap, ◌∙◌, subst, arith, bytes_eq}
+use Rattle.std.proofs.lemmas.List.{length-drop, length-map}
+use Rattle.json.specs.Tape.{node_token}
+use Rattle.json.specs.declared.tape.Node.TheVariants.{Object}
+use Rattle.garde_places.specs.Steps.{SpellMembers, member_spot}
+use Rattle.garde_places.proofs.Walking.{here, or_found, found_if, no_name, members_end, members_short, members_more, member_spot_more, past_value}
+use Rattle.garde_places.proofs.find.member_at.Goals.{then-eq, else-eq}
+use Rattle.garde_places.proofs.find.member_at.Goals as goal
+
+pub returns-then-here-saturating_sub : goal.returns-then-here-saturating_sub
+returns-then-here-saturating_sub c ms h =
+    let now = c.loop-here.invariant ms h in
+    let all = map node_token c.args.nodes.now in
+    let none = members_short (drop c.loop-here.here all) now.0 (omega (arith, length-drop c.loop-here.here all, length-map c.args.nodes.now node_token)) now.1 in
+    sym (now.2 ∙ ap (λ l. or_found (member_spot c.loop-here.here c.args.name.now l) c.loop-here.found) none)
+
+pub returns-in_default : goal.returns-in_default
+returns-in_default c ms h =
+    let now = c.loop-here.invariant ms h in
+    let ns = c.args.nodes.now in
+    let i = c.loop-here.here in
+    let n = get_or ns i (Object 0) in
+    let none = members_end (node_token n) (drop (i + 1) (map node_token ns)) now.0 (no_name n c.in_default.not-Key) (subst (λ ts. SpellMembers ts now.0) (here ns i (Object 0) (omega arith)) now.1) in
+    sym (now.2 ∙ ap (λ l. or_found (member_spot i c.args.name.now l) c.loop-here.found) none)
+
+pub loop-here-preserved : goal.loop-here-preserved
+loop-here-preserved c ms h =
+    let now = c.loop-here.invariant ms h in
+    let ns = c.args.nodes.now in
+    let all = map node_token ns in
+    let i = c.loop-here.here in
+    let name = c.args.name.now in
+    let k = c.in-Key.key.now in
+    let first = here ns i (Object 0) (omega arith) ∙ ap (λ n. node_token n ∷ drop (i + 1) all) c.in-Key.is in
+    let f = members_more k (drop (i + 1) all) now.0 (subst (λ ts. SpellMembers ts now.0) first now.1) in
+    let next = c.after-here.ensures.value f.0 (_, f.4) in
+    let found : found_if (bytes_eq k name) (i + 1) c.loop-here.found ≡ c.if-eq.found =
+    elim c.if-eq.branch [ then-eq w ↦ ap (λ b. found_if b (i + 1) c.loop-here.found) (sym c.eq.ensures ∙ w.if-eq.true) ∙ sym w.found-is | else-eq w ↦ ap (λ b. found_if b (i + 1) c.loop-here.found) (sym c.eq.ensures ∙ w.if-eq.false) ∙ sym w.found-is ] in (
+      f.1,
+      (f.2, ap (λ l. drop l all) next ∙ past_value all (i + 1) f.0 _ f.4),
+      now.2 ∙ ap (λ l. or_found (member_spot i name l) c.loop-here.found) f.3 ∙ member_spot_more i name k f.0 f.1 c.loop-here.found
+          ∙ ap (λ l. or_found (member_spot l name f.1) (found_if (bytes_eq k name) (i + 1) c.loop-here.found)) (sym next) ∙ ap (or_found (member_spot c.after-here.result name f.1)) found,
+    )

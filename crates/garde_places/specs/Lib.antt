@@ -1,0 +1,11 @@
+pub mod Place
+pub mod Lex
+pub mod Scan
+pub mod Text
+pub mod Steps
+pub mod Marks
+pub mod Places
+pub mod Fault
+pub mod Escape
+pub mod Short
+pub mod GitHub

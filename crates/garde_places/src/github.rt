@@ -1,0 +1,40 @@
+//! A fault as an annotation of GitHub.
+ghost use Rattle.std.specs.Prelude.{◌≡◌, Some};
+ghost use Rattle.std.specs.Fmt.{WritesOnOk};
+ghost use Rattle.garde_places.specs.GitHub.{github_text, spot_text};
+ghost use Rattle.garde_places.specs.declared.escape.Escape.TheVariants.{Data, Property};
+
+use crate::escape::{Escape, write_text};
+use crate::fault::Fault;
+use crate::place::Place;
+use crate::short::Told;
+use std::alloc::Global;
+use std::fmt;
+
+/// A fault of the file of this name, which prints as a workflow command of GitHub, with no line feed
+/// behind: `::error file=FILE,line=LINE,col=COLUMN::PATH: MESSAGE`.
+///
+/// The name of the file is written as it is, with the escapes of a property. Path and message are those
+/// of `Short`, with the escapes of a message: `%25` for a percent sign. Printing allocates.
+#[derive(Clone, Copy)]
+pub struct GitHub<'a, 'r>(pub Global, pub &'a str, pub &'a Fault<'r>);
+
+impl fmt::Display for GitHub<'_, '_> {
+    ghost output = { λ github. Some (github_text github.1.now github.2.now) };
+
+    fn fmt<W: fmt::Write>(&self, f: &mut fmt::Formatter<W>) -> fmt::Result {
+        let GitHub(alloc, file, fault) = *self;
+        let told = format!(in alloc; "{}", Told(alloc, fault))?;
+        f.write_str("::error file=")?;
+        write_text(Escape::Property, file, f)?;
+        write_spot(fault.place, f)?;
+        write_text(Escape::Data, told.as_str(), f)
+    }
+}
+
+fn write_spot<W: fmt::Write>(place: Place, f: &mut fmt::Formatter<W>) -> fmt::Result
+    ensures { WritesOnOk W.write_str_gives f.old result (spot_text place) f.new }
+{
+    let Place { line, column } = place;
+    write!(f, ",line={line},col={column}::")
+}

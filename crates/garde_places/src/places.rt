@@ -1,0 +1,148 @@
+//! The places of the values of a JSON text.
+ghost use Rattle.std.specs.Prelude.{◌≡◌, ◌≤◌, length, map, Some, IfOk, IsOk, slice_index_or};
+ghost use Rattle.json.specs.Json.{Json, document};
+ghost use Rattle.garde_tape.specs.Reading.{json_of};
+ghost use Rattle.garde_places.specs.Scan.{text_start};
+ghost use Rattle.garde_places.specs.Places.{IsPlaceOf, IsNamePlace};
+ghost use Rattle.garde_places.specs.Fault.{ArePlaced, IsFaultPlace, fault_entry};
+
+use crate::fault::{Fault, speaks_of_name};
+use crate::find::{Mark, START, find, name_at};
+use crate::place::Place;
+use crate::scan::scan;
+use crate::way::way_of;
+use garde_problem::Coded;
+use garde_report::{Error, Path, Report};
+use garde_tape::Tape;
+use json::Node;
+use std::alloc::{AllocError, Global};
+use std::marker::Model;
+
+/// The places of the values of a JSON text. A contract sees the text.
+#[derive(Drop)]
+pub struct Places<'t, 'a> {
+    text: &'a str,
+    nodes: &'t [Node<'a>],
+    spots: Vec<Place>,
+    marks: [Mark; 8],
+}
+
+impl<'t, 'a> Model for Places<'t, 'a> {
+    ghost use Rattle.std.specs.Prelude.{ℕ, List};
+    ghost use Rattle.garde_places.specs.Places.{ArePlaces};
+
+    ghost Value = { List ℕ };
+
+    ghost view = { λ a. a.text.now };
+
+    ghost invariant = { λ a. ArePlaces a.text.now a.nodes.now a.spots.items a.marks };
+}
+
+/// The place of a token of that index.
+fn place_at_token(spots: &[Place], token: usize) -> Place
+    ensures { result ≡ slice_index_or spots.now token text_start }
+{
+    match spots.get(token) {
+        Some(place) => *place,
+        None => Place { line: 1, column: 1 },
+    }
+}
+
+impl<'t, 'a> Places<'t, 'a> {
+    /// The places of a text, in one pass over it. The tape is what `garde_tape::parse` gives of it.
+    pub fn of(
+        alloc: Global,
+        text: &'a str,
+        tape: &'t Tape<'a>,
+    ) -> Result<Places<'t, 'a>, AllocError>
+        requires { document text.now ≡ Some (json_of tape.now) }
+        ensures { IfOk result (λ places. places ≡ text.now) }
+    {
+        // So it is known that a value begins in the tape.
+        let _root = tape.root();
+        let spots = scan(alloc, text)?;
+        Ok(Places {
+            text,
+            nodes: tape.nodes(),
+            spots,
+            marks: [START; 8],
+        })
+    }
+
+    /// Where the value begins that the path leads to. Where it leads to none, it is the last value on
+    /// its way: a member that is missing has the place of its object. Of members of one name the last
+    /// counts. A component leads as a token of a JSON Pointer does: in an object to the member of that
+    /// name, in an array to the item of that number. One without a name stays at its value.
+    ///
+    /// A path of up to 8 components allocates nothing. Paths are best asked for in the order of the
+    /// text: the walk along a list goes on from the item that was asked for last, at each of the first
+    /// eight components.
+    pub fn locate(&mut self, alloc: Global, path: &Path) -> Result<Place, AllocError>
+        ensures place { IfOk result (λ place. (j : Json) → document self.old ≡ Some j
+            → IsPlaceOf self.old path.now j place) }
+        ensures text { self.new ≡ self.old }
+        ensures inline { length path.now ≤ 8 → IsOk result }
+    {
+        let way = way_of(alloc, path)?;
+        let found = find(self.nodes, &mut self.marks, way.as_slice());
+        Ok(place_at_token(&self.spots, found))
+    }
+
+    /// Where the name of the member begins that the path leads to. It is the place of the value on the
+    /// way to it where that has no such member, and that of the last name where it comes twice. At the
+    /// root it is the place of the whole value.
+    pub fn locate_name(&mut self, alloc: Global, path: &Path) -> Result<Place, AllocError>
+        ensures place { IfOk result (λ place. (j : Json) → document self.old ≡ Some j
+            → IsNamePlace self.old path.now j place) }
+        ensures text { self.new ≡ self.old }
+        ensures inline { length path.now ≤ 8 → IsOk result }
+    {
+        let way = way_of(alloc, path)?;
+        let Some((last, before)) = way.as_slice().split_last() else {
+            return Ok(place_at_token(&self.spots, 0));
+        };
+        let found = find(self.nodes, &mut self.marks, before);
+        let name = name_at(self.nodes, found, last.1);
+        Ok(place_at_token(&self.spots, name))
+    }
+
+    /// Where a fault stands: at the name of its member, if its message has the code of a member that is
+    /// unknown or comes twice, and else at its value. A message has a code where `WithCodes` of
+    /// `garde_problem` made it.
+    pub fn locate_fault(
+        &mut self,
+        alloc: Global,
+        path: &Path,
+        error: &Error,
+    ) -> Result<Place, AllocError>
+        ensures place { IfOk result (λ place. (j : Json) → document self.old ≡ Some j
+            → IsFaultPlace self.old path.now error.now j place) }
+        ensures text { self.new ≡ self.old }
+        ensures inline { length path.now ≤ 8 → IsOk result }
+    {
+        if speaks_of_name(Coded::of(error.message()).code) {
+            self.locate_name(alloc, path)
+        } else {
+            self.locate(alloc, path)
+        }
+    }
+
+    /// The faults of a report, in its order, each with its place.
+    pub fn locate_all<'r>(
+        &mut self,
+        alloc: Global,
+        report: &'r Report,
+    ) -> Result<Vec<Fault<'r>>, AllocError>
+        ensures faults { IfOk result (λ faults. map fault_entry faults.items ≡ report.now) }
+        ensures places { IfOk result (λ faults. (j : Json) → document self.old ≡ Some j
+            → ArePlaced self.old j faults.items) }
+        ensures text { self.new ≡ self.old }
+    {
+        let mut faults = Vec::new(alloc);
+        for (path, error) in report.iter() {
+            let place = self.locate_fault(alloc, path, error)?;
+            faults.push(Fault { place, path, error })?;
+        }
+        Ok(faults)
+    }
+}

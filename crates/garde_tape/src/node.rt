@@ -1,0 +1,102 @@
+//! The nodes of a JSON text.
+ghost use Rattle.std.specs.Prelude.{◌≡◌, ◌<◌, ◌+◌, ◌^◌, ℕ, List, get_or, map, length, MatchOption};
+ghost use Rattle.json.specs.Token.{Token};
+ghost use Rattle.json.specs.Json.{Json, no_members, value};
+ghost use Rattle.json.specs.Tape.{node_token, Linked};
+ghost use Rattle.json.specs.Find.{HasValue};
+ghost use Rattle.json.specs.declared.tape.Node.TheVariants.{Object};
+ghost use Rattle.garde_tape.specs.Reading.{members_of, member_list, HasItems, HasMembers};
+ghost use Rattle.garde_tape.specs.Spot.{IsSpot};
+ghost use Rattle.garde_tape.specs.Walk.{tokens_at, AreMembersAt, IsMemberAt, TellsItem};
+
+use json::Node;
+
+// Where a name stands among members.
+#[derive(Clone, Copy, Drop)]
+pub(crate) enum Spot {
+    // No member has it.
+    Nowhere,
+    // One member has it, whose value begins at this index.
+    Once(usize),
+    // Two members have it, or more.
+    Repeated,
+}
+
+// The node that a value begins with.
+#[inline(always)]
+pub(crate) fn node_at<'a>(nodes: &[Node<'a>], at: usize) -> Node<'a>
+    requires { HasValue (tokens_at nodes.now at) }
+    ensures node { result ≡ get_or nodes.now at (Object 0) }
+    ensures within { (at < length nodes.now) × (at + 1 < 2 ^ 64) }
+{
+    nodes[at]
+}
+
+// The index after the value that begins at `at`.
+#[inline(always)]
+pub(crate) fn after(nodes: &[Node<'_>], at: usize) -> usize
+    requires linked { Linked (map node_token nodes.now) 0 nodes.now }
+    requires begins { HasValue (tokens_at nodes.now at) }
+    ensures value { (depth : ℕ) (j : Json) (rest : List Token)
+        → value depth (tokens_at nodes.now at) ≡ Some (j, rest)
+        → rest ≡ tokens_at nodes.now result }
+    ensures later { at < result }
+{
+    match node_at(nodes, at) {
+        Node::Object(end) => end,
+        Node::Array(end) => end,
+        _ => at + 1,
+    }
+}
+
+// Whether an item begins at `at`, where items are left.
+#[inline(always)]
+pub(crate) fn has_item(nodes: &[Node<'_>], at: usize) -> bool
+    requires { HasItems (tokens_at nodes.now at) }
+    ensures { TellsItem nodes.now at result }
+{
+    if let Node::EndArray = nodes[at] {
+        false
+    } else {
+        true
+    }
+}
+
+// The name of the member that begins at `at`, where members are left.
+#[inline(always)]
+pub(crate) fn name_at<'a>(nodes: &[Node<'a>], at: usize) -> Option<&'a str>
+    requires { HasMembers (tokens_at nodes.now at) }
+    ensures { MatchOption result (members_of (tokens_at nodes.now at) ≡ no_members)
+        (λ name. IsMemberAt nodes.now at name.now) }
+{
+    if let Node::Key(name) = nodes[at] {
+        Some(name)
+    } else {
+        None
+    }
+}
+
+// Where a name stands among the members at `from`. A read asks for each member this way, so the loop
+// asks nothing of a member but its name and where the next one is, and keeps an index alone.
+#[inline(never)]
+pub(crate) fn spot_from(nodes: &[Node<'_>], from: usize, name: &str) -> Spot
+    requires { AreMembersAt nodes.now from }
+    ensures { let members = member_list (members_of (tokens_at nodes.now from)) in
+        IsSpot nodes.now members name.now result }
+{
+    let mut first = None;
+    let mut at = from;
+    while let Some(key) = name_at(nodes, at) {
+        if key == name {
+            if first.is_some() {
+                return Spot::Repeated;
+            }
+            first = Some(at + 1);
+        }
+        at = after(nodes, at + 1);
+    }
+    match first {
+        Some(at) => Spot::Once(at),
+        None => Spot::Nowhere,
+    }
+}

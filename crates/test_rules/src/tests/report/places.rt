@@ -1,0 +1,187 @@
+//! Places of faults in a JSON text, beside lines and columns that were counted by hand.
+
+use crate::tests::OrEnd;
+use crate::tests::report::samples::{path_of, report_of};
+use garde_places::{Fault, GitHub, Places, Short, sort_by_place};
+use garde_report::{Kind, Report};
+use garde_tape::{Scratch, parse};
+use std::alloc::Global;
+use std::process::Abort;
+
+type Components<'a> = &'a [(Kind, &'a str)];
+
+/// Lines that end in CR LF, tabs, characters beyond ASCII, texts and names with escapes, names that
+/// come twice, and names that are numbers.
+const SETTINGS: &str =
+    "{\r\n\t\"server\": {\"host\": \"k\u{e4}se\", \"port\": 70000},\r\n  \"routes\": [\r\n    {\"path\": \"/\", \"to\": [\"\u{1f600}, ]\", \"b\\\"\\n\" , true]},\r\n    {\"path\": \"/x\", \"path\": \"/y\", \"ex\\u0074ra\": null}\r\n  ],\r\r\n  \"ports\": {\"7\": {\"8\": [ ]}} }";
+
+const ROUTES: (Kind, &str) = (Kind::Key, "routes");
+
+const FIRST: (Kind, &str) = (Kind::Index, "0");
+
+const SECOND: (Kind, &str) = (Kind::Index, "1");
+
+const PATH: (Kind, &str) = (Kind::Key, "path");
+
+const TO: (Kind, &str) = (Kind::Key, "to");
+
+const PORTS: (Kind, &str) = (Kind::Key, "ports");
+
+const SEVEN: (Kind, &str) = (Kind::Index, "7");
+
+const EIGHT: (Kind, &str) = (Kind::Index, "8");
+
+const NO_KEY: (Kind, &str) = (Kind::None, "");
+
+/// A path, the place of its value, and that of its name: each a line and a column.
+static PLACES: [(Components<'_>, (usize, usize), (usize, usize)); 16] = [
+    (&[], (1, 1), (1, 1)),
+    (&[NO_KEY], (1, 1), (1, 1)),
+    (
+        &[(Kind::Key, "server"), (Kind::Key, "port")],
+        (2, 37),
+        (2, 29),
+    ),
+    (&[ROUTES, FIRST, TO, FIRST], (4, 26), (4, 25)),
+    (&[ROUTES, FIRST, TO, SECOND], (4, 34), (4, 25)),
+    (&[ROUTES, FIRST, TO, (Kind::Index, "2")], (4, 44), (4, 25)),
+    (&[ROUTES, FIRST, TO, (Kind::Index, "3")], (4, 25), (4, 25)),
+    (&[ROUTES, NO_KEY, SECOND, PATH], (5, 28), (5, 20)),
+    (&[ROUTES, SECOND, (Kind::Key, "extra")], (5, 48), (5, 34)),
+    (&[ROUTES, SECOND, TO], (5, 5), (5, 5)),
+    (&[ROUTES, SEVEN, TO], (3, 13), (3, 13)),
+    (&[ROUTES, TO, FIRST], (3, 13), (3, 13)),
+    (&[ROUTES, FIRST, PATH, PATH], (4, 14), (4, 14)),
+    (&[PORTS], (7, 12), (7, 3)),
+    (&[PORTS, SEVEN], (7, 18), (7, 13)),
+    (&[PORTS, SEVEN, EIGHT], (7, 24), (7, 19)),
+];
+
+// Whether a path leads to a value and a name at these places.
+fn stands(
+    rt: &impl Abort,
+    alloc: Global,
+    places: &mut Places<'_, '_>,
+    row: &(Components<'_>, (usize, usize), (usize, usize)),
+) -> bool {
+    let path = path_of(rt, alloc, row.0);
+    let value = places.locate(alloc, &path).or_end(rt);
+    let name = places.locate_name(alloc, &path).or_end(rt);
+    (value.line, value.column) == row.1 && (name.line, name.column) == row.2
+}
+
+#[test]
+fn values_and_names_stand_where_they_are_counted(rt: HostRuntime) {
+    let alloc = rt.alloc();
+    let mut scratch = Scratch::new(alloc);
+    let Ok(tape) = parse(alloc, SETTINGS, &mut scratch) else {
+        rt.abort()
+    };
+    let mut places = Places::of(alloc, SETTINGS, &tape).or_end(&rt);
+    for row in &PLACES {
+        assert!(rt; stands(&rt, alloc, &mut places, row));
+    }
+    for row in PLACES.iter().rev() {
+        assert!(rt; stands(&rt, alloc, &mut places, row));
+    }
+}
+
+/// Faults with and without a code, two of them at the root's place.
+static FAULTS: [(Components<'_>, &str); 6] = [
+    (
+        &[ROUTES, SECOND, (Kind::Key, "extra")],
+        "\u{1f}member_unknown\u{1f}not known here\u{1f}",
+    ),
+    (
+        &[ROUTES, SECOND, PATH],
+        "\u{1f}member_repeated\u{1f}repeated\u{1f}",
+    ),
+    (
+        &[(Kind::Key, "server"), (Kind::Key, "port")],
+        "\u{1f}greater_than\u{1f}greater than 65535\u{1f}max\u{1f}65535\u{1f}",
+    ),
+    (&[], "100% wrong: a,b\nor\r\\"),
+    (&[ROUTES, SECOND, TO], "missing"),
+    (&[(Kind::Key, "a\nb: c")], "missing"),
+];
+
+/// The name of a file, with characters that mean something in a line.
+const FILE: &str = "a:b,%\n.json";
+
+/// What they print by their places.
+const SHORT: &str = "\
+a\\u{3a}b,%\\n.json:1:1: error: 100% wrong: a,b\\nor\\r\\\\
+a\\u{3a}b,%\\n.json:1:1: error: a\\nb: c: missing
+a\\u{3a}b,%\\n.json:2:37: error: server.port: greater than 65535
+a\\u{3a}b,%\\n.json:5:5: error: routes[1].to: missing
+a\\u{3a}b,%\\n.json:5:20: error: routes[1].path: repeated
+a\\u{3a}b,%\\n.json:5:34: error: routes[1].extra: not known here
+";
+
+/// What they print as annotations.
+const ANNOTATIONS: &str = "\
+::error file=a%3Ab%2C%25%0A.json,line=1,col=1::100%25 wrong: a,b\\nor\\r\\\\
+::error file=a%3Ab%2C%25%0A.json,line=1,col=1::a\\nb: c: missing
+::error file=a%3Ab%2C%25%0A.json,line=2,col=37::server.port: greater than 65535
+::error file=a%3Ab%2C%25%0A.json,line=5,col=5::routes[1].to: missing
+::error file=a%3Ab%2C%25%0A.json,line=5,col=20::routes[1].path: repeated
+::error file=a%3Ab%2C%25%0A.json,line=5,col=34::routes[1].extra: not known here
+";
+
+// Whether the place of a fault is the one that it has among all.
+fn stands_alone(
+    rt: &impl Abort,
+    alloc: Global,
+    places: &mut Places<'_, '_>,
+    fault: &Fault<'_>,
+) -> bool {
+    places
+        .locate_fault(alloc, fault.path, fault.error)
+        .or_end(rt)
+        == fault.place
+}
+
+// The faults of a report by their places.
+fn placed<'r>(rt: &impl Abort, alloc: Global, report: &'r Report) -> Vec<Fault<'r>> {
+    let mut scratch = Scratch::new(alloc);
+    let Ok(tape) = parse(alloc, SETTINGS, &mut scratch) else {
+        rt.abort()
+    };
+    let mut places = Places::of(alloc, SETTINGS, &tape).or_end(rt);
+    let mut faults = places.locate_all(alloc, report).or_end(rt);
+    sort_by_place(&mut faults).or_end(rt);
+    for fault in &faults {
+        assert!(rt; stands_alone(rt, alloc, &mut places, fault));
+    }
+    faults
+}
+
+// A line for each fault.
+fn lines(rt: &impl Abort, alloc: Global, faults: &[Fault<'_>]) -> String {
+    let mut text = String::new(alloc);
+    for fault in faults {
+        writeln!(text, "{}", Short(alloc, FILE, fault)).or_end(rt);
+    }
+    text
+}
+
+// An annotation for each fault.
+fn annotations(rt: &impl Abort, alloc: Global, faults: &[Fault<'_>]) -> String {
+    let mut text = String::new(alloc);
+    for fault in faults {
+        writeln!(text, "{}", GitHub(alloc, FILE, fault)).or_end(rt);
+    }
+    text
+}
+
+#[test]
+fn faults_are_printed_by_their_places(rt: HostRuntime) {
+    let alloc = rt.alloc();
+    let report = report_of(&rt, alloc, &FAULTS);
+    let faults = placed(&rt, alloc, &report);
+    assert_eq!(rt; lines(&rt, alloc, faults.as_slice()).as_str(), SHORT);
+    assert_eq!(rt;
+        annotations(&rt, alloc, faults.as_slice()).as_str(),
+        ANNOTATIONS
+    );
+}

@@ -1,0 +1,98 @@
+"""The members of a form that rules look at together. A rule of a field that speaks of other fields is asked of a run of members: from the
+first one that it speaks of to the last."""
+from .rules import Expression
+from .source import all_rules
+
+MOST = 6
+
+
+class Group(list):
+    """Members in a row, by their numbers, and groups of such; `asked` are the numbers of the fields whose rules are asked of all of them."""
+
+    def __init__(self, parts, asked=()):
+        super().__init__(parts)
+        self.asked = tuple(asked)
+
+
+def places_of(rule):
+    """The places that a rule speaks of."""
+    return [found for it in (rule.place, *rule.bounds.values()) if it is not None for found in places_in(it)]
+
+
+def places_in(expression):
+    found = [expression] if expression.kind == "place" else []
+    within = [it for it in (*expression.parts, expression.value) if isinstance(it, Expression)]
+    return found + [it for part in within for it in places_in(part)]
+
+
+def others_of(rule):
+    """The names of the fields that a rule and those within it speak of, beside its own."""
+    found = [it.value[1] for one in all_rules([rule]) for it in places_of(one) if it.value[0] == "self" and len(it.value) > 1]
+    return found + [one.text for one in all_rules([rule]) if one.name == "matches"]
+
+
+def own_rules(it):
+    """The rules of a field that look at it alone."""
+    return tuple(rule for rule in it.attributes.rules if not others_of(rule))
+
+
+def shared_rules(it):
+    """The rules of a field that speak of others."""
+    return tuple(rule for rule in it.attributes.rules if others_of(rule))
+
+
+def grouped(fields):
+    """The members of a form in groups: runs that overlap are one, and a run within another one is a group of that."""
+    at = {it.name: number for number, it in enumerate(fields)}
+    runs = {}
+    for number, it in enumerate(fields):
+        met = [at[name] for rule in shared_rules(it) for name in others_of(rule) if name in at]
+        if met:
+            runs.setdefault((min(number, *met), max(number, *met)), []).append(number)
+    return folded(within(0, len(fields) - 1, merged(runs)))
+
+
+def merged(runs):
+    """Runs of which each two lie apart or one in the other."""
+    for one in runs:
+        for other in runs:
+            if one[0] < other[0] <= one[1] < other[1]:
+                asked = runs.pop(one) + runs.pop(other)
+                whole = (one[0], other[1])
+                return merged({**runs, whole: sorted(runs.get(whole, []) + asked)})
+    return runs
+
+
+def within(first, last, runs):
+    """The group of the members from one to another."""
+    asked = runs.get((first, last), ())
+    inner = {run: it for run, it in runs.items() if first <= run[0] and run[1] <= last and run != (first, last)}
+    parts, at = [], first
+    while at <= last:
+        longest = max((run[1] for run in inner if run[0] == at), default=None)
+        parts.append(at if longest is None else within(at, longest, inner))
+        at = at + 1 if longest is None else longest + 1
+    return Group(parts, asked)
+
+
+def folded(group):
+    """The same with so many parts at most: the last one holds the rest."""
+    parts = [folded(it) if isinstance(it, Group) else it for it in group]
+    while len(parts) > MOST:
+        rest = MOST - 1
+        parts = [*parts[:rest], folded(Group(parts[rest:]))]
+    return Group(parts, group.asked)
+
+
+def filled(group, values):
+    """The same tree as nested lists, with these values in place of the numbers."""
+    return [filled(it, values) if isinstance(it, Group) else values[it] for it in group]
+
+
+def groups_in(group):
+    """The group and those within it."""
+    return [group, *(found for it in group if isinstance(it, Group) for found in groups_in(it))]
+
+
+def numbers_in(group):
+    return [number for it in group for number in (numbers_in(it) if isinstance(it, Group) else [it])]

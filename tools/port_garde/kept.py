@@ -1,0 +1,171 @@
+"""The sources of a crate that stay: each `src/NAME.garde.rs` gives the module `src/NAME.rt` beside it."""
+import hashlib
+import os
+import pathlib
+import re
+import tempfile
+
+from .tokens import shown
+
+END = ".garde.rs"
+NAME = re.compile(r"[a-z_][a-z0-9_]*")
+HEAD = "// Written by tools/port-garde from {name}: edit that file, not this one. Its sum is {sum}."
+WRITTEN = re.compile(rb"// Written by tools/port-garde from (\S+): edit that file, not this one\. Its sum is ([0-9a-f]{16})\.\n")
+
+
+def sum_of(body, crate):
+    """The sum of a module, which is the same under another name of its crate."""
+    return hashlib.sha256(body.replace(f"Rattle.{crate}.".encode(), b"Rattle..")).hexdigest()[:16]
+
+
+def headed(text, source, crate):
+    """A module behind the line that says from which file it is written."""
+    body = text.encode("utf-8")
+    return HEAD.format(name=source.name, sum=sum_of(body, name_of(crate))).encode("utf-8") + b"\n" + body
+
+
+def is_as_written(file, crate):
+    """Whether a file is as the command wrote it, by the sum in its first line."""
+    head = WRITTEN.match(file)
+    return bool(head) and sum_of(file[head.end() :], name_of(crate)).encode() == head[2]
+
+
+def name_of(crate):
+    return crate.resolve().name
+
+
+def shown_path(path):
+    return "".join(map(shown, str(path)))
+
+
+def sources_of(crate):
+    """The sources of a crate, and what is said of those that are none."""
+    sources = sorted((crate / "src").rglob(f"*{END}"))
+    found, modules = [], {}
+    for source in sources:
+        names = names_of(crate, source)
+        wrong = [it for it in names if not NAME.fullmatch(it)]
+        if wrong:
+            found.append(f"{shown_path(source)}: the module `{shown_path(wrong[0])}`, which is no name in small letters")
+        elif names in (("lib",), ("main",)):
+            found.append(f"{shown_path(source)}: the root of a crate, which is written by hand")
+        elif names in modules:
+            found.append(f"{shown_path(source)}: the module `{names[-1]}` has two sources: {shown_path(modules[names])} too")
+        modules[names] = source
+    if not sources:
+        found.append(f"{shown_path(crate)}: there is no file `src/NAME{END}`")
+    return sources, found
+
+
+def names_of(crate, source):
+    """The names of the module that a source gives, from the root of its crate on. `shop/mod.garde.rs` gives `shop`, as `shop.garde.rs`."""
+    names = (source.parent / source.name[: -len(END)]).relative_to(crate / "src").parts
+    return names[:-1] if names[-1] == "mod" and names[1:] else names
+
+
+def module_of(crate, source):
+    return "::".join([name_of(crate), *names_of(crate, source)])
+
+
+def output_of(source):
+    return source.with_name(source.name[: -len(END)] + ".rt")
+
+
+def old(output):
+    """What stands in an output, or nothing."""
+    try:
+        return output.read_bytes()
+    except FileNotFoundError:
+        return None
+
+
+def first_difference(file, given):
+    """The number of the first line that differs, with that line here and there. Sums in the first lines differ where others do."""
+    lines, others = file.split(b"\n"), given.split(b"\n")
+    heads = list(map(WRITTEN.match, (file, given)))
+    start = int(all(heads) and heads[0][1] == heads[1][1] and lines[1:] != others[1:])
+    differing = (at for at, (it, other) in enumerate(zip(lines, others)) if it != other and at >= start)
+    at = next(differing, min(len(lines), len(others)))
+    return at + 1, quoted(lines, at), quoted(others, at)
+
+
+def quoted(lines, at):
+    text = lines[at].decode("utf-8", "backslashreplace") if at < len(lines) else ""
+    return f"`{''.join(map(shown, text))}`" if at < len(lines) else "the end of the file"
+
+
+def fault_of_check(source, given, crate):
+    """Why an output is not what its source gives, or nothing."""
+    output, file = output_of(source), old(output_of(source))
+    if file is None:
+        return f"{shown_path(output)}: it is not there: write it by `tools/port-garde --write`"
+    if file == given:
+        return None
+    line, here, there = first_difference(file, given)
+    return f"{shown_path(output)}:{line}: here stands {here}, and {source.name} gives {there}"
+
+
+def fault_of_write(source, given, crate):
+    """Why an output may not be written, or nothing: what was written or edited by hand is kept."""
+    output, file = output_of(source), old(output_of(source))
+    if file in (None, given) or is_as_written(file, crate):
+        return None
+    line, here, there = first_difference(file, given)
+    how = "edited" if WRITTEN.match(file) else "written"
+    told = f"this file was {how} by hand: here stands {here}, and {source.name} gives {there}"
+    return f"{shown_path(output)}:{line}: {told}. Move the edit to {source.name} or another module, or drop it by `--force`"
+
+
+def strays(crate, sources):
+    """The outputs whose source is not there."""
+    outputs = set(map(output_of, sources))
+    for file in sorted((crate / "src").rglob("*.rt")):
+        try:
+            head = WRITTEN.match(file.read_bytes()[:400]) if file.is_file() and file not in outputs else None
+        except OSError as error:
+            yield f"{shown_path(file)}: {error.strerror or error}"
+            continue
+        if head:
+            name = shown_path(head[1].decode("utf-8", "backslashreplace"))
+            yield f"{shown_path(file)}: it is written from {name}, which is not there: remove it"
+
+
+def put(output, given):
+    """Writes a file as a whole: one that is cut off leaves what stood there."""
+    mode = output.stat().st_mode & 0o777 if output.exists() else 0o666 & ~umask()
+    place, name = tempfile.mkstemp(prefix=f".{output.name}.", dir=output.parent)
+    try:
+        with open(place, "wb") as file:
+            file.write(given)
+            file.flush()
+            os.fsync(file.fileno())
+        os.chmod(name, mode)
+        os.replace(name, output)
+    except BaseException:
+        pathlib.Path(name).unlink(missing_ok=True)
+        raise
+
+
+def umask():
+    mask = os.umask(0)
+    os.umask(mask)
+    return mask
+
+
+def faults_of(given, judge):
+    """What is said of outputs, each with its source, what that gives, and its crate."""
+    for source, (text, crate) in given.items():
+        try:
+            told = judge(source, text, crate)
+        except OSError as error:
+            told = f"{shown_path(output_of(source))}: {error.strerror or error}"
+        if told:
+            yield told
+
+
+def write(source, text, crate):
+    """Writes an output that is not what its source gives, and prints its name."""
+    output = output_of(source)
+    if old(output) != text:
+        put(output, text)
+        print(f"{shown_path(output)}: written")
