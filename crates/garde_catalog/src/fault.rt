@@ -34,7 +34,12 @@ pub enum CatalogError {
 }
 
 impl From<AllocError> for CatalogError {
-    fn from(_error: AllocError) -> Self {
+    ghost use Rattle.std.specs.Prelude.{◌≡◌};
+    ghost use Rattle.garde_catalog.specs.declared.fault.CatalogError.TheVariants.{Memory};
+
+    ghost from_gives = { λ _ error. error ≡ Memory };
+
+    fn from(_error: AllocError) -> CatalogError {
         CatalogError::Memory
     }
 }

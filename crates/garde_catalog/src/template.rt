@@ -1,6 +1,7 @@
 //! Templates: texts with places for what was found.
 ghost use Rattle.std.specs.Prelude.{◌≡◌, ◌++◌, [], IfOk, IfErr, IsErr, OnOk, MatchOption, string_bytes};
 ghost use Rattle.std.specs.Cow.{cow_str_bytes};
+ghost use Rattle.std.specs.List.{list_all};
 ghost use Rattle.garde_i18n.specs.DatumOf.{value_text};
 ghost use Rattle.garde_catalog.specs.Template.{filled, has_place, in_braces, is_known, is_place, name_in, piece_text, value_at, AddsPieces, IsCut, IsNoText, IsPlain, IsPlainPiece, IsReading, IsRefused, IsStray, IsTemplate};
 
@@ -38,7 +39,12 @@ pub enum TemplateError {
 }
 
 impl From<AllocError> for TemplateError {
-    fn from(_error: AllocError) -> Self {
+    ghost use Rattle.std.specs.Prelude.{◌≡◌};
+    ghost use Rattle.garde_catalog.specs.declared.template.TemplateError.TheVariants.{Memory};
+
+    ghost from_gives = { λ _ error. error ≡ Memory };
+
+    fn from(_error: AllocError) -> TemplateError {
         TemplateError::Memory
     }
 }
@@ -131,11 +137,31 @@ fn is_place(piece: &Piece<'_>, wanted: &str) -> bool
     }
 }
 
+// Whether no piece is a place of another name than these two.
+fn all_known(pieces: &[Piece<'_>], first: &str, second: &str) -> bool
+    ensures { result ≡ list_all (is_known first.now second.now) pieces.now }
+{
+    for piece in pieces {
+        if !is_known(piece, first, second) {
+            return false;
+        }
+    }
+    true
+}
+
 // Whether a parameter has a place, if there is such a parameter.
 fn has_place(pieces: &[Piece<'_>], wanted: &str) -> bool
     ensures { result ≡ has_place wanted.now pieces.now }
 {
-    wanted == "" || pieces.iter().any(|piece| is_place(piece, wanted))
+    if wanted == "" {
+        return true;
+    }
+    for piece in pieces {
+        if is_place(piece, wanted) {
+            return true;
+        }
+    }
+    false
 }
 
 // Reads a template. The names are those of the parameters that the text has: an empty one is none.
@@ -152,7 +178,7 @@ pub(crate) fn read_template<'t>(
 {
     let pieces = pieces_of(alloc, text)?;
     let read = pieces.as_slice();
-    if !read.iter().all(|piece| is_known(piece, first, second)) {
+    if !all_known(read, first, second) {
         return Err(TemplateError::Fault(TemplateFault::UnknownPlace));
     }
     if !has_place(read, first) || !has_place(read, second) {
