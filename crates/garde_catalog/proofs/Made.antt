@@ -78,7 +78,7 @@ pub second_line : (key : Key) (entries : List Entry) (i : ℕ) (d : Entry) (text
 second_line key entries i d text low e one =
     let front = same_line key entries i d low e ∙ ap (λ l. l ++ ((get_or entries i d).1.now ∷ [])) one in
     let whole = ap (texts_under key) (sym (take-append-drop (i + 1) entries)) ∙ under_both key (take (i + 1) entries) (drop (i + 1) entries)
-        ∙ ap (λ l. l ++ texts_under key (drop (i + 1) entries)) front in
+    ∙ ap (λ l. l ++ texts_under key (drop (i + 1) entries)) front in
     omega (arith, ap length whole)
 
 -- the texts of a key in two tables

@@ -9,7 +9,7 @@ loop-key-preserved c = record {
   ok = λ none.
       let added = c.in_ok-add.ensures.made none in
       next c.args.entries.now c.args.others.now KEYS c.loop-key.key-index _ c.loop-key.templates.items c.add.new.templates.items added.1.0 c.loop-key-test.true
-          added.1.1 added.1.2 (c.loop-key.invariant.ok added.0);
+      added.1.1 added.1.2 (c.loop-key.invariant.ok added.0);
   faults = c.in_ok-add.ensures.faults c.loop-key.invariant.faults;
 }
 

@@ -33,7 +33,8 @@ returns-in-Some-clause-err c =
 
 pub loop-name-preserved : goal.loop-name-preserved
 loop-name-preserved c = elim c.if-number.branch [
-    then-number+in_default w ↦ taken c.args.key c.args.entries.now c.loop-name.name-index _ c.loop-name.found c.if-number.found c.loop-name-test.true
-        (sym c.number.ensures ∙ w.if-number.true ∙ c.number-in-loop-name.ensures) w.in_default.is w.found-is c.loop-name.invariant
-    | else-number w ↦ passed c.args.key c.args.entries.now c.loop-name.name-index _ c.loop-name.found c.if-number.found c.loop-name-test.true
-        (λ e. w.if-number.false (c.number.ensures ∙ e ∙ sym c.number-in-loop-name.ensures)) w.found-is c.loop-name.invariant ]
+  | then-number+in_default w ↦ taken c.args.key c.args.entries.now c.loop-name.name-index _ c.loop-name.found c.if-number.found c.loop-name-test.true
+      (sym c.number.ensures ∙ w.if-number.true ∙ c.number-in-loop-name.ensures) w.in_default.is w.found-is c.loop-name.invariant
+  | else-number w ↦ passed c.args.key c.args.entries.now c.loop-name.name-index _ c.loop-name.found c.if-number.found c.loop-name-test.true
+      (λ e. w.if-number.false (c.number.ensures ∙ e ∙ sym c.number-in-loop-name.ensures)) w.found-is c.loop-name.invariant
+]

@@ -21,13 +21,13 @@ pub returns-then-contains-2-clause-err : goal.returns-then-contains-2-clause-err
 returns-then-contains-2-clause-err c =
     let opened = split_parts 123 c.args.text.now (Some (c.in-Some.words, c.in-Some.tail)) c.in-Some.ensures.cases (lit< tt) in
     λ _. closed_before c.args.text.now c.in-Some.words.now c.in-Some.tail.now opened.0 (free_by_place 123 c.in-Some.words.now opened.1)
-        ((contains_char 125 c.in-Some.words.now c.contains-2.result c.contains-2.ensures.cases (lit< tt)).0 c.if-contains-2.true)
+    ((contains_char 125 c.in-Some.words.now c.contains-2.result c.contains-2.ensures.cases (lit< tt)).0 c.if-contains-2.true)
 
 pub returns-in_default-split_once-clause-err : goal.returns-in_default-split_once-clause-err
 returns-in_default-split_once-clause-err c =
     let opened = split_parts 123 c.args.text.now (Some (c.in-Some.words, c.in-Some.tail)) c.in-Some.ensures.cases (lit< tt) in
     λ _. never_closed c.args.text.now c.in-Some.words.now c.in-Some.tail.now opened.0 (free_by_place 123 c.in-Some.words.now opened.1)
-        (free_by_place 125 c.in-Some.tail.now (split_parts 125 c.in-Some.tail.now None c.in_default-split_once.ensures.cases (lit< tt)))
+    (free_by_place 125 c.in-Some.tail.now (split_parts 125 c.in-Some.tail.now None c.in_default-split_once.ensures.cases (lit< tt)))
 
 pub returns-then-contains-3-clause-err : goal.returns-then-contains-3-clause-err
 returns-then-contains-3-clause-err c =
@@ -35,8 +35,8 @@ returns-then-contains-3-clause-err c =
     let closed = split_parts 125 c.in-Some.tail.now (Some (c.in-Some-split_once.name, c.in-Some-split_once.after)) c.in-Some-split_once.ensures.cases (lit< tt) in
     let name = c.in-Some-split_once.name.now in
     λ _. opened_twice c.args.text.now c.in-Some.words.now c.in-Some.tail.now name c.in-Some-split_once.after.now opened.0
-        (free_by_place 123 c.in-Some.words.now opened.1) closed.0 (free_by_place 125 name closed.1)
-        ((contains_char 123 name c.contains-3.result c.contains-3.ensures.cases (lit< tt)).0 c.if-contains-3.true)
+    (free_by_place 123 c.in-Some.words.now opened.1) closed.0 (free_by_place 125 name closed.1)
+    ((contains_char 123 name c.contains-3.result c.contains-3.ensures.cases (lit< tt)).0 c.if-contains-3.true)
 
 pub returns-clause-ok : goal.returns-clause-ok
 returns-clause-ok c =

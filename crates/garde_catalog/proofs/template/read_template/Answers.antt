@@ -12,10 +12,11 @@ returns-then-not-all_known-clause-err c = unknown c.args.text.now c.args.first.n
 
 pub returns-then-not-has_place-clause-err : goal.returns-then-not-has_place-clause-err
 returns-then-not-has_place-clause-err c = elim c.then-not-has_place.branch [
-    then-not-has_place-via-then-not-has_place w ↦ no_first c.args.text.now c.args.first.now c.args.second.now c.in_ok-pieces.pieces.items c.in_ok-pieces.ensures.ok
-        (rw c.as_slice-read.ensures.value at (sym c.has_place.ensures ∙ w.if-not-has_place.true))
-    | then-not-has_place-via-else-not-has_place+then-not-has_place-2 w ↦ no_second c.args.text.now c.args.first.now c.args.second.now c.in_ok-pieces.pieces.items c.in_ok-pieces.ensures.ok
-        (rw c.as_slice-read.ensures.value at (sym w.has_place-else-not-has_place.ensures ∙ w.if-not-has_place-2.true)) ]
+  | then-not-has_place-via-then-not-has_place w ↦ no_first c.args.text.now c.args.first.now c.args.second.now c.in_ok-pieces.pieces.items c.in_ok-pieces.ensures.ok
+      (rw c.as_slice-read.ensures.value at (sym c.has_place.ensures ∙ w.if-not-has_place.true))
+  | then-not-has_place-via-else-not-has_place+then-not-has_place-2 w ↦ no_second c.args.text.now c.args.first.now c.args.second.now c.in_ok-pieces.pieces.items c.in_ok-pieces.ensures.ok
+      (rw c.as_slice-read.ensures.value at (sym w.has_place-else-not-has_place.ensures ∙ w.if-not-has_place-2.true))
+]
 
 pub returns-clause-ok : goal.returns-clause-ok
 returns-clause-ok c =
