@@ -309,7 +309,7 @@ fn is_filled(told: &str, text: &str, value: &str) -> bool {
 fn tells(alloc: Global, h: &Catalog<'_>, datum: Datum<'static>, text: &str, value: &str) -> bool {
     let mut scratch = Scratch::new(alloc);
     let form = Text(Is(Finds(datum)));
-    match read_json(alloc, &form, b"\"a\"", &mut scratch, h) {
+    match read_json(alloc, b"\"a\"", &mut scratch, &form, h) {
         Err(ReadError::Report(report)) => match report.to_string(alloc) {
             Ok(told) => match told.as_str().strip_suffix("\n") {
                 Some(told) => is_filled(told, text, value),
