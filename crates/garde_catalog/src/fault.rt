@@ -1,0 +1,45 @@
+//! What is wrong with a table.
+
+use crate::key::Key;
+use crate::template::TemplateFault;
+use std::alloc::AllocError;
+
+/// What is wrong with a table under a key.
+#[derive(Clone, Copy, Debug, Drop, PartialEq, Eq)]
+pub enum Wrong {
+    /// The table has no text under the key.
+    Missing,
+    /// The table has several texts under the key.
+    Repeated,
+    /// The one text under the key is no template.
+    Template(TemplateFault),
+}
+
+/// A fault of a table.
+#[derive(Clone, Copy, Debug, Drop, PartialEq, Eq)]
+pub struct CatalogFault {
+    /// The key.
+    pub key: Key,
+    /// What is wrong.
+    pub wrong: Wrong,
+}
+
+/// Why no catalog is made.
+#[derive(Debug, Drop)]
+pub enum CatalogError {
+    /// The table has these faults, in the order of the keys.
+    Faults(Vec<CatalogFault>),
+    /// Out of memory.
+    Memory,
+}
+
+impl From<AllocError> for CatalogError {
+    ghost use Rattle.std.specs.Prelude.{◌≡◌};
+    ghost use Rattle.garde_catalog.specs.declared.fault.CatalogError.TheVariants.{Memory};
+
+    ghost from_gives = { λ _ error. error ≡ Memory };
+
+    fn from(_error: AllocError) -> CatalogError {
+        CatalogError::Memory
+    }
+}

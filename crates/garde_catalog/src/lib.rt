@@ -1,0 +1,26 @@
+//! Handlers whose texts are a table, one template for each kind of fault; tables in 17 languages; and
+//! which of them a request asks for.
+#![tactic(auto)]
+
+mod catalog;
+mod fault;
+mod field;
+mod forms;
+mod key;
+mod language;
+mod lookup;
+mod rules;
+mod tables;
+mod template;
+
+pub use catalog::{Catalog, Entry};
+pub use fault::{CatalogError, CatalogFault, Wrong};
+pub use field::ranges_of;
+pub use key::{KEYS, Key};
+pub use language::{Language, languages};
+pub use lookup::Range;
+pub use tables::{
+    ARABIC, CHINESE, CZECH, DUTCH, ENGLISH, FRENCH, GERMAN, HINDI, ITALIAN, JAPANESE, KOREAN,
+    POLISH, PORTUGUESE, RUSSIAN, SPANISH, TURKISH, UKRAINIAN,
+};
+pub use template::TemplateFault;

@@ -1,0 +1,95 @@
+//! Which of the languages that are offered some ranges ask for, by the look-up of RFC 4647, section
+//! 3.4.
+ghost use Rattle.std.specs.Prelude.{◌≡◌, ◌≤◌, ◌<◌, ◌↔◌, ℕ, All, Contains, IfSome, IfNone, IsTrue, MatchOption};
+ghost use Rattle.garde_catalog.specs.Lookup.{Fits, IsAsked, IsBest, IsLookup, IsOffered, HasNone};
+
+use crate::language::Language;
+
+/// A language that a request asks for.
+#[derive(Clone, Copy, Debug)]
+pub struct Range<'a> {
+    /// The language, as `en-GB`, or `*`.
+    pub tag: &'a str,
+    /// How much it is wanted, in thousandths. At 0 it is not.
+    pub weight: u16,
+}
+
+// Whether a tag is the range, or what is left of it after cutting subtags off its end.
+fn fits(range: &str, tag: &str) -> bool
+    ensures { IsTrue result ↔ Fits range.now tag.now }
+{
+    let (range, tag) = (range.as_bytes(), tag.as_bytes());
+    let len = tag.len();
+    if range.len() < len {
+        return false;
+    }
+    range[..len].eq_ignore_ascii_case(tag) && (range.len() == len || range[len] == b'-')
+}
+
+// Whether a tag of this length is the first that fits, or longer than the others.
+fn is_longer(len: usize, best: Option<usize>, longest: usize) -> bool
+    ensures { MatchOption best (IsTrue result) (λ _. IsTrue result ↔ (longest < len)) }
+{
+    match best {
+        None => true,
+        Some(_) => longest < len,
+    }
+}
+
+// The longest tag that fits a range.
+fn look_up(range: &str, offered: &[Language]) -> Option<usize>
+    ensures found { IfSome result (IsLookup offered.now range.now) }
+    ensures none { IfNone result (HasNone offered.now range.now) }
+{
+    let mut best: Option<usize> = None;
+    let mut longest: usize = 0;
+    for (place, language) in offered.iter().enumerate() {
+        if !fits(range, language.tag) {
+            continue;
+        }
+        if !is_longer(language.tag.len(), best, longest) {
+            continue;
+        }
+        best = Some(place);
+        longest = language.tag.len();
+    }
+    best
+}
+
+// The place of the language to answer in: the one that the range of the greatest weight asks for,
+// the first of several. `None` means that no range that is wanted fits the tag of any language.
+fn pick(ranges: &[Range<'_>], offered: &[Language]) -> Option<usize>
+    ensures found { IfSome result (λ place. IsBest ranges.now offered.now place) }
+    ensures none { IfNone result (All (λ range. ¬ (IsAsked offered.now range)) ranges.now) }
+{
+    let mut best: Option<usize> = None;
+    let mut weight: u16 = 0;
+    for range in ranges {
+        if range.weight <= weight {
+            continue;
+        }
+        let Some(place) = look_up(range.tag, offered) else {
+            continue;
+        };
+        best = Some(place);
+        weight = range.weight;
+    }
+    best
+}
+
+impl Language {
+    /// The language to answer in: the one that the range of the greatest weight asks for, the first
+    /// of several. `None` means that no range that is wanted fits the tag of any language.
+    pub fn picked(ranges: &[Range<'_>], offered: &[Language]) -> Option<Language>
+        ensures found { IfSome result (IsOffered ranges.now offered.now) }
+        ensures none { IfNone result (All (λ range. ¬ (IsAsked offered.now range)) ranges.now) }
+    {
+        match pick(ranges, offered) {
+            Some(place) => match offered.get(place) {
+                Some(language) => Some(*language),
+                None => None,
+            },
+            None => None,
+        }
+    }
+}

@@ -1,0 +1,5 @@
+//! Tests by what they are of.
+
+mod asked;
+mod faulty;
+mod told;

@@ -1,0 +1,1 @@
+"""The page of the texts in every language."""
