@@ -1,0 +1,17 @@
+//! A row of a table.
+//@ --spelled Reading --input rows
+use garde::Validate;
+use serde::Deserialize;
+
+/// What a meter shows.
+#[derive(Deserialize, Validate)]
+pub struct Reading {
+    #[garde(length(min = 1))]
+    pub meter: String,
+    #[garde(range(min = 1))]
+    pub pulses: u64,
+    #[garde(range(min = self.pulses))]
+    pub most: Option<u32>,
+    #[garde(skip)]
+    pub is_read: Option<bool>,
+}
