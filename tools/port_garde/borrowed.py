@@ -37,7 +37,7 @@ def fields_of(item):
 
 # The rules of lists and of maps that a form asks, and those that `--body` states.
 OF_LISTS = {True: ("inner", "dive", "length", "unique", "custom"), False: ("inner", "dive", "length", "keys", "custom")}
-STATED = {True: ("inner", "dive", "length"), False: ("inner", "dive", "length")}
+STATED = {True: ("inner", "dive", "length", "unique", "custom"), False: ("inner", "dive", "length", "custom")}
 
 
 def below(item):
@@ -280,7 +280,8 @@ class Borrowed:
             is_list = kind.name == "Vec"
             for it in rules:
                 if it.name not in (STATED if self.is_stated else OF_LISTS)[is_list] or it.name == "length" and it.mode != "simple":
-                    yield it.line, f"`{it.name}` of a {'list' if is_list else 'map'}, which `--{'body' if self.is_stated else 'schema'}` does not write"
+                    told = "which `--schema` does not write" if not self.is_stated else "which `--spelled` and `--body` do not state: say `--schema --no-walk`"
+                    yield it.line, f"`{it.name}` of a {'list' if is_list else 'map'}, {told}"
             within = [found for it in rules if it.name == "inner" for found in it.rules]
             yield from self.of_lists(kind.args[-1], within)
 
@@ -300,7 +301,7 @@ class Borrowed:
         if self.input == "json" or isinstance(kind, str) or is_text(kind) or kind.kind == "unread":
             return
         is_list = is_path(kind, "Vec")
-        if is_option(kind) and within in ((), ("Option",)) or is_list and self.input == "web-form" and "Vec" not in within:
+        if is_option(kind) and within in ((), ("Option",))[: 1 + (self.input == "web-form")] or is_list and self.input == "web-form" and "Vec" not in within:
             yield from self.unwritten(kind.args[0], (*within, kind.name))
         elif is_list or is_option(kind):
             yield f"`{kind.name}` within `{within[-1]}`" if within else f"the type `{kind.name}`"

@@ -88,10 +88,10 @@ INPUTS = {
 }
 
 
-def is_chosen(kind):
-    """Whether a browser sends an option of this type only where something is chosen: it holds a choice, a list of them or another option."""
+def may_be_missing(kind, input):
+    """Whether the member of an option may be missing. A browser sends a choice, and a list of them, only where something is chosen."""
     held = kind.args[0]
-    return is_option(held) or is_path(held, "Vec") or not is_plain(held)
+    return input == "json" or input == "web-form" and (is_option(held) or is_path(held, "Vec") or not is_plain(held))
 
 
 def is_plain(kind):

@@ -9,12 +9,15 @@ from .layout import WIDTH, Method, Rows, Word, call, flat, statement
 from .makers import Makers, places, tuple_of, wide
 from .names import of_field, of_variant, others_of_variant
 from .implementation import OWN
-from .inputs import is_chosen
+from .inputs import may_be_missing
 from .scope import Place, Seen, is_option, is_path, is_text
 from .source import is_ported
 from .spelled import Spellings
 from .words import Checks, camel, together
 
+# The rules of a list or a map that its form takes; where what is spelled is stated, it takes those of the number alone.
+UNDER = ("length", "unique", "keys")
+UNDER_SPELLED = ("length",)
 READ = """{docs}
 {tactic}{vis}fn read_{name}<'a, H: I18n + FormI18n>(
     alloc: Global,
@@ -278,7 +281,7 @@ class Schema:
         """A member of an object."""
         self.writer.spot = it.name
         name, kind, rules = f'"{of_field(it, variant, item)}"', it.type, own_rules(it)
-        if is_option(kind) and (self.writer.input == "json" or is_chosen(kind)):
+        if is_option(kind) and may_be_missing(kind, self.writer.input):
             word = "Nullish" if self.writer.input == "json" else "Optional"
             form, asked = call(self.use(word), name, self.form(kind.args[0], within_option(rules))), of_whole(rules)
             return call(self.use("Checked", "Under"), form, call("Under", name, self.checks(kind, asked))) if asked else form
@@ -323,9 +326,9 @@ class Schema:
         return self.several(kind, rules, "Map", inside)
 
     def several(self, kind, rules, name, inside):
-        under = [it for it in rules if it.name in ("length", "unique", "keys")]
+        under = [it for it in rules if it.name in (UNDER_SPELLED if self.spellings else UNDER)]
         form = call(self.use(f"{name}Under"), self.checks(kind, under), inside) if under else call(self.use(name), inside)
-        return self.ruled(form, kind, [it for it in rules if it.name == "custom"])
+        return self.ruled(form, kind, [it for it in rules if it.name in (*UNDER, "custom") and it not in under])
 
     def ruled(self, form, kind, rules):
         """A form that has no place for rules, under these."""

@@ -5,7 +5,7 @@ from dataclasses import dataclass
 from .borrowed import fields_of, is_map, is_named, of_whole, within_option
 from .derives import options
 from .groups import Group, filled, grouped, numbers_in, own_rules, shared_rules
-from .inputs import Reader, is_chosen
+from .inputs import Reader, may_be_missing
 from .layout import WIDTH
 from .makers import places
 from .names import of_field
@@ -221,7 +221,7 @@ class Spellings:
     def member(self, it, variant, item):
         self.writer.spot = it.name
         name, kind, rules = f'"{of_field(it, variant, item)}"', it.type, own_rules(it)
-        if is_option(kind) and (self.writer.input == "json" or is_chosen(kind)):
+        if is_option(kind) and may_be_missing(kind, self.writer.input):
             word = self.word("nullish") if self.writer.input == "json" else self.written("optional")
             found, whole = said(word, name, self.value(kind.args[0], within_option(rules))), of_whole(rules)
             if not whole:
@@ -277,13 +277,15 @@ class Spellings:
         for it in rules:
             if it.name == "inner":
                 inside += it.rules
-            else:
-                (inside if it.name == "dive" else whole).append(it)
-        one = self.value(kind.args[-1], inside)
+            elif it.name == "dive":
+                inside.append(it)
+            elif it.name == "length":
+                whole.append(it)
+        one, ruled = self.value(kind.args[-1], inside), [it for it in rules if it.name in ("unique", "custom")]
         if not whole:
-            return said(self.word(word), one)
+            return self.ruled(said(self.word(word), one), kind, ruled)
         self.writer.uses.words.add("count")
-        return said(self.word(f"{word}_of"), self.asked(kind, whole).replace("is (items ", "is (count "), one)
+        return self.ruled(said(self.word(f"{word}_of"), self.asked(kind, whole).replace("is (items ", "is (count "), one), kind, ruled)
 
     def ruled(self, one, kind, rules):
         return said(self.word("a_ruled"), one, self.asked(kind, rules)) if rules else one

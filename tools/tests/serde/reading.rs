@@ -3,6 +3,14 @@
 use garde::Validate;
 use serde::Deserialize;
 
+/// Who reads a meter.
+#[derive(Clone, Copy, Deserialize)]
+#[serde(rename_all = "lowercase")]
+pub enum Reader {
+    Owner,
+    Works,
+}
+
 /// What a meter shows.
 #[derive(Deserialize, Validate)]
 pub struct Reading {
@@ -14,4 +22,6 @@ pub struct Reading {
     pub most: Option<u32>,
     #[garde(skip)]
     pub is_read: Option<bool>,
+    #[garde(skip)]
+    pub reader: Option<Reader>,
 }
