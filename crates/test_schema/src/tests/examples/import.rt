@@ -1,7 +1,5 @@
 //! An import into a table in memory.
 
-mod database;
-
 use example_import::item::{Flaw, Item, Sink, Source};
 use example_import::memory::MemoryTable;
 use example_import::row::Row;
