@@ -1,4 +1,6 @@
 """The program use_order, by crates/use_order/README.md: a page of orders in JSON."""
+import json
+
 from lib.described import Case, pattern
 from lib.faults import REQUIRED, between, chars, items, prefix
 from lib.form import Checked, Closed, ListUnder, Member, Nullish, Object, OneOf, Text, Under, Whole, read
@@ -30,6 +32,14 @@ PAGE = Object(Closed(
 def some(dice):
     words = dice.choice(((), (), (), ("1",), ("2",), ("7",), ("18446744073709551615",)))
     return Case(words, *some_json(dice, PAGE))
+
+
+def large():
+    """Pages with as many lines as there may be, of more than 64 KiB: valid, and with three faults in each line."""
+    for line, words in (("P\u00e9", 1, 1), ()), (("Q", 0, 10_000), ()), (("Q", 0, 10_000), ("2500",)):
+        lines = [dict(zip(("code", "count", "cents"), line))] * 50
+        order = {"customer": "x" * 80, "delivery": "post", "address": "y" * 200, "lines": lines}
+        yield Case(words, json.dumps({"number": 1, "entries": [order] * 20}, indent=8).encode())
 
 
 def confirmed(order):
