@@ -5,6 +5,8 @@
 
 mod order;
 mod rely;
+#[cfg(test)]
+mod tests;
 
 use crate::order::{Order, Page};
 use crate::rely::{cost, destination, first};
