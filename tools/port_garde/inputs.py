@@ -20,10 +20,40 @@ READ = """{constant}{docs}
         Err(error) => Err(error),
     }}
 }}"""
-NAMES = {
-    "web-form": ("LISTS", "The fields of the form that are sent once for each choice."),
-    "rows": ("COLUMNS", "The columns of the table, which may stand in any order."),
-}
+LISTED = """/// The fields of the form that are sent once for each choice.
+fn listed() -> [&'static str; {count}]
+    ensures {{ map (λ name. name.now) result ≡ {names} }}
+{{
+    [{texts}]
+}}
+
+"""
+# The answers for the goals of what reads a web form: the lists that it was read by are those that the promise speaks of.
+ANSWERS = """use Rattle.std.proofs.Common.{{refl, sym}}
+use {module}.Goals as goal
+
+pub returns-in-Ok-clause-answer : goal.returns-in-Ok-clause-answer
+returns-in-Ok-clause-answer g c known = record {{
+  lists = c.listed-lists.result;
+  named = c.listed-lists.ensures;
+  is = c.in-Ok.ensures.answer (λ e. let q = e in cc);
+}}
+
+pub returns-in-Ok-clause-value : goal.returns-in-Ok-clause-value
+returns-in-Ok-clause-value g c = record {{
+  lists = c.listed-lists.result;
+  named = c.listed-lists.ensures;
+  is = rw c.known.ensures c.in-Ok.ensures.value;
+}}
+
+pub returns-in-Err-clause-answer : goal.returns-in-Err-clause-answer
+returns-in-Err-clause-answer g c known = record {{
+  lists = c.listed-lists.result;
+  named = c.listed-lists.ensures;
+  is = c.in-Err.ensures.answer (λ e. known (let q = e in cc));
+}}
+"""
+COLUMNS = "/// The columns of the table, which may stand in any order.\n"
 
 
 @dataclass(frozen=True)
@@ -62,12 +92,12 @@ INPUTS = {
         (*OF_BYTES, "Rattle.garde_schema.specs.Bytes.{OfDocument}", "Rattle.garde_schema.specs.FirstRead.{AnswersFirstBytes}"),
     ),
     "web-form": Input(
-        "from the fields of a web form", "'a", ("fields: &'a [FormField<'_>]",), "read_form(alloc, fields, &LISTS, &{form}, h)", "ValidateError",
-        ("result ≢ Err ValidateError.Memory", "→ Answers ({S}.visits (H.form_text h.now) (form_json LISTS (field_texts fields.now)))", "(H.text h.now) (forget result)"),
-        ("{S}.value (form_json LISTS (field_texts fields.now))", "≡ Some v"),
+        "from the fields of a web form", "'a", ("fields: &'a [FormField<'_>]",), "read_form(alloc, fields, &lists, &{form}, h)", "ValidateError",
+        ("result ≢ Err ValidateError.Memory → OfForm {L} (field_texts fields.now)", "(λ j. Answers ({S}.visits (H.form_text h.now) j) (H.text h.now) (forget result))"),
+        ("OfForm {L} (field_texts fields.now)", "(λ j. {S}.value j ≡ Some v)"),
         ("garde_form::read_form", "garde_form::FormField", "garde::ValidateError"),
         (
-            "Rattle.garde.specs.Answers.{Answers}", "Rattle.garde_form.specs.WebForm.{field_texts, form_json}",
+            "Rattle.garde.specs.Answers.{Answers}", "Rattle.garde_form.specs.WebForm.{field_texts}",
             "Rattle.garde_schema.specs.Forms.{forget}",
         ),
     ),
@@ -111,31 +141,50 @@ class Reader:
         """The function, of a spelling as it is stated, under a context: its type and its name, or nothing."""
         uses, given = self.writer.uses, self.input
         uses.others |= {*given.uses, "std::alloc::Global", "garde::I18n", "garde::Valid", "garde_schema::FormI18n"}
-        uses.prelude |= {"◌≡◌", "Some", "IfOk"} | ({"◌≢◌", "Err"} if self.kind == "web-form" else set())
-        uses.paths |= set(given.ghosts)
+        uses.prelude |= {"◌≡◌", "Some", "IfOk"}
         name, made = self.schema.names_of(self.item)
+        lists = ""
+        if self.kind == "web-form":
+            uses.prelude |= {"◌≢◌", "Err", "codes", "map", "[]"} | ({"◌∷◌"} if self.lists() else set())
+            uses.written.add("OfForm")
+            lists = "    let lists = listed();\n"
+            crate, *modules = self.writer.module.split("::")
+            self.writer.answers = (f"read_{name}", ANSWERS.format(module=".".join(["Rattle", crate, "proofs", *modules, f"read_{name}"])))
+        uses.paths |= set(given.ghosts)
         params = ["alloc: Global", *given.params, *([f"{context[1]}: &{context[0]}"] if context else []), "h: &H"]
         told = "at most so many faults" if self.writer.first else "every fault of its form and of its rules"
         return READ.format(
             constant=self.constant(), docs=docs_of(f"Reads a value of the type `{self.item.name}` {given.told}, or reports {told}."),
             vis=self.item.vis, name=name, lives=given.lives, params="\n".join(f"    {it}," for it in params), made=made, error=given.error,
-            answer=clause(given.answer, spelling, "    ensures answer { "), value=clause(given.value, spelling, "    ensures value { IfOk result (λ v. ", ")"),
-            forms=self.schema.forms(self.item, 4), call=given.call.format(form=f"{name}_form"), context=context[1] if context else "&()",
+            answer=clause(given.answer, spelling, self.stated(), "    ensures answer { "),
+            value=clause(given.value, spelling, self.stated(), "    ensures value { IfOk result (λ v. ", ")"),
+            forms=lists + self.schema.forms(self.item, 4), call=given.call.format(form=f"{name}_form"), context=context[1] if context else "&()",
         )
 
     def constant(self):
         """The names that the input is read by, as a constant."""
         if self.kind == "json":
             return ""
-        variant = self.item.variants[0]
-        listed = [it for it in variant.fields if self.kind == "rows" or is_path(it.type, "Vec") or is_option(it.type) and is_path(it.type.args[0], "Vec")]
-        names = [f'"{of_field(it, variant, self.item)}"' for it in listed]
-        name, docs = NAMES[self.kind]
-        line = f"{self.item.vis}const {name}: [&str; {len(names)}] = [{', '.join(names)}];"
+        if self.kind == "web-form":
+            names = self.lists()
+            return LISTED.format(count=len(names), names=self.stated().removeprefix("(").removesuffix(")"), texts=", ".join(names))
+        names = self.names(self.item.variants[0].fields)
+        line = f"{self.item.vis}const COLUMNS: [&str; {len(names)}] = [{', '.join(names)}];"
         if len(line) > WIDTH:
             rows = "".join(f"    {it},\n" for it in names)
-            line = f"{self.item.vis}const {name}: [&str; {len(names)}] = [\n{rows}];"
-        return f"/// {docs}\n{line}\n\n"
+            line = f"{self.item.vis}const COLUMNS: [&str; {len(names)}] = [\n{rows}];"
+        return f"{COLUMNS}{line}\n\n"
+
+    def names(self, fields):
+        return [f'"{of_field(it, self.item.variants[0], self.item)}"' for it in fields]
+
+    def lists(self):
+        """The names of the members that are lists."""
+        return self.names(it for it in self.item.variants[0].fields if is_path(it.type, "Vec") or is_option(it.type) and is_path(it.type.args[0], "Vec"))
+
+    def stated(self):
+        """The same as they are stated."""
+        return f"({' ∷ '.join([*(f'codes {it}' for it in self.lists()), '[]'])})" if self.lists() else "[]"
 
 
 def docs_of(text):
@@ -143,8 +192,8 @@ def docs_of(text):
     return "\n".join(f"/// {line}" for line in textwrap.wrap(text, WIDTH - 4))
 
 
-def clause(parts, spelling, before, after=""):
+def clause(parts, spelling, lists, before, after=""):
     """A clause of a contract: on one line where it fits, or each part on its own."""
-    parts = [it.format(S=spelling) for it in parts]
+    parts = [it.format(S=spelling, L=lists) for it in parts]
     line = before + " ".join(parts) + after + " }"
     return " ".join(parts) + after if len(line) <= WIDTH else "\n        ".join(parts) + after

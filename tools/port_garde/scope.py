@@ -8,6 +8,12 @@ from .tokens import Refusal
 
 UNSIGNED = ("u8", "u16", "u32", "u64", "u128", "usize")
 SIGNED = ("i8", "i16", "i32", "i64", "i128", "isize")
+IS_ADDRESS = """/// Whether a text is an address.
+fn is_address(text: &str) -> bool
+    ensures { result ≡ is_ipv4 text.now || is_ipv6 text.now }
+{
+    is_ipv4(text) || is_ipv6(text)
+}"""
 VARIABLES = ("x", "y", "z", "w", "u")
 # What stands behind the name of a variant in a pattern that looks at nothing in it.
 SHAPES = {"unit": "", "tuple": "(..)", "named": " { .. }"}
@@ -235,8 +241,11 @@ class Conditions:
         self.uses.prelude |= {"◌||◌"} if names[1:] else set()
         self.uses.others |= {f"garde::rules::ip::{name}" for name in names}
         spec = f"{spec}.now" if borrowed else f"(str {spec})" if kind.name == "String" else spec
-        asked, stated = " || ".join(f"{name}({given})" for name in names), " || ".join(f"{name} {spec}" for name in names)
-        return f"({asked})" if names[1:] else asked, f"({stated})"
+        stated = " || ".join(f"{name} {spec}" for name in names)
+        if names[1:]:
+            self.uses.prelude.add("◌≡◌")
+            self.writer.copied["is_address"] = IS_ADDRESS
+        return f"{'is_address' if names[1:] else names[0]}({given})", f"({stated})"
 
     def part_of_text(self, code, spec, asked):
         """Whether a text that a form reads has this part."""

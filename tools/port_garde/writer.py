@@ -60,7 +60,7 @@ class Writer:
         self.derives = Derives(source, left_out)
         self.uses = Uses()
         self.patterns, self.skeletons, self.closures, self.copied = {}, {}, {}, {}
-        self.item = self.context = self.spot = None
+        self.item = self.context = self.spot = self.answers = None
         self.renamed = {}
         self.notes = source.notes
 

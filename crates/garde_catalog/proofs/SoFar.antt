@@ -164,9 +164,11 @@ stays seen offered place x best no_better = record {
 no_heavier : (seen : List Want) (offered : List Language) (best : Option ℕ) (weight : ℕ) (x : Want) → x.1 ≤ weight
     → Weighs seen offered best weight → Weighs (seen ++ x ∷ []) offered best weight
 unfolding stays
-no_heavier seen offered None weight x light h =
-    (h.0, all_and (λ want. ¬ (IsAsked offered want)) seen x h.1
-    (λ asked. let above : 0 < x.1 = asked.0 in let nothing : weight ≡ 0 = h.0 in omega arith))
+no_heavier seen offered None weight x light h = (
+  h.0,
+  all_and (λ want. ¬ (IsAsked offered want)) seen x h.1
+      (λ asked. let above : 0 < x.1 = asked.0 in let nothing : weight ≡ 0 = h.0 in omega arith),
+)
 no_heavier seen offered (Some place) weight x light h =
     let is : h.0.want.1 ≡ weight = h.1 in
     (stays seen offered place x h.0 (λ _. omega arith), h.1)

@@ -14,12 +14,7 @@ use std::borrow::CowStr;
 
 impl Catalog<'_> {
     // The text under a key that names a place.
-    fn of_place(
-        &self,
-        alloc: Global,
-        key: Key,
-        place: Place,
-    ) -> Result<CowStr<'static>, AllocError>
+    fn of_place(&self, alloc: Global, key: Key, place: Place) -> Result<CowStr<'static>, AllocError>
         ensures { IfOk result (λ s. cow_str_bytes s
             ≡ put_both self.now key (decimal place.line) (decimal place.column)) }
     {

@@ -83,7 +83,13 @@ pub static ARABIC: [Entry<'static>; 69] = [
     (Key::RowLength, "عدد الحقول مختلف عن سطر العناوين"),
     (Key::NotUtf8, "ليس UTF-8: السطر {line}، العمود {column}"),
     (Key::NotJson, "ليس JSON: السطر {line}، العمود {column}"),
-    (Key::NestedTooDeep, "التداخل أعمق من 128 مستوى: السطر {line}، العمود {column}"),
-    (Key::LoneSurrogate, "نصف زوج بديل وحده: السطر {line}، العمود {column}"),
+    (
+        Key::NestedTooDeep,
+        "التداخل أعمق من 128 مستوى: السطر {line}، العمود {column}",
+    ),
+    (
+        Key::LoneSurrogate,
+        "نصف زوج بديل وحده: السطر {line}، العمود {column}",
+    ),
     (Key::TextTooLong, "أطول من 4294967040 بايت"),
 ];

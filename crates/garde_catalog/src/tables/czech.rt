@@ -86,7 +86,13 @@ pub static CZECH: [Entry<'static>; 69] = [
     (Key::RowLength, "jiný počet polí než v záhlaví"),
     (Key::NotUtf8, "není UTF-8: řádek {line}, sloupec {column}"),
     (Key::NotJson, "není JSON: řádek {line}, sloupec {column}"),
-    (Key::NestedTooDeep, "více než 128 úrovní zanoření: řádek {line}, sloupec {column}"),
-    (Key::LoneSurrogate, "osamocený surogát: řádek {line}, sloupec {column}"),
+    (
+        Key::NestedTooDeep,
+        "více než 128 úrovní zanoření: řádek {line}, sloupec {column}",
+    ),
+    (
+        Key::LoneSurrogate,
+        "osamocený surogát: řádek {line}, sloupec {column}",
+    ),
     (Key::TextTooLong, "více než 4294967040 bajtů"),
 ];

@@ -95,7 +95,13 @@ pub static DUTCH: [Entry<'static>; 69] = [
     (Key::RowLength, "een ander aantal velden dan in de kopregel"),
     (Key::NotUtf8, "geen UTF-8 op regel {line}, kolom {column}"),
     (Key::NotJson, "geen JSON op regel {line}, kolom {column}"),
-    (Key::NestedTooDeep, "dieper dan 128 niveaus genest op regel {line}, kolom {column}"),
-    (Key::LoneSurrogate, "een los surrogaat op regel {line}, kolom {column}"),
+    (
+        Key::NestedTooDeep,
+        "dieper dan 128 niveaus genest op regel {line}, kolom {column}",
+    ),
+    (
+        Key::LoneSurrogate,
+        "een los surrogaat op regel {line}, kolom {column}",
+    ),
     (Key::TextTooLong, "langer dan 4294967040 bytes"),
 ];

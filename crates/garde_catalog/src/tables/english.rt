@@ -95,7 +95,13 @@ pub static ENGLISH: [Entry<'static>; 69] = [
     (Key::RowLength, "not as many fields as in the header"),
     (Key::NotUtf8, "not UTF-8 at line {line} column {column}"),
     (Key::NotJson, "not JSON at line {line} column {column}"),
-    (Key::NestedTooDeep, "nested deeper than 128 at line {line} column {column}"),
-    (Key::LoneSurrogate, "a lone surrogate at line {line} column {column}"),
+    (
+        Key::NestedTooDeep,
+        "nested deeper than 128 at line {line} column {column}",
+    ),
+    (
+        Key::LoneSurrogate,
+        "a lone surrogate at line {line} column {column}",
+    ),
     (Key::TextTooLong, "longer than 4294967040 bytes"),
 ];

@@ -101,7 +101,13 @@ pub static GERMAN: [Entry<'static>; 69] = [
     ),
     (Key::NotUtf8, "kein UTF-8 in Zeile {line}, Spalte {column}"),
     (Key::NotJson, "kein JSON in Zeile {line}, Spalte {column}"),
-    (Key::NestedTooDeep, "tiefer als 128 geschachtelt in Zeile {line}, Spalte {column}"),
-    (Key::LoneSurrogate, "ein halbes Surrogatpaar in Zeile {line}, Spalte {column}"),
+    (
+        Key::NestedTooDeep,
+        "tiefer als 128 geschachtelt in Zeile {line}, Spalte {column}",
+    ),
+    (
+        Key::LoneSurrogate,
+        "ein halbes Surrogatpaar in Zeile {line}, Spalte {column}",
+    ),
     (Key::TextTooLong, "länger als 4294967040 Byte"),
 ];

@@ -83,7 +83,13 @@ pub static HINDI: [Entry<'static>; 69] = [
     (Key::RowLength, "फ़ील्ड की संख्या शीर्षक पंक्ति से अलग है"),
     (Key::NotUtf8, "UTF-8 नहीं है: पंक्ति {line}, स्तंभ {column}"),
     (Key::NotJson, "JSON नहीं है: पंक्ति {line}, स्तंभ {column}"),
-    (Key::NestedTooDeep, "128 स्तरों से अधिक नेस्टेड: पंक्ति {line}, स्तंभ {column}"),
-    (Key::LoneSurrogate, "अकेला सरोगेट: पंक्ति {line}, स्तंभ {column}"),
+    (
+        Key::NestedTooDeep,
+        "128 स्तरों से अधिक नेस्टेड: पंक्ति {line}, स्तंभ {column}",
+    ),
+    (
+        Key::LoneSurrogate,
+        "अकेला सरोगेट: पंक्ति {line}, स्तंभ {column}",
+    ),
     (Key::TextTooLong, "4294967040 बाइट से लंबा"),
 ];

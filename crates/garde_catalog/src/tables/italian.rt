@@ -96,9 +96,21 @@ pub static ITALIAN: [Entry<'static>; 69] = [
         Key::RowLength,
         "numero di campi diverso da quello dell’intestazione",
     ),
-    (Key::NotUtf8, "non è UTF-8 alla riga {line}, colonna {column}"),
-    (Key::NotJson, "non è JSON alla riga {line}, colonna {column}"),
-    (Key::NestedTooDeep, "annidato oltre 128 livelli alla riga {line}, colonna {column}"),
-    (Key::LoneSurrogate, "un surrogato isolato alla riga {line}, colonna {column}"),
+    (
+        Key::NotUtf8,
+        "non è UTF-8 alla riga {line}, colonna {column}",
+    ),
+    (
+        Key::NotJson,
+        "non è JSON alla riga {line}, colonna {column}",
+    ),
+    (
+        Key::NestedTooDeep,
+        "annidato oltre 128 livelli alla riga {line}, colonna {column}",
+    ),
+    (
+        Key::LoneSurrogate,
+        "un surrogato isolato alla riga {line}, colonna {column}",
+    ),
     (Key::TextTooLong, "più lungo di 4294967040 byte"),
 ];

@@ -90,9 +90,18 @@ pub static POLISH: [Entry<'static>; 69] = [
     (Key::MemberUnknown, "tutaj nieznane"),
     (Key::ValueUnknown, "to nie jest żadna ze znanych wartości"),
     (Key::RowLength, "inna liczba pól niż w nagłówku"),
-    (Key::NotUtf8, "to nie UTF-8: wiersz {line}, kolumna {column}"),
+    (
+        Key::NotUtf8,
+        "to nie UTF-8: wiersz {line}, kolumna {column}",
+    ),
     (Key::NotJson, "to nie JSON: wiersz {line}, kolumna {column}"),
-    (Key::NestedTooDeep, "więcej niż 128 poziomów zagnieżdżenia: wiersz {line}, kolumna {column}"),
-    (Key::LoneSurrogate, "pojedynczy surogat: wiersz {line}, kolumna {column}"),
+    (
+        Key::NestedTooDeep,
+        "więcej niż 128 poziomów zagnieżdżenia: wiersz {line}, kolumna {column}",
+    ),
+    (
+        Key::LoneSurrogate,
+        "pojedynczy surogat: wiersz {line}, kolumna {column}",
+    ),
     (Key::TextTooLong, "więcej niż 4294967040 bajtów"),
 ];

@@ -95,7 +95,13 @@ pub static PORTUGUESE: [Entry<'static>; 69] = [
     (Key::RowLength, "número de campos diferente do cabeçalho"),
     (Key::NotUtf8, "não é UTF-8 na linha {line}, coluna {column}"),
     (Key::NotJson, "não é JSON na linha {line}, coluna {column}"),
-    (Key::NestedTooDeep, "mais de 128 níveis de aninhamento na linha {line}, coluna {column}"),
-    (Key::LoneSurrogate, "um substituto isolado na linha {line}, coluna {column}"),
+    (
+        Key::NestedTooDeep,
+        "mais de 128 níveis de aninhamento na linha {line}, coluna {column}",
+    ),
+    (
+        Key::LoneSurrogate,
+        "um substituto isolado na linha {line}, coluna {column}",
+    ),
     (Key::TextTooLong, "mais de 4294967040 bytes"),
 ];

@@ -92,7 +92,13 @@ pub static RUSSIAN: [Entry<'static>; 69] = [
     (Key::RowLength, "число полей не такое, как в заголовке"),
     (Key::NotUtf8, "не UTF-8: строка {line}, столбец {column}"),
     (Key::NotJson, "не JSON: строка {line}, столбец {column}"),
-    (Key::NestedTooDeep, "вложенность больше 128: строка {line}, столбец {column}"),
-    (Key::LoneSurrogate, "одиночный суррогат: строка {line}, столбец {column}"),
+    (
+        Key::NestedTooDeep,
+        "вложенность больше 128: строка {line}, столбец {column}",
+    ),
+    (
+        Key::LoneSurrogate,
+        "одиночный суррогат: строка {line}, столбец {column}",
+    ),
     (Key::TextTooLong, "длиннее 4294967040 байт"),
 ];

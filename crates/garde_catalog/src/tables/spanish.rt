@@ -99,9 +99,21 @@ pub static SPANISH: [Entry<'static>; 69] = [
         Key::RowLength,
         "número de campos distinto al de la cabecera",
     ),
-    (Key::NotUtf8, "no es UTF-8 en la línea {line}, columna {column}"),
-    (Key::NotJson, "no es JSON en la línea {line}, columna {column}"),
-    (Key::NestedTooDeep, "más de 128 niveles de anidamiento en la línea {line}, columna {column}"),
-    (Key::LoneSurrogate, "un sustituto aislado en la línea {line}, columna {column}"),
+    (
+        Key::NotUtf8,
+        "no es UTF-8 en la línea {line}, columna {column}",
+    ),
+    (
+        Key::NotJson,
+        "no es JSON en la línea {line}, columna {column}",
+    ),
+    (
+        Key::NestedTooDeep,
+        "más de 128 niveles de anidamiento en la línea {line}, columna {column}",
+    ),
+    (
+        Key::LoneSurrogate,
+        "un sustituto aislado en la línea {line}, columna {column}",
+    ),
     (Key::TextTooLong, "más de 4294967040 bytes"),
 ];

@@ -89,7 +89,13 @@ pub static TURKISH: [Entry<'static>; 69] = [
     (Key::RowLength, "alan sayısı başlıktakinden farklı"),
     (Key::NotUtf8, "UTF-8 değil: satır {line}, sütun {column}"),
     (Key::NotJson, "JSON değil: satır {line}, sütun {column}"),
-    (Key::NestedTooDeep, "iç içe geçme 128 düzeyi aşıyor: satır {line}, sütun {column}"),
-    (Key::LoneSurrogate, "tek kalmış vekil karakter: satır {line}, sütun {column}"),
+    (
+        Key::NestedTooDeep,
+        "iç içe geçme 128 düzeyi aşıyor: satır {line}, sütun {column}",
+    ),
+    (
+        Key::LoneSurrogate,
+        "tek kalmış vekil karakter: satır {line}, sütun {column}",
+    ),
     (Key::TextTooLong, "4294967040 bayttan uzun"),
 ];

@@ -92,7 +92,13 @@ pub static UKRAINIAN: [Entry<'static>; 69] = [
     (Key::RowLength, "кількість полів не така, як у заголовку"),
     (Key::NotUtf8, "не UTF-8: рядок {line}, стовпець {column}"),
     (Key::NotJson, "не JSON: рядок {line}, стовпець {column}"),
-    (Key::NestedTooDeep, "вкладеність понад 128: рядок {line}, стовпець {column}"),
-    (Key::LoneSurrogate, "одиничний сурогат: рядок {line}, стовпець {column}"),
+    (
+        Key::NestedTooDeep,
+        "вкладеність понад 128: рядок {line}, стовпець {column}",
+    ),
+    (
+        Key::LoneSurrogate,
+        "одиничний сурогат: рядок {line}, стовпець {column}",
+    ),
     (Key::TextTooLong, "довше за 4294967040 байтів"),
 ];

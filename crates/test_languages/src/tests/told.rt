@@ -10,8 +10,8 @@ use garde_i18n::{
     Code, Datum, InvalidCreditCard, InvalidPhoneNumber, InvalidUrl, IpKind, Named, Texts, Value,
 };
 use garde_schema::{
-    FormFault, FormI18n, Integer, Kind, ParseError, Place, ReadError, Scratch, Text, TextRef, Wanted,
-    read_json,
+    FormFault, FormI18n, Integer, Kind, ParseError, Place, ReadError, Scratch, Text, TextRef,
+    Wanted, read_json,
 };
 use std::alloc::Global;
 
@@ -440,7 +440,10 @@ fn names_the_numbers_of_a_type(rt: HostRuntime) {
 
 // The message of what is not read as JSON, or nothing.
 fn is_told(alloc: Global, bytes: &[u8], text: &str) -> bool {
-    let (Ok(h), mut scratch) = (Catalog::new(alloc, &garde_catalog::CZECH), Scratch::new(alloc)) else {
+    let (Ok(h), mut scratch) = (
+        Catalog::new(alloc, &garde_catalog::CZECH),
+        Scratch::new(alloc),
+    ) else {
         return false;
     };
     match read_json(alloc, bytes, &mut scratch, &Text(()), &h) {
