@@ -9,3 +9,7 @@ pub mod Fault
 pub mod Escape
 pub mod Short
 pub mod GitHub
+pub mod JsonLine
+pub mod Format
+pub mod Stop
+pub mod Listed

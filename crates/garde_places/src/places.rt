@@ -39,7 +39,7 @@ impl<'t, 'a> Model for Places<'t, 'a> {
 }
 
 /// The place of a token of that index.
-fn place_at_token(spots: &[Place], token: usize) -> Place
+pub(crate) fn place_at_token(spots: &[Place], token: usize) -> Place
     ensures { result ≡ slice_index_or spots.now token text_start }
 {
     match spots.get(token) {

@@ -1,7 +1,9 @@
 //! Why a text is not turned into JSON.
-ghost use Rattle.std.specs.Prelude.{◌≡◌};
+ghost use Rattle.std.specs.Prelude.{◌≡◌, IfSome};
+ghost use Rattle.garde_places.specs.Stop.{IsStopIn};
 ghost use Rattle.garde_toml.specs.Answers.{IsToldAs};
 
+use garde_places::{Stop, place_of_byte};
 use std::alloc::AllocError;
 use std::fmt;
 use toml::de::Error;
@@ -16,6 +18,24 @@ pub enum TomlError {
     TooDeep,
     /// Out of memory.
     Memory,
+}
+
+impl TomlError {
+    /// Where in its text, which is given, the text stops being TOML, and why: at the first byte of what
+    /// the toolchain's parser does not expect. Of the other errors there is none. A byte order mark is a
+    /// character here.
+    pub fn stop<'e>(&'e self, text: &str) -> Option<Stop<'e>>
+        ensures { IfSome result (λ stop. IsStopIn text.now stop.place) }
+    {
+        let TomlError::Parse(error) = self else {
+            return None;
+        };
+        let span = error.span()?;
+        Some(Stop {
+            place: place_of_byte(text.as_bytes(), span.start),
+            why: error.message(),
+        })
+    }
 }
 
 /// Out of memory is `TomlError::Memory`.

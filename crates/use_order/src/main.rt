@@ -1,59 +1,31 @@
-//! Reads a page of orders in JSON on standard input. Where all of them are valid it confirms each
-//! of them, else it prints the faults of form and of the rules: all of them, or as many at most as a
-//! word says.
+//! Reads a page of orders in JSON, from a file or from standard input. Where all of them are valid it
+//! confirms each of them, else it prints the faults of form and of the rules: all of them, or as many
+//! at most as a word says.
 #![tactic(auto)]
 
+mod faults;
+mod options;
 mod order;
 mod rely;
 #[cfg(test)]
 mod tests;
 
+use crate::faults::{report_lines, stop_line};
+use crate::options::{Options, Task, USAGE};
 use crate::order::{Order, Page};
 use crate::rely::{cost, destination, first};
-use anyhow::Result;
-use garde::{DefaultI18n, Valid};
+use anyhow::{Result, bail};
+use garde::{DefaultI18n, Report, Valid};
 use garde_library::ReadBody;
-use garde_problem::Escaped;
+use garde_places::{Format, stop_of};
+use garde_problem::{Escaped, WithCodes};
 use garde_schema::{FirstReadError, Scratch};
 use std::io::Read;
 use std::process::ExitCode;
-use std::{env, io};
+use std::{env, fs, io};
 
 /// The status of a run that judged no page.
 const NOT_JUDGED: u8 = 2;
-
-/// How the program is called.
-const USAGE: &str = "\
-usage: use_order [N]
-Reads a page of orders in JSON on standard input, and confirms each of them or prints every fault.
-
-  N       prints at most N faults, N from 1
-  --help  prints this";
-
-/// What the words of the command line ask for.
-#[derive(Clone, Copy)]
-enum Task {
-    /// The usage is printed.
-    Help,
-    /// A page is read, and at most so many faults are printed.
-    Read(usize),
-}
-
-impl Task {
-    /// What the words after the program's name ask for: all faults, or as many as the word says. Of
-    /// other words it says what is wrong with them.
-    fn of(words: &[String]) -> Result<Task, &'static str> {
-        match words {
-            [] => Ok(Task::Read(usize::MAX)),
-            [word] if word.as_str() == "--help" => Ok(Task::Help),
-            [word] => match word.parse() {
-                Ok(most) if most > 0 => Ok(Task::Read(most)),
-                _ => Err("the word must be a number from 1"),
-            },
-            _ => Err("there must be one word at most"),
-        }
-    }
-}
 
 /// Confirms an order by its customer, its first line, where it goes, and what each line costs. Texts
 /// of the order stand in quotes, with what is not shown escaped.
@@ -85,27 +57,110 @@ fn confirm_all(rt: &impl Print, page: Valid<Page<'_>>) -> io::Result<()> {
     Ok(())
 }
 
-/// Whether the page on standard input is valid. At most so many faults are printed.
-fn judge(rt: &HostRuntime, most: usize) -> Result<bool> {
+/// The bytes of a file, or of standard input.
+fn read(rt: &HostRuntime, file: Option<&str>) -> Result<Vec<u8>> {
+    let Some(name) = file else {
+        let mut bytes = Vec::new(rt.alloc());
+        rt.stdin().read_to_end(&mut bytes)?;
+        return Ok(bytes);
+    };
+    match fs::read(rt, name) {
+        Ok(bytes) => Ok(bytes),
+        Err(error) => bail!("{name:?}: {error}"),
+    }
+}
+
+/// Confirms each order of a page, or prints its faults with their paths, so many at most.
+fn judge(rt: &HostRuntime, body: &[u8], most: usize) -> Result<ExitCode> {
     let alloc = rt.alloc();
-    let mut body = Vec::new(alloc);
-    rt.stdin().read_to_end(&mut body)?;
     let mut scratch = Scratch::new(alloc);
-    match Page::read_body(alloc, body.as_slice(), &mut scratch, most, &DefaultI18n) {
+    match Page::read_body(alloc, body, &mut scratch, most, &DefaultI18n) {
         Ok(page) => {
             confirm_all(rt, Valid::known(page, &()))?;
-            Ok(true)
+            Ok(ExitCode::SUCCESS)
         }
         Err(FirstReadError::All(report)) => {
             print!(rt; "{}", Escaped(alloc, &report))?;
-            Ok(false)
+            Ok(ExitCode::FAILURE)
         }
         Err(FirstReadError::First(report)) => {
             println!(rt; "{}there are more", Escaped(alloc, &report))?;
-            Ok(false)
+            Ok(ExitCode::FAILURE)
         }
         Err(error) => Err(error.into()),
     }
+}
+
+/// A file as its faults are printed.
+#[derive(Clone, Copy)]
+struct Printed<'w> {
+    format: Format,
+    file: &'w str,
+}
+
+/// The same, with the place of each fault.
+fn judge_places(
+    rt: &HostRuntime,
+    printed: Printed<'_>,
+    body: &[u8],
+    most: usize,
+) -> Result<ExitCode> {
+    let alloc = rt.alloc();
+    let mut scratch = Scratch::new(alloc);
+    match Page::read_body(alloc, body, &mut scratch, most, &WithCodes(DefaultI18n)) {
+        Ok(page) => {
+            confirm_all(rt, Valid::known(page, &()))?;
+            Ok(ExitCode::SUCCESS)
+        }
+        Err(FirstReadError::All(report)) => show(rt, printed, body, &report),
+        Err(FirstReadError::First(report)) => {
+            let status = show(rt, printed, body, &report)?;
+            eprintln!(rt; "use_order: there are more")?;
+            Ok(status)
+        }
+        Err(error) => show_stop(rt, printed, body, error),
+    }
+}
+
+/// Prints the faults of a report.
+fn show(rt: &HostRuntime, printed: Printed<'_>, body: &[u8], report: &Report) -> Result<ExitCode> {
+    let Printed { format, file } = printed;
+    let text = str::from_utf8(without_mark(body))?;
+    let lines = report_lines(rt.alloc(), format, file, text, report)?;
+    print!(rt; "{lines}")?;
+    Ok(ExitCode::FAILURE)
+}
+
+/// Prints where a page stops being JSON. Where it is JSON, it was not read for another reason.
+fn show_stop(
+    rt: &HostRuntime,
+    printed: Printed<'_>,
+    body: &[u8],
+    error: FirstReadError,
+) -> Result<ExitCode> {
+    let Printed { format, file } = printed;
+    let Some(stop) = stop_of(rt.alloc(), without_mark(body))? else {
+        return Err(error.into());
+    };
+    let line = stop_line(rt.alloc(), format, file, &stop)?;
+    print!(rt; "{line}")?;
+    Ok(ExitCode::from(NOT_JUDGED))
+}
+
+/// The bytes behind a byte order mark, which is no part of a page.
+fn without_mark(body: &[u8]) -> &[u8] {
+    body.strip_prefix(b"\xef\xbb\xbf").unwrap_or(body)
+}
+
+/// Reads and judges a page.
+fn check(rt: &HostRuntime, options: Options<'_>) -> Result<ExitCode> {
+    let body = read(rt, options.file)?;
+    let most = options.most.unwrap_or(usize::MAX);
+    let Some(format) = options.format else {
+        return judge(rt, &body, most);
+    };
+    let file = options.file.unwrap_or("<stdin>");
+    judge_places(rt, Printed { format, file }, &body, most)
 }
 
 /// Does what the words of the command line ask for.
@@ -116,8 +171,7 @@ fn run(rt: &HostRuntime) -> Result<ExitCode> {
             println!(rt; "{USAGE}")?;
             Ok(ExitCode::SUCCESS)
         }
-        Ok(Task::Read(most)) if judge(rt, most)? => Ok(ExitCode::SUCCESS),
-        Ok(Task::Read(_)) => Ok(ExitCode::FAILURE),
+        Ok(Task::Judge(options)) => check(rt, options),
         Err(reason) => {
             eprintln!(rt; "use_order: {reason}\n{USAGE}")?;
             Ok(ExitCode::from(NOT_JUDGED))

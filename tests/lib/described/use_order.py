@@ -1,8 +1,12 @@
 """The program use_order, by crates/use_order/README.md: a page of orders in JSON."""
+import json
+
+from lib import placed
 from lib.described import Case, pattern
 from lib.faults import REQUIRED, between, chars, items, prefix
 from lib.form import Checked, Closed, ListUnder, Member, Nullish, Object, OneOf, Text, Under, Whole, read
 from lib.json_values import NoJson, of_bytes
+from lib.positions import spots_of
 from lib.reports import lines, quoted
 from lib.spoiled import some_json
 
@@ -28,8 +32,16 @@ PAGE = Object(Closed(
 
 
 def some(dice):
-    words = dice.choice(((), (), (), ("1",), ("2",), ("7",), ("18446744073709551615",)))
-    return Case(words, *some_json(dice, PAGE))
+    most, form = dice.choice(((), (), (), ("1",), ("2",), ("7",), ("18446744073709551615",))), placed.some_format(dice)
+    return Case(dice.choice((most + form, form + most)), *some_json(dice, PAGE))
+
+
+def large():
+    """Pages with as many lines as there may be, of more than 64 KiB: valid, and with three faults in each line."""
+    for line, words in (("P\u00e9", 1, 1), ()), (("Q", 0, 10_000), ()), (("Q", 0, 10_000), ("2500",)):
+        lines = [dict(zip(("code", "count", "cents"), line))] * 50
+        order = {"customer": "x" * 80, "delivery": "post", "address": "y" * 200, "lines": lines}
+        yield Case(words, json.dumps({"number": 1, "entries": [order] * 20}, indent=8).encode())
 
 
 def confirmed(order):
@@ -41,12 +53,16 @@ def confirmed(order):
 
 
 def wanted(case):
+    rest, form = placed.asked(case.words)
     try:
         page, faults = read(PAGE, of_bytes(case.given))
     except NoJson as why:
-        return 2, b"", pattern(f"use_order: {why}\n")
+        return (2, b"", pattern(f"use_order: {why}\n")) if form == "plain" else (2, placed.stops_at(form, "<stdin>", case.given, "not_json"), b"")
     if not faults:
         return 0, "".join(it for order in page["entries"] for it in confirmed(order)).encode("utf-8"), b""
-    most = int(case.words[0]) if case.words else len(faults)
+    most = int(rest[0]) if rest else len(faults)
     more = "there are more\n" if len(faults) > most else ""
-    return 1, (lines(faults[:most]) + more).encode("utf-8"), b""
+    if form == "plain":
+        return 1, (lines(faults[:most]) + more).encode("utf-8"), b""
+    told = placed.lines(form, "<stdin>", spots_of(case.given.decode("utf-8-sig")), faults[:most])
+    return 1, told.encode("utf-8"), (f"use_order: {more}" if more else "").encode()

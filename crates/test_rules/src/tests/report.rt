@@ -11,5 +11,6 @@ mod places;
 mod problems;
 mod refusals;
 mod samples;
+mod stops;
 mod trails;
 mod written;

@@ -2,4 +2,5 @@
 
 mod bare;
 mod documents;
+mod placed;
 mod rejected;

@@ -2,7 +2,7 @@
 
 use crate::tests::OrEnd;
 use crate::tests::report::samples::{path_of, report_of};
-use garde_places::{Fault, GitHub, Places, Short, sort_by_place};
+use garde_places::{Fault, Format, GitHub, JsonLine, Places, Short, sort_by_place};
 use garde_report::{Kind, Report};
 use garde_tape::{Scratch, parse};
 use std::alloc::Global;
@@ -128,6 +128,16 @@ const ANNOTATIONS: &str = "\
 ::error file=a%3Ab%2C%25%0A.json,line=5,col=34::routes[1].extra: not known here
 ";
 
+/// What they print as JSON.
+const OBJECTS: &str = "\
+{\"file\":\"a:b,%\\n.json\",\"path\":\"\",\"pointer\":\"\",\"line\":1,\"column\":1,\"detail\":\"100% wrong: a,b\\nor\\r\\\\\",\"code\":\"custom\",\"params\":{}}
+{\"file\":\"a:b,%\\n.json\",\"path\":\"a\\\\nb: c\",\"pointer\":\"/a\\nb: c\",\"line\":1,\"column\":1,\"detail\":\"missing\",\"code\":\"custom\",\"params\":{}}
+{\"file\":\"a:b,%\\n.json\",\"path\":\"server.port\",\"pointer\":\"/server/port\",\"line\":2,\"column\":37,\"detail\":\"greater than 65535\",\"code\":\"greater_than\",\"params\":{\"max\":\"65535\"}}
+{\"file\":\"a:b,%\\n.json\",\"path\":\"routes[1].to\",\"pointer\":\"/routes/1/to\",\"line\":5,\"column\":5,\"detail\":\"missing\",\"code\":\"custom\",\"params\":{}}
+{\"file\":\"a:b,%\\n.json\",\"path\":\"routes[1].path\",\"pointer\":\"/routes/1/path\",\"line\":5,\"column\":20,\"detail\":\"repeated\",\"code\":\"member_repeated\",\"params\":{}}
+{\"file\":\"a:b,%\\n.json\",\"path\":\"routes[1].extra\",\"pointer\":\"/routes/1/extra\",\"line\":5,\"column\":34,\"detail\":\"not known here\",\"code\":\"member_unknown\",\"params\":{}}
+";
+
 // Whether the place of a fault is the one that it has among all.
 fn stands_alone(
     rt: &impl Abort,
@@ -172,6 +182,36 @@ fn annotations(rt: &impl Abort, alloc: Global, faults: &[Fault<'_>]) -> String {
         writeln!(text, "{}", GitHub(alloc, FILE, fault)).or_end(rt);
     }
     text
+}
+
+// What they print in the format of a name.
+fn in_format(rt: &impl Abort, alloc: Global, name: &str, faults: &[Fault<'_>]) -> String {
+    let Some(format) = Format::of(name) else {
+        rt.abort()
+    };
+    format.lines(alloc, FILE, faults).or_end(rt)
+}
+
+#[test]
+fn faults_are_printed_in_each_format(rt: HostRuntime) {
+    let alloc = rt.alloc();
+    let report = report_of(&rt, alloc, &FAULTS);
+    let faults = placed(&rt, alloc, &report);
+    for (name, text) in [("short", SHORT), ("github", ANNOTATIONS), ("json", OBJECTS)] {
+        assert!(rt; in_format(&rt, alloc, name, faults.as_slice()).as_str() == text);
+    }
+    assert!(rt; Format::of("plain").is_none());
+}
+
+#[test]
+fn a_fault_prints_an_object(rt: HostRuntime) {
+    let alloc = rt.alloc();
+    let report = report_of(&rt, alloc, &FAULTS);
+    let faults = placed(&rt, alloc, &report);
+    let text = JsonLine(alloc, FILE, &faults.as_slice()[0])
+        .to_string(alloc)
+        .or_end(&rt);
+    assert!(rt; OBJECTS.lines().next() == Some(text.as_str()));
 }
 
 #[test]

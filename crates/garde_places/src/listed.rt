@@ -1,0 +1,122 @@
+//! The places of the values of a text that was written as JSON.
+ghost use Rattle.std.specs.Prelude.{◌≡◌, ◌≤◌, length, map, Some, IfOk, IsOk};
+ghost use Rattle.json.specs.Json.{Json, document};
+ghost use Rattle.garde_tape.specs.Reading.{json_of};
+ghost use Rattle.garde_places.specs.Fault.{fault_entry};
+ghost use Rattle.garde_places.specs.Listed.{AreListed, IsFaultSpot, IsNameSpot, value_spot};
+
+use crate::fault::{Fault, speaks_of_name};
+use crate::find::{Mark, START, find, name_at};
+use crate::place::Place;
+use crate::places::place_at_token;
+use crate::way::way_of;
+use garde_problem::Coded;
+use garde_report::{Error, Path, Report};
+use garde_tape::Tape;
+use json::Node;
+use std::alloc::{AllocError, Global};
+use std::marker::Model;
+
+/// The places of the values of a text in another format, as TOML, that was written as JSON. Whoever
+/// wrote it lists a place for each token of the JSON text. A contract sees the JSON text and the list.
+#[derive(Drop)]
+pub struct ListedPlaces<'t, 'a> {
+    json: &'a str,
+    nodes: &'t [Node<'a>],
+    places: Vec<Place>,
+    marks: [Mark; 8],
+}
+
+impl<'t, 'a> Model for ListedPlaces<'t, 'a> {
+    ghost use Rattle.std.specs.Prelude.{ℕ, List};
+    ghost use Rattle.garde_places.specs.declared.place.Place.{Place};
+    ghost use Rattle.garde_places.specs.Listed.{IsTapeOf};
+
+    ghost Value = { List ℕ × List Place };
+
+    ghost view = { λ a. (a.json.now, a.places.items) };
+
+    ghost invariant = { λ a. IsTapeOf a.json.now a.nodes.now a.marks };
+}
+
+impl<'t, 'a> ListedPlaces<'t, 'a> {
+    /// The places of a text. The tape is what `garde_tape::parse` gives of the JSON text, and the list
+    /// has a place for each of its tokens in their order: a bracket, a name, and a value without parts
+    /// is one token each. A token that the list has no place for stands at line 1, column 1.
+    pub fn of(json: &'a str, tape: &'t Tape<'a>, places: Vec<Place>) -> ListedPlaces<'t, 'a>
+        requires { document json.now ≡ Some (json_of tape.now) }
+        ensures { result ≡ (json.now, places.items) }
+    {
+        // So it is known that a value begins in the tape.
+        let _root = tape.root();
+        ListedPlaces {
+            json,
+            nodes: tape.nodes(),
+            places,
+            marks: [START; 8],
+        }
+    }
+
+    // The place of the value that a path leads to, as `Places` has it.
+    fn locate(&mut self, alloc: Global, path: &Path) -> Result<Place, AllocError>
+        ensures place { IfOk result (λ place. (j : Json) → document self.old.0 ≡ Some j
+            → place ≡ value_spot self.old.1 path.now j) }
+        ensures text { self.new ≡ self.old }
+    {
+        let way = way_of(alloc, path)?;
+        let found = find(self.nodes, &mut self.marks, way.as_slice());
+        Ok(place_at_token(&self.places, found))
+    }
+
+    // The place of the name of the member that a path leads to.
+    fn locate_name(&mut self, alloc: Global, path: &Path) -> Result<Place, AllocError>
+        ensures place { IfOk result (λ place. (j : Json) → document self.old.0 ≡ Some j
+            → IsNameSpot self.old.1 path.now j place) }
+        ensures text { self.new ≡ self.old }
+    {
+        let way = way_of(alloc, path)?;
+        let Some((last, before)) = way.as_slice().split_last() else {
+            return Ok(place_at_token(&self.places, 0));
+        };
+        let found = find(self.nodes, &mut self.marks, before);
+        let name = name_at(self.nodes, found, last.1);
+        Ok(place_at_token(&self.places, name))
+    }
+
+    fn locate_fault(
+        &mut self,
+        alloc: Global,
+        path: &Path,
+        error: &Error,
+    ) -> Result<Place, AllocError>
+        ensures place { IfOk result (λ place. (j : Json) → document self.old.0 ≡ Some j
+            → IsFaultSpot self.old.1 path.now error.now j place) }
+        ensures text { self.new ≡ self.old }
+    {
+        if speaks_of_name(Coded::of(error.message()).code) {
+            self.locate_name(alloc, path)
+        } else {
+            self.locate(alloc, path)
+        }
+    }
+
+    /// The faults of a report, in its order, each with its place: that of the token with which the
+    /// value at its path begins in JSON, or the name of its member, as `Places::locate_fault` has it.
+    pub fn locate_all<'r>(
+        &mut self,
+        alloc: Global,
+        report: &'r Report,
+    ) -> Result<Vec<Fault<'r>>, AllocError>
+        ensures faults { IfOk result (λ faults. map fault_entry faults.items ≡ report.now) }
+        ensures places { IfOk result (λ faults. (j : Json) → document self.old.0 ≡ Some j
+            → AreListed self.old.1 j faults.items) }
+        ensures text { self.new ≡ self.old }
+    {
+        let mut faults = Vec::new(alloc);
+        for (path, error) in report.iter() {
+            let place = self.locate_fault(alloc, path, error)?;
+            faults.push(Fault { place, path, error })?;
+        }
+        Ok(faults)
+    }
+}

@@ -1,0 +1,68 @@
+//! Where a text stops being JSON, and why.
+ghost use Rattle.std.specs.Prelude.{◌≡◌, ◌≤◌, ◌≢◌, IfErr, IfOk, IfSome, None, Some, length};
+ghost use Rattle.garde_places.specs.Places.{place_at};
+ghost use Rattle.garde_places.specs.Stop.{IsStopIn};
+
+use crate::place::Place;
+use crate::syntax::Syntax;
+use std::alloc::{AllocError, Global};
+
+/// Where a text stops being JSON, and why.
+#[derive(Clone, Copy, Debug, Drop, PartialEq, Eq)]
+pub struct Stop<'w> {
+    /// The place of the first byte that no JSON text has behind those before it, or of the end of the
+    /// text, if it ends too early. It counts characters, as the place of a value does.
+    pub place: Place,
+    /// Why, in words.
+    pub why: &'w str,
+}
+
+/// Where the bytes stop being one JSON text (RFC 8259) nested no deeper than 128, and why; none where
+/// they are one. Bytes that are not UTF-8 stop at the first that is not.
+///
+/// The place is that of a byte or of the end. That it is the first that can not stand there is tested
+/// alone.
+pub fn stop_of(alloc: Global, bytes: &[u8]) -> Result<Option<Stop<'static>>, AllocError>
+    ensures { IfOk result (λ stop. IfSome stop (λ it. IsStopIn bytes.now it.place)) }
+{
+    if let Err(error) = str::from_utf8(bytes) {
+        return Ok(Some(Stop {
+            place: place_of_byte(bytes, error.valid_up_to()),
+            why: "not UTF-8",
+        }));
+    }
+    match stop_in(alloc, bytes)? {
+        Some((offset, why)) => Ok(Some(Stop {
+            place: place_of_byte(bytes, offset),
+            why,
+        })),
+        None => Ok(None),
+    }
+}
+
+// The offset of the stop, and why.
+fn stop_in(alloc: Global, bytes: &[u8]) -> Result<Option<(usize, &'static str)>, AllocError> {
+    let mut syntax = Syntax::new(alloc);
+    for (offset, byte) in bytes.iter().enumerate() {
+        if !syntax.take(*byte)? {
+            return Ok(Some((offset, syntax.why(Some(*byte)))));
+        }
+    }
+    if syntax.may_end() {
+        return Ok(None);
+    }
+    Ok(Some((bytes.len(), syntax.why(None))))
+}
+
+/// The place of the byte at an offset, or of the end where there is no such byte. It counts the bytes
+/// before it.
+pub fn place_of_byte(bytes: &[u8], offset: usize) -> Place
+    ensures { result ≡ place_at bytes.now offset }
+{
+    let mut here = Place { line: 1, column: 1 };
+    let before = &bytes[..offset.min(bytes.len())];
+    for byte in before {
+        here = here.past(*byte);
+    }
+    here
+}

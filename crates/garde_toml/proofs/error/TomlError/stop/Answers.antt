@@ -1,0 +1,7 @@
+use Rattle.std.proofs.Common.{ap, ◌∙◌}
+use Rattle.garde_places.specs.Places.{place_at}
+use Rattle.garde_toml.proofs.error.TomlError.stop.Goals as goal
+
+-- the bytes before the span are counted
+pub returns : goal.returns
+returns c = (c.in_ok-span.span.start, c.place_of_byte.ensures ∙ ap (λ bytes. place_at bytes c.in_ok-span.span.start) c.as_bytes.ensures.value)

@@ -1,0 +1,157 @@
+//! Where texts stop being JSON, beside places that were counted by hand, and the places of listed tokens.
+
+use crate::tests::OrEnd;
+use crate::tests::report::samples::report_of;
+use garde_places::{ListedPlaces, Place, place_of_byte, stop_of};
+use garde_report::{Kind, Report};
+use garde_tape::{Scratch, parse};
+use std::alloc::Global;
+use std::process::Abort;
+
+/// A text, the line and the column where it stops, and why.
+static STOPS: [(&[u8], usize, usize, &str); 24] = [
+    (b"", 1, 1, "expected a value"),
+    (b" \n\t", 2, 2, "expected a value"),
+    (b"{\"a\": 1", 1, 8, "expected , or } after a member"),
+    (b"{\"a\": 1]", 1, 8, "expected , or } after a member"),
+    (b"[1 2]", 1, 4, "expected , or ] after an item"),
+    (b"[1,]", 1, 4, "expected a value"),
+    (b"[,", 1, 2, "expected a value or ]"),
+    (b"{,", 1, 2, "expected a name or }"),
+    (b"{\"a\":1,}", 1, 8, "expected a name"),
+    (b"{\"a\" 1}", 1, 6, "expected : after a name"),
+    (
+        b"[\"\xc3\xa4\"]\r\nx",
+        2,
+        1,
+        "expected nothing after the value",
+    ),
+    (b"[\"a", 1, 4, "a text is not closed"),
+    (b"[\"\xc3\xa4\n\"]", 1, 4, "a control character in a text"),
+    (b"\"\\q\"", 1, 3, "no such escape"),
+    (b"\"\\u12x\"", 1, 6, "expected a hexadecimal digit"),
+    (
+        b"\"\\udc00\"",
+        1,
+        5,
+        "expected no second half of a surrogate pair",
+    ),
+    (
+        b"\"\\ud800\"",
+        1,
+        8,
+        "expected the second half of a surrogate pair",
+    ),
+    (
+        b"\"\\ud83d\\u0041\"",
+        1,
+        10,
+        "expected the second half of a surrogate pair",
+    ),
+    (b"tru", 1, 4, "expected true, false or null"),
+    (b"nulL", 1, 4, "expected true, false or null"),
+    (b"-", 1, 2, "expected a digit"),
+    (b"[01]", 1, 3, "expected , or ] after an item"),
+    (b"1e+", 1, 4, "expected a digit"),
+    (b"[\n\"\xff\"", 2, 2, "not UTF-8"),
+];
+
+// Whether a text stops there.
+fn stops(rt: &impl Abort, alloc: Global, row: &(&[u8], usize, usize, &str)) -> bool {
+    match stop_of(alloc, row.0).or_end(rt) {
+        Some(stop) => {
+            stop.place.line == row.1 && stop.place.column == row.2 && stop.why == row.3
+        }
+        None => false,
+    }
+}
+
+#[test]
+fn texts_stop_where_no_json_goes_on(rt: HostRuntime) {
+    let alloc = rt.alloc();
+    for row in &STOPS {
+        assert!(rt; stops(&rt, alloc, row));
+    }
+}
+
+/// Texts that are JSON.
+static JSON: [&str; 5] = [
+    "0",
+    " -1.5e-7 ",
+    "\"\\ud83d\\ude00\\\"\\/\\u00e4\"",
+    "{\"a\":[],\"b\":{},\"c\":[true,false,null,{\"d\":[1,-0.0]}]}\n",
+    "[[],[[]], \"\" ]",
+];
+
+#[test]
+fn json_stops_nowhere(rt: HostRuntime) {
+    let alloc = rt.alloc();
+    for text in &JSON {
+        assert!(rt; stop_of(alloc, text.as_bytes()).or_end(&rt).is_none());
+    }
+}
+
+#[test]
+fn the_129th_bracket_stops_a_text(rt: HostRuntime) {
+    let alloc = rt.alloc();
+    let mut text = String::new(&rt);
+    for _ in 0..200 {
+        text.push('[').or_end(&rt);
+    }
+    let row = (text.as_bytes(), 1, 129, "nested deeper than 128");
+    assert!(rt; stops(&rt, alloc, &row));
+}
+
+#[test]
+fn bytes_are_counted_by_lines_and_characters(rt: HostRuntime) {
+    let text = "\u{e4}\t\r\n\u{1f600}x".as_bytes();
+    for (offset, line, column) in [
+        (0, 1, 1),
+        (2, 1, 2),
+        (5, 2, 1),
+        (9, 2, 2),
+        (10, 2, 3),
+        (99, 2, 3),
+    ] {
+        assert!(rt; place_of_byte(text, offset) == Place { line, column });
+    }
+}
+
+/// A JSON text, and a place for each of its tokens: of the object, of the name, of the array and its items.
+const LISTED: &str = "{\"a\":[1,2]}";
+
+/// Faults of the second item, of an item that is missing, of the name, and of another name.
+static FAULTS: [(&[(Kind, &str)], &str); 4] = [
+    (&[(Kind::Key, "a"), (Kind::Index, "1")], "lower"),
+    (&[(Kind::Key, "a"), (Kind::Index, "2")], "missing"),
+    (
+        &[(Kind::Key, "a")],
+        "\u{1f}member_unknown\u{1f}not known here\u{1f}",
+    ),
+    (&[(Kind::Key, "b")], "missing"),
+];
+
+// The lines of the faults of a report, by a list of places whose lines count its tokens.
+fn listed_lines(rt: &impl Abort, alloc: Global, report: &Report) -> Vec<usize> {
+    let mut scratch = Scratch::new(alloc);
+    let Ok(tape) = parse(alloc, LISTED, &mut scratch) else {
+        rt.abort()
+    };
+    let mut places = Vec::new(alloc);
+    for line in 10..17 {
+        places.push(Place { line, column: 1 }).or_end(rt);
+    }
+    let mut listed = ListedPlaces::of(LISTED, &tape, places);
+    let mut lines = Vec::new(alloc);
+    for fault in listed.locate_all(alloc, report).or_end(rt) {
+        lines.push(fault.place.line).or_end(rt);
+    }
+    lines
+}
+
+#[test]
+fn faults_stand_where_the_list_says(rt: HostRuntime) {
+    let alloc = rt.alloc();
+    let report = report_of(&rt, alloc, &FAULTS);
+    assert!(rt; listed_lines(&rt, alloc, &report).as_slice() == [14, 12, 11, 10]);
+}

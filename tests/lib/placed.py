@@ -1,0 +1,82 @@
+"""Faults with their places, as the programs print them: `FILE:LINE:COLUMN: error: PATH: MESSAGE`, JSON and the annotations of GitHub, by
+the README of `garde_places`.
+"""
+import re
+
+from lib import positions, stops
+from lib.faults import ENGLISH
+from lib.json_values import printed
+from lib.reports import escaped, path_text, pointer
+
+FORMATS = ("short", "json", "github")
+# What editors read of a line: the file, the line, the column and the message.
+EDITORS = re.compile(r"([^:\n]+):([1-9]\d*):([1-9]\d*): error: (.*)")
+OF_NAMES = ("member_unknown", "member_repeated")
+PROPERTY = {"%": "%25", "\r": "%0D", "\n": "%0A", ":": "%3A", ",": "%2C"}
+
+
+def told(path, detail):
+    return (f"{path_text(path)}: " if path else "") + escaped(detail)
+
+
+def line(form, file, place, path, detail, code, params):
+    """The line of a fault in a format. The sentence of one that is a pattern is a pattern."""
+    if form == "short":
+        return escaped(file).replace(":", "\\u{3a}") + ":%d:%d: error: " % place + told(path, detail)
+    if form == "github":
+        name = "".join(PROPERTY.get(it, it) for it in file)
+        return f"::error file={name},line={place[0]},col={place[1]}::" + told(path, detail).replace("%", "%25")
+    members = {"file": file, "path": path_text(path), "pointer": pointer(path), "line": place[0], "column": place[1]}
+    return printed({**members, "detail": detail, "code": code, "params": params}).decode()
+
+
+def place_of(spots, path, code):
+    return (positions.name_of if code in OF_NAMES else positions.place_of)(spots, path)
+
+
+def read_back(text):
+    """What an editor reads of lines in the format `short`: each a file, a line, a column and a message."""
+    return [EDITORS.fullmatch(it).groups() for it in text.split("\n")[:-1]]
+
+
+def lines(form, file, spots, walk, language=ENGLISH):
+    """The faults of a walk, as (path, fault), over a text with these places: by place for people, and in their order for programs. What an
+    editor reads back has to be what was printed."""
+    placed = [(place_of(spots, path, found.code), path, found.text(language), found) for path, found in walk]
+    if form != "json":
+        placed.sort(key=lambda it: it[0])
+    text = "".join(line(form, file, place, path, detail, found.code, found.params) + "\n" for place, path, detail, found in placed)
+    if form == "short" and [it[1:] for it in read_back(text)] != [(str(l), str(c), told(path, detail)) for (l, c), path, detail, _ in placed]:
+        raise AssertionError(f"an editor reads something else of {text!r}")
+    return text
+
+
+def stop(form, file, text, code):
+    """The line of a text that is no JSON, as a pattern: the place where it stops, and some words."""
+    return re.escape(line(form, file, stops.place_of(text), (), "WHY", code, {})).replace("WHY", "[^\\n]+") + "\n"
+
+
+def stops_at(form, file, body, code):
+    """The line of bytes that are no JSON, as a pattern; of bytes that are not UTF-8 exactly."""
+    body = body.removeprefix(b"\xef\xbb\xbf")
+    try:
+        return re.compile(stop(form, file, body.decode(), code).encode(), re.DOTALL)
+    except UnicodeDecodeError as error:
+        text = body[: error.start].decode()
+        place = text.count("\n") + 1, len(text) - text.rfind("\n")
+        return (line(form, file, place, (), "not UTF-8", code, {}) + "\n").encode()
+
+
+def asked(words):
+    """The words but for a format and `-`, and the format that they ask for."""
+    rest, form = [it for it in words if it != "-"], "short" if "-" in words else "plain"
+    if "--format" in rest:
+        at = rest.index("--format")
+        form = rest[at + 1]
+        del rest[at : at + 2]
+    return rest, form
+
+
+def some_format(dice):
+    """Words that ask for a format, or none."""
+    return dice.choice(((), (), (), ("-",), *(("--format", it) for it in (*FORMATS, "plain"))))
