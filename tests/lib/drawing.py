@@ -21,6 +21,8 @@ except ImportError:
     hypothesis = None
 
 MOST_SECONDS = 5
+# an input of so many bytes is told as it is
+LARGE = 32 * 1024
 
 
 class Round(typing.NamedTuple):
@@ -76,6 +78,12 @@ class Dice(random.Random):
 
     def getrandbits(self, bits):
         return self.draw(integers(0, 2**bits - 1))
+
+
+def by_size(comparison):
+    """The large cases of a description."""
+    for case in getattr(comparison.described, "large", tuple)():
+        comparison.tried(case)
 
 
 def by_random(comparison, seed, count):
@@ -145,11 +153,13 @@ def small(comparison, case):
 
 
 def compared(name, described, met, seed, number, count):
-    """A round of so many inputs. It ends at the first that is answered otherwise."""
+    """A round of so many inputs, the first one behind the large ones. It ends at the first that is answered otherwise."""
     comparison, wrong = Comparison(described, met), []
     try:
+        if number == 0:
+            by_size(comparison)
         (by_hypothesis if hypothesis and number % 2 else by_random)(comparison, f"{seed}/{number}/{name}", count)
     except Differs:
-        case = small(comparison, comparison.last)
+        case = comparison.last if len(comparison.last.given) > LARGE else small(comparison, comparison.last)
         wrong = [(case, comparison.met(case), described.wanted(case))]
     return Round(name, comparison.statuses, comparison.ways, wrong)

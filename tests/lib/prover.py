@@ -37,6 +37,21 @@ def command(crate, functions, jobs, root=repository.ROOT, verb="check"):
     return words
 
 
+def quick(crate, root=repository.ROOT):
+    """The compiler's quick pass over a crate: it compiles the crate over the sources of the libraries below, and proves nothing."""
+    libraries, rlibs, crates = repository.libraries(root), kit() / "rlibs", root / "crates"
+    main = "src/main.rt" if (crates / crate / "src/main.rt").is_file() else "src/lib.rt"
+    words = [f"{kit()}/bin/rattle", "check", "--crate-name", crate, main]
+    below = repository.below(crate, root)
+    uses = {it: [*dict.fromkeys(["core", "std", *libraries[it]])] for it in [*below, crate]}
+    for it in dict.fromkeys(name for names in uses.values() for name in names if name not in libraries):
+        words += ["--extern", f"{it}={rlibs}/{it}.rlib"]
+    for it in below:
+        words += ["--lib", f"{it}:{','.join(uses[it])}={crates / it}/src/lib.rt"]
+    words += ["-L", f"dependency={rlibs}", "--antt-project", f"{kit()}/rattle/logic/antt-project.json"]
+    return [*words, "--logic-built", f"{kit()}/logic_built", "--links", f"{crate}=", "--jobs", "1", "--only", ""]
+
+
 def edited(crate, edits, room):
     """Copies the crate into a folder, with these edits."""
     copied(CRATES / crate, room)
@@ -78,19 +93,30 @@ def checked(crate, edits, kept, jobs):
 
 def run(words, room, kept):
     """The lines that a check prints in a folder, over the folder of what earlier checks kept."""
+    return lines([*words, "--incremental", kept], room)
+
+
+def lines(words, room):
+    """The lines that a command prints in a folder."""
     how = {"stdin": subprocess.DEVNULL, "stdout": subprocess.PIPE, "stderr": subprocess.STDOUT, "errors": "replace"}
-    return subprocess.run([*words, "--incremental", kept], cwd=room, text=True, **how).stdout.splitlines()
+    return subprocess.run(words, cwd=room, text=True, **how).stdout.splitlines()
 
 
-def build(crates, root=repository.ROOT):
-    """Builds the libraries below these crates that are missing, or older than a source."""
+def unbuilt(crates, root=repository.ROOT):
+    """The libraries below these crates that are missing, or older than a source, lowest first."""
     for name in dict.fromkeys(it for crate in crates for it in repository.below(crate, root)):
         made = root / "crates" / name / f"out/rlib/{name}.rlib"
         below = [*repository.below(name, root), name]
         folders = [root / "crates" / it / part for it in below for part in ("src", "specs", "proofs")]
         newest = max(file.stat().st_mtime for folder in folders for file in folder.rglob("*.*"))
         if not made.is_dir() or made.stat().st_mtime < newest:
-            subprocess.run(["rt", "lib"], cwd=root / "crates" / name, check=True, stdout=subprocess.DEVNULL)
+            yield name
+
+
+def build(crates, root=repository.ROOT):
+    """Builds the libraries below these crates that are missing, or older than a source."""
+    for name in unbuilt(crates, root):
+        subprocess.run(["rt", "lib"], cwd=root / "crates" / name, check=True, stdout=subprocess.DEVNULL)
 
 
 def static_library(crate, made):

@@ -50,7 +50,7 @@ def judged(batch, found, lines, in_place):
 
 def rounds(crate, edits, room):
     """Tries a crate's edits. Gives what came of each, and how many checks that took."""
-    came, number, most, in_place = {}, 0, len(edits), set()
+    came, number, most, in_place, unread = {}, 0, len(edits), set(), set()
     with tempfile.TemporaryDirectory(prefix="wrong-bodies-kept-") as kept:
         left = sorted(edits, key=lambda it: it.is_alone)
         while left:
@@ -64,9 +64,10 @@ def rounds(crate, edits, room):
             if not done and not again:
                 came.update({it.title: f"NOT JUDGED: {reason(it, found, lines)}" for it in lost})
                 done = lost
-            # where one edit keeps the others from a verdict, each half is tried by itself
+            # where one edit keeps the others from a verdict, each half is tried by itself, until that edit is found
             moved = done or again or len(in_place) > tried_in_place
-            most = len(edits) if moved else (len(batch) + 1) // 2
+            unread = {it.title for it in batch} if not moved else set() if lost and not is_read else unread - {it.title for it in done}
+            most = (len(unread) + 1) // 2 if unread else len(edits)
             left = [it for it in left if it.title not in {other.title for other in done}]
     return came, number
 

@@ -15,8 +15,8 @@ exec {python} {here} {stored} {own} "$@"
 
 
 def put(kit, stored, own, lib=0):
-    """Puts the stand-in into a folder: its prover prints the checks of the file `stored`, of a crate in the folder `own`. `rt lib` ends
-    with the status `lib`. Gives the folder for PATH."""
+    """Puts the stand-in into a folder: its prover prints the checks of the file `stored`, of a crate in the folder `own`, and of the
+    compiler's quick pass the file `stored.quick`, where there is one. `rt lib` ends with the status `lib`. Gives the folder for PATH."""
     here = pathlib.Path(__file__).resolve()
     for name, text in {
         "path/rt": RT.format(kit=kit, lib=lib),
@@ -45,6 +45,10 @@ def blocks_of(text):
 def main():
     stored, own, *words = sys.argv[1:]
     functions = [word for before, word in zip(words, words[1:]) if before == "--only"]
+    if functions == [""]:
+        quick = pathlib.Path(f"{stored}.quick")
+        print(quick.read_text(encoding="utf-8") if quick.exists() else "only=0 proved=0")
+        return
     given = files_of(pathlib.Path.cwd()) - files_of(pathlib.Path(own))
     pathlib.Path(f"{stored}.jobs").write_text(f"jobs: {words[words.index('--jobs') + 1]}\n", encoding="utf-8")
     if pathlib.Path(f"{stored}.waits").exists():

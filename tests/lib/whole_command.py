@@ -2,6 +2,7 @@
 import contextlib
 import os
 import pathlib
+import re
 import signal
 import subprocess
 import sys
@@ -116,3 +117,44 @@ def faults_without_library(mistake):
             (room / file).write_text(text, encoding="utf-8")
         run = Run(room, room / "crates/high", "", lib=1)
         yield from run.faults(("crates/high", mistake.type), 2, [], "why: `rt lib` failed, so a library below is missing\n")
+        file = next(iter(mistake.texts))
+        error = f"{file}:3:1: error[missing-field]: the pattern lacks the field `town`"
+        pathlib.Path(f"{run.stored}.quick").write_text(f"statements low: modules loaded=0\n{error}\n", encoding="utf-8")
+        says = [f"{mistake.type}: the crate does not compile, or `visits` cannot be read:", error]
+        yield from run.faults(("crates/high", mistake.type), 2, says)
+
+
+# What a form of `use_order` has in place of what, and what the command says where the quick pass has an error.
+FORMS = (
+    ('"count", Whole(U32,', '"count", Whole(U16,', "member `count` of `Line`: its form reads `u16`, and the parts have `u32` there"),
+    ('Nullish("address",', 'Member("address",', "member `address` of `Order`: its form reads `TextRef`, and the parts have `Option<TextRef>` there"),
+    ('Member("code", Text(Is(Prefix("P")))),', "", "the form of `Line` has 2 members, and its parts are 3"),
+    ("ListUnder(Is(length!(max = 20)), order_form)", "ListUnder(Is(length!(max = 20)), line_form)", "member `entries` of `Page`: its form reads `Items<Line>`, and the parts have `Items<Order>` there"),
+    ("type Parts = (u32, Items<Order<'t>>);", "type Parts = (Items<Order<'t>>, u32);", "member `number` of `Page`: its form reads `u32`, and the parts have `Items<Order>` there\nmember `entries` of `Page`: its form reads `Items<Order>`, and the parts have `u32` there"),
+    ("pub code: TextRef<'t>,", "pub code: &'t str,", None),
+)
+
+
+def faults_of_forms():
+    """What is wrong with the answers to types that a form alone reads."""
+    text = (ROOT / "crates/use_order/src/order.rt").read_text(encoding="utf-8")
+    error = "src/order.rt:9:1: error[overflowing-bound]: overflow evaluating the requirement"
+    stated = next(number for number, line in enumerate(text.split("\n"), 1) if "Stated for Line" in line) + 3
+    no_code = f"why: src/order.rt:{stated}: `Line` has `impl Stated` and no `impl Validate`, so there is no code to compare: a form of it is compared where `Valid::known` stands"
+    for old, new, says in (("", "", ""), *FORMS):
+        with tempfile.TemporaryDirectory(prefix="why-test-") as name:
+            room = pathlib.Path(name)
+            (room / "crates/mine/src").mkdir(parents=True)
+            (room / "crates.txt").write_text("mine:\n")
+            (room / "crates/mine/src/order.rt").write_text(text.replace(old, new, 1) if old else text, encoding="utf-8")
+            run = Run(room, room / "crates/mine", "")
+            if old:
+                pathlib.Path(f"{run.stored}.quick").write_text(f"{error}\n", encoding="utf-8")
+            ran = run.start(str(run.crate), "order::Line")
+            out, err = ran.communicate(timeout=60)
+            met = [re.sub(r"^src/order\.rt:\d+: | \(line \d+\)$", "", it) for it in out.splitlines()]
+            wanted = [no_code.removeprefix("why: ")] if not old else says.split("\n") if says else ["order::Line: the crate does not compile:", error]
+            wanted = [re.sub(r"^src/order\.rt:\d+: ", "", it) for it in wanted]
+            if old and text.count(old) < 1 or (met, err, ran.returncode) != (wanted, "", 1 if says else 2):
+                yield f"a form with `{new}`: {(met, err, ran.returncode)}, and not {wanted}"
+            yield from run.left(state_of(run.crate))

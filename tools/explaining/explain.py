@@ -9,7 +9,7 @@ from lib import prover
 from lib.edits import OPEN
 from lib.verdicts import PROVED, verdicts
 
-from . import answers, causes, said
+from . import answers, causes, forms, said
 from .coded import read_coded
 from .functions import Functions
 from .pairs import pairs_of
@@ -27,6 +27,8 @@ class Answer:
     lines: list = field(default_factory=list)
 
 
+# how many errors of a crate that does not compile are printed
+MOST = 5
 # a check of fields that has no `visit` for the types of its values
 UNFIT = re.compile(r"the method `visit(?:_of)?` exists for .*, but its bounds are not met|the method call `\.visit(?:_of)?\(\)` on type ")
 
@@ -152,8 +154,19 @@ class Room:
     def __exit__(self, *_):
         self.folder.cleanup()
 
+    def quick(self, files):
+        """The lines that the compiler's quick pass prints, which proves nothing, with these texts in place of the crate's own."""
+        self.give(files)
+        return prover.lines(prover.quick(self.place.crate, self.root), self.at)
+
     def check(self, functions, files):
         """The lines that a check of some functions prints, with these texts in place of the crate's own."""
+        self.give(files)
+        words = prover.command(self.place.crate, functions, self.jobs, self.root)
+        return prover.run(words, self.at, self.kept)
+
+    def give(self, files):
+        """Puts these texts in place of the crate's own."""
         for name in self.given - files.keys():
             pathlib.Path(self.at, name).unlink()
         self.given = {it for it in files if not pathlib.Path(self.place.folder, it).is_file()}
@@ -161,8 +174,6 @@ class Room:
             file = self.at / name
             file.parent.mkdir(parents=True, exist_ok=True)
             file.write_text(text, encoding="utf-8")
-        words = prover.command(self.place.crate, functions, self.jobs, self.root)
-        return prover.run(words, self.at, self.kept)
 
 
 def explain(it, check):
@@ -171,12 +182,8 @@ def explain(it, check):
     if it.pairs:
         printed = check(it.functions.paths(), {place.file: it.functions.text()})
         opened, unjudged = it.opened(printed, it.verdicts(printed, check))
-        if len(unjudged) == len(it.pairs) and (unfit := it.unfit(printed)):
-            return Answer(1, [*lines, *unfit])
         if len(unjudged) == len(it.pairs):
-            is_own, errors = it.errors(printed)
-            why = "the crate does not compile, or `visits` cannot be read" if is_own else "the parts do not compile by themselves"
-            return Answer(2, [*lines, f"{place.name()}: {why}:", *(errors or unjudged), *imports(errors)])
+            return uncompiled(it, lines, printed, unjudged)
         lines += [*opened, *unjudged, *imports(unjudged)]
         if opened or it.differences:
             return Answer(1, lines)
@@ -185,6 +192,38 @@ def explain(it, check):
     if lines:
         return Answer(1 if it.differences else 2, lines)
     return whole(it, check)
+
+
+def uncompiled(it, lines, printed, unjudged=()):
+    """What to say of a type whose parts do not compile, by what a check of them prints."""
+    unfit = it.unfit(printed)
+    if unfit:
+        return Answer(1, [*lines, *unfit])
+    is_own, errors = it.errors(printed)
+    why = "the crate does not compile, or `visits` cannot be read" if is_own else "the parts do not compile by themselves"
+    return Answer(2, [*lines, f"{it.place.name()}: {why}:", *(errors or unjudged), *imports(errors)])
+
+
+def at_once(it, quick):
+    """What differs in a type of a crate that does not compile, where `quick` gives the lines of the compiler's quick pass under texts of
+    files. Of one that compiles nothing."""
+    printed = quick({it.place.file: it.functions.text()})
+    if not any(map(ERROR.fullmatch, printed)):
+        return None
+    return uncompiled(it, [*it.unread(), *it.differing()], printed)
+
+
+def formed(place, told, quick):
+    """What to say of a type that a form reads, and that has no code to compare: what the quick pass says of the crate, and of its forms
+    the members whose values are not the parts of their type."""
+    printed = [it for it in map(ERROR.fullmatch, quick({})) if it]
+    if not printed:
+        return Answer(2, [told])
+    found = list(forms.differences(place.folder))
+    if found:
+        return Answer(1, found)
+    errors = [*dict.fromkeys(it[0] for it in printed)][:MOST]
+    return Answer(2, [f"{place.name()}: the crate does not compile:", *errors, *imports(errors)])
 
 
 def imports(errors):

@@ -15,6 +15,14 @@ class Unknown(Exception):
     """What the command cannot find or read."""
 
 
+class Formed(Unknown):
+    """A type without code to compare, whose form is compared where it becomes a `Valid`. `place` is where it states its rules."""
+
+    def __init__(self, place, told):
+        super().__init__(told)
+        self.place = place
+
+
 @dataclass(frozen=True)
 class Place:
     """A type that implements `Validate`: the folder of its crate, its file there, the two blocks, and an item of each. A type that
@@ -105,7 +113,7 @@ def find(folder, name):
         return coded[0]
     if len(fit) == 1:
         text = "has `impl Stated` and no `impl Validate`, so there is no code to compare"
-        raise Unknown(f"{fit[0].file}:{fit[0].visits_line}: `{fit[0].type_name}` {text}: a form of it is compared where `Valid::known` stands")
+        raise Formed(fit[0], f"{fit[0].file}:{fit[0].visits_line}: `{fit[0].type_name}` {text}: a form of it is compared where `Valid::known` stands")
     known = ", ".join(it.name() for it in every if it.code) or "none"
     said = "several types" if coded else "no type"
     raise Unknown(f"{folder.name}: {said} of the name `{name}` with `impl Validate`: it has {known}")

@@ -36,8 +36,8 @@ def fields_of(item):
 
 
 # The rules of lists and of maps that a form asks, and those that `--body` states.
-OF_LISTS = {True: ("inner", "dive", "length", "unique", "custom"), False: ("inner", "length", "keys", "custom")}
-STATED = {True: ("inner", "dive", "length"), False: ("length",)}
+OF_LISTS = {True: ("inner", "dive", "length", "unique", "custom"), False: ("inner", "dive", "length", "keys", "custom")}
+STATED = {True: ("inner", "dive", "length", "unique", "custom"), False: ("inner", "dive", "length", "custom")}
 
 
 def below(item):
@@ -48,10 +48,12 @@ def below(item):
 
 
 class Borrowed:
-    """The types of a source. Those that `is_walked` names have a walk too, and `is_stated` says that `--body` states them."""
+    """The types of a source. `is_walked` says that they have a walk too, `is_stated` that what an input spells is stated, and `has_context`
+    that they may have a context."""
 
-    def __init__(self, source, left_out, is_stated=False, is_walked=False):
+    def __init__(self, source, left_out, is_stated=False, is_walked=False, has_context=False, input="json"):
         self.source, self.left_out, self.is_stated, self.is_walked = source, left_out, is_stated, is_walked
+        self.has_context, self.input, self.context = has_context, input, None
         self.items = {it.name: it for it in source.items if is_read(it)}
         self.borrowing = self.found_borrowing()
 
@@ -120,7 +122,7 @@ class Borrowed:
             yield item.line, f"{told}: `--schema` reads structs with named fields, those of one value, and enums"
         yield from ((item.line, f"the parameter `{it.name}` of `{item.name}`, which no form has") for it in item.params if it.kind != "lifetime")
         if item.attributes.context:
-            yield item.attributes.context[0], "a context: the form of `--schema` has none, so take the word out and write the form by hand"
+            yield from self.of_context(*item.attributes.context)
         yield from self.of_serde(item)
         yield from self.of_derives(item)
         for variant in item.variants:
@@ -131,6 +133,15 @@ class Borrowed:
         elif is_ported(item):
             nested = [it for it in fields_of(item) for name in type_names(it.type) if name in self.items and below(self.items[name])]
             yield from ((it.line, f"the field `{it.name}` of a type that holds itself, whose rules `{item.name}` cannot state: take `Validate` out of its derives") for it in nested)
+
+    def of_context(self, line, tokens):
+        """Why a form has no such context."""
+        text = " ".join(it.text for it in tokens.tokens)
+        if not self.has_context:
+            yield line, "a context: the form of `--schema` has none, so say `--spelled TYPE`"
+        elif self.context not in (None, text):
+            yield line, "a context that is not that of another type of this file, whose form is the same: write the same one"
+        self.context = text
 
     def of_nested(self, item):
         """What a form wants of a type that holds itself."""
@@ -224,6 +235,7 @@ class Borrowed:
             yield refusal.line, refusal.reason
         yield from self.of_lists(it.type, own_rules(it))
         yield from ((it.line, f"{told}, which no form of `--schema` reads") for told in sorted(set(self.unread(it.type, item))))
+        yield from ((it.line, f"{told}, which no text of `--input {self.input}` writes") for told in sorted(set(self.unwritten(it.type))))
         held = self.items.get(it.type.name)
         if held is not None and held is not item and is_ported(held) and asks(held) and not below(held) and not any(rule.name == "dive" for rule in all_rules(it.attributes.rules)):
             yield it.line, f"the field `{it.name}` of the type `{held.name}`, whose rules its form asks: write `dive`"
@@ -234,10 +246,10 @@ class Borrowed:
             if rule.name == "dive":
                 yield rule.line, "`dive` under a condition, which a form cannot leave out"
         for rule in all_rules(it.attributes.rules):
-            if rule.name == "pattern":
-                yield rule.line, "`pattern`, which stands in a context: the form of `--schema` has none"
-        if self.is_stated and is_option(it.type):
-            yield from ((rule.line, "`custom` of an option, which `--body` does not state") for rule in of_whole(own_rules(it)) if rule.name == "custom")
+            if rule.name == "pattern" and (rule.place is None or not self.has_context):
+                yield rule.line, "`pattern` in quotes, of which a form has none: say `--spelled TYPE`, and name a pattern of the type's context"
+            if rule.name == "dive" and rule.place is not None and rule.place.kind == "place" and len(rule.place.value) > 1:
+                yield rule.line, "`dive` with a part of the context, of which a form hands on the whole alone"
 
     def default(self, it, item):
         """The value that stands for a missing member, as code, or nothing."""
@@ -268,7 +280,8 @@ class Borrowed:
             is_list = kind.name == "Vec"
             for it in rules:
                 if it.name not in (STATED if self.is_stated else OF_LISTS)[is_list] or it.name == "length" and it.mode != "simple":
-                    yield it.line, f"`{it.name}` of a {'list' if is_list else 'map'}, which `--{'body' if self.is_stated else 'schema'}` does not write"
+                    told = "which `--schema` does not write" if not self.is_stated else "which `--spelled` and `--body` do not state: say `--schema --no-walk`"
+                    yield it.line, f"`{it.name}` of a {'list' if is_list else 'map'}, {told}"
             within = [found for it in rules if it.name == "inner" for found in it.rules]
             yield from self.of_lists(kind.args[-1], within)
 
@@ -282,6 +295,20 @@ class Borrowed:
             yield from self.unread(kind.args[1], item)
         elif not is_path(kind, *UNSIGNED, *SIGNED, "bool", *self.items):
             yield f"the type `{kind.name}`" if kind.kind == "path" else "a tuple, an array or a reference"
+
+    def unwritten(self, kind, within=()):
+        """The types within a type that no field of a web form and no cell of a table writes."""
+        if self.input == "json" or isinstance(kind, str) or is_text(kind) or kind.kind == "unread":
+            return
+        is_list = is_path(kind, "Vec")
+        if is_option(kind) and within in ((), ("Option",))[: 1 + (self.input == "web-form")] or is_list and self.input == "web-form" and "Vec" not in within:
+            yield from self.unwritten(kind.args[0], (*within, kind.name))
+        elif is_list or is_option(kind):
+            yield f"`{kind.name}` within `{within[-1]}`" if within else f"the type `{kind.name}`"
+        elif is_path(kind, "u128", "i128") or is_map(kind):
+            yield f"the type `{kind.name}`"
+        elif kind.name in self.items and not is_named(self.items[kind.name]):
+            yield f"the type `{kind.name}`, which has fields"
 
     def holds_itself(self, item, whole, seen):
         """Whether values of a type hold values of another one."""

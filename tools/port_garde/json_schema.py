@@ -302,6 +302,8 @@ class JsonSchema:
             return self.where(it.parts[0], {"enum": names}, lambda default: default in names, variant, item)
         if it.kind == "contains":
             return self.contains(it, variant, item)
+        if it.kind == "address":
+            raise Unsaid(f"a condition that asks whether `{'.'.join(it.parts[0].value)}` is an address")
         return self.comparison(it, variant, item)
 
     def variants(self, place, paths, variant):

@@ -9,8 +9,8 @@ from .tokens import shown
 
 END = ".garde.rs"
 NAME = re.compile(r"[a-z_][a-z0-9_]*")
-HEAD = "// Written by tools/port-garde from {name}: edit that file, not this one. Its sum is {sum}."
-WRITTEN = re.compile(rb"// Written by tools/port-garde from (\S+): edit that file, not this one\. Its sum is ([0-9a-f]{16})\.\n")
+HEAD = "{mark} Written by tools/port-garde from {name}: edit that file, not this one. Its sum is {sum}."
+WRITTEN = re.compile(rb"(?://|--) Written by tools/port-garde from (\S+): edit that file, not this one\. Its sum is ([0-9a-f]{16})\.\n")
 
 
 def sum_of(body, crate):
@@ -18,10 +18,10 @@ def sum_of(body, crate):
     return hashlib.sha256(body.replace(f"Rattle.{crate}.".encode(), b"Rattle..")).hexdigest()[:16]
 
 
-def headed(text, source, crate):
-    """A module behind the line that says from which file it is written."""
+def headed(text, source, crate, mark="//"):
+    """A module, or a file of answers, behind the line that says from which file it is written."""
     body = text.encode("utf-8")
-    return HEAD.format(name=source.name, sum=sum_of(body, name_of(crate))).encode("utf-8") + b"\n" + body
+    return HEAD.format(mark=mark, name=source.name, sum=sum_of(body, name_of(crate))).encode("utf-8") + b"\n" + body
 
 
 def is_as_written(file, crate):
@@ -71,6 +71,11 @@ def output_of(source):
     return source.with_name(source.name[: -len(END)] + ".rt")
 
 
+def answers_of(crate, source, function):
+    """The file of the answers for a function that a source gives."""
+    return crate.joinpath("proofs", *names_of(crate, source), function, "Answers.antt")
+
+
 def old(output):
     """What stands in an output, or nothing."""
     try:
@@ -94,9 +99,9 @@ def quoted(lines, at):
     return f"`{''.join(map(shown, text))}`" if at < len(lines) else "the end of the file"
 
 
-def fault_of_check(source, given, crate):
+def fault_of_check(output, source, given, crate):
     """Why an output is not what its source gives, or nothing."""
-    output, file = output_of(source), old(output_of(source))
+    file = old(output)
     if file is None:
         return f"{shown_path(output)}: it is not there: write it by `tools/port-garde --write`"
     if file == given:
@@ -105,9 +110,9 @@ def fault_of_check(source, given, crate):
     return f"{shown_path(output)}:{line}: here stands {here}, and {source.name} gives {there}"
 
 
-def fault_of_write(source, given, crate):
+def fault_of_write(output, source, given, crate):
     """Why an output may not be written, or nothing: what was written or edited by hand is kept."""
-    output, file = output_of(source), old(output_of(source))
+    file = old(output)
     if file in (None, given) or is_as_written(file, crate):
         return None
     line, here, there = first_difference(file, given)
@@ -116,10 +121,9 @@ def fault_of_write(source, given, crate):
     return f"{shown_path(output)}:{line}: {told}. Move the edit to {source.name} or another module, or drop it by `--force`"
 
 
-def strays(crate, sources):
-    """The outputs whose source is not there."""
-    outputs = set(map(output_of, sources))
-    for file in sorted((crate / "src").rglob("*.rt")):
+def strays(crate, outputs):
+    """The files that were written, and that no source gives any more."""
+    for file in [*sorted((crate / "src").rglob("*.rt")), *sorted((crate / "proofs").rglob("*.antt"))]:
         try:
             head = WRITTEN.match(file.read_bytes()[:400]) if file.is_file() and file not in outputs else None
         except OSError as error:
@@ -127,7 +131,8 @@ def strays(crate, sources):
             continue
         if head:
             name = shown_path(head[1].decode("utf-8", "backslashreplace"))
-            yield f"{shown_path(file)}: it is written from {name}, which is not there: remove it"
+            is_there = (crate / "src").joinpath(file.relative_to(crate / "src").parent, name).is_file() if file.suffix == ".rt" else any((crate / "src").rglob(name))
+            yield f"{shown_path(file)}: it is written from {name}, which {'does not give it any more' if is_there else 'is not there'}: remove it"
 
 
 def put(output, given):
@@ -154,18 +159,18 @@ def umask():
 
 def faults_of(given, judge):
     """What is said of outputs, each with its source, what that gives, and its crate."""
-    for source, (text, crate) in given.items():
+    for output, (source, text, crate) in given.items():
         try:
-            told = judge(source, text, crate)
+            told = judge(output, source, text, crate)
         except OSError as error:
-            told = f"{shown_path(output_of(source))}: {error.strerror or error}"
+            told = f"{shown_path(output)}: {error.strerror or error}"
         if told:
             yield told
 
 
-def write(source, text, crate):
+def write(output, source, text, crate):
     """Writes an output that is not what its source gives, and prints its name."""
-    output = output_of(source)
     if old(output) != text:
+        output.parent.mkdir(parents=True, exist_ok=True)
         put(output, text)
         print(f"{shown_path(output)}: written")

@@ -14,6 +14,8 @@ NO_PORT = {
 }
 # Rules that the Rust crate does not have, within `custom`.
 OURS = ("unique", "keys", "multiple_of")
+# The types of addresses that a condition may name, and the rules that say whether a text is one.
+ADDRESSES = {"IpAddr": ("is_ipv4", "is_ipv6"), "Ipv4Addr": ("is_ipv4",), "Ipv6Addr": ("is_ipv6",)}
 ABOUT_TYPES = ("context", "allow_unvalidated", "transparent")
 
 
@@ -21,7 +23,7 @@ ABOUT_TYPES = ("context", "allow_unvalidated", "transparent")
 class Expression:
     """An expression. Its kind: `number` with its value, `bool`, `unit`, `place` with its names, `path` with its names, `text`,
     `minus`, `not`, `and`, `or` with its parts, a comparison with its operator as kind, `call` of a method without arguments, with its place
-    and its name, `contains` with its place and what is asked for, `matches` with its place and the paths of variants."""
+    and its name, `address` with its place and the type of addresses, `contains` with its place and what is asked for, `matches` with its place and the paths of variants."""
 
     kind: str
     line: int
@@ -353,9 +355,28 @@ def read_place(tokens):
         return Expression("path", line, value=tuple(names))
     while tokens.takes("."):
         names.append(tokens.take().text)
+        if names[-1] == "parse" and tokens.sees("::"):
+            return read_parse(tokens, names[:-1], line)
         if tokens.opens("("):
             return read_method(tokens.group(), names, line)
     return Expression("place", line, value=tuple(names))
+
+
+def read_parse(tokens, names, line):
+    """Reads whether a text is an address, as `self.host.parse::<IpAddr>().is_ok()`."""
+    tokens.expect("::")
+    tokens.expect("<")
+    kind = tokens.name("a type")
+    tokens.expect(">")
+    inside = tokens.group() if tokens.opens("(") else None
+    tokens.expect(".")
+    asked = tokens.name("a method")
+    last = tokens.group() if tokens.opens("(") else None
+    known = kind in ADDRESSES and asked in ("is_ok", "is_err") and inside is not None and last is not None
+    if not known or not inside.ended() or not last.ended():
+        raise Refusal(line, "`parse` of another type than `IpAddr`, `Ipv4Addr` or `Ipv6Addr`, or without `is_ok()` or `is_err()` behind it")
+    found = Expression("address", line, kind, (Expression("place", line, value=tuple(names)),))
+    return found if asked == "is_ok" else Expression("not", line, parts=(found,))
 
 
 def read_method(tokens, names, line):

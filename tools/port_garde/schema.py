@@ -1,4 +1,5 @@
 """The forms of `garde_schema` that read values of a source's types, the makers of these values, and the functions that read them."""
+import re
 from dataclasses import replace
 
 from .borrowed import below, fields_of, is_map, is_named, of_whole, within_option
@@ -8,11 +9,15 @@ from .layout import WIDTH, Method, Rows, Word, call, flat, statement
 from .makers import Makers, places, tuple_of, wide
 from .names import of_field, of_variant, others_of_variant
 from .implementation import OWN
-from .scope import Place, Scope, Seen, is_option, is_path, is_text
+from .inputs import may_be_missing
+from .scope import Place, Seen, is_option, is_path, is_text
 from .source import is_ported
 from .spelled import Spellings
 from .words import Checks, camel, together
 
+# The rules of a list or a map that its form takes; where what is spelled is stated, it takes those of the number alone.
+UNDER = ("length", "unique", "keys")
+UNDER_SPELLED = ("length",)
 READ = """{docs}
 {tactic}{vis}fn read_{name}<'a, H: I18n + FormI18n>(
     alloc: Global,
@@ -29,10 +34,10 @@ PARTS = """/// What rules of `{item}` are asked of together.
 """
 SHARED = """{parts}/// What the field `{field}` of `{item}` asks beside others.
 #[derive(Clone, Copy)]
-struct {name};
+struct {name}{holds};
 
-impl{life} Rules<{kind}> for {name} {{
-    ghost asks = {{ λ _ v.{stated} }};
+impl{life} Rules<{kind}> for {name}{lives} {{
+    ghost asks = {{ λ {rule} v.{stated} }};
 
     fn ask<'a, H: I18n>(
         &self,
@@ -52,6 +57,11 @@ VALID = """    match {call} {{
     }}"""
 
 
+def within_rule(stated, context):
+    """What is stated of a context, as that of the rule that holds it."""
+    return re.sub(rf"(?<![\w.]){context}(?!\w)", "rule.0.now", stated)
+
+
 def snake(name):
     return "".join(f"_{it.lower()}" if it.isupper() and at else it.lower() for at, it in enumerate(name))
 
@@ -63,12 +73,18 @@ class Schema:
         self.writer, self.borrowed, self.items = writer, writer.borrowed, writer.borrowed.items
         self.turned = {it.name: it for it in writer.source.items}
         self.makers = Makers(self)
+        self.holding = set()
         self.spellings = Spellings(self, writer.checked) if writer.checked else None
 
     def use(self, *names):
         """Imports names of `garde_schema`, and gives the first one."""
         self.writer.uses.others |= {f"garde_schema::{it}" for it in names}
         return names[0]
+
+    def use_form(self, name):
+        """Imports a name of `garde_form`, and gives it."""
+        self.writer.uses.others.add(f"garde_form::{name}")
+        return name
 
     def texts(self):
         """The makers and the functions that read; or of a body, the statements and the implementation by which a library reads it."""
@@ -145,16 +161,26 @@ class Schema:
         names = {at: f"the_{variant.fields[at].name}" if variant.fields[at].name in OWN else variant.fields[at].name for at in numbers}
         stated = dict(zip(numbers, places(filled(group, names), "v")))
         own = {variant.fields[at].name: Place(names[at], stated[at], variant.fields[at].type) for at in numbers}
-        scope, self.writer.spot = Scope("ctx", own, set(), True), it.name
+        scope, self.writer.spot = self.writer.form_scope(own), it.name
         place = own[it.name]
         code, said = Checks(scope, uses, self.writer).of(shared_rules(it), Seen(it.type, place.name))
         bound = {at: name if variant.fields[at].name in scope.bound | {it.name} else "_" for at, name in names.items()}
-        line = f"    ghost asks = {{ λ _ v. {said} }};"
+        held = self.held_context(it, scope, variant, item)
+        said = within_rule(said, scope.context) if scope.asks_context else said
+        line = f"    ghost asks = {{ λ {held['rule']} v. {said} }};"
         words = tuple(map(Word, ("alloc", place.binding, "trail", "report", "h")))
+        taken = statement(wide(tuple_of(filled(group, bound))), 8, held.pop("let"), " = value;")
         return SHARED.format(
-            **self.shared_type(it, group, variant, item), stated=f" {said}" if len(line) <= WIDTH else f"\n        {said}",
-            taken=statement(wide(tuple_of(filled(group, bound))), 8, "let ", " = value;"), asked=statement(Method(code, "ask", words), 8),
+            **self.shared_type(it, group, variant, item), stated=f" {said}" if len(line) <= WIDTH else f"\n        {said}", **held,
+            taken=taken, asked=statement(Method(code, "ask", words), 8),
         )
+
+    def held_context(self, it, scope, variant, item):
+        """What the rules of a field hold, where they ask the context."""
+        if not scope.asks_context:
+            return {"holds": "", "lives": "", "rule": "_", "let": "let "}
+        self.holding.add(self.shared_name(it, variant, item))
+        return {"holds": f"<'c>(&'c {self.writer.context})", "lives": "<'_>", "rule": "rule", "let": f"let {scope.context} = self.0;\n        let "}
 
     def shared_type(self, it, group, variant, item):
         """The names of what a field asks of a group, and of the type of that: the group has one where it does not fit into a line."""
@@ -213,8 +239,13 @@ class Schema:
         if not group.asked:
             return whole
         self.use("Checked", "Under")
-        asked = [(of_field(fields[it], variant, item), self.shared_name(fields[it], variant, item)) for it in group.asked]
+        asked = [(of_field(fields[it], variant, item), self.rules_of(fields[it], variant, item)) for it in group.asked]
         return call("Checked", whole, together([call("Under", f'"{name}"', rules) for name, rules in asked]))
+
+    def rules_of(self, it, variant, item):
+        """What a field asks of a group, as a value."""
+        name = self.shared_name(it, variant, item)
+        return call(name, self.writer.context_of(item)[1]) if name in self.holding else Word(name)
 
     def of_enum(self, item):
         """A union: by its tag, or by the name of its only member."""
@@ -250,8 +281,9 @@ class Schema:
         """A member of an object."""
         self.writer.spot = it.name
         name, kind, rules = f'"{of_field(it, variant, item)}"', it.type, own_rules(it)
-        if is_option(kind):
-            form, asked = call(self.use("Nullish"), name, self.form(kind.args[0], within_option(rules))), of_whole(rules)
+        if is_option(kind) and may_be_missing(kind, self.writer.input):
+            word = "Nullish" if self.writer.input == "json" else "Optional"
+            form, asked = call(self.use(word), name, self.form(kind.args[0], within_option(rules))), of_whole(rules)
             return call(self.use("Checked", "Under"), form, call("Under", name, self.checks(kind, asked))) if asked else form
         default = self.borrowed.default(it, item)
         if default is None:
@@ -264,7 +296,8 @@ class Schema:
     def form(self, kind, rules):
         """The form of a value under rules."""
         if is_option(kind):
-            return self.ruled(call(self.use("Nullable"), self.form(kind.args[0], within_option(rules))), kind, of_whole(rules))
+            word = self.use("Nullable") if self.writer.input == "json" else self.use_form("OrEmpty")
+            return self.ruled(call(word, self.form(kind.args[0], within_option(rules))), kind, of_whole(rules))
         if is_path(kind, "Vec"):
             return self.list(kind, rules)
         if is_map(kind):
@@ -274,9 +307,11 @@ class Schema:
         if is_text(kind):
             return call(self.use("Text"), self.checks(kind, rules))
         if is_path(kind, "bool"):
-            return self.ruled(Word(self.use("Flag")), kind, rules)
-        number = kind.name[:1].upper() + kind.name[1:]
-        return call(self.use("Whole", number), number, self.checks(kind, rules))
+            flag = Word(self.use("Flag"))
+            return self.ruled(flag if self.writer.input == "json" else call(self.use_form("Parsed"), flag, "()"), kind, rules)
+        number = self.use(kind.name[:1].upper() + kind.name[1:])
+        word = self.use("Whole") if self.writer.input == "json" else self.use_form("Parsed")
+        return call(word, number, self.checks(kind, rules))
 
     def list(self, kind, rules):
         """A list: rules of how many items it has and of all of them, those of each item, and then one's own of the whole."""
@@ -286,13 +321,14 @@ class Schema:
 
     def map(self, kind, rules):
         """A map: rules of how many members it has and of their names, those of each value, and then one's own of the whole."""
-        inside = self.form(kind.args[1], [found for it in rules if it.name == "inner" for found in it.rules])
+        of_items = [found for it in rules if it.name in ("inner", "dive") for found in (it.rules if it.name == "inner" else [it])]
+        inside = self.form(kind.args[1], of_items)
         return self.several(kind, rules, "Map", inside)
 
     def several(self, kind, rules, name, inside):
-        under = [it for it in rules if it.name in ("length", "unique", "keys")]
+        under = [it for it in rules if it.name in (UNDER_SPELLED if self.spellings else UNDER)]
         form = call(self.use(f"{name}Under"), self.checks(kind, under), inside) if under else call(self.use(name), inside)
-        return self.ruled(form, kind, [it for it in rules if it.name == "custom"])
+        return self.ruled(form, kind, [it for it in rules if it.name in (*UNDER, "custom") and it not in under])
 
     def ruled(self, form, kind, rules):
         """A form that has no place for rules, under these."""
@@ -300,6 +336,5 @@ class Schema:
 
     def checks(self, kind, rules):
         """The rules of a value, as the code of the type has them."""
-        scope = Scope("ctx", {}, set(), True)
-        code, _ = Checks(scope, self.writer.uses, self.writer).of(list(rules), Seen(self.borrowed.type_of(kind), "v"))
+        code, _ = Checks(self.writer.form_scope(), self.writer.uses, self.writer).of(list(rules), Seen(self.borrowed.type_of(kind), "v"))
         return code

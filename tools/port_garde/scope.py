@@ -2,12 +2,18 @@
 from dataclasses import dataclass, field
 
 from .layout import Chain
-from .rules import Expression
+from .rules import ADDRESSES, Expression
 from .source import Type
 from .tokens import Refusal
 
 UNSIGNED = ("u8", "u16", "u32", "u64", "u128", "usize")
 SIGNED = ("i8", "i16", "i32", "i64", "i128", "isize")
+IS_ADDRESS = """/// Whether a text is an address.
+fn is_address(text: &str) -> bool
+    ensures { result ≡ is_ipv4 text.now || is_ipv6 text.now }
+{
+    is_ipv4(text) || is_ipv6(text)
+}"""
 VARIABLES = ("x", "y", "z", "w", "u")
 # What stands behind the name of a variant in a pattern that looks at nothing in it.
 SHAPES = {"unit": "", "tuple": "(..)", "named": " { .. }"}
@@ -30,6 +36,7 @@ class Uses:
     cited: set = field(default_factory=set)
     paths: set = field(default_factory=set)
     spelled: set = field(default_factory=set)
+    written: set = field(default_factory=set)
     rules: dict = field(default_factory=dict)
 
 
@@ -100,7 +107,7 @@ class Conditions:
     def of(self, it):
         """A condition that stands in a place where it needs brackets if it has parts."""
         readers = {"bool": self.truth, "place": self.flag, "not": self.negation, "call": self.method}
-        readers.update({"and": self.both, "or": self.both, "matches": self.variants, "contains": self.contains})
+        readers.update({"and": self.both, "or": self.both, "matches": self.variants, "contains": self.contains, "address": self.address})
         if it.kind in readers:
             return readers[it.kind](it)
         if it.kind in ("==", "!=") and it.parts[1].kind in ("path", "text") and it.parts[0].kind == "place":
@@ -145,7 +152,7 @@ class Conditions:
         return Chain(mark, tuple(codes)), f"({f' {mark} '.join(specs)})"
 
     def grouped(self, it, code):
-        return code if it.kind in ("place", "call", "bool", "not", "matches", "contains") else f"({code})"
+        return code if it.kind in ("place", "call", "bool", "not", "matches", "contains", "address") else f"({code})"
 
     def method(self, it):
         """`is_some` and `is_none` of an option."""
@@ -221,6 +228,24 @@ class Conditions:
         listed = f"(slice {spec})" if kind.name == "Vec" else spec
         item, same, stated = (f'&TextRef::new("{asked.value}")', "text_eq", f'(codes "{asked.value}")') if texts else (f"&{asked.value}", "nat_eq", asked.value)
         return f"includes({code}.as_slice(), &Equal, {item})", f"(includes {same} {listed} {stated})"
+
+    def address(self, it):
+        """Whether a text is an address."""
+        code, spec, kind = self.scope.place(it.parts[0].value, it.line)
+        code, names = code.lstrip("*"), ADDRESSES[it.value]
+        borrowed = kind is not None and kind.kind == "ref" and is_text(kind)
+        given = code if borrowed else {"String": f"{code}.as_str()", "TextRef": f"{code}.text()"}.get(kind.name if kind else "")
+        if given is None:
+            raise Refusal(it.line, f"`parse` of `{'.'.join(it.parts[0].value)}`, which is neither a `String` nor a `&str` nor read by a form")
+        self.uses.words |= {*names} | ({"str"} if kind.name == "String" else set())
+        self.uses.prelude |= {"◌||◌"} if names[1:] else set()
+        self.uses.others |= {f"garde::rules::ip::{name}" for name in names}
+        spec = f"{spec}.now" if borrowed else f"(str {spec})" if kind.name == "String" else spec
+        stated = " || ".join(f"{name} {spec}" for name in names)
+        if names[1:]:
+            self.uses.prelude.add("◌≡◌")
+            self.writer.copied["is_address"] = IS_ADDRESS
+        return f"{'is_address' if names[1:] else names[0]}({given})", f"({stated})"
 
     def part_of_text(self, code, spec, asked):
         """Whether a text that a form reads has this part."""

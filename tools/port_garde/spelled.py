@@ -2,19 +2,21 @@
 the bytes of one of them."""
 from dataclasses import dataclass
 
-from .borrowed import fields_of, is_map, is_named, within_option
+from .borrowed import fields_of, is_map, is_named, of_whole, within_option
 from .derives import options
 from .groups import Group, filled, grouped, numbers_in, own_rules, shared_rules
+from .inputs import Reader, may_be_missing
 from .layout import WIDTH
 from .makers import places
 from .names import of_field
-from .scope import SIGNED, Place, Scope, Seen, is_option, is_path, is_text
+from .scope import SIGNED, Place, Seen, is_option, is_path, is_text
 from .source import is_ported
 from .tokens import Refusal
 from .words import Checks
 
 # What begins a further line of a statement.
 NEXT = "\n" + " " * 8
+STATIC = "<'static>"
 SEVERAL = {2: "two", 3: "three", 4: "four", 5: "five", 6: "six"}
 LIBRARY = """/// The title of the problem details.
 pub const TITLE: &str = "the {words} has faults";
@@ -108,6 +110,11 @@ class Spellings:
         self.writer.uses.spelled.add(name)
         return name
 
+    def written(self, name):
+        """A word of what a text writes, which is imported."""
+        self.writer.uses.written.add(name)
+        return name
+
     def refuse(self):
         """Notes what no statement says of the type that is checked."""
         notes, item = self.writer.notes, self.items.get(self.body)
@@ -122,7 +129,6 @@ class Spellings:
 
     def texts(self):
         """The statements of the types, each behind those that it holds, and the implementation by which a body is read."""
-        self.writer.uses.others.add("garde_library::Spelled")
         item = self.items[self.body]
         try:
             return [*(self.statement(it) for it in self.schema.order(item)), self.reader(item)]
@@ -132,6 +138,10 @@ class Spellings:
 
     def reader(self, item):
         """The implementation by which bodies are read."""
+        self.writer.item = item
+        if self.writer.input != "json" or self.writer.context_of(item):
+            spelling, is_under = self.spelling_of(item, item.name + (STATIC if self.turned[item.name].params else ""), ".now")
+            return Reader(self.schema, item).text(f"({spelling})" if is_under else spelling, self.writer.context_of(item))
         self.schema.use("read_json_first", "FormI18n", "FirstReadError", "Scratch")
         self.writer.uses.others |= {"std::alloc::Global", "garde::I18n", "garde::Valid", "garde_library::ReadBody"}
         name, made = self.schema.names_of(item)
@@ -142,9 +152,20 @@ class Spellings:
         """What JSON spells of a type."""
         self.writer.item = item
         turned = self.turned[item.name]
-        life = "<'t>" if turned.params else ""
-        whole = "ghost spelled = { " + lay(self.of_type(item), len("    ghost spelled = { "), len(" };")) + " };"
-        return f"impl{life} Spelled for {item.name}{life} {{\n    {whole}\n}}"
+        life, context = "<'t>" if turned.params else "", self.writer.context_of(item)
+        trait, head = self.trait(item), f"ghost spelled = {{ {f'λ {context[1]}. ' if context else ''}"
+        self.writer.uses.others.add(f"garde_library::{trait}")
+        whole = head + lay(self.of_type(item), len(f"    {head}"), len(" };")) + " };"
+        return f"impl{life} {trait} for {item.name}{life} {{\n    {whole}\n}}"
+
+    def trait(self, item):
+        """The trait by which what JSON spells of a type is stated."""
+        return "SpelledUnder" if self.writer.context_of(item) else "Spelled"
+
+    def spelling_of(self, item, name, end=""):
+        """What JSON spells of a type of this name, and whether it is under a context."""
+        trait, context = self.trait(item), self.writer.context_of(item)
+        return f"⟦<{name} as {trait}>⟧.spelled" + (f" {context[1]}{end}" if context else ""), context is not None
 
     # Types.
 
@@ -184,7 +205,7 @@ class Spellings:
 
     def shared(self, it, own):
         """What a field asks beside others."""
-        _, text = Checks(Scope("ctx", own, set(), True), self.writer.uses, self.writer).of(shared_rules(it), Seen(it.type, own[it.name].name))
+        _, text = Checks(self.writer.form_scope(own), self.writer.uses, self.writer).of(shared_rules(it), Seen(it.type, own[it.name].name))
         return text
 
     def together(self, members):
@@ -200,12 +221,14 @@ class Spellings:
     def member(self, it, variant, item):
         self.writer.spot = it.name
         name, kind, rules = f'"{of_field(it, variant, item)}"', it.type, own_rules(it)
-        if is_option(kind):
-            found = said(self.word("nullish"), name, self.value(kind.args[0], within_option(rules)))
-            if not any(rule.name == "required" for rule in rules):
+        if is_option(kind) and may_be_missing(kind, self.writer.input):
+            word = self.word("nullish") if self.writer.input == "json" else self.written("optional")
+            found, whole = said(word, name, self.value(kind.args[0], within_option(rules))), of_whole(rules)
+            if not whole:
                 return found
-            self.writer.uses.words |= {"field", "is", "required"}
-            return said(self.word("ruled"), found, f"(λ v. field {name} (is (required v)))")
+            self.writer.uses.words |= {"field"}
+            _, text = self.checks(kind, whole)
+            return said(self.word("ruled"), found, f"(λ v. field {name} ({text}))")
         default = self.writer.borrowed.default(it, item)
         if default is None:
             return said(self.word("member"), name, self.value(kind, rules))
@@ -229,34 +252,40 @@ class Spellings:
     def value(self, kind, rules):
         """What JSON spells of a value under rules."""
         if is_option(kind):
-            return said(self.word("or_null"), self.value(kind.args[0], within_option(rules)))
+            word = self.word("or_null") if self.writer.input == "json" else self.written("or_empty")
+            return self.ruled(said(word, self.value(kind.args[0], within_option(rules))), kind, of_whole(rules))
         if is_path(kind, "Vec") or is_map(kind):
             return self.several(kind, rules)
         if kind.name in self.items:
             name = self.writer.type_text(self.writer.borrowed.type_of(kind), True)
-            return self.ruled(Said(f"⟦<{name} as Spelled>⟧.spelled"), kind, [it for it in rules if it.name != "dive"])
+            spelling, is_under = self.spelling_of(self.items[kind.name], name)
+            return self.ruled(said(*spelling.rsplit(" ", 1)) if is_under else Said(spelling), kind, [it for it in rules if it.name != "dive"])
         if is_text(kind):
             return said(self.word("a_text"), self.asked(kind, rules))
         if is_path(kind, "bool"):
-            return self.ruled(Said(self.word("a_flag")), kind, rules)
+            return self.ruled(Said(self.word("a_flag") if self.writer.input == "json" else self.written("a_written_flag")), kind, rules)
         found = [self.found(kind, it) for it in rules]
         self.writer.uses.prelude |= {"[]"} | ({"◌∷◌"} if found else set())
-        return said(self.word("a_number"), self.word(f"{kind.name}_numbers"), f"({' ∷ '.join(found)} ∷ [])" if found else "[]")
+        rules = f"({' ∷ '.join(found)} ∷ [])" if found else "[]"
+        if self.writer.input == "json":
+            return said(self.word("a_number"), self.word(f"{kind.name}_numbers"), rules)
+        return said(self.written("a_written"), self.written(f"{kind.name}_texts"), rules)
 
     def several(self, kind, rules):
         """A list or a map: rules of how many there are, and what each of them is."""
-        word, whole = ("a_list", []) if kind.name == "Vec" else ("a_map", list(rules))
-        inside = []
-        for it in [] if whole else rules:
+        word, whole, inside = "a_list" if kind.name == "Vec" else "a_map", [], []
+        for it in rules:
             if it.name == "inner":
                 inside += it.rules
-            else:
-                (inside if it.name == "dive" else whole).append(it)
-        one = self.value(kind.args[-1], inside)
+            elif it.name == "dive":
+                inside.append(it)
+            elif it.name == "length":
+                whole.append(it)
+        one, ruled = self.value(kind.args[-1], inside), [it for it in rules if it.name in ("unique", "custom")]
         if not whole:
-            return said(self.word(word), one)
+            return self.ruled(said(self.word(word), one), kind, ruled)
         self.writer.uses.words.add("count")
-        return said(self.word(f"{word}_of"), self.asked(kind, whole).replace("is (items ", "is (count "), one)
+        return self.ruled(said(self.word(f"{word}_of"), self.asked(kind, whole).replace("is (items ", "is (count "), one), kind, ruled)
 
     def ruled(self, one, kind, rules):
         return said(self.word("a_ruled"), one, self.asked(kind, rules)) if rules else one
@@ -277,5 +306,4 @@ class Spellings:
         return f"(λ v. {fault})" if rule.name == "custom" else fault.removesuffix(" v")
 
     def checks(self, kind, rules):
-        scope = Scope("ctx", {}, set(), True)
-        return Checks(scope, self.writer.uses, self.writer).of(list(rules), Seen(self.writer.borrowed.type_of(kind), "v"))
+        return Checks(self.writer.form_scope(), self.writer.uses, self.writer).of(list(rules), Seen(self.writer.borrowed.type_of(kind), "v"))

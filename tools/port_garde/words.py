@@ -155,7 +155,7 @@ class Checks:
         kind = seen.type
         if is_option(kind):
             return self.part([rule], seen, ())
-        if kind.name in (*EACH, *EACH_VALUE) or (kind.kind == "ref" and kind.args[0].kind == "slice"):
+        if kind.name in (*EACH, *EACH_VALUE, "Entries") or (kind.kind == "ref" and kind.args[0].kind == "slice"):
             held, word, name = self.items_of(rule, seen)
             code, spec = self.of([rule], held)
             return call(self.field("Each"), code), f"{word} (λ {held.name}. {spec}) {name}"
@@ -275,11 +275,13 @@ class Checks:
             place = (self.scope.the_context(), self.writer.new_pattern(rule))
         else:
             place = rule.place.value
-            if place[0] != self.scope.context or len(place) < 2 or self.scope.unit:
+            whole = len(place) == 1 and self.writer.context == "Regex"
+            if place[0] != self.scope.context or len(place) < 2 and not whole or self.scope.unit:
                 raise Refusal(rule.line, f"the pattern `{'.'.join(place)}` is no part of the context")
             self.scope.the_context()
         source = ".".join(place)
-        return call(self.field("Pattern"), Lent(Word(source))), self.text("pattern", seen, source)
+        lent = Lent(Word(source)) if "." in source else Word(source)
+        return call(self.field("Pattern"), lent), self.text("pattern", seen, source)
 
     def length(self, rule, seen):
         """The rule about a length, in its mode."""

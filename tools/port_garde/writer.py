@@ -7,7 +7,7 @@ from .implementation import Implementation
 from .layout import CALL, VARIANT, WIDTH, use_line
 from .rules import Expression
 from .schema import Schema
-from .scope import SIGNED, UNSIGNED, Uses
+from .scope import SIGNED, UNSIGNED, Scope, Uses
 from .second import faults_of_values, lost_of_names, lost_of_serde, passed_by
 from .source import all_rules, is_ported, read_type, type_names
 from .tokens import Refusal, Refusals, Tokens
@@ -50,17 +50,17 @@ class Writer:
     """Writes what stands for a source. `module` is the path of what is written, `own` that of the rules of one's own, and
     `left_out` are the derives and attributes that are left out without a word. With `walks` types that a form reads have a walk too.
     `body` is the type that a static library checks, and `spelled` one of which JSON spells what a program reads: then they have none.
-    What reads reports the `first` faults alone, or all."""
+    What reads reports the `first` faults alone, or all. What is spelled is read from an `input`: JSON, a web form or rows."""
 
-    def __init__(self, source, module=None, own=None, left_out=(), schema=False, walks=True, body=None, first=False, spelled=None):
-        self.source, self.module, self.own, self.first = source, module, own, first
+    def __init__(self, source, module=None, own=None, left_out=(), schema=False, walks=True, body=None, first=False, spelled=None, input="json"):
+        self.source, self.module, self.own, self.first, self.input = source, module, own, first, input
         self.checked, self.is_library = body or spelled, body is not None
-        self.borrowed = Borrowed(source, left_out, bool(self.checked), walks) if schema or self.checked else None
+        self.borrowed = Borrowed(source, left_out, bool(self.checked), walks, spelled is not None, input) if schema or self.checked else None
         self.unwalked = self.borrowed.unwalked() if self.checked or schema and not walks else set()
         self.derives = Derives(source, left_out)
         self.uses = Uses()
         self.patterns, self.skeletons, self.closures, self.copied = {}, {}, {}, {}
-        self.item = self.context = self.spot = None
+        self.item = self.context = self.spot = self.answers = None
         self.renamed = {}
         self.notes = source.notes
 
@@ -267,6 +267,18 @@ class Writer:
 
     # What rules ask for.
 
+    def context_of(self, item):
+        """The context of a type that a form reads: its type and its name; or nothing."""
+        if not item.attributes.context:
+            return None
+        kind, name, _ = Implementation(self, item).context
+        return kind, name
+
+    def form_scope(self, places=None):
+        """What the rules of a form of the type at hand may speak of."""
+        context = self.context_of(self.item)
+        return Scope(context[1] if context else "ctx", places or {}, set(), context is None)
+
     def resolved(self, it):
         """An expression, and of a constant its number: of one of the file, or of the greatest or least one of a type."""
         if it.kind == "minus":
@@ -384,6 +396,7 @@ class Writer:
         if uses.words:
             lines.append(f"ghost use Rattle.garde.specs.Fields.{{{', '.join(sorted(uses.words, key=word_order))}}};")
         lines += [f"ghost use Rattle.garde_library.specs.Spelling.{{{', '.join(sorted(uses.spelled))}}};"] if uses.spelled else []
+        lines += [f"ghost use Rattle.garde_form.specs.Spelling.{{{', '.join(sorted(uses.written))}}};"] if uses.written else []
         lines += ["ghost use Rattle.garde_schema.specs.declared.either.Either.TheVariants.{Left, Right};"] if uses.sides else []
         lines += [self.variants_use(it) for it in self.source.items if self.stated_variants(it)]
         lines += [self.nested_use(it) for it in self.source.items if self.is_nested(it)]

@@ -10,8 +10,8 @@ COLUMNS = "| function | what it promises | clauses | tests | mutants |\n|---|---
 OTHERS = "| other function | mutants |\n|---|---|\n"
 # crates that tests reach through C alone
 THROUGH_C = ("garde_library", "example_order", "use_library")
-# programs that are no programs to copy
-PROGRAMS = ("garde_check",)
+# a program that is no program to copy, and a crate that tests reach through the runs of such a program
+THROUGH_RUNS = ("garde_check", "example_table")
 REASONS = ("C", "law", "run", "safe")
 
 
@@ -46,7 +46,7 @@ def line(crate, name):
     said = " ".join(filter(None, [promised.docs(function), *notes.besides(name)])).replace("|", r"\|")
     stated = clauses.shown(function) or ("`Valid`" if promised.gives_valid(function) else "safe")
     why = reason(crate, function, stated)
-    tests = quoted(notes.tests()[name]) or ("C" if crate in THROUGH_C else "run" if crate in PROGRAMS else why)
+    tests = quoted(notes.tests()[name]) or ("C" if crate in THROUGH_C else "run" if crate in THROUGH_RUNS else why)
     return Line(name, said, ", ".join(filter(None, [stated, clauses.asked(function)])), tests, quoted(mutants) or why)
 
 

@@ -5,7 +5,7 @@ import pathlib
 import shutil
 
 from .listing import with_lines
-from .origin import Refusal, read_line
+from .origin import TOOL, Refusal, read_line
 from .record import NAME, Record, hash_of, read_record
 
 PART = ".vendored-garde.part"
@@ -53,8 +53,12 @@ class Folder:
     def own_names(self):
         return {it.name for it in self.own_lines()}
 
+    def under(self, path):
+        """The path of a copied file in the folder: that of the command is the same as in the repository that is copied."""
+        return path if path.startswith(TOOL) else f"{self.prefix}{path}"
+
     def place(self, path):
-        return self.path / f"{self.prefix}{path}"
+        return self.path / self.under(path)
 
     # Why nothing is written.
 
@@ -63,6 +67,12 @@ class Folder:
             raise Refusal(f"{self.place(name)}: {told}")
         if name in self.own_names():
             raise Refusal(f"{self.path}/crates.txt: {name}: {told}")
+
+    def refuse_tool(self, files):
+        """Refuses a file in the place of one of the command which is not of the copy."""
+        for path in files:
+            if path not in self.record.files and os.path.lexists(self.place(path)):
+                raise Refusal(f"{self.place(path)}: a file of that name is there, which is not a copy of ours")
 
     def refuse_changes(self, new):
         """Refuses a copy that was changed by hand. What is missing is copied again."""
@@ -73,8 +83,14 @@ class Folder:
             for path in self.files(name):
                 if path not in self.record.files:
                     raise Refusal(f"{self.place(path)}: this file is not of the copy: move it to a crate of your own")
-                if self.mark(path) not in self.record.files[path]:
-                    raise Refusal(f"{self.place(path)}: it was changed by hand: put it back, or delete it to have it copied again")
+                self.refuse_change(path)
+        for path in filter(lambda it: it.startswith(TOOL) and os.path.lexists(self.place(it)), self.record.files):
+            self.refuse_change(path)
+
+    def refuse_change(self, path):
+        """Refuses a file of the copy that was changed by hand."""
+        if self.mark(path) not in self.record.files[path]:
+            raise Refusal(f"{self.place(path)}: it was changed by hand: put it back, or delete it to have it copied again")
 
     def files(self, crate):
         """The files of a copied crate as they lie there, but for what `rt` builds."""
@@ -101,12 +117,13 @@ class Folder:
         """Writes what is planned, and returns what was done. Wherever it ends, a second call can go on."""
         changed = [path for path, text in plan.files.items() if self.mark(path) != hash_of(text)]
         gone = [path for name in self.record.lines for path in self.files(name) if path not in plan.files]
+        gone += [path for path in self.record.files if path.startswith(TOOL) and path not in plan.files and os.path.lexists(self.place(path))]
         was = f" (before: {self.record.commit[:12]})" if self.record.commit not in ("", plan.record.commit) else ""
         listing, ignored = with_lines(self.read("crates.txt"), self.record, plan), self.read(".gitignore")
         if changed or gone or plan.program or self.record.begun:
             self.put(NAME, self.record.with_new(plan.record, plan.program.name if plan.program else "").text())
             for path in changed:
-                self.put(f"{self.prefix}{path}", plan.files[path])
+                self.put(self.under(path), plan.files[path], 0o755 if path == TOOL[0] else None)
             for path in gone:
                 self.drop(path)
             for copy in plan.program.copies if plan.program else ():
@@ -118,8 +135,8 @@ class Folder:
         self.put(NAME, plan.record.text())
         return f"{len(changed)} files written, {len(gone)} removed{was}" if changed or gone else f"up to date{was}"
 
-    def put(self, path, text):
-        """Writes a file if it is not so already: in full, or not at all."""
+    def put(self, path, text, mode=None):
+        """Writes a file if it is not so already: in full, or not at all. `mode` are its rights, where they are not the usual ones."""
         content = text if isinstance(text, bytes) else text.encode("utf-8", "surrogateescape")
         place, part = self.path / path, self.path / PART
         if place.is_file() and place.read_bytes() == content:
@@ -128,6 +145,8 @@ class Folder:
         self.clear()
         try:
             part.write_bytes(content)
+            if mode:
+                part.chmod(mode)
             os.replace(part, place)
         finally:
             self.clear()

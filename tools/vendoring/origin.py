@@ -12,6 +12,8 @@ WITH_FORM = {"use_library": ("example_order", "order")}
 LICENCES = ("LICENSE-MIT", "LICENSE-APACHE")
 # Mutants, which the prover has to reject: a test of the crates' contracts, which is run where the crates are written.
 NOT_COPIED = ("must-fail", "wrong-bodies")
+# The command that writes modules of sources with attributes, which stands in the copy under the same paths.
+TOOL = ("tools/port-garde", "tools/port_garde/")
 PROGRAM_FILES = ("stdin", "stdout", "args", "status")
 PROGRAM_FOLDERS = ("src", "specs", "proofs", "data")
 
@@ -114,6 +116,11 @@ class Origin:
                 if it in self.lines and self.lines[it] not in lines:
                     self.own(it, line.name)
         return lines
+
+    def tool_files(self):
+        """The files of the command that writes modules, by their paths."""
+        paths = [it for it in self.paths if it.startswith(TOOL)]
+        return dict(zip(paths, self.texts(paths)))
 
     def crate_files(self, name):
         """The files of a crate by their paths in it, but for its mutants."""

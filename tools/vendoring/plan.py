@@ -2,7 +2,7 @@
 import re
 from dataclasses import dataclass
 
-from .origin import LICENCES, Line, Refusal, is_product, names_of
+from .origin import LICENCES, TOOL, Line, Refusal, is_product, names_of
 from .record import Record, hash_of
 
 NAMES = re.compile(r"[a-z][a-z0-9_]*$")
@@ -49,11 +49,14 @@ def plan_of(origin, folder, more, program, name):
     asked = tuple(sorted({"garde", *folder.record.asked, *more, *listed}))
     crates = origin.closure(asked)
     lines = [*crates, *sources]
-    origin.refuse_changes(["crates.txt", *LICENCES, *(f"crates/{it.name}" for it in lines)])
+    tool = origin.tool_files()
+    origin.refuse_changes(["crates.txt", *LICENCES, *(f"crates/{it.name}" for it in lines), *(TOOL if tool else ())])
     copied = program_of(origin, folder, sources, name or program) if program else None
     refuse_names(folder, crates, lines, [it.name for it in sources])
+    folder.refuse_tool(tool)
     files = {f"{it.name}/{path}": text for it in crates for path, text in origin.crate_files(it.name).items()}
     files.update(zip((f"garde/{it}" for it in LICENCES), origin.texts(LICENCES)))
+    files.update(tool)
     record = Record(origin.commit, origin.date, asked)
     for it in crates:
         record.add(it)

@@ -1,10 +1,15 @@
-//! A number that fits a narrower type, and a cast that loses nothing.
+//! A number that fits a narrower type, and a cast that loses nothing. The bounds of the number have a
+//! name, which the code and the statement cite.
 ghost use Rattle.std.specs.Prelude.{◌≡◌};
-ghost use Rattle.garde.specs.Fields.{at_most, field, is, range};
+ghost use Rattle.garde.specs.Fields.{field, is, range};
+ghost use Rattle.example_valid.specs.declared.level.TheConstants.{PERCENT};
 
-use garde::fields::{Field, Fields, Is};
+use garde::fields::{Field, Fields, Is, Range};
 use garde::{I18n, Report, Stated, Trail, Valid, Validate, range};
 use std::alloc::{AllocError, Global};
+
+/// How loud a level may be, in percent.
+pub const PERCENT: Range<u32> = range!(max = 200);
 
 /// How loud something is played, in percent.
 #[derive(Debug, Drop)]
@@ -15,7 +20,7 @@ pub struct Level {
 impl Stated for Level {
     type Context = ();
 
-    ghost visits = { λ v _. field "percent" (is (range (at_most 200) v.percent)) };
+    ghost visits = { λ v _. field "percent" (is (range PERCENT v.percent)) };
 }
 
 impl Validate for Level {
@@ -28,7 +33,7 @@ impl Validate for Level {
         h: &H,
     ) -> Result<(), AllocError> {
         let Self { percent } = self;
-        Field("percent", percent, Is(range!(max = 200))).visit(alloc, trail, report, h)
+        Field("percent", percent, Is(PERCENT)).visit(alloc, trail, report, h)
     }
 }
 

@@ -17,7 +17,7 @@ use Rattle.garde_catalog.specs.declared.fault.Wrong.TheVariants as wrongs
 use Rattle.garde_catalog.proofs.KeysByNumber.{keys_by_number}
 
 -- one more pair
-zip_push : {A B : Type 0} (R : A → B → Type 0) (xs : List A) (ys : List B) (x : A) (y : B) → AllZip R xs ys → R x y
+pub zip_push : {A B : Type 0} (R : A → B → Type 0) (xs : List A) (ys : List B) (x : A) (y : B) → AllZip R xs ys → R x y
     → AllZip R (xs ++ (x ∷ [])) (ys ++ (y ∷ []))
 zip_push R [] [] x y h r = (r, tt)
 zip_push R [] (z ∷ ys) x y h r = absurd h

@@ -69,6 +69,11 @@ number_of keys.MemberRepeated = 60
 number_of keys.MemberUnknown = 61
 number_of keys.ValueUnknown = 62
 number_of keys.RowLength = 63
+number_of keys.NotUtf8 = 64
+number_of keys.NotJson = 65
+number_of keys.NestedTooDeep = 66
+number_of keys.LoneSurrogate = 67
+number_of keys.TextTooLong = 68
 
 -- the name of the first parameter of its text, if it has one
 abbrev pub first_of : Key → List ℕ
@@ -87,9 +92,17 @@ first_of keys.IpInvalid = codes "kind"
 first_of keys.MatchesFieldMismatch = codes "field"
 first_of keys.MultipleOf = codes "divisor"
 first_of keys.OutOfRange = codes "least"
+first_of keys.NotUtf8 = codes "line"
+first_of keys.NotJson = codes "line"
+first_of keys.NestedTooDeep = codes "line"
+first_of keys.LoneSurrogate = codes "line"
 first_of _ = []
 
 -- the name of the second
 abbrev pub second_of : Key → List ℕ
 second_of keys.OutOfRange = codes "greatest"
+second_of keys.NotUtf8 = codes "column"
+second_of keys.NotJson = codes "column"
+second_of keys.NestedTooDeep = codes "column"
+second_of keys.LoneSurrogate = codes "column"
 second_of _ = []

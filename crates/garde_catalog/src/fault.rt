@@ -3,6 +3,7 @@
 use crate::key::Key;
 use crate::template::TemplateFault;
 use std::alloc::AllocError;
+use std::fmt;
 
 /// What is wrong with a table under a key.
 #[derive(Clone, Copy, Debug, Drop, PartialEq, Eq)]
@@ -43,3 +44,14 @@ impl From<AllocError> for CatalogError {
         CatalogError::Memory
     }
 }
+
+impl fmt::Display for CatalogError {
+    fn fmt<W: fmt::Write>(&self, f: &mut fmt::Formatter<W>) -> fmt::Result {
+        match self {
+            CatalogError::Faults(_) => f.write_str("the table of texts has faults"),
+            CatalogError::Memory => f.write_str("out of memory"),
+        }
+    }
+}
+
+impl std::error::Error for CatalogError {}

@@ -2,8 +2,8 @@
 ghost use Rattle.std.specs.Prelude.{◌≡◌};
 ghost use Rattle.garde_catalog.specs.Keys.{number_of, first_of, second_of};
 
-/// The key of a text of a catalog: the kinds of faults, the reasons that three of them name, and
-/// what a form wants in a place.
+/// The key of a text of a catalog: the kinds of faults, the reasons that three of them name,
+/// what a form wants in a place, and why a text is not read as JSON.
 #[derive(Clone, Copy, Debug, Drop, PartialEq, Eq)]
 pub enum Key {
     /// A length is below its lower bound.
@@ -134,10 +134,20 @@ pub enum Key {
     ValueUnknown,
     /// A row has not as many fields as the header.
     RowLength,
+    /// Bytes are not UTF-8: `ParseError::NotUtf8`.
+    NotUtf8,
+    /// A text is not one JSON value: `ParseError::NotJson`.
+    NotJson,
+    /// An array or object nests too deep: `ParseError::TooDeep`.
+    NestedTooDeep,
+    /// A text has one half of a surrogate pair: `ParseError::LoneSurrogate`.
+    LoneSurrogate,
+    /// A text has too many bytes: `ParseError::TooLong`.
+    TextTooLong,
 }
 
 /// All keys, in their order.
-pub const KEYS: [Key; 64] = [
+pub const KEYS: [Key; 69] = [
     Key::LengthLowerThan,
     Key::LengthGreaterThan,
     Key::RangeLowerThan,
@@ -202,6 +212,11 @@ pub const KEYS: [Key; 64] = [
     Key::MemberUnknown,
     Key::ValueUnknown,
     Key::RowLength,
+    Key::NotUtf8,
+    Key::NotJson,
+    Key::NestedTooDeep,
+    Key::LoneSurrogate,
+    Key::TextTooLong,
 ];
 
 impl Key {
@@ -232,6 +247,10 @@ impl Key {
             Key::MatchesFieldMismatch => "field",
             Key::MultipleOf => "divisor",
             Key::OutOfRange => "least",
+            Key::NotUtf8 => "line",
+            Key::NotJson => "line",
+            Key::NestedTooDeep => "line",
+            Key::LoneSurrogate => "line",
             _ => "",
         }
     }
@@ -242,6 +261,10 @@ impl Key {
     {
         match self {
             Key::OutOfRange => "greatest",
+            Key::NotUtf8 => "column",
+            Key::NotJson => "column",
+            Key::NestedTooDeep => "column",
+            Key::LoneSurrogate => "column",
             _ => "",
         }
     }

@@ -3,17 +3,20 @@
 #![tactic(auto)]
 
 mod catalog;
+mod catalogs;
 mod fault;
 mod field;
 mod forms;
 mod key;
 mod language;
 mod lookup;
+mod parse;
 mod rules;
 mod tables;
 mod template;
 
 pub use catalog::{Catalog, Entry};
+pub use catalogs::Catalogs;
 pub use fault::{CatalogError, CatalogFault, Wrong};
 pub use field::ranges_of;
 pub use key::{KEYS, Key};

@@ -1,24 +1,25 @@
 //! Which of the languages that are offered some ranges ask for, by the look-up of RFC 4647, section
 //! 3.4.
-ghost use Rattle.std.specs.Prelude.{◌≡◌, ◌≤◌, ◌<◌, ◌↔◌, ℕ, All, Contains, IfSome, IfNone, IsTrue, MatchOption};
-ghost use Rattle.garde_catalog.specs.Lookup.{Fits, IsAsked, IsBest, IsLookup, IsOffered, HasNone};
+ghost use Rattle.std.specs.Prelude.{◌≡◌, ◌<◌, ◌↔◌, IfSome, IfNone, IsTrue, MatchOption, map};
+ghost use Rattle.garde_catalog.specs.Field.{want_of};
+ghost use Rattle.garde_catalog.specs.Lookup.{Fits, HasNone, IsFound, IsLookup, IsPicked, IsThere};
 
 use crate::language::Language;
 
 /// A language that a request asks for.
 #[derive(Clone, Copy, Debug)]
 pub struct Range<'a> {
-    /// The language, as `en-GB`, or `*`.
-    pub tag: &'a str,
+    /// The language, as `en-GB`.
+    pub tag: &'a [u8],
     /// How much it is wanted, in thousandths. At 0 it is not.
     pub weight: u16,
 }
 
 // Whether a tag is the range, or what is left of it after cutting subtags off its end.
-fn fits(range: &str, tag: &str) -> bool
+fn fits(range: &[u8], tag: &str) -> bool
     ensures { IsTrue result ↔ Fits range.now tag.now }
 {
-    let (range, tag) = (range.as_bytes(), tag.as_bytes());
+    let tag = tag.as_bytes();
     let len = tag.len();
     if range.len() < len {
         return false;
@@ -36,8 +37,8 @@ fn is_longer(len: usize, best: Option<usize>, longest: usize) -> bool
     }
 }
 
-// The longest tag that fits a range.
-fn look_up(range: &str, offered: &[Language]) -> Option<usize>
+// The place of the longest tag that fits a range.
+fn look_up(range: &[u8], offered: &[Language]) -> Option<usize>
     ensures found { IfSome result (IsLookup offered.now range.now) }
     ensures none { IfNone result (HasNone offered.now range.now) }
 {
@@ -58,9 +59,8 @@ fn look_up(range: &str, offered: &[Language]) -> Option<usize>
 
 // The place of the language to answer in: the one that the range of the greatest weight asks for,
 // the first of several. `None` means that no range that is wanted fits the tag of any language.
-fn pick(ranges: &[Range<'_>], offered: &[Language]) -> Option<usize>
-    ensures found { IfSome result (λ place. IsBest ranges.now offered.now place) }
-    ensures none { IfNone result (All (λ range. ¬ (IsAsked offered.now range)) ranges.now) }
+pub(crate) fn pick(ranges: &[Range<'_>], offered: &[Language]) -> Option<usize>
+    ensures { IsPicked (map want_of ranges.now) offered.now result }
 {
     let mut best: Option<usize> = None;
     let mut weight: u16 = 0;
@@ -78,11 +78,25 @@ fn pick(ranges: &[Range<'_>], offered: &[Language]) -> Option<usize>
 }
 
 impl Language {
+    /// The language that a tag asks for, as a user names it after `--language`: by the look-up of
+    /// RFC 4647, section 3.4, for `de-AT` that of `de`. `None` means that it asks for none that is
+    /// offered.
+    pub fn named(tag: &str, offered: &[Language]) -> Option<Language>
+        ensures { IsThere offered.now (IsFound offered.now tag.now) result }
+    {
+        match look_up(tag.as_bytes(), offered) {
+            Some(place) => match offered.get(place) {
+                Some(language) => Some(*language),
+                None => None,
+            },
+            None => None,
+        }
+    }
+
     /// The language to answer in: the one that the range of the greatest weight asks for, the first
     /// of several. `None` means that no range that is wanted fits the tag of any language.
     pub fn picked(ranges: &[Range<'_>], offered: &[Language]) -> Option<Language>
-        ensures found { IfSome result (IsOffered ranges.now offered.now) }
-        ensures none { IfNone result (All (λ range. ¬ (IsAsked offered.now range)) ranges.now) }
+        ensures { IsThere offered.now (IsPicked (map want_of ranges.now) offered.now) result }
     {
         match pick(ranges, offered) {
             Some(place) => match offered.get(place) {

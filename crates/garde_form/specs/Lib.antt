@@ -1,4 +1,5 @@
 pub mod Bare
 pub mod Members
+pub mod Spelling
 pub mod Texts
 pub mod WebForm

@@ -13,5 +13,5 @@ mod status;
 pub use answer::{check_json, is_valid_json, out_of_memory};
 pub use body::{check_body, is_valid_body};
 pub use room::Room;
-pub use spelled::{ReadBody, Spelled};
+pub use spelled::{ReadBody, Spelled, SpelledUnder};
 pub use status::Status;

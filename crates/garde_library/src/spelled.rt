@@ -17,6 +17,13 @@ pub trait Spelled {
     ghost spelled: { Spelling Self };
 }
 
+/// A type whose values JSON spells under a context, which is that of its rules. `tools/port-garde
+/// --spelled` writes the statement beside the type.
+pub trait SpelledUnder: Stated {
+    /// What JSON spells of the type under a context.
+    ghost spelled: { Self.Context → Spelling Self };
+}
+
 /// A type whose values are the bodies that a library checks.
 pub trait ReadBody<'a>: Spelled + Stated + Drop {
     /// Reads a body: the value that it spells, or at most so many faults of its form and of its rules,

@@ -1,11 +1,13 @@
 -- What a node tells of what begins with it.
 use Rattle.std.proofs.Common.{◌≡◌, ℕ, suc, zero, ◌+◌, ◌<◌, ◌≤◌, List, [], ◌∷◌, map, length, drop, get_or, Option, Some, None, refl, sym, ap, ◌∙◌, subst, arith, lt_of_not-le}
 use Rattle.std.proofs.Common as common
-use Rattle.std.proofs.lemmas.List.{drop_more, drop_all, get_or-map, length-map}
+use Rattle.std.proofs.Common.{◌-◌, take, take_all}
+use Rattle.std.proofs.Math.Seq.{drop-drop}
+use Rattle.std.proofs.lemmas.List.{drop_more, drop_all, get_or-map, get_or-drop, get_or_default, length-map, length-drop}
 use Rattle.std.specs.Borrow.{Bor}
 use Rattle.json.specs.Token.{Token}
 use Rattle.json.specs.Json.{Json, null, boolean, number, string, array, object, Items, Members, parse_map, after_end_array, members, value}
-use Rattle.json.specs.Tape.{node_token, Passes}
+use Rattle.json.specs.Tape.{node_token, Passes, Linked, LinkAt}
 use Rattle.json.specs.Find.{BeginsWith, HasValue, InItems, InMembers, as_array, as_object, is_null, as_str, as_number, as_bool}
 use Rattle.json.specs.declared.tape.Node.{Node}
 use Rattle.json.specs.declared.tape.Node.TheVariants.{Object, EndObject, Array, EndArray, Key, String, Number, Bool, Null}
@@ -27,6 +29,24 @@ beyond ns i h = drop_all i (map node_token ns) (omega (arith, length-map ns node
 -- where a value begins there is a node
 pub value_within : (ns : List Node) (i : ℕ) → HasValue (tokens_at ns i) → i < length ns
 value_within ns i v = lt_of_not-le (λ h. not_empty v.0 (subst (λ ts. BeginsWith ts v.0) (beyond ns i h) v.1))
+
+-- the nodes from one on are as many as are left
+pub rest_within : (ns rest : List Node) (i k : ℕ) → rest ≡ drop i ns → i + k < length ns → k < length rest
+rest_within ns rest i k e h = subst (λ r. k < length r) (sym e) (omega (arith, h, length-drop i ns))
+
+-- and they are the same
+pub rest_node : (ns rest : List Node) (i k : ℕ) → rest ≡ drop i ns → get_or ns (i + k) (Object 0) ≡ get_or rest k (Object 0)
+rest_node ns rest i k e = sym (ap (λ r. get_or r k (Object 0)) e ∙ get_or-drop i ns k (Object 0))
+
+pub rest_first : (ns rest : List Node) (i : ℕ) → rest ≡ drop i ns → get_or ns i (Object 0) ≡ get_or rest 0 (Object 0)
+rest_first ns rest i e = ap (λ k. get_or ns k (Object 0)) (omega arith) ∙ rest_node ns rest i 0 e
+
+-- as are those behind the first of them, which a slice takes
+pub rest_behind : (ns rest : List Node) (i k : ℕ) → rest ≡ drop i ns → take (length rest - k) (drop k rest) ≡ drop (i + k) ns
+rest_behind ns rest i k e =
+    take_all (length rest - k) (drop k rest) (omega (arith, length-drop k rest))
+    ∙ ap (drop k) e
+    ∙ drop-drop k i ns
 
 no_members_of_none : (ms : Members) → InMembers [] ms → ⊥
 unfolding members
@@ -94,6 +114,12 @@ one_token (String s) ts j d rest p q e = (shape (String s) ts j d rest e).1
 one_token (Number s) ts j d rest p q e = (shape (Number s) ts j d rest e).1
 one_token (Bool b) ts j d rest p q e = (shape (Bool b) ts j d rest e).1
 one_token Null ts j d rest p q e = (shape Null ts j d rest e).1
+
+-- what the node behind the first of those that are left is linked to
+pub link_behind : (ns rest : List Node) (i : ℕ) (n : Node) → Linked (map node_token ns) 0 ns → HasValue (tokens_at ns (i + 1)) → rest ≡ drop i ns → get_or rest 1 (Object 0) ≡ n → LinkAt (map node_token ns) (i + 1) n
+link_behind ns rest i n linked begins e is =
+    let within = value_within ns (i + 1) begins in
+    subst (LinkAt (map node_token ns) (i + 1)) (get_or_default ns (i + 1) Null (Object 0) within ∙ rest_node ns rest i 1 e ∙ is) (linked (i + 1) (omega arith) within)
 
 -- behind a list or an object stands what its link says
 pub by_link : (all : List Token) (i end d : ℕ) (j : Json) (rest : List Token) → Passes all i end → value d (drop i all) ≡ Some (j, rest) → rest ≡ drop end all

@@ -1,5 +1,5 @@
 //! The nodes of a JSON text.
-ghost use Rattle.std.specs.Prelude.{◌≡◌, ◌<◌, ◌+◌, ◌^◌, ℕ, List, get_or, map, length, MatchOption};
+ghost use Rattle.std.specs.Prelude.{◌≡◌, ◌<◌, ◌+◌, ◌^◌, ℕ, List, get_or, map, drop, length, MatchOption};
 ghost use Rattle.json.specs.Token.{Token};
 ghost use Rattle.json.specs.Json.{Json, no_members, value};
 ghost use Rattle.json.specs.Tape.{node_token, Linked};
@@ -76,27 +76,95 @@ pub(crate) fn name_at<'a>(nodes: &[Node<'a>], at: usize) -> Option<&'a str>
     }
 }
 
-// Where a name stands among the members at `from`. A read asks for each member this way, so the loop
-// asks nothing of a member but its name and where the next one is, and keeps an index alone.
-#[inline(never)]
-pub(crate) fn spot_from(nodes: &[Node<'_>], from: usize, name: &str) -> Spot
-    requires { AreMembersAt nodes.now from }
+// The name of the member that begins at `at`, where members are left. `rest` are the nodes from there
+// on, so that a walk adds to an address and multiplies no index.
+#[inline(always)]
+fn first_name<'a>(nodes: &[Node<'a>], at: usize, rest: &[Node<'a>]) -> Option<&'a str>
+    requires rest { rest.now ≡ drop at nodes.now }
+    requires members { HasMembers (tokens_at nodes.now at) }
+    ensures { MatchOption result (members_of (tokens_at nodes.now at) ≡ no_members)
+        (λ name. IsMemberAt nodes.now at name.now) }
+{
+    if let Node::Key(name) = rest[0] {
+        Some(name)
+    } else {
+        None
+    }
+}
+
+// Goes past the value that begins at `at + 1`, where `rest` are the nodes from `at` on: the index after
+// it. `rest` are the nodes from there on.
+#[inline(always)]
+fn pass<'n, 'a>(nodes: &[Node<'a>], at: usize, rest: &mut &'n [Node<'a>]) -> usize
+    requires linked { Linked (map node_token nodes.now) 0 nodes.now }
+    requires begins { HasValue (tokens_at nodes.now (at + 1)) }
+    requires rest { rest.old.now ≡ drop at nodes.now }
+    ensures value { (depth : ℕ) (j : Json) (others : List Token)
+        → value depth (tokens_at nodes.now (at + 1)) ≡ Some (j, others)
+        → others ≡ tokens_at nodes.now result }
+    ensures later { at < result }
+    ensures rest { rest.new.now ≡ drop result nodes.now }
+{
+    let all: &'n [Node<'a>] = *rest;
+    match all[1] {
+        Node::Object(end) => {
+            *rest = &all[end - at..];
+            end
+        }
+        Node::Array(end) => {
+            *rest = &all[end - at..];
+            end
+        }
+        _ => {
+            *rest = &all[2..];
+            at + 2
+        }
+    }
+}
+
+// The nodes from `from` on.
+#[inline(always)]
+fn nodes_from<'n, 'a>(nodes: &'n [Node<'a>], from: usize) -> &'n [Node<'a>]
+    requires { from < length nodes.now }
+    ensures { result.now ≡ drop from nodes.now }
+{
+    &nodes[from..]
+}
+
+// Where a name stands among the members at `from`, where `from_there` are the nodes from there on.
+#[inline(always)]
+fn spot_in<'n, 'a>(nodes: &[Node<'a>], from: usize, from_there: &'n [Node<'a>], name: &str) -> Spot
+    requires members { AreMembersAt nodes.now from }
+    requires rest { from_there.now ≡ drop from nodes.now }
     ensures { let members = member_list (members_of (tokens_at nodes.now from)) in
         IsSpot nodes.now members name.now result }
 {
     let mut first = None;
     let mut at = from;
-    while let Some(key) = name_at(nodes, at) {
+    let mut rest = from_there;
+    while let Some(key) = first_name(nodes, at, rest) {
         if key == name {
             if first.is_some() {
                 return Spot::Repeated;
             }
             first = Some(at + 1);
         }
-        at = after(nodes, at + 1);
+        at = pass(nodes, at, &mut rest);
     }
     match first {
         Some(at) => Spot::Once(at),
         None => Spot::Nowhere,
     }
+}
+
+// Where a name stands among the members at `from`. A read asks for each member this way, so the loop
+// asks nothing of a member but its name and where the next one is.
+#[inline(never)]
+pub(crate) fn spot_from(nodes: &[Node<'_>], from: usize, name: &str) -> Spot
+    requires { AreMembersAt nodes.now from }
+    ensures { let members = member_list (members_of (tokens_at nodes.now from)) in
+        IsSpot nodes.now members name.now result }
+{
+    let from_there = nodes_from(nodes, from);
+    spot_in(nodes, from, from_there, name)
 }

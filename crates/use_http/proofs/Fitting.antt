@@ -15,7 +15,14 @@ use Rattle.garde_schema.specs.Forms.{FormTexts}
 use Rattle.garde_schema.specs.declared.read_error.ReadError.{ReadError}
 use Rattle.garde_schema.specs.declared.read_error.ReadError.TheVariants.{Parse, Report, Memory}
 use Rattle.httparse.specs.Grammar.{status_code}
+use Rattle.garde_catalog.specs.Catalogs.{offered_by}
+use Rattle.garde_catalog.specs.Field.{wants_in}
+use Rattle.use_http.proofs.Picked.{picked_once}
+use Rattle.garde_catalog.specs.declared.catalogs.Catalogs.{Catalogs}
+use Rattle.garde_catalog.specs.declared.language.Language.{Language}
 use Rattle.http.specs.declared.request.Parts.{Parts}
+use Rattle.http_header.specs.FieldValue.{FieldValue}
+use Rattle.http_header.specs.HeaderMap.{get}
 use Rattle.http.specs.Request.{head_of, body_of}
 use Rattle.http1.specs.Framing.{method_kind}
 use Rattle.http1.specs.Message as Wire
@@ -25,23 +32,24 @@ use Rattle.http_server.specs.declared.response.Response.{Response}
 use Rattle.http_server.specs.Exchange.{Call, Exchanges}
 use Rattle.use_http.specs.declared.request.Route.{Route}
 use Rattle.use_http.specs.declared.request.Route.TheVariants.{Order, OtherForm, OtherOfOrders, Health, OtherOfHealth, Nowhere, Unserved, BadTarget}
-use Rattle.use_http.specs.declared.request.Language.{Language}
-use Rattle.use_http.specs.declared.request.Language.TheVariants.{English, Czech}
-use Rattle.use_http.specs.Answered.{form_texts, rule_texts, IsAnswered, IsAnsweredSometime, AnswersRoute}
+use Rattle.use_http.specs.Answered.{voice_at, IsAnswered, IsAnsweredSometime, AnswersRoute}
 use Rattle.use_http.specs.Fits.{Fits, IsOrderIn, IsFaultless, HasReport, IsProblemOf, IsShort, ReadsIn}
-use Rattle.use_http.specs.Judged.{Reads, Tells}
+use Rattle.use_http.specs.Judged.{Reads, Tells, Voice}
 use Rattle.use_http.specs.Reasons.{IsServiced}
 use Rattle.use_http.specs.Order.{order_visits}
-use Rattle.use_http.specs.Request.{Is, IsNot, IsLanguage, IsRoute, path_of}
+use Rattle.use_http.specs.Request.{Is, IsNot, IsAskedIn, IsLanguage, IsRoute, path_of}
 use Rattle.use_http.specs.Wire.{IsExchange}
 
 -- ---- what a request asks for
 
-pub is_one_language : (one other : Language) (head : Parts) → IsLanguage one head → IsLanguage other head → one ≡ other
-is_one_language English English head a b = refl
-is_one_language English Czech head a b = absurd (a b)
-is_one_language Czech English head a b = absurd (b a)
-is_one_language Czech Czech head a b = refl
+is_one_place : (offered : List Language) (field : Option FieldValue) (one other : Option ℕ) → IsAskedIn offered field one → IsAskedIn offered field other
+    → one ≡ other
+is_one_place offered None one other a b = a ∙ sym b
+is_one_place offered (Some value) one other a b = picked_once (wants_in value.bytes) offered one other a b
+
+pub is_one_language : (catalogs : Catalogs) (one other : Option ℕ) (head : Parts) → IsLanguage catalogs one head → IsLanguage catalogs other head
+    → one ≡ other
+is_one_language catalogs one other head a b = is_one_place (offered_by catalogs) (get head.headers (codes "accept-language")) one other a b
 
 abbrev second : List ℕ → ℕ
 second [] = 0
@@ -107,166 +115,167 @@ no_refusal P bytes (parse.LoneSurrogate place) a short bad = nothing_of P _ a.1 
 no_refusal P bytes parse.TooLong a short bad = omega (arith, short, bad)
 no_refusal P bytes parse.Memory a short bad = bad
 
-told_accepted : (language : Language) (body : List ℕ) → IsShort body → IsFaultless language body
-    → (read : Result (Unit {0}) ReadError) → ReadsIn language body read → (plain : Response) → Tells read plain → plain.status ≡ 204
-told_accepted language body short is (Ok done) reads plain tells = tells.status
-told_accepted language body short is (Err (Report report)) reads plain tells = absurd (clash (form_texts language) (rule_texts language) report _ is.1 reads.1)
-told_accepted language body short is (Err (Parse error)) reads plain tells = absurd (no_refusal _ _ error is short reads)
-told_accepted language body short is (Err Memory) reads plain tells = absurd tells
+module _ (catalogs : Catalogs) where
+  told_accepted : (place : Option ℕ) (body : List ℕ) → IsShort body → IsFaultless catalogs place body
+      → (read : Result (Unit {0}) ReadError) → ReadsIn catalogs place body read → (plain : Response) → Tells (voice_at catalogs place) read plain → plain.status ≡ 204
+  told_accepted place body short is (Ok done) reads plain tells = tells.status
+  told_accepted place body short is (Err (Report report)) reads plain tells = absurd (clash (voice_at catalogs place).form_text (voice_at catalogs place).text report _ is.1 reads.1)
+  told_accepted place body short is (Err (Parse error)) reads plain tells = absurd (no_refusal _ _ error is short reads)
+  told_accepted place body short is (Err Memory) reads plain tells = absurd tells
 
-told_reported : (language : Language) (body : List ℕ) → IsShort body → (report : List Entry) → HasReport language body report
-    → (read : Result (Unit {0}) ReadError) → ReadsIn language body read → (plain : Response) → Tells read plain → plain.status ≡ 422
-told_reported language body short report is (Ok done) reads plain tells = absurd (clash (form_texts language) (rule_texts language) report _ reads.1 is.1)
-told_reported language body short report is (Err (Report other)) reads plain tells = tells.status
-told_reported language body short report is (Err (Parse error)) reads plain tells = absurd (no_refusal _ _ error is short reads)
-told_reported language body short report is (Err Memory) reads plain tells = absurd tells
+  told_reported : (place : Option ℕ) (body : List ℕ) → IsShort body → (report : List Entry) → HasReport catalogs place body report
+      → (read : Result (Unit {0}) ReadError) → ReadsIn catalogs place body read → (plain : Response) → Tells (voice_at catalogs place) read plain → plain.status ≡ 422
+  told_reported place body short report is (Ok done) reads plain tells = absurd (clash (voice_at catalogs place).form_text (voice_at catalogs place).text report _ reads.1 is.1)
+  told_reported place body short report is (Err (Report other)) reads plain tells = tells.status
+  told_reported place body short report is (Err (Parse error)) reads plain tells = absurd (no_refusal _ _ error is short reads)
+  told_reported place body short report is (Err Memory) reads plain tells = absurd tells
 
--- ---- the answer on the wire
+  -- ---- the answer on the wire
 
--- the body of the answer to a `POST`
-body_sent : (method sent told : List ℕ) → method ≡ codes "POST"
-    → sent ≡ (if is_head (method_kind method) then [] else told) → sent ≡ told
-body_sent method sent told is e =
-    subst (λ (m : List ℕ). sent ≡ (if is_head (method_kind m) then [] else told)) is e
+  -- the body of the answer to a `POST`
+  body_sent : (method sent told : List ℕ) → method ≡ codes "POST"
+      → sent ≡ (if is_head (method_kind method) then [] else told) → sent ≡ told
+  body_sent method sent told is e =
+      subst (λ (m : List ℕ). sent ≡ (if is_head (method_kind m) then [] else told)) is e
 
--- what is said of the answer to a body, by its status
-record Says (head : Parts) (body : List ℕ) (status : ℕ) (sent : List ℕ) : Type 0 where
-  accepts : status ≡ 204 → (language : Language) × IsOrderIn language head × IsFaultless language body
-  reports : status ≡ 422 → IsProblemOf head body sent
-  accepts_each : (language : Language) → IsOrderIn language head → IsShort body → IsFaultless language body → status ≡ 204
-  reports_each : (language : Language) → IsOrderIn language head → IsShort body
-      → (report : List Entry) → HasReport language body report → status ≡ 422
+  -- what is said of the answer to a body, by its status
+  record Says (head : Parts) (body : List ℕ) (status : ℕ) (sent : List ℕ) : Type 0 where
+    accepts : status ≡ 204 → (place : Option ℕ) × IsOrderIn catalogs place head × IsFaultless catalogs place body
+    reports : status ≡ 422 → IsProblemOf catalogs head body sent
+    accepts_each : (place : Option ℕ) → IsOrderIn catalogs place head → IsShort body → IsFaultless catalogs place body → status ≡ 204
+    reports_each : (place : Option ℕ) → IsOrderIn catalogs place head → IsShort body
+        → (report : List Entry) → HasReport catalogs place body report → status ≡ 422
 
--- a request that is no order
-other : (head : Parts) (body : List ℕ) (status : ℕ) (sent : List ℕ) (route : Route) → IsRoute route head → route ≢ Order
-    → status ≢ 204 → status ≢ 422 → Says head body status sent
-other head body status sent route is no_order not_204 not_422 = record {
-  accepts = λ e. absurd (not_204 e);
-  reports = λ e. absurd (not_422 e);
-  accepts_each = λ language order. absurd (no_order (only_order route head is order.0));
-  reports_each = λ language order. absurd (no_order (only_order route head is order.0));
-}
+  -- a request that is no order
+  other : (head : Parts) (body : List ℕ) (status : ℕ) (sent : List ℕ) (route : Route) → IsRoute route head → route ≢ Order
+      → status ≢ 204 → status ≢ 422 → Says head body status sent
+  other head body status sent route is no_order not_204 not_422 = record {
+    accepts = λ e. absurd (not_204 e);
+    reports = λ e. absurd (not_422 e);
+    accepts_each = λ place order. absurd (no_order (only_order route head is order.0));
+    reports_each = λ place order. absurd (no_order (only_order route head is order.0));
+  }
 
-only_accepts : (language : Language) (head : Parts) (body : List ℕ) (plain : Response) (sent : List ℕ) → IsOrderIn language head
-    → (read : Result (Unit {0}) ReadError) → ReadsIn language body read → Tells read plain → plain.status ≡ 204
-    → IsFaultless language body
-only_accepts language head body plain sent order (Ok done) reads tells e = reads
-only_accepts language head body plain sent order (Err (Report report)) reads tells e = absurd (omega (arith, e, tells.status))
-only_accepts language head body plain sent order (Err (Parse error)) reads tells e = absurd (omega (arith, e, tells.status))
-only_accepts language head body plain sent order (Err Memory) reads tells e = absurd tells
+  only_accepts : (place : Option ℕ) (head : Parts) (body : List ℕ) (plain : Response) (sent : List ℕ) → IsOrderIn catalogs place head
+      → (read : Result (Unit {0}) ReadError) → ReadsIn catalogs place body read → Tells (voice_at catalogs place) read plain → plain.status ≡ 204
+      → IsFaultless catalogs place body
+  only_accepts place head body plain sent order (Ok done) reads tells e = reads
+  only_accepts place head body plain sent order (Err (Report report)) reads tells e = absurd (omega (arith, e, tells.status))
+  only_accepts place head body plain sent order (Err (Parse error)) reads tells e = absurd (omega (arith, e, tells.status))
+  only_accepts place head body plain sent order (Err Memory) reads tells e = absurd tells
 
-only_reports : (language : Language) (head : Parts) (body : List ℕ) (plain : Response) (sent : List ℕ) → IsOrderIn language head
-    → sent ≡ plain.body.items
-    → (read : Result (Unit {0}) ReadError) → ReadsIn language body read → Tells read plain → plain.status ≡ 422
-    → IsProblemOf head body sent
-only_reports language head body plain sent order is (Ok done) reads tells e = absurd (omega (arith, e, tells.status))
-only_reports language head body plain sent order is (Err (Report report)) reads tells e = record {
-  language = language;
-  is_order = order;
-  report = report;
-  is_report = reads;
-  is_text = is ∙ tells.body;
-}
-only_reports language head body plain sent order is (Err (Parse error)) reads tells e = absurd (omega (arith, e, tells.status))
-only_reports language head body plain sent order is (Err Memory) reads tells e = absurd tells
+  only_reports : (place : Option ℕ) (head : Parts) (body : List ℕ) (plain : Response) (sent : List ℕ) → IsOrderIn catalogs place head
+      → sent ≡ plain.body.items
+      → (read : Result (Unit {0}) ReadError) → ReadsIn catalogs place body read → Tells (voice_at catalogs place) read plain → plain.status ≡ 422
+      → IsProblemOf catalogs head body sent
+  only_reports place head body plain sent order is (Ok done) reads tells e = absurd (omega (arith, e, tells.status))
+  only_reports place head body plain sent order is (Err (Report report)) reads tells e = record {
+    place = place;
+    is_order = order;
+    report = report;
+    is_report = reads;
+    is_text = is ∙ tells.body;
+  }
+  only_reports place head body plain sent order is (Err (Parse error)) reads tells e = absurd (omega (arith, e, tells.status))
+  only_reports place head body plain sent order is (Err Memory) reads tells e = absurd tells
 
-of_order : (language : Language) (head : Parts) (body : List ℕ) (plain : Response) (sent : List ℕ) → IsOrderIn language head
-    → sent ≡ plain.body.items
-    → (read : Result (Unit {0}) ReadError) → ReadsIn language body read → Tells read plain → Says head body plain.status sent
-of_order language head body plain sent order is read reads tells = record {
-  accepts = λ e. (language, order, only_accepts language head body plain sent order read reads tells e);
-  reports = λ e. only_reports language head body plain sent order is read reads tells e;
-  accepts_each = λ other asks short faultless.
-      told_accepted language body short
-      (subst (λ (l : Language). IsFaultless l body) (is_one_language other language head asks.1 order.1) faultless) read reads plain tells;
-  reports_each = λ other asks short report has.
-      told_reported language body short report
-      (subst (λ (l : Language). HasReport l body report) (is_one_language other language head asks.1 order.1) has) read reads plain tells;
-}
+  of_order : (place : Option ℕ) (head : Parts) (body : List ℕ) (plain : Response) (sent : List ℕ) → IsOrderIn catalogs place head
+      → sent ≡ plain.body.items
+      → (read : Result (Unit {0}) ReadError) → ReadsIn catalogs place body read → Tells (voice_at catalogs place) read plain → Says head body plain.status sent
+  of_order place head body plain sent order is read reads tells = record {
+    accepts = λ e. (place, order, only_accepts place head body plain sent order read reads tells e);
+    reports = λ e. only_reports place head body plain sent order is read reads tells e;
+    accepts_each = λ other asks short faultless.
+        told_accepted place body short
+        (subst (λ (l : Option ℕ). IsFaultless catalogs l body) (is_one_language catalogs other place head asks.1 order.1) faultless) read reads plain tells;
+    reports_each = λ other asks short report has.
+        told_reported place body short report
+        (subst (λ (l : Option ℕ). HasReport catalogs l body report) (is_one_language catalogs other place head asks.1 order.1) has) read reads plain tells;
+  }
 
-by_route : (head : Parts) (body : List ℕ) (plain : Response) (sent : List ℕ) (route : Route) → IsRoute route head
-    → AnswersRoute route head body plain → sent ≡ (if is_head (method_kind head.method) then [] else plain.body.items)
-    → Says head body plain.status sent
-by_route head body plain sent Order is_route a is =
-    of_order a.0 head body plain sent (is_route, a.1) (body_sent head.method sent _ ((bytes_eq-Decides _ _).0 is_route.1) is) a.2.0 a.2.1 a.2.2
-by_route head body plain sent OtherForm is_route a is =
-    other head body _ sent OtherForm is_route (λ e. cc) (λ e. omega (arith, e, a.status)) (λ e. omega (arith, e, a.status))
-by_route head body plain sent OtherOfOrders is_route a is =
-    other head body _ sent OtherOfOrders is_route (λ e. cc) (λ e. omega (arith, e, a.status)) (λ e. omega (arith, e, a.status))
-by_route head body plain sent Health is_route a is =
-    other head body _ sent Health is_route (λ e. cc) (λ e. omega (arith, e, a.status)) (λ e. omega (arith, e, a.status))
-by_route head body plain sent OtherOfHealth is_route a is =
-    other head body _ sent OtherOfHealth is_route (λ e. cc) (λ e. omega (arith, e, a.status)) (λ e. omega (arith, e, a.status))
-by_route head body plain sent Nowhere is_route a is =
-    other head body _ sent Nowhere is_route (λ e. cc) (λ e. omega (arith, e, a.status)) (λ e. omega (arith, e, a.status))
-by_route head body plain sent Unserved is_route a is =
-    other head body _ sent Unserved is_route (λ e. cc) (λ e. omega (arith, e, a.status)) (λ e. omega (arith, e, a.status))
-by_route head body plain sent BadTarget is_route a is =
-    other head body _ sent BadTarget is_route (λ e. cc) (λ e. omega (arith, e, a.status)) (λ e. omega (arith, e, a.status))
+  by_route : (head : Parts) (body : List ℕ) (plain : Response) (sent : List ℕ) (route : Route) → IsRoute route head
+      → AnswersRoute catalogs route head body plain → sent ≡ (if is_head (method_kind head.method) then [] else plain.body.items)
+      → Says head body plain.status sent
+  by_route head body plain sent Order is_route a is =
+      of_order a.0 head body plain sent (is_route, a.1) (body_sent head.method sent _ ((bytes_eq-Decides _ _).0 is_route.1) is) a.2.0 a.2.1 a.2.2
+  by_route head body plain sent OtherForm is_route a is =
+      other head body _ sent OtherForm is_route (λ e. cc) (λ e. omega (arith, e, a.status)) (λ e. omega (arith, e, a.status))
+  by_route head body plain sent OtherOfOrders is_route a is =
+      other head body _ sent OtherOfOrders is_route (λ e. cc) (λ e. omega (arith, e, a.status)) (λ e. omega (arith, e, a.status))
+  by_route head body plain sent Health is_route a is =
+      other head body _ sent Health is_route (λ e. cc) (λ e. omega (arith, e, a.status)) (λ e. omega (arith, e, a.status))
+  by_route head body plain sent OtherOfHealth is_route a is =
+      other head body _ sent OtherOfHealth is_route (λ e. cc) (λ e. omega (arith, e, a.status)) (λ e. omega (arith, e, a.status))
+  by_route head body plain sent Nowhere is_route a is =
+      other head body _ sent Nowhere is_route (λ e. cc) (λ e. omega (arith, e, a.status)) (λ e. omega (arith, e, a.status))
+  by_route head body plain sent Unserved is_route a is =
+      other head body _ sent Unserved is_route (λ e. cc) (λ e. omega (arith, e, a.status)) (λ e. omega (arith, e, a.status))
+  by_route head body plain sent BadTarget is_route a is =
+      other head body _ sent BadTarget is_route (λ e. cc) (λ e. omega (arith, e, a.status)) (λ e. omega (arith, e, a.status))
 
--- the response without its date says the same
-undated : (head : Parts) (body : List ℕ) (answer : Response) (sent : List ℕ) → IsAnsweredSometime head body answer
-    → sent ≡ (if is_head (method_kind head.method) then [] else answer.body.items) → Says head body answer.status sent
-undated head body answer sent a is =
-    let plain = a.1.2 in
-    subst (λ (n : ℕ). Says head body n sent) (sym a.1.4.0)
-    (by_route head body plain sent a.1.0 a.1.1 a.1.3
-    (subst (λ (t : List ℕ). sent ≡ (if is_head (method_kind head.method) then [] else t)) (ap (λ b. b.items) a.1.4.1) is))
+  -- the response without its date says the same
+  undated : (head : Parts) (body : List ℕ) (answer : Response) (sent : List ℕ) → IsAnsweredSometime catalogs head body answer
+      → sent ≡ (if is_head (method_kind head.method) then [] else answer.body.items) → Says head body answer.status sent
+  undated head body answer sent a is =
+      let plain = a.1.2 in
+      subst (λ (n : ℕ). Says head body n sent) (sym a.1.4.0)
+      (by_route head body plain sent a.1.0 a.1.1 a.1.3
+      (subst (λ (t : List ℕ). sent ≡ (if is_head (method_kind head.method) then [] else t)) (ap (λ b. b.items) a.1.4.1) is))
 
-pub exchange_fits : (config : Config) (stays : Bool) (stream text rest : List ℕ) (c : Call) → IsServiced c
-    → Exchanges config stays stream c text rest → IsExchange config stays stream text rest
-exchange_fits config stays stream text rest c a x =
-    let head = head_of c.0 in
-    let sent = x.is_answer.message.body.bytes in
-    let answered : IsAnsweredSometime head x.message.body.bytes c.1 = subst (λ (b : List ℕ). IsAnsweredSometime head b c.1) x.request.body a in
-    let is : sent ≡ (if is_head (method_kind head.method) then [] else c.1.body.items) =
-    subst (λ (m : List ℕ). sent ≡ (if is_head (method_kind m) then [] else c.1.body.items)) (sym x.request.parts.method) x.is_answer.body in
-    let says = subst (λ (n : ℕ). Says head x.message.body.bytes n sent) (sym x.is_answer.status) (undated head x.message.body.bytes c.1 sent answered is) in
-    record {
-      request = x.message;
-      reads = x.request.reads;
-      within = x.request.fits;
-      interim = x.interim;
-      is_interim = x.is_interim;
-      answer = x.answer;
-      joined = x.joined;
-      response = x.is_answer.message;
-      is_read = x.is_answer.reads;
-      fits = record {
-        head = head;
-        are_parts = x.request.parts;
-        answer = c.1;
-        is_answered = answered;
-        status = x.is_answer.status;
-        added = x.is_answer.added;
-        fields = x.is_answer.headers.0;
-        are_added = x.is_answer.headers.1;
-        body = x.is_answer.body;
-        accepts = says.accepts;
-        reports = says.reports;
-        accepts_each = says.accepts_each;
-        reports_each = says.reports_each;
-      };
-      persists = x.persists;
-      announced = x.announced;
-    }
+  pub exchange_fits : (config : Config) (stays : Bool) (stream text rest : List ℕ) (c : Call) → (IsServiced catalogs) c
+      → Exchanges config stays stream c text rest → IsExchange catalogs config stays stream text rest
+  exchange_fits config stays stream text rest c a x =
+      let head = head_of c.0 in
+      let sent = x.is_answer.message.body.bytes in
+      let answered : IsAnsweredSometime catalogs head x.message.body.bytes c.1 = subst (λ (b : List ℕ). IsAnsweredSometime catalogs head b c.1) x.request.body a in
+      let is : sent ≡ (if is_head (method_kind head.method) then [] else c.1.body.items) =
+      subst (λ (m : List ℕ). sent ≡ (if is_head (method_kind m) then [] else c.1.body.items)) (sym x.request.parts.method) x.is_answer.body in
+      let says = subst (λ (n : ℕ). Says head x.message.body.bytes n sent) (sym x.is_answer.status) (undated head x.message.body.bytes c.1 sent answered is) in
+      record {
+        request = x.message;
+        reads = x.request.reads;
+        within = x.request.fits;
+        interim = x.interim;
+        is_interim = x.is_interim;
+        answer = x.answer;
+        joined = x.joined;
+        response = x.is_answer.message;
+        is_read = x.is_answer.reads;
+        fits = record {
+          head = head;
+          are_parts = x.request.parts;
+          answer = c.1;
+          is_answered = answered;
+          status = x.is_answer.status;
+          added = x.is_answer.added;
+          fields = x.is_answer.headers.0;
+          are_added = x.is_answer.headers.1;
+          body = x.is_answer.body;
+          accepts = says.accepts;
+          reports = says.reports;
+          accepts_each = says.accepts_each;
+          reports_each = says.reports_each;
+        };
+        persists = x.persists;
+        announced = x.announced;
+      }
 
--- the service never accepts an upgrade
-read_stays : (read : Result (Unit {0}) ReadError) (r : Response) → Tells read r → r.status ≢ 101
-read_stays (Ok done) r tells = λ e. omega (arith, e, tells.status)
-read_stays (Err (Report report)) r tells = λ e. omega (arith, e, tells.status)
-read_stays (Err (Parse error)) r tells = λ e. omega (arith, e, tells.status)
-read_stays (Err Memory) r tells = absurd tells
+  -- the service never accepts an upgrade
+  read_stays : (voice : Voice) (read : Result (Unit {0}) ReadError) (r : Response) → Tells voice read r → r.status ≢ 101
+  read_stays voice (Ok done) r tells = λ e. omega (arith, e, tells.status)
+  read_stays voice (Err (Report report)) r tells = λ e. omega (arith, e, tells.status)
+  read_stays voice (Err (Parse error)) r tells = λ e. omega (arith, e, tells.status)
+  read_stays voice (Err Memory) r tells = absurd tells
 
-stays_http : (route : Route) (head : Parts) (body : List ℕ) (plain : Response) → AnswersRoute route head body plain → plain.status ≢ 101
-stays_http Order head body plain a = read_stays a.2.0 plain a.2.2
-stays_http OtherForm head body plain a = λ e. omega (arith, e, a.status)
-stays_http OtherOfOrders head body plain a = λ e. omega (arith, e, a.status)
-stays_http Health head body plain a = λ e. omega (arith, e, a.status)
-stays_http OtherOfHealth head body plain a = λ e. omega (arith, e, a.status)
-stays_http Nowhere head body plain a = λ e. omega (arith, e, a.status)
-stays_http Unserved head body plain a = λ e. omega (arith, e, a.status)
-stays_http BadTarget head body plain a = λ e. omega (arith, e, a.status)
+  stays_http : (route : Route) (head : Parts) (body : List ℕ) (plain : Response) → AnswersRoute catalogs route head body plain → plain.status ≢ 101
+  stays_http Order head body plain a = read_stays (voice_at catalogs a.0) a.2.0 plain a.2.2
+  stays_http OtherForm head body plain a = λ e. omega (arith, e, a.status)
+  stays_http OtherOfOrders head body plain a = λ e. omega (arith, e, a.status)
+  stays_http Health head body plain a = λ e. omega (arith, e, a.status)
+  stays_http OtherOfHealth head body plain a = λ e. omega (arith, e, a.status)
+  stays_http Nowhere head body plain a = λ e. omega (arith, e, a.status)
+  stays_http Unserved head body plain a = λ e. omega (arith, e, a.status)
+  stays_http BadTarget head body plain a = λ e. omega (arith, e, a.status)
 
-pub never_upgrades : (c : Call) → IsServiced c → c.1.status ≢ 101
-never_upgrades c a = λ e. stays_http a.1.0 _ _ a.1.2 a.1.3 (sym a.1.4.0 ∙ e)
+  pub never_upgrades : (c : Call) → (IsServiced catalogs) c → c.1.status ≢ 101
+  never_upgrades c a = λ e. stays_http a.1.0 _ _ a.1.2 a.1.3 (sym a.1.4.0 ∙ e)

@@ -1,3 +1,4 @@
 pub mod Chunk
+pub mod Picked
 pub mod Fitting
 pub mod Talk

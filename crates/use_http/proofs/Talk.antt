@@ -5,7 +5,8 @@ use Rattle.std.proofs.Math.Dec.{eqb-suc-zero}
 use Rattle.std.proofs.Math.Logic.{∥∥₁_map}
 use Rattle.std.proofs.lemmas.Bool.{true≢false}
 use Rattle.std.proofs.lemmas.List.{append_cancel_right}
-use Rattle.std.proofs.lemmas.List.Elements.{All-nil, All-cons, All-head, All-tail, All-weaker}
+use Rattle.std.proofs.lemmas.List.Elements.{All-nil, All-cons, All-head, All-tail}
+use Rattle.garde_catalog.specs.declared.catalogs.Catalogs.{Catalogs}
 use Rattle.http.specs.declared.request.Request.{Request}
 use Rattle.http_server.specs.declared.response.Response.{Response}
 use Rattle.http_server.specs.declared.state.Config.{Config}
@@ -17,259 +18,14 @@ use Rattle.http_server.specs.declared.connection.Connection.{Connection}
 use Rattle.http_server.specs.declared.state.Refusal.{Refusal}
 use Rattle.http_server.specs.declared.state.Refusal.TheVariants.{Truncated, Unreadable, BodyTooLarge, InvalidPart, InvalidHost, UnknownCoding, InvalidResponse}
 use Rattle.http_server.specs.Connection.{config_of, history}
-use Rattle.http_server.specs.Exchange.{Call, Calls, Exchanges, IsInterim, Serves}
-use Rattle.http_server.proofs.Theorems.{always_served, Chain-each}
+use Rattle.http_server.specs.Exchange.{Call, Calls, Chain, Exchanges, IsInterim, Serves}
+use Rattle.http_server.proofs.Theorems.{always_served}
 use Rattle.http_server.specs.History.{History, IsServed, Justifies, Stands, new_history}
 use Rattle.http_server.specs.Refusal.{refusal_text}
 use Rattle.use_http.specs.Ending.{Ends, IsRefusalText}
 use Rattle.use_http.specs.Reasons.{IsServiced, IsRefusedFor}
 use Rattle.use_http.specs.Wire.{IsExchange, AreExchanges, Follows, IsConversation, IsTalk}
 use Rattle.use_http.proofs.Fitting.{exchange_fits, never_upgrades}
-
--- the exchanges of the calls
-all_fit : (config : Config) (calls : List Call) (stream text rest : List ℕ) → All IsServiced calls
-    → Serves config stream calls text rest → AreExchanges config (length calls) stream text rest
-all_fit config [] stream text rest fine x = x
-all_fit config (c ∷ calls) stream text rest fine x = (
-  x.0,
-  x.1,
-  x.2,
-  x.3,
-  exchange_fits config true stream x.0 x.1 c (All-head IsServiced c calls fine) x.4,
-  all_fit config calls x.1 x.2 rest (All-tail IsServiced c calls fine) x.5,
-)
-
--- the last of the calls is answered
-last_of : (calls : List Call) (c : Call) → All IsServiced (calls ++ c ∷ []) → IsServiced c
-last_of [] c fine = All-head IsServiced c [] fine
-last_of (x ∷ xs) c fine = last_of xs c (All-tail IsServiced x (xs ++ c ∷ []) fine)
-
--- the calls that were answered are the first of the calls
-first_of : (calls more : List Call) → All IsServiced (calls ++ more) → All IsServiced calls
-first_of [] more fine = All-nil IsServiced
-first_of (x ∷ xs) more fine =
-    All-cons IsServiced x xs (All-head IsServiced x (xs ++ more) fine) (first_of xs more (All-tail IsServiced x (xs ++ more) fine))
-
-moved : (calls others : List Call) → calls ≡ others → All IsServiced calls → All IsServiced others
-moved calls others is fine = subst (λ (cs : List Call). All IsServiced cs) is fine
-
--- the calls that were answered, by the state
-refused_first : (why : Refusal) (config : Config) (h : History) (calls : List Call) (rest : List ℕ)
-    → All IsServiced h.calls → Justifies why config h calls rest → All IsServiced calls
-refused_first Truncated config h calls rest fine x = moved _ _ x.0 fine
-refused_first (Unreadable e) config h calls rest fine x = moved _ _ x.0 fine
-refused_first BodyTooLarge config h calls rest fine x = moved _ _ x.0 fine
-refused_first (InvalidPart e) config h calls rest fine x = moved _ _ x.0 fine
-refused_first InvalidHost config h calls rest fine x = moved _ _ x.0 fine
-refused_first UnknownCoding config h calls rest fine x = moved _ _ x.0 fine
-refused_first (InvalidResponse e) config h calls rest fine x = first_of calls (x.1.call ∷ []) (moved _ _ x.1.calls fine)
-
-first_at : (s : State) (config : Config) (h : History) (calls : List Call) (text interim rest : List ℕ)
-    → All IsServiced h.calls → Stands s config h calls text interim rest → All IsServiced calls
-first_at Open config h calls text interim rest fine x = moved _ _ x.0 fine
-first_at (Closing Asked) config h calls text interim rest fine x = first_of calls (x.0 ∷ []) (moved _ _ x.4 fine)
-first_at (Closing EndOfInput) config h calls text interim rest fine x = moved _ _ x.0 fine
-first_at (Closing (Refused why)) config h calls text interim rest fine x = refused_first why config h calls rest fine x.0
-first_at Upgraded config h calls text interim rest fine x = first_of calls (x.last.call ∷ []) (moved _ _ x.last.calls fine)
-first_at Aborted config h calls text interim rest fine x =
-    elim x.calls [
-      | inl same ↦ moved _ _ same fine
-      | inr more ↦ first_of calls (more.0 ∷ []) (moved _ _ more.1 fine)
-    ]
-
--- why the next request is refused, of the bytes alone
-reason_of : (why : Refusal) (config : Config) (h : History) (calls : List Call) (rest : List ℕ)
-    → All IsServiced h.calls → Justifies why config h calls rest → IsRefusedFor why config h.ended rest
-reason_of Truncated config h calls rest fine x = (x.1, x.2, x.3)
-reason_of (Unreadable e) config h calls rest fine x = (x.1, x.2)
-reason_of BodyTooLarge config h calls rest fine x = x.1
-reason_of (InvalidPart e) config h calls rest fine x = x.1
-reason_of InvalidHost config h calls rest fine x = x.1
-reason_of UnknownCoding config h calls rest fine x = x.1
-reason_of (InvalidResponse e) config h calls rest fine x =
-    (x.1.call, last_of calls x.1.call (moved _ _ x.1.calls fine), x.1.message, x.0, x.1.request, x.2)
-
--- nothing was lost, unless memory ran out
-abbrev pub Keeps : State → List ℕ → Type 0
-Keeps Aborted lost = Unit {0}
-Keeps state lost = lost ≡ []
-
--- what follows the exchanges, by the state: what was handed out, what is pending and what was lost are the answers and the rest
-abbrev Ending : State → Config → History → List ℕ → List ℕ → Type 0
-Ending s config h text rest =
-    (last : List ℕ) × Follows s config h.ended rest last × (lost : List ℕ) × ((h.sent ++ h.pending) ++ lost ≡ text ++ last) × Keeps s lost
-
-ends_at : (s : State) (config : Config) (h : History) (calls : List Call) (text interim rest : List ℕ)
-    → IsInterim config.limits rest interim → All IsServiced h.calls → Stands s config h calls text interim rest
-    → Ending s config h text rest
-ends_at Open config h calls text interim rest waits fine x = (interim, waits, [], append-nil (h.sent ++ h.pending) ∙ x.1, refl)
-ends_at (Closing Asked) config h calls text interim rest waits fine x = (
-  x.1,
-  (x.2, exchange_fits config false rest x.1 x.2 x.0 (last_of calls x.0 (moved _ _ x.4 fine)) x.3),
-  [],
-  append-nil (h.sent ++ h.pending) ∙ x.5,
-  refl,
-)
-ends_at (Closing EndOfInput) config h calls text interim rest waits fine x =
-    ([], (x.1, x.2, refl), [], append-nil (h.sent ++ h.pending) ∙ x.3 ∙ sym (append-nil text), refl)
-ends_at (Closing (Refused why)) config h calls text interim rest waits fine x = (
-  interim ++ refusal_text why,
-  (reason_of why config h calls rest fine x.0, (interim, waits, (refusal_text why, inl refl, refl))),
-  [],
-  append-nil (h.sent ++ h.pending) ∙ x.1 ∙ append_assoc text interim (refusal_text why),
-  refl,
-)
-ends_at Upgraded config h calls text interim rest waits fine x =
-    absurd (never_upgrades x.last.call (last_of calls x.last.call (moved _ _ x.last.calls fine)) x.accepted)
-ends_at Aborted config h calls text interim rest waits fine x = (
-  interim,
-  (waits, x.had_work),
-  x.lost,
-  ap (λ (p : List ℕ). (h.sent ++ p) ++ x.lost) x.dropped ∙ ap (λ (t : List ℕ). t ++ x.lost) (append-nil h.sent) ∙ x.sent,
-  tt,
-)
-
--- what a connection read and wrote, has yet to write, and lost
-abbrev pub Conversed : Config → State → Bool → List ℕ → List ℕ → Type 0
-Conversed config state ended read text = (lost : List ℕ) × IsConversation config state ended read (text ++ lost) × Keeps state lost
-
-conversation : (config : Config) (h : History) → All IsServiced h.calls → IsServed config h
-    → Conversed config h.state h.ended h.received (h.sent ++ h.pending)
-conversation config h fine x =
-    let first = first_at h.state config h x.answered x.text x.interim x.rest fine x.stands in
-    let end = ends_at h.state config h x.answered x.text x.interim x.rest x.is_interim fine x.stands in (
-      end.2,
-      record {
-        count = length x.answered;
-        answers = x.text;
-        rest = x.rest;
-        exchanges = all_fit config x.answered h.received x.text x.rest first x.serves;
-        last = end.0;
-        follows = end.1;
-        joined = end.3;
-      },
-      end.4,
-    )
-
--- where the bytes of a refusal alone are pending, what stands in their place ends the conversation as well
-replaced : (config : Config) (why : Refusal) (h : History) (text : List ℕ) → All IsServiced h.calls → IsServed config h
-    → h.state ≡ Closing (Refused why) → h.pending ≡ refusal_text why → IsRefusalText why text
-    → IsConversation config (Closing (Refused why)) h.ended h.received (h.sent ++ text)
-replaced config why h text fine x closes alone stands =
-    let first = first_at h.state config h x.answered x.text x.interim x.rest fine x.stands in
-    let there : Stands (Closing (Refused why)) config h x.answered x.text x.interim x.rest =
-    subst (λ (s : State). Stands s config h x.answered x.text x.interim x.rest) closes x.stands in
-    let sent : h.sent ≡ x.text ++ x.interim =
-    append_cancel_right h.sent (x.text ++ x.interim) (refusal_text why)
-    (ap (λ (p : List ℕ). h.sent ++ p) (sym alone) ∙ there.1) in
-    record {
-      count = length x.answered;
-      answers = x.text;
-      rest = x.rest;
-      exchanges = all_fit config x.answered h.received x.text x.rest first x.serves;
-      last = x.interim ++ text;
-      follows = (reason_of why config h x.answered x.rest fine there.0, (x.interim, x.is_interim, (text, stands, refl)));
-      joined = ap (λ (t : List ℕ). t ++ text) sent ∙ append_assoc x.text x.interim text;
-    }
-
--- the calls of a service whose answers are such
-serviced : {S : Type 0} (gives : S → Request (List ℕ) → Response → S → Type 0)
-    → ((old new : S) (c : Call) → gives old c.0 c.1 new → IsServiced c)
-    → (first last : Connection) (old new : S) → history first ≡ new_history
-    → Calls gives old new (history first).calls (history last).calls → All IsServiced (history last).calls
-serviced {S} gives each first last old new fresh calls =
-    let x = subst (λ (h : History). Calls gives old new h.calls (history last).calls) fresh calls in
-    moved _ _ (sym x.1)
-    (All-weaker (λ (k : Call). (a : S) × (b : S) × gives a k.0 k.1 b) IsServiced (λ k w. each w.0 w.1 k w.2) x.0
-    (Chain-each gives x.0 old new x.2))
-
--- ---- what a call returned, by how much of what was to be written it wrote
-
--- all that is written in the end, for bytes that are pending
-whole : (config : Config) (h : History) (text : List ℕ) → All IsServiced h.calls → IsServed config h → Ends h.state h.pending text
-    → Conversed config h.state h.ended h.received (h.sent ++ text)
-whole config h text fine x ends =
-    elim ends [
-      | inl same ↦
-          subst (λ (p : List ℕ). Conversed config h.state h.ended h.received (h.sent ++ p)) (sym same) (conversation config h fine x)
-      | inr other ↦
-          subst (λ (s : State). Conversed config s h.ended h.received (h.sent ++ text)) (sym other.1) (
-            [],
-            subst (λ (t : List ℕ). IsConversation config (Closing (Refused other.0)) h.ended h.received t) (sym (append-nil (h.sent ++ text)))
-                (replaced config other.0 h text fine x other.1 other.2 other.3),
-            refl,
-          )
-    ]
-
--- an error, where this part of it was written
-failing : (E : Type 0) (config : Config) (h : History) (part unwritten : List ℕ) (e : E) → All IsServiced h.calls → IsServed config h
-    → Ends h.state h.pending (part ++ unwritten) → IsTalk config h.ended h.received (h.sent ++ part) (Err e)
-failing E config h part unwritten e fine x ends =
-    let all = whole config h (part ++ unwritten) fine x ends in
-    let joined : (h.sent ++ (part ++ unwritten)) ++ all.0 ≡ (h.sent ++ part) ++ (unwritten ++ all.0) =
-    ap (λ (t : List ℕ). t ++ all.0) (sym (append_assoc h.sent part unwritten)) ∙ append_assoc (h.sent ++ part) unwritten all.0 in
-    (h.state, unwritten ++ all.0, subst (λ (t : List ℕ). IsConversation config h.state h.ended h.received t) joined all.1)
-
--- all of it was written
-ending : (E : Type 0) (s : State) (config : Config) (at_end : Bool) (read text : List ℕ) → s ≢ Open → Conversed config s at_end read text
-    → IsTalk {E = E} config at_end read text (Ok s)
-ending E Open config at_end read text shut all = absurd (shut refl)
-ending E (Closing why) config at_end read text shut all =
-    subst (λ (t : List ℕ). IsConversation config (Closing why) at_end read t) (ap (λ (l : List ℕ). text ++ l) all.2 ∙ append-nil text) all.1
-ending E Upgraded config at_end read text shut all = absurd all.1.follows
-ending E Aborted config at_end read text shut all = (all.0, all.1)
-
--- A connection that was new, after calls of a service that read and wrote these bytes.
-pub record Talked (asked : Config) (last : Connection) (read written : List ℕ) : Type 0 where
-  pub is_asked : config_of last ≡ asked
-  pub received : (history last).received ≡ read
-  pub sent : (history last).sent ≡ written
-  pub all_serviced : All IsServiced (history last).calls
-
--- the same of the bytes that were read and written
-of_bytes : (E : Type 0) (config : Config) (last : Connection) (read written part : List ℕ) (result : Result State E) → Talked config last read written
-    → ∥ IsTalk (config_of last) (history last).ended (history last).received ((history last).sent ++ part) result ∥₁
-    → ∥ IsTalk config (history last).ended read (written ++ part) result ∥₁
-of_bytes E config last read written part result t talk =
-    subst (λ (k : Config). ∥ IsTalk k (history last).ended read (written ++ part) result ∥₁) t.is_asked
-    (subst (λ (r : List ℕ). ∥ IsTalk (config_of last) (history last).ended r (written ++ part) result ∥₁) t.received
-    (subst (λ (w : List ℕ). ∥ IsTalk (config_of last) (history last).ended (history last).received (w ++ part) result ∥₁) t.sent talk))
-
-pub talked : {S : Type 0} (gives : S → Request (List ℕ) → Response → S → Type 0)
-    → ((old new : S) (c : Call) → gives old c.0 c.1 new → IsServiced c)
-    → (config : Config) (first last : Connection) (old new : S) (read written : List ℕ)
-    → config_of first ≡ config → history first ≡ new_history → config_of last ≡ config_of first
-    → (history last).received ≡ (history first).received ++ read → (history last).sent ≡ (history first).sent ++ written
-    → Calls gives old new (history first).calls (history last).calls
-    → Talked config last read written
-talked gives each config first last old new read written is fresh kept received sent calls = record {
-  is_asked = kept ∙ is;
-  received = received ∙ ap (λ (h : History). h.received ++ read) fresh;
-  sent = sent ∙ ap (λ (h : History). h.sent ++ written) fresh;
-  all_serviced = serviced gives each first last old new fresh calls;
-}
-
-pub failed : (E : Type 0) (config : Config) (last : Connection) (read written part unwritten : List ℕ) (e : E) → Talked config last read written
-    → Ends (history last).state (history last).pending (part ++ unwritten) → ∥ IsTalk config (history last).ended read (written ++ part) (Err e) ∥₁
-failed E config last read written part unwritten e t ends =
-    of_bytes E config last read written part (Err e) t
-    (∥∥₁_map (always_served last) (λ x. failing E _ _ part unwritten e t.all_serviced x ends))
-
-pub failed_at_once : (E : Type 0) (config : Config) (last : Connection) (read written : List ℕ) (e : E) → Talked config last read written
-    → ∥ IsTalk config (history last).ended read written (Err e) ∥₁
-failed_at_once E config last read written e t =
-    subst (λ (w : List ℕ). ∥ IsTalk config (history last).ended read w (Err e) ∥₁) (append-nil written)
-    (failed E config last read written [] (history last).pending e t (inl refl))
-
-pub closed : (E : Type 0) (config : Config) (last : Connection) (read written part unwritten : List ℕ) (s : State) → Talked config last read written
-    → s ≡ (history last).state → (history last).state ≢ Open → Ends (history last).state (history last).pending (part ++ unwritten) → unwritten ≡ []
-    → ∥ IsTalk {E = E} config (history last).ended read (written ++ part) (Ok s) ∥₁
-closed E config last read written part unwritten s t is shut ends all =
-    let text : part ++ unwritten ≡ part = ap (λ (u : List ℕ). part ++ u) all ∙ append-nil part in
-    subst (λ (s : State). ∥ IsTalk {E = E} config (history last).ended read (written ++ part) (Ok s) ∥₁) (sym is)
-    (of_bytes E config last read written part (Ok (history last).state) t
-    (∥∥₁_map (always_served last) (λ x. ending E (history last).state _ _ _ _ shut
-    (whole _ _ part t.all_serviced x (subst (λ (p : List ℕ). Ends (history last).state (history last).pending p) text ends)))))
 
 -- of a new connection no end was found
 pub ended_first : (P : Type 0) (h : History) → h ≡ new_history → IsTrue h.ended → P
@@ -287,8 +43,262 @@ pub none_pending : (wants : Bool) (len most : ℕ) → (IsTrue wants ↔ (0 < le
 none_pending wants zero most is idle = omega arith
 none_pending wants (suc n) most is idle = absurd (true≢false (sym (is.1 (omega arith)) ∙ idle))
 
--- an error of any kind
-pub of_err : (E : Type 0) (config : Config) (at_end : Bool) (read written : List ℕ) (result : Result State E) → IsErr result
-    → ((e : E) → ∥ IsTalk config at_end read written (Err e) ∥₁) → ∥ IsTalk config at_end read written result ∥₁
-of_err E config at_end read written (Ok s) is all = absurd (true≢false (sym is))
-of_err E config at_end read written (Err e) is all = all e
+module _ (catalogs : Catalogs) where
+  -- the exchanges of the calls
+  all_fit : (config : Config) (calls : List Call) (stream text rest : List ℕ) → All (IsServiced catalogs) calls
+      → Serves config stream calls text rest → AreExchanges catalogs config (length calls) stream text rest
+  all_fit config [] stream text rest fine x = x
+  all_fit config (c ∷ calls) stream text rest fine x = (
+    x.0,
+    x.1,
+    x.2,
+    x.3,
+    exchange_fits catalogs config true stream x.0 x.1 c (All-head (IsServiced catalogs) c calls fine) x.4,
+    all_fit config calls x.1 x.2 rest (All-tail (IsServiced catalogs) c calls fine) x.5,
+  )
+
+  -- the last of the calls is answered
+  last_of : (calls : List Call) (c : Call) → All (IsServiced catalogs) (calls ++ c ∷ []) → (IsServiced catalogs) c
+  last_of [] c fine = All-head (IsServiced catalogs) c [] fine
+  last_of (x ∷ xs) c fine = last_of xs c (All-tail (IsServiced catalogs) x (xs ++ c ∷ []) fine)
+
+  -- the calls that were answered are the first of the calls
+  first_of : (calls more : List Call) → All (IsServiced catalogs) (calls ++ more) → All (IsServiced catalogs) calls
+  first_of [] more fine = All-nil (IsServiced catalogs)
+  first_of (x ∷ xs) more fine =
+      All-cons (IsServiced catalogs) x xs (All-head (IsServiced catalogs) x (xs ++ more) fine) (first_of xs more (All-tail (IsServiced catalogs) x (xs ++ more) fine))
+
+  moved : (calls others : List Call) → calls ≡ others → All (IsServiced catalogs) calls → All (IsServiced catalogs) others
+  moved calls others is fine = subst (λ (cs : List Call). All (IsServiced catalogs) cs) is fine
+
+  -- the calls that were answered, by the state
+  refused_first : (why : Refusal) (config : Config) (h : History) (calls : List Call) (rest : List ℕ)
+      → All (IsServiced catalogs) h.calls → Justifies why config h calls rest → All (IsServiced catalogs) calls
+  refused_first Truncated config h calls rest fine x = moved _ _ x.0 fine
+  refused_first (Unreadable e) config h calls rest fine x = moved _ _ x.0 fine
+  refused_first BodyTooLarge config h calls rest fine x = moved _ _ x.0 fine
+  refused_first (InvalidPart e) config h calls rest fine x = moved _ _ x.0 fine
+  refused_first InvalidHost config h calls rest fine x = moved _ _ x.0 fine
+  refused_first UnknownCoding config h calls rest fine x = moved _ _ x.0 fine
+  refused_first (InvalidResponse e) config h calls rest fine x = first_of calls (x.1.call ∷ []) (moved _ _ x.1.calls fine)
+
+  first_at : (s : State) (config : Config) (h : History) (calls : List Call) (text interim rest : List ℕ)
+      → All (IsServiced catalogs) h.calls → Stands s config h calls text interim rest → All (IsServiced catalogs) calls
+  first_at Open config h calls text interim rest fine x = moved _ _ x.0 fine
+  first_at (Closing Asked) config h calls text interim rest fine x = first_of calls (x.0 ∷ []) (moved _ _ x.4 fine)
+  first_at (Closing EndOfInput) config h calls text interim rest fine x = moved _ _ x.0 fine
+  first_at (Closing (Refused why)) config h calls text interim rest fine x = refused_first why config h calls rest fine x.0
+  first_at Upgraded config h calls text interim rest fine x = first_of calls (x.last.call ∷ []) (moved _ _ x.last.calls fine)
+  first_at Aborted config h calls text interim rest fine x =
+      elim x.calls [
+        | inl same ↦ moved _ _ same fine
+        | inr more ↦ first_of calls (more.0 ∷ []) (moved _ _ more.1 fine)
+      ]
+
+  -- why the next request is refused, of the bytes alone
+  reason_of : (why : Refusal) (config : Config) (h : History) (calls : List Call) (rest : List ℕ)
+      → All (IsServiced catalogs) h.calls → Justifies why config h calls rest → IsRefusedFor catalogs why config h.ended rest
+  reason_of Truncated config h calls rest fine x = (x.1, x.2, x.3)
+  reason_of (Unreadable e) config h calls rest fine x = (x.1, x.2)
+  reason_of BodyTooLarge config h calls rest fine x = x.1
+  reason_of (InvalidPart e) config h calls rest fine x = x.1
+  reason_of InvalidHost config h calls rest fine x = x.1
+  reason_of UnknownCoding config h calls rest fine x = x.1
+  reason_of (InvalidResponse e) config h calls rest fine x =
+      (x.1.call, last_of calls x.1.call (moved _ _ x.1.calls fine), x.1.message, x.0, x.1.request, x.2)
+
+  -- nothing was lost, unless memory ran out
+  abbrev pub Keeps : State → List ℕ → Type 0
+  Keeps Aborted lost = Unit {0}
+  Keeps state lost = lost ≡ []
+
+  -- what follows the exchanges, by the state: what was handed out, what is pending and what was lost are the answers and the rest
+  abbrev Ending : State → Config → History → List ℕ → List ℕ → Type 0
+  Ending s config h text rest =
+      (last : List ℕ) × Follows catalogs s config h.ended rest last × (lost : List ℕ) × ((h.sent ++ h.pending) ++ lost ≡ text ++ last) × Keeps s lost
+
+  ends_at : (s : State) (config : Config) (h : History) (calls : List Call) (text interim rest : List ℕ)
+      → IsInterim config.limits rest interim → All (IsServiced catalogs) h.calls → Stands s config h calls text interim rest
+      → Ending s config h text rest
+  ends_at Open config h calls text interim rest waits fine x = (interim, waits, [], append-nil (h.sent ++ h.pending) ∙ x.1, refl)
+  ends_at (Closing Asked) config h calls text interim rest waits fine x = (
+    x.1,
+    (x.2, exchange_fits catalogs config false rest x.1 x.2 x.0 (last_of calls x.0 (moved _ _ x.4 fine)) x.3),
+    [],
+    append-nil (h.sent ++ h.pending) ∙ x.5,
+    refl,
+  )
+  ends_at (Closing EndOfInput) config h calls text interim rest waits fine x =
+      ([], (x.1, x.2, refl), [], append-nil (h.sent ++ h.pending) ∙ x.3 ∙ sym (append-nil text), refl)
+  ends_at (Closing (Refused why)) config h calls text interim rest waits fine x = (
+    interim ++ refusal_text why,
+    (reason_of why config h calls rest fine x.0, (interim, waits, (refusal_text why, inl refl, refl))),
+    [],
+    append-nil (h.sent ++ h.pending) ∙ x.1 ∙ append_assoc text interim (refusal_text why),
+    refl,
+  )
+  ends_at Upgraded config h calls text interim rest waits fine x =
+      absurd (never_upgrades catalogs x.last.call (last_of calls x.last.call (moved _ _ x.last.calls fine)) x.accepted)
+  ends_at Aborted config h calls text interim rest waits fine x = (
+    interim,
+    (waits, x.had_work),
+    x.lost,
+    ap (λ (p : List ℕ). (h.sent ++ p) ++ x.lost) x.dropped ∙ ap (λ (t : List ℕ). t ++ x.lost) (append-nil h.sent) ∙ x.sent,
+    tt,
+  )
+
+  -- what a connection read and wrote, has yet to write, and lost
+  abbrev pub Conversed : Config → State → Bool → List ℕ → List ℕ → Type 0
+  Conversed config state ended read text = (lost : List ℕ) × IsConversation catalogs config state ended read (text ++ lost) × Keeps state lost
+
+  conversation : (config : Config) (h : History) → All (IsServiced catalogs) h.calls → IsServed config h
+      → Conversed config h.state h.ended h.received (h.sent ++ h.pending)
+  conversation config h fine x =
+      let first = first_at h.state config h x.answered x.text x.interim x.rest fine x.stands in
+      let end = ends_at h.state config h x.answered x.text x.interim x.rest x.is_interim fine x.stands in (
+        end.2,
+        record {
+          count = length x.answered;
+          answers = x.text;
+          rest = x.rest;
+          exchanges = all_fit config x.answered h.received x.text x.rest first x.serves;
+          last = end.0;
+          follows = end.1;
+          joined = end.3;
+        },
+        end.4,
+      )
+
+  -- where the bytes of a refusal alone are pending, what stands in their place ends the conversation as well
+  replaced : (config : Config) (why : Refusal) (h : History) (text : List ℕ) → All (IsServiced catalogs) h.calls → IsServed config h
+      → h.state ≡ Closing (Refused why) → h.pending ≡ refusal_text why → IsRefusalText why text
+      → IsConversation catalogs config (Closing (Refused why)) h.ended h.received (h.sent ++ text)
+  replaced config why h text fine x closes alone stands =
+      let first = first_at h.state config h x.answered x.text x.interim x.rest fine x.stands in
+      let there : Stands (Closing (Refused why)) config h x.answered x.text x.interim x.rest =
+      subst (λ (s : State). Stands s config h x.answered x.text x.interim x.rest) closes x.stands in
+      let sent : h.sent ≡ x.text ++ x.interim =
+      append_cancel_right h.sent (x.text ++ x.interim) (refusal_text why)
+      (ap (λ (p : List ℕ). h.sent ++ p) (sym alone) ∙ there.1) in
+      record {
+        count = length x.answered;
+        answers = x.text;
+        rest = x.rest;
+        exchanges = all_fit config x.answered h.received x.text x.rest first x.serves;
+        last = x.interim ++ text;
+        follows = (reason_of why config h x.answered x.rest fine there.0, (x.interim, x.is_interim, (text, stands, refl)));
+        joined = ap (λ (t : List ℕ). t ++ text) sent ∙ append_assoc x.text x.interim text;
+      }
+
+  -- each call of a service that keeps its catalogs is answered by them
+  each_serviced : {S : Type 0} (gives : S → Request (List ℕ) → Response → S → Type 0) (of : S → Catalogs)
+      → ((old new : S) (c : Call) → gives old c.0 c.1 new → (of new ≡ of old) × IsServiced (of old) c)
+      → (calls : List Call) (old new : S) → of old ≡ catalogs → Chain gives old calls new → All (IsServiced catalogs) calls
+  each_serviced gives of each [] old new is x = All-nil (IsServiced catalogs)
+  each_serviced gives of each (c ∷ calls) old new is x =
+      let one = each old x.0 c x.1 in
+      All-cons (IsServiced catalogs) c calls (subst (λ (k : Catalogs). IsServiced k c) is one.1)
+      (each_serviced gives of each calls x.0 new (one.0 ∙ is) x.2)
+
+  -- the calls of such a service
+  serviced : {S : Type 0} (gives : S → Request (List ℕ) → Response → S → Type 0) (of : S → Catalogs)
+      → ((old new : S) (c : Call) → gives old c.0 c.1 new → (of new ≡ of old) × IsServiced (of old) c)
+      → (first last : Connection) (old new : S) → of old ≡ catalogs → history first ≡ new_history
+      → Calls gives old new (history first).calls (history last).calls → All (IsServiced catalogs) (history last).calls
+  serviced {S} gives of each first last old new is fresh calls =
+      let x = subst (λ (h : History). Calls gives old new h.calls (history last).calls) fresh calls in
+      moved _ _ (sym x.1) (each_serviced gives of each x.0 old new is x.2)
+
+  -- ---- what a call returned, by how much of what was to be written it wrote
+
+  -- all that is written in the end, for bytes that are pending
+  whole : (config : Config) (h : History) (text : List ℕ) → All (IsServiced catalogs) h.calls → IsServed config h → Ends h.state h.pending text
+      → Conversed config h.state h.ended h.received (h.sent ++ text)
+  whole config h text fine x ends =
+      elim ends [
+        | inl same ↦
+            subst (λ (p : List ℕ). Conversed config h.state h.ended h.received (h.sent ++ p)) (sym same) (conversation config h fine x)
+        | inr other ↦
+            subst (λ (s : State). Conversed config s h.ended h.received (h.sent ++ text)) (sym other.1) (
+              [],
+              subst (λ (t : List ℕ). IsConversation catalogs config (Closing (Refused other.0)) h.ended h.received t) (sym (append-nil (h.sent ++ text)))
+                  (replaced config other.0 h text fine x other.1 other.2 other.3),
+              refl,
+            )
+      ]
+
+  -- an error, where this part of it was written
+  failing : (E : Type 0) (config : Config) (h : History) (part unwritten : List ℕ) (e : E) → All (IsServiced catalogs) h.calls → IsServed config h
+      → Ends h.state h.pending (part ++ unwritten) → IsTalk catalogs config h.ended h.received (h.sent ++ part) (Err e)
+  failing E config h part unwritten e fine x ends =
+      let all = whole config h (part ++ unwritten) fine x ends in
+      let joined : (h.sent ++ (part ++ unwritten)) ++ all.0 ≡ (h.sent ++ part) ++ (unwritten ++ all.0) =
+      ap (λ (t : List ℕ). t ++ all.0) (sym (append_assoc h.sent part unwritten)) ∙ append_assoc (h.sent ++ part) unwritten all.0 in
+      (h.state, unwritten ++ all.0, subst (λ (t : List ℕ). IsConversation catalogs config h.state h.ended h.received t) joined all.1)
+
+  -- all of it was written
+  ending : (E : Type 0) (s : State) (config : Config) (at_end : Bool) (read text : List ℕ) → s ≢ Open → Conversed config s at_end read text
+      → IsTalk {E = E} catalogs config at_end read text (Ok s)
+  ending E Open config at_end read text shut all = absurd (shut refl)
+  ending E (Closing why) config at_end read text shut all =
+      subst (λ (t : List ℕ). IsConversation catalogs config (Closing why) at_end read t) (ap (λ (l : List ℕ). text ++ l) all.2 ∙ append-nil text) all.1
+  ending E Upgraded config at_end read text shut all = absurd all.1.follows
+  ending E Aborted config at_end read text shut all = (all.0, all.1)
+
+  -- A connection that was new, after calls of a service that read and wrote these bytes.
+  pub record Talked (asked : Config) (last : Connection) (read written : List ℕ) : Type 0 where
+    pub is_asked : config_of last ≡ asked
+    pub received : (history last).received ≡ read
+    pub sent : (history last).sent ≡ written
+    pub all_serviced : All (IsServiced catalogs) (history last).calls
+
+  -- the same of the bytes that were read and written
+  of_bytes : (E : Type 0) (config : Config) (last : Connection) (read written part : List ℕ) (result : Result State E) → Talked config last read written
+      → ∥ IsTalk catalogs (config_of last) (history last).ended (history last).received ((history last).sent ++ part) result ∥₁
+      → ∥ IsTalk catalogs config (history last).ended read (written ++ part) result ∥₁
+  of_bytes E config last read written part result t talk =
+      subst (λ (k : Config). ∥ IsTalk catalogs k (history last).ended read (written ++ part) result ∥₁) t.is_asked
+      (subst (λ (r : List ℕ). ∥ IsTalk catalogs (config_of last) (history last).ended r (written ++ part) result ∥₁) t.received
+      (subst (λ (w : List ℕ). ∥ IsTalk catalogs (config_of last) (history last).ended (history last).received (w ++ part) result ∥₁) t.sent talk))
+
+  pub talked : {S : Type 0} (gives : S → Request (List ℕ) → Response → S → Type 0) (of : S → Catalogs)
+      → ((old new : S) (c : Call) → gives old c.0 c.1 new → (of new ≡ of old) × IsServiced (of old) c)
+      → (config : Config) (first last : Connection) (old new : S) → of old ≡ catalogs → (read written : List ℕ)
+      → config_of first ≡ config → history first ≡ new_history → config_of last ≡ config_of first
+      → (history last).received ≡ (history first).received ++ read → (history last).sent ≡ (history first).sent ++ written
+      → Calls gives old new (history first).calls (history last).calls
+      → Talked config last read written
+  talked gives of each config first last old new at read written is fresh kept received sent calls = record {
+    is_asked = kept ∙ is;
+    received = received ∙ ap (λ (h : History). h.received ++ read) fresh;
+    sent = sent ∙ ap (λ (h : History). h.sent ++ written) fresh;
+    all_serviced = serviced gives of each first last old new at fresh calls;
+  }
+
+  pub failed : (E : Type 0) (config : Config) (last : Connection) (read written part unwritten : List ℕ) (e : E) → Talked config last read written
+      → Ends (history last).state (history last).pending (part ++ unwritten) → ∥ IsTalk catalogs config (history last).ended read (written ++ part) (Err e) ∥₁
+  failed E config last read written part unwritten e t ends =
+      of_bytes E config last read written part (Err e) t
+      (∥∥₁_map (always_served last) (λ x. failing E _ _ part unwritten e t.all_serviced x ends))
+
+  pub failed_at_once : (E : Type 0) (config : Config) (last : Connection) (read written : List ℕ) (e : E) → Talked config last read written
+      → ∥ IsTalk catalogs config (history last).ended read written (Err e) ∥₁
+  failed_at_once E config last read written e t =
+      subst (λ (w : List ℕ). ∥ IsTalk catalogs config (history last).ended read w (Err e) ∥₁) (append-nil written)
+      (failed E config last read written [] (history last).pending e t (inl refl))
+
+  pub closed : (E : Type 0) (config : Config) (last : Connection) (read written part unwritten : List ℕ) (s : State) → Talked config last read written
+      → s ≡ (history last).state → (history last).state ≢ Open → Ends (history last).state (history last).pending (part ++ unwritten) → unwritten ≡ []
+      → ∥ IsTalk {E = E} catalogs config (history last).ended read (written ++ part) (Ok s) ∥₁
+  closed E config last read written part unwritten s t is shut ends all =
+      let text : part ++ unwritten ≡ part = ap (λ (u : List ℕ). part ++ u) all ∙ append-nil part in
+      subst (λ (s : State). ∥ IsTalk {E = E} catalogs config (history last).ended read (written ++ part) (Ok s) ∥₁) (sym is)
+      (of_bytes E config last read written part (Ok (history last).state) t
+      (∥∥₁_map (always_served last) (λ x. ending E (history last).state _ _ _ _ shut
+      (whole _ _ part t.all_serviced x (subst (λ (p : List ℕ). Ends (history last).state (history last).pending p) text ends)))))
+
+  -- an error of any kind
+  pub of_err : (E : Type 0) (config : Config) (at_end : Bool) (read written : List ℕ) (result : Result State E) → IsErr result
+      → ((e : E) → ∥ IsTalk catalogs config at_end read written (Err e) ∥₁) → ∥ IsTalk catalogs config at_end read written result ∥₁
+  of_err E config at_end read written (Ok s) is all = absurd (true≢false (sym is))
+  of_err E config at_end read written (Err e) is all = all e

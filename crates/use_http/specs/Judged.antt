@@ -1,12 +1,13 @@
 -- What is answered to the body of an order.
-use Rattle.std.specs.Prelude.{ℕ, List, [], ◌∷◌, Result, Ok, Err, codes}
+use Rattle.std.specs.Prelude.{ℕ, List, [], ◌∷◌, ◌++◌, Result, Ok, Err, codes}
 use Rattle.std.specs.Fmt.{decimal}
 use Rattle.json.specs.Json.{string, number, array, object, no_members, member}
 use Rattle.garde.specs.Handlers.{Datum}
 use Rattle.garde_report.specs.Report.{Entry}
 use Rattle.garde_problem.specs.Problem.{faults_json, json_text}
 use Rattle.garde_tape.specs.Input.{without_mark}
-use Rattle.garde_schema.specs.Bytes.{AnswersBytes, read_error_text}
+use Rattle.garde_tape.specs.declared.parse_error.ParseError.{ParseError}
+use Rattle.garde_schema.specs.Bytes.{AnswersBytes}
 use Rattle.garde_schema.specs.declared.read_error.ReadError.{ReadError}
 use Rattle.garde_schema.specs.declared.read_error.ReadError.TheVariants.{Parse, Report, Memory}
 use Rattle.garde_schema.specs.Forms.{FormTexts}
@@ -18,6 +19,10 @@ use Rattle.use_http.specs.Order.{order_visits}
 -- the field that says that a body is problem details
 abbrev pub problem_fields : List Header
 problem_fields = (codes "content-type", codes "application/problem+json") ∷ []
+
+-- the fields of an answer in the language of this tag: which it is, and that it depends on what the request asks for
+abbrev pub language_fields : List ℕ → List Header
+language_fields tag = (codes "content-language", tag) ∷ (codes "vary", codes "accept-language") ∷ []
 
 -- the problem details of an order with these faults
 abbrev pub faults_text : List Entry → List ℕ
@@ -34,18 +39,29 @@ no_json_text reason report = json_text (object
     (member (codes "detail") (string reason)
     (member (codes "errors") (array (faults_json report)) no_members)))))
 
+-- What is said, and the tag of its language: the texts of faults of form and of rules, and of what is not read as JSON.
+pub record Voice : Type 0 where
+  pub form_text : FormTexts
+  pub text : Datum → List ℕ
+  pub parse_text : ParseError → List ℕ
+  pub tag : List ℕ
+
+-- problem details in a language
+abbrev pub Says : Voice → ℕ → List ℕ → Response → Type 0
+Says voice status text response = IsResponse status (problem_fields ++ language_fields voice.tag) text response
+
 -- how the result of reading a body is answered: 204 of a body without a fault, 422 with the problem details of its report, or 400
-abbrev pub Tells : Result (Unit {0}) ReadError → Response → Type 0
-Tells (Ok done) response = IsResponse 204 [] [] response
-Tells (Err (Report report)) response = IsResponse 422 problem_fields (faults_text report) response
-Tells (Err (Parse error)) response = IsResponse 400 problem_fields (no_json_text (read_error_text (Parse error)) []) response
-Tells (Err Memory) response = ⊥
+abbrev pub Tells : Voice → Result (Unit {0}) ReadError → Response → Type 0
+Tells voice (Ok done) response = IsResponse 204 [] [] response
+Tells voice (Err (Report report)) response = Says voice 422 (faults_text report) response
+Tells voice (Err (Parse error)) response = Says voice 400 (no_json_text (voice.parse_text error) []) response
+Tells voice (Err Memory) response = ⊥
 
 -- this is the result of reading the body of an order, behind a byte order mark if there is one, with these texts of faults of form and of rules
 abbrev pub Reads : FormTexts → (Datum → List ℕ) → List ℕ → Result (Unit {0}) ReadError → Type 0
 Reads form_text text body read = AnswersBytes (λ j. order_visits form_text j) text (without_mark body) read
 
 -- the response tells the result of reading this body
-abbrev pub Judges : FormTexts → (Datum → List ℕ) → List ℕ → Response → Type 0
-Judges form_text text body response =
-    (read : Result (Unit {0}) ReadError) × Reads form_text text body read × Tells read response
+abbrev pub Judges : Voice → List ℕ → Response → Type 0
+Judges voice body response =
+    (read : Result (Unit {0}) ReadError) × Reads voice.form_text voice.text body read × Tells voice read response

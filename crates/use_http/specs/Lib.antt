@@ -1,5 +1,4 @@
 pub mod Answered
-pub mod CzechText
 pub mod Dated
 pub mod Ending
 pub mod Fits

@@ -1,5 +1,6 @@
 -- Why `http_server` refuses the bytes of a request, by the bytes.
 use Rattle.std.specs.Prelude.{◌≡◌, ◌≢◌, ℕ, ◌<◌, Bool, List, [], length, Some, IsTrue, IsFalse}
+use Rattle.garde_catalog.specs.declared.catalogs.Catalogs.{Catalogs}
 use Rattle.httparse.specs.Grammar.{HasNoRequest}
 use Rattle.http.specs.Request.{head_of, body_of}
 use Rattle.http1.specs.Message as Wire
@@ -12,20 +13,20 @@ use Rattle.http_server.specs.History.{HasNoMessage, NextIs, HasTooManyFields, Ha
 use Rattle.use_http.specs.Answered.{IsAnsweredSometime}
 
 -- the call is one that the service answers so
-abbrev pub IsServiced : Call → Type 0
-IsServiced c = IsAnsweredSometime (head_of c.0) (body_of c.0) c.1
+abbrev pub IsServiced : Catalogs → Call → Type 0
+IsServiced catalogs c = IsAnsweredSometime catalogs (head_of c.0) (body_of c.0) c.1
 
 -- Why the request that these bytes begin is refused: the input ended within it; or, whatever bytes follow, a request that they begin is
 -- beyond a limit, or has a part that is refused; or `http1` refuses the answer of the service to it.
-abbrev pub IsRefusedFor : Refusal → Config → Bool → List ℕ → Type 0
-IsRefusedFor Truncated config ended rest = IsTrue ended × (rest ≢ []) × HasNoMessage config.limits rest
-IsRefusedFor (Unreadable e) config ended rest = NextIs config.limits rest HasTooManyFields × IsReadError config.limits rest e
-IsRefusedFor BodyTooLarge config ended rest = NextIs config.limits rest (λ m. config.max_body_len < length m.body.bytes)
-IsRefusedFor (InvalidPart e) config ended rest = NextIs config.limits rest (HasInvalidPart e)
-IsRefusedFor InvalidHost config ended rest = NextIs config.limits rest HasInvalidHost
-IsRefusedFor UnknownCoding config ended rest = NextIs config.limits rest HasUnknownCoding
-IsRefusedFor (InvalidResponse e) config ended rest =
-    (c : Call) × IsServiced c × (m : Wire.Request) × (after : List ℕ) × (r : ReadsCall config rest m c.0 after)
+abbrev pub IsRefusedFor : Catalogs → Refusal → Config → Bool → List ℕ → Type 0
+IsRefusedFor catalogs Truncated config ended rest = IsTrue ended × (rest ≢ []) × HasNoMessage config.limits rest
+IsRefusedFor catalogs (Unreadable e) config ended rest = NextIs config.limits rest HasTooManyFields × IsReadError config.limits rest e
+IsRefusedFor catalogs BodyTooLarge config ended rest = NextIs config.limits rest (λ m. config.max_body_len < length m.body.bytes)
+IsRefusedFor catalogs (InvalidPart e) config ended rest = NextIs config.limits rest (HasInvalidPart e)
+IsRefusedFor catalogs InvalidHost config ended rest = NextIs config.limits rest HasInvalidHost
+IsRefusedFor catalogs UnknownCoding config ended rest = NextIs config.limits rest HasUnknownCoding
+IsRefusedFor catalogs (InvalidResponse e) config ended rest =
+    (c : Call) × IsServiced catalogs c × (m : Wire.Request) × (after : List ℕ) × (r : ReadsCall config rest m c.0 after)
     × (refusal_of (answering config.limits m.head r.reads.framing) c.1 ≡ Some e)
 
 -- there is only a part of a head, which may go on

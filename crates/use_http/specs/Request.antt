@@ -1,16 +1,19 @@
 -- What a request asks for.
-use Rattle.std.specs.Prelude.{◌≡◌, ◌≤◌, ◌==◌, Bool, true, false, ◌||◌, ℕ, ◌⊎◌, List, [], length, map, take, slice_index, codes, IsTrue, IsSomeAnd}
+use Rattle.std.specs.Prelude.{◌≡◌, ◌≤◌, ◌==◌, Bool, true, false, ◌||◌, ℕ, ◌⊎◌, List, [], length, map, take, slice_index, codes, IsTrue, IsSomeAnd, Option, Some, None}
 use Rattle.std.specs.List.{list_any}
 use Rattle.std.specs.Str.{bytes_eq}
 use Rattle.std.specs.Char.{to_ascii_lowercase}
+use Rattle.garde_catalog.specs.Catalogs.{offered_by}
+use Rattle.garde_catalog.specs.Lookup.{IsAskedBy}
+use Rattle.garde_catalog.specs.declared.catalogs.Catalogs.{Catalogs}
+use Rattle.garde_catalog.specs.declared.language.Language.{Language}
 use Rattle.http.specs.declared.request.Parts.{Parts}
+use Rattle.http_header.specs.FieldValue.{FieldValue}
 use Rattle.http_header.specs.HeaderMap.{get}
 use Rattle.http_uri.specs.Uri.{uri_path}
 use Rattle.use_http.specs.declared.request.Route.{Route}
 use Rattle.use_http.specs.declared.request.Route.TheVariants.{Order, OtherForm, OtherOfOrders, Health, OtherOfHealth, Nowhere, Unserved, BadTarget}
-use Rattle.use_http.specs.declared.request.Language.{Language}
-use Rattle.use_http.specs.declared.request.Language.TheVariants.{English, Czech}
-use Rattle.use_http.specs.declared.request.TheConstants.{TYPE_ENDS, LANGUAGE_ENDS}
+use Rattle.use_http.specs.declared.request.TheConstants.{TYPE_ENDS}
 
 -- the value ends there, or one of these bytes stands there
 abbrev pub ends_at : List ℕ → ℕ → List ℕ → Bool
@@ -31,13 +34,14 @@ FieldBeginsWith head name word ends = IsSomeAnd (get head.headers name) (λ valu
 abbrev pub HasJson : Parts → Type 0
 HasJson head = FieldBeginsWith head (codes "content-type") (codes "application/json") TYPE_ENDS.now
 
--- the first language that is named is Czech
-abbrev pub AsksForCzech : Parts → Type 0
-AsksForCzech head = FieldBeginsWith head (codes "accept-language") (codes "cs") LANGUAGE_ENDS.now
+-- the place of the language that a field asks for, among those that are offered: none where it asks for none, or where there is no field
+abbrev pub IsAskedIn : List Language → Option FieldValue → Option ℕ → Type 0
+IsAskedIn offered None place = place ≡ None
+IsAskedIn offered (Some value) place = IsAskedBy value.bytes offered place
 
-abbrev pub IsLanguage : Language → Parts → Type 0
-IsLanguage English head = ¬ (AsksForCzech head)
-IsLanguage Czech head = AsksForCzech head
+-- the place of the language that the request asks for, by its first field of that name
+abbrev pub IsLanguage : Catalogs → Option ℕ → Parts → Type 0
+IsLanguage catalogs place head = IsAskedIn (offered_by catalogs) (get head.headers (codes "accept-language")) place
 
 -- the two texts are the same, or not
 abbrev pub Is : List ℕ → List ℕ → Type 0

@@ -1,5 +1,6 @@
 -- What was read from a connection and written to it.
 use Rattle.std.specs.Prelude.{◌≡◌, ℕ, zero, suc, ◌≤◌, Bool, true, false, not, List, [], ◌++◌, length, Result, Ok, Err, IsTrue}
+use Rattle.garde_catalog.specs.declared.catalogs.Catalogs.{Catalogs}
 use Rattle.httparse.specs.Grammar.{print_response}
 use Rattle.http1.specs.declared.conn.Limits.{Limits}
 use Rattle.http1.specs.Framing.{method_kind}
@@ -23,7 +24,7 @@ IsReadAs method text response =
 -- The bytes that were read begin with a request. The text is all that is written for it: `100 Continue` where that was asked for, or
 -- nothing, and then a response that fits the request. The connection stays open unless the request asked to close it, and the response
 -- says whether it does.
-pub record IsExchange (config : Config) (stays : Bool) (stream text rest : List ℕ) : Type 0 where
+pub record IsExchange (catalogs : Catalogs) (config : Config) (stays : Bool) (stream text rest : List ℕ) : Type 0 where
   pub request : Wire.Request
   pub reads : ReadsRequestMessage config.limits stream request rest
   pub within : length request.body.bytes ≤ config.max_body_len
@@ -33,47 +34,47 @@ pub record IsExchange (config : Config) (stays : Bool) (stream text rest : List 
   pub joined : text ≡ interim ++ answer
   pub response : Wire.Response
   pub is_read : IsReadAs request.head.method answer response
-  pub fits : Fits request response
+  pub fits : Fits catalogs request response
   pub persists : keeps_open request.head fits.answer ≡ stays
   pub announced : (known_of response.head.fields).close ≡ not stays
 
 -- so many requests and the answers to them, in order, each of which leaves the connection open
-abbrev pub AreExchanges : Config → ℕ → List ℕ → List ℕ → List ℕ → Type 0
-AreExchanges config zero stream text rest = (stream ≡ rest) × (text ≡ [])
-AreExchanges config (suc n) stream text rest =
+abbrev pub AreExchanges : Catalogs → Config → ℕ → List ℕ → List ℕ → List ℕ → Type 0
+AreExchanges catalogs config zero stream text rest = (stream ≡ rest) × (text ≡ [])
+AreExchanges catalogs config (suc n) stream text rest =
     (first : List ℕ) × (after : List ℕ) × (later : List ℕ) × (text ≡ first ++ later)
-    × IsExchange config true stream first after × AreExchanges config n after later rest
+    × IsExchange catalogs config true stream first after × AreExchanges catalogs config n after later rest
 
 -- What follows them, by how the connection stands, and what is written for it. `ended`: the reader has nothing more.
 -- Asked: one more exchange, which closes the connection. EndOfInput: nothing more came. Refused: what came has this reason to be
 -- refused, and is. Aborted: memory ran out where there was work to do. No request hands the connection over.
-abbrev pub Follows : State → Config → Bool → List ℕ → List ℕ → Type 0
-Follows Open config ended rest text = IsInterim config.limits rest text
-Follows (Closing Asked) config ended rest text = (after : List ℕ) × IsExchange config false rest text after
-Follows (Closing EndOfInput) config ended rest text = IsTrue ended × (rest ≡ []) × (text ≡ [])
-Follows (Closing (Refused why)) config ended rest text =
-    IsRefusedFor why config ended rest
+abbrev pub Follows : Catalogs → State → Config → Bool → List ℕ → List ℕ → Type 0
+Follows catalogs Open config ended rest text = IsInterim config.limits rest text
+Follows catalogs (Closing Asked) config ended rest text = (after : List ℕ) × IsExchange catalogs config false rest text after
+Follows catalogs (Closing EndOfInput) config ended rest text = IsTrue ended × (rest ≡ []) × (text ≡ [])
+Follows catalogs (Closing (Refused why)) config ended rest text =
+    IsRefusedFor catalogs why config ended rest
     × ((interim : List ℕ) × IsInterim config.limits rest interim
     × ((refusal : List ℕ) × IsRefusalText why refusal × (text ≡ interim ++ refusal)))
-Follows Upgraded config ended rest text = ⊥
-Follows Aborted config ended rest text = IsInterim config.limits rest text × HasWork config ended rest
+Follows catalogs Upgraded config ended rest text = ⊥
+Follows catalogs Aborted config ended rest text = IsInterim config.limits rest text × HasWork config ended rest
 
 -- What was read begins with requests. The text is the answers to them, in order, and what is written for what follows.
-pub record IsConversation (config : Config) (state : State) (ended : Bool) (read text : List ℕ) : Type 0 where
+pub record IsConversation (catalogs : Catalogs) (config : Config) (state : State) (ended : Bool) (read text : List ℕ) : Type 0 where
   pub count : ℕ
   pub answers : List ℕ
   pub rest : List ℕ
-  pub exchanges : AreExchanges config count read answers rest
+  pub exchanges : AreExchanges catalogs config count read answers rest
   pub last : List ℕ
-  pub follows : Follows state config ended rest last
+  pub follows : Follows catalogs state config ended rest last
   pub joined : text ≡ answers ++ last
 
 -- What was read and written when a call returned this. Where the connection closed, the whole conversation was written. Where memory
 -- ran out, or reading or writing failed, a first part of one was.
-abbrev pub IsTalk : {E : Type 0} → Config → Bool → List ℕ → List ℕ → Result State E → Type 0
-IsTalk config ended read written (Ok Open) = ⊥
-IsTalk config ended read written (Ok (Closing why)) = IsConversation config (Closing why) ended read written
-IsTalk config ended read written (Ok Upgraded) = ⊥
-IsTalk config ended read written (Ok Aborted) = (unwritten : List ℕ) × IsConversation config Aborted ended read (written ++ unwritten)
-IsTalk config ended read written (Err e) =
-    (state : State) × (unwritten : List ℕ) × IsConversation config state ended read (written ++ unwritten)
+abbrev pub IsTalk : {E : Type 0} → Catalogs → Config → Bool → List ℕ → List ℕ → Result State E → Type 0
+IsTalk catalogs config ended read written (Ok Open) = ⊥
+IsTalk catalogs config ended read written (Ok (Closing why)) = IsConversation catalogs config (Closing why) ended read written
+IsTalk catalogs config ended read written (Ok Upgraded) = ⊥
+IsTalk catalogs config ended read written (Ok Aborted) = (unwritten : List ℕ) × IsConversation catalogs config Aborted ended read (written ++ unwritten)
+IsTalk catalogs config ended read written (Err e) =
+    (state : State) × (unwritten : List ℕ) × IsConversation catalogs config state ended read (written ++ unwritten)

@@ -1,15 +1,16 @@
 //! What is answered to the body of an order.
-ghost use Rattle.std.specs.Prelude.{◌≡◌, [], OnOk};
-ghost use Rattle.garde_schema.specs.Bytes.{read_error_text};
-ghost use Rattle.garde_schema.specs.declared.read_error.ReadError.TheVariants.{Parse};
+ghost use Rattle.std.specs.Prelude.{◌≡◌, ◌++◌, [], OnOk};
+ghost use Rattle.garde_catalog.specs.Parse.{catalog_parse_text};
 ghost use Rattle.http_server.specs.Response.{IsBlank, IsResponse};
-ghost use Rattle.use_http.specs.Judged.{Judges, Tells, faults_text, no_json_text, problem_fields};
+ghost use Rattle.use_http.specs.Answered.{voice};
+ghost use Rattle.use_http.specs.Judged.{Judges, Tells, faults_text, language_fields, no_json_text, problem_fields};
 
 use crate::order::read_order;
 use bytes::BufMut;
-use garde::{I18n, Report};
-use garde_problem::{Problem, problem_to_json_text};
-use garde_schema::{FormI18n, ParseError, ReadError, Scratch};
+use garde::Report;
+use garde_catalog::Catalog;
+use garde_problem::{Problem, WithCodes, problem_to_json_text};
+use garde_schema::{ParseError, ReadError, Scratch};
 use http::{HeaderValue, StatusCode, header};
 use http_server::{Response, Rope};
 use std::alloc::{AllocError, Global};
@@ -36,10 +37,37 @@ pub fn put_problem(
     put(&mut response.body, text.as_bytes())
 }
 
-/// Answers with the report of an order.
-fn put_report(alloc: Global, report: &Report, response: &mut Response) -> Result<(), AllocError>
+/// Answers with problem details in the language of this tag, which is one that a field may have: with
+/// another one it fails.
+fn put_in_language(
+    alloc: Global,
+    tag: &str,
+    status: StatusCode,
+    text: &str,
+    response: &mut Response,
+) -> Result<(), AllocError>
     requires { IsBlank response.old }
-    ensures { OnOk result (IsResponse 422 problem_fields (faults_text report.now) response.new) }
+    ensures { OnOk result (IsResponse status (problem_fields ++ language_fields tag.now) text.now
+        response.new) }
+{
+    put_problem(response, status, text)?;
+    let Ok(language) = HeaderValue::from_str(alloc, tag) else {
+        return Err(AllocError);
+    };
+    response.add_header(header::CONTENT_LANGUAGE, language)?;
+    response.add_header(header::VARY, HeaderValue::from_static("accept-language"))
+}
+
+/// Answers with the report of an order.
+fn put_report(
+    alloc: Global,
+    tag: &str,
+    report: &Report,
+    response: &mut Response,
+) -> Result<(), AllocError>
+    requires { IsBlank response.old }
+    ensures { OnOk result (IsResponse 422 (problem_fields ++ language_fields tag.now)
+        (faults_text report.now) response.new) }
 {
     let problem = Problem {
         type_uri: None,
@@ -49,18 +77,20 @@ fn put_report(alloc: Global, report: &Report, response: &mut Response) -> Result
         instance: None,
     };
     let text = problem_to_json_text(alloc, report, &problem)?;
-    put_problem(response, StatusCode::UNPROCESSABLE_ENTITY, text.as_str())
+    let status = StatusCode::UNPROCESSABLE_ENTITY;
+    put_in_language(alloc, tag, status, text.as_str(), response)
 }
 
 /// Answers that the body is not read as JSON, for this reason.
 fn put_reason(
     alloc: Global,
+    tag: &str,
     reason: &str,
     report: &Report,
     response: &mut Response,
 ) -> Result<(), AllocError>
     requires { IsBlank response.old }
-    ensures { OnOk result (IsResponse 400 problem_fields
+    ensures { OnOk result (IsResponse 400 (problem_fields ++ language_fields tag.now)
         (no_json_text reason.now report.now) response.new) }
 {
     let problem = Problem {
@@ -71,52 +101,62 @@ fn put_reason(
         instance: None,
     };
     let text = problem_to_json_text(alloc, report, &problem)?;
-    put_problem(response, StatusCode::BAD_REQUEST, text.as_str())
+    put_in_language(alloc, tag, StatusCode::BAD_REQUEST, text.as_str(), response)
 }
 
 /// Answers that the body is not read as JSON, and why.
-fn put_no_json(alloc: Global, error: &ParseError, response: &mut Response) -> Result<(), AllocError>
+fn put_no_json(
+    alloc: Global,
+    catalog: &Catalog<'static>,
+    tag: &str,
+    error: &ParseError,
+    response: &mut Response,
+) -> Result<(), AllocError>
     requires { IsBlank response.old }
-    ensures { OnOk result (IsResponse 400 problem_fields
-        (no_json_text (read_error_text (Parse error.now)) []) response.new) }
+    ensures { OnOk result (IsResponse 400 (problem_fields ++ language_fields tag.now)
+        (no_json_text (catalog_parse_text catalog.now error.now) []) response.new) }
 {
-    let detail = format!(in alloc; "{error}")?;
+    let detail = catalog.parse_error(alloc, error)?;
     let report = Report::new(alloc);
-    put_reason(alloc, detail.as_str(), &report, response)
+    put_reason(alloc, tag, detail.as_str(), &report, response)
 }
 
-/// Writes the result of reading an order.
+/// Writes the result of reading an order, in the language of this catalog and this tag.
 fn tell(
     alloc: Global,
+    catalog: &Catalog<'static>,
+    tag: &str,
     read: &Result<(), ReadError>,
     response: &mut Response,
 ) -> Result<(), AllocError>
     requires { IsBlank response.old }
-    ensures { OnOk result (Tells read.now response.new) }
+    ensures { OnOk result (Tells (voice catalog.now tag.now) read.now response.new) }
 {
     match read {
         Ok(()) => {
             response.status = StatusCode::NO_CONTENT;
             Ok(())
         }
-        Err(ReadError::Report(report)) => put_report(alloc, report, response),
-        Err(ReadError::Parse(error)) => put_no_json(alloc, error, response),
+        Err(ReadError::Report(report)) => put_report(alloc, tag, report, response),
+        Err(ReadError::Parse(error)) => put_no_json(alloc, catalog, tag, error, response),
         Err(ReadError::Memory) => Err(AllocError),
     }
 }
 
-/// Fills a blank response with what is answered to the body of an order.
-pub fn judge<'a, H: I18n + FormI18n>(
+/// Fills a blank response with what is answered to the body of an order, in the language of this
+/// catalog and this tag.
+pub fn judge(
     alloc: Global,
-    body: &'a [u8],
-    scratch: &'a mut Scratch,
-    h: &H,
+    body: &[u8],
+    catalog: &Catalog<'static>,
+    tag: &str,
     response: &mut Response,
 ) -> Result<(), AllocError>
     requires { IsBlank response.old }
-    ensures { OnOk result (Judges (H.form_text h.now) (H.text h.now) body.now response.new) }
+    ensures { OnOk result (Judges (voice catalog.now tag.now) body.now response.new) }
 {
-    let read = read_order(alloc, body, scratch, h);
-    tell(alloc, &read, response)?;
+    let mut scratch = Scratch::new(alloc);
+    let read = read_order(alloc, body, &mut scratch, &WithCodes(catalog));
+    tell(alloc, catalog, tag, &read, response)?;
     Ok(())
 }

@@ -4,7 +4,6 @@
 
 mod answer;
 mod command;
-mod czech;
 mod date;
 mod order;
 mod refusal;
@@ -16,6 +15,7 @@ mod wire;
 use crate::command::{Command, USAGE, command_of};
 use crate::wire::answer_all;
 use anyhow::{Context, Result, bail};
+use garde_catalog::{Catalogs, languages};
 use http_server::{Config, Reason, State};
 use std::hash::RandomState;
 use std::io::BufWriter;
@@ -32,9 +32,20 @@ fn run(rt: &HostRuntime, most: usize, dates: bool) -> Result<ExitCode> {
         ..Config::default()
     };
     let clock = dates.then_some(rt);
+    let offered = languages();
+    let catalogs = Catalogs::new(alloc, &offered, offered[0])?;
     let keys = RandomState::new(rt)?;
     let mut output = BufWriter::new(alloc, io::writer(rt))?;
-    match answer_all(alloc, keys, config, clock, &mut rt.stdin(), &mut output)? {
+    let mut input = rt.stdin();
+    match answer_all(
+        alloc,
+        keys,
+        config,
+        clock,
+        &catalogs,
+        &mut input,
+        &mut output,
+    )? {
         State::Closing(Reason::Asked | Reason::EndOfInput) => Ok(ExitCode::SUCCESS),
         State::Closing(Reason::Refused(_)) => Ok(ExitCode::FAILURE),
         _ => bail!("out of memory"),

@@ -1,10 +1,12 @@
 //! What a request asks for, and in which language.
-ghost use Rattle.std.specs.Prelude.{◌≡◌, ◌≤◌, ◌↔◌, IsTrue, codes, length};
+ghost use Rattle.std.specs.Prelude.{◌≡◌, ◌≤◌, ◌↔◌, IfOk, IsTrue, codes, length};
 ghost use Rattle.http.specs.Request.{head_of};
 ghost use Rattle.use_http.specs.Request.{BeginsWith, FieldBeginsWith, Is, ends_at, IsLanguage, IsRoute, IsRouteElsewhere, path_of};
 
 use bytes::Bytes;
+use garde_catalog::Catalogs;
 use http::{HeaderName, Request, header};
+use std::alloc::{AllocError, Global};
 
 /// What a request asks for.
 #[derive(Clone, Copy, Debug)]
@@ -27,18 +29,8 @@ pub enum Route {
     BadTarget,
 }
 
-/// The languages in which faults are reported.
-#[derive(Clone, Copy, Debug)]
-pub enum Language {
-    English,
-    Czech,
-}
-
 /// The bytes that may stand behind a media type.
 const TYPE_ENDS: &[u8] = b"; \t";
-
-/// The bytes that may stand behind a language.
-const LANGUAGE_ENDS: &[u8] = b"-,; \t";
 
 /// Whether a value ends at a place, or one of these bytes stands there.
 fn ends_at(value: &[u8], place: usize, ends: &[u8]) -> bool
@@ -124,14 +116,17 @@ pub fn route_of(request: &Request<Bytes>) -> Route
     }
 }
 
-/// The language that a request asks for: Czech, where that is the first that it names, and else
-/// English.
-pub fn language_of(request: &Request<Bytes>) -> Language
-    ensures { IsLanguage result (head_of request.now) }
+/// The place of the language that a request asks for, among those that the catalogs have, or `None`:
+/// by its first field `Accept-Language`.
+pub fn language_of(
+    alloc: Global,
+    catalogs: &Catalogs,
+    request: &Request<Bytes>,
+) -> Result<Option<usize>, AllocError>
+    ensures { IfOk result (λ place. IsLanguage catalogs.now place (head_of request.now)) }
 {
-    if field_begins_with(request, header::ACCEPT_LANGUAGE, b"cs", LANGUAGE_ENDS) {
-        Language::Czech
-    } else {
-        Language::English
+    match request.headers().get(header::ACCEPT_LANGUAGE) {
+        Some(value) => catalogs.asked(alloc, value.as_bytes()),
+        None => Ok(None),
     }
 }

@@ -3,20 +3,17 @@ ghost use Rattle.std.specs.Prelude.{◌≡◌, [], ◌∷◌, ◌++◌, IsOk, Is
 ghost use Rattle.http.specs.Request.{head_of, body_of};
 ghost use Rattle.http_header.specs.FieldValue.{is_visible_text};
 ghost use Rattle.http_server.specs.Response.{IsBlank, IsResponse};
-ghost use Rattle.use_http.specs.Answered.{AnswersRoute, IsAnswered, IsAnsweredSometime, IsJudged, form_texts, rule_texts};
-ghost use Rattle.use_http.specs.Judged.{Judges, problem_fields};
+ghost use Rattle.use_http.specs.Answered.{AnswersRoute, IsAnswered, IsAnsweredSometime, IsJudged};
+ghost use Rattle.use_http.specs.Judged.{problem_fields};
 ghost use Rattle.use_http.specs.Refused.{status_of, problem_of};
 ghost use Rattle.use_http.specs.Request.{IsRoute};
 
 use crate::answer::{judge, put_problem};
-use crate::czech::Czech;
 use crate::date::{date_of, put_date};
 use crate::refused::Refused;
-use crate::request::{Language, Route, language_of, route_of};
+use crate::request::{Route, language_of, route_of};
 use bytes::Bytes;
-use garde::DefaultI18n;
-use garde_problem::WithCodes;
-use garde_schema::Scratch;
+use garde_catalog::Catalogs;
 use http::{HeaderName, HeaderValue, Request, header};
 use http_server::{Response, Service};
 use httpdate::HttpDate;
@@ -48,53 +45,39 @@ fn put_offer(
     response.add_header(name, HeaderValue::from_static(offer))
 }
 
-/// Judges an order in this language.
-fn judge_in(
-    alloc: Global,
-    language: Language,
-    body: &[u8],
-    response: &mut Response,
-) -> Result<(), AllocError>
-    requires { IsBlank response.old }
-    ensures { OnOk result (Judges (form_texts language) (rule_texts language)
-        body.now response.new) }
-{
-    let mut scratch = Scratch::new(alloc);
-    match language {
-        Language::English => judge(alloc, body, &mut scratch, &WithCodes(DefaultI18n), response),
-        Language::Czech => judge(alloc, body, &mut scratch, &WithCodes(Czech), response),
-    }
-}
-
 /// Judges an order in the language that the request asks for.
 fn judge_order(
     alloc: Global,
+    catalogs: &Catalogs,
     request: &Request<Bytes>,
     response: &mut Response,
 ) -> Result<(), AllocError>
     requires { IsBlank response.old }
-    ensures { OnOk result (IsJudged (head_of request.now) (body_of request.now) response.new) }
+    ensures { OnOk result (IsJudged catalogs.now (head_of request.now) (body_of request.now)
+        response.new) }
 {
-    let language = language_of(request);
-    judge_in(alloc, language, request.body().as_slice(), response)?;
+    let place = language_of(alloc, catalogs, request)?;
+    let (catalog, tag) = (catalogs.catalog(place), catalogs.tag(place));
+    judge(alloc, request.body().as_slice(), catalog, tag, response)?;
     Ok(())
 }
 
 /// Answers a request for this.
 fn answer_route(
     alloc: Global,
+    catalogs: &Catalogs,
     route: Route,
     request: &Request<Bytes>,
     response: &mut Response,
 ) -> Result<(), AllocError>
     requires { IsBlank response.old }
-    ensures told { OnOk result (AnswersRoute route (head_of request.now) (body_of request.now)
+    ensures told { OnOk result (AnswersRoute catalogs.now route (head_of request.now) (body_of request.now)
         response.new) }
     ensures health { route ≡ Route.Health → IsOk result }
 {
     let other = Refused::MethodNotAllowed;
     match route {
-        Route::Order => judge_order(alloc, request, response),
+        Route::Order => judge_order(alloc, catalogs, request, response),
         Route::OtherForm => {
             let why = Refused::UnsupportedMediaType;
             put_offer(response, why, header::ACCEPT, "application/json")
@@ -108,21 +91,22 @@ fn answer_route(
     }
 }
 
-/// Fills a blank response with the answer to a request, at this date. Whether the service runs is always
-/// answered: that takes no memory.
+/// Fills a blank response with the answer to a request, at this date, in the language that the request
+/// asks for. Whether the service runs is always answered: that takes no memory.
 pub fn answer(
     alloc: Global,
+    catalogs: &Catalogs,
     date: Option<HttpDate>,
     request: &Request<Bytes>,
     response: &mut Response,
 ) -> Result<(), AllocError>
     requires { IsBlank response.old }
-    ensures told { OnOk result (IsAnswered date (head_of request.now) (body_of request.now)
+    ensures told { OnOk result (IsAnswered catalogs.now date (head_of request.now) (body_of request.now)
         response.new) }
     ensures health { IsRoute Route.Health (head_of request.now) → IsOk result }
 {
     let route = route_of(request);
-    answer_route(alloc, route, request, response)?;
+    answer_route(alloc, catalogs, route, request, response)?;
     put_date(alloc, date, response);
     Ok(())
 }
@@ -133,17 +117,25 @@ pub struct Orders<'a, C> {
     pub alloc: Global,
     /// Shows the dates of answers. Without one, they have none.
     pub clock: Option<&'a C>,
+    /// The languages in which faults are reported.
+    pub catalogs: &'a Catalogs,
 }
 
 impl<'a, C: Clock> Service for Orders<'a, C> {
-    ghost answers = { λ _ request response _.
-        IsAnsweredSometime (head_of request) (body_of request) response };
+    ghost answers = { λ old request response new. (new.catalogs.now ≡ old.catalogs.now)
+        × IsAnsweredSometime old.catalogs.now (head_of request) (body_of request) response };
 
     fn call(
         &mut self,
         request: &Request<Bytes>,
         response: &mut Response,
     ) -> Result<(), AllocError> {
-        answer(self.alloc, date_of(self.clock), request, response)
+        answer(
+            self.alloc,
+            self.catalogs,
+            date_of(self.clock),
+            request,
+            response,
+        )
     }
 }

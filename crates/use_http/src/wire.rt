@@ -10,6 +10,7 @@ use crate::date::date_of;
 use crate::refusal::{is_plain, refusal, refused_of};
 use crate::service::Orders;
 use bytes::Buf;
+use garde_catalog::Catalogs;
 use http_server::{Config, Connection, Reason, Refusal, Service, State};
 use std::alloc::Global;
 use std::hash::RandomState;
@@ -125,13 +126,15 @@ fn close<C: Clock, W: Write>(
     }
 }
 
-/// Answers the requests that the reader gives, until the connection is done, and says how it stands.
+/// Answers the requests that the reader gives, each in the language of these that it asks for, until
+/// the connection is done, and says how it stands.
 /// What was read and written before an error is a conversation too.
 pub fn answer_all<C: Clock, R: Read, W: Write>(
     alloc: Global,
     keys: RandomState,
     config: Config,
     clock: Option<&C>,
+    catalogs: &Catalogs,
     reader: &mut R,
     writer: &mut W,
 ) -> io::Result<State>
@@ -139,10 +142,14 @@ pub fn answer_all<C: Clock, R: Read, W: Write>(
         × Consumes (R.remaining reader.old) (R.remaining reader.new) read
         × Appends (W.contents writer.old) (W.contents writer.new) written
         × (IsTrue ended → IsAtEnd (R.remaining reader.new))
-        × ∥ IsTalk config ended read written result ∥₁ }
+        × ∥ IsTalk catalogs.now config ended read written result ∥₁ }
 {
     let mut connection = Connection::new(alloc, keys, config);
-    let mut orders = Orders { alloc, clock };
+    let mut orders = Orders {
+        alloc,
+        clock,
+        catalogs,
+    };
     talk(&mut connection, &mut orders, reader, writer)?;
     let stands = connection.state();
     close(alloc, clock, connection, writer)?;

@@ -8,7 +8,7 @@ mod row;
 
 use crate::options::{Options, Task, USAGE};
 use crate::place::Place;
-use crate::row::{COLUMNS, Row};
+use crate::row::{COLUMNS, read_row};
 use anyhow::{Result, anyhow};
 use csv::StringRecord;
 use garde::{DefaultI18n, ValidateError};
@@ -38,7 +38,7 @@ impl<'a, R: Read + Drop> List<'a, R> {
         out: &mut W,
     ) -> Result<usize> {
         let index = place.index();
-        match Row::read(alloc, index, &self.columns, &self.cells) {
+        match read_row(alloc, index, &self.columns, &self.cells, &DefaultI18n) {
             Ok(_) => Ok(0),
             Err(ValidateError::Report(report)) => place.tell_report(alloc, &report, most, out),
             Err(error) => Err(error.into()),

@@ -3,7 +3,9 @@ use crate::file;
 use anyhow::Result;
 use csv::Writer;
 use example_import::row::Row;
-use example_table::reading::Stored;
+use example_table::database::Stock;
+use example_table::reading::{Rows, Stored};
+use sqlite::{File, FileStore};
 use std::alloc::Global;
 use std::io;
 use std::io::Write;
@@ -40,18 +42,17 @@ fn write_row<W: Write + Drop>(alloc: Global, row: &Row, out: &mut Writer<W>) -> 
     Ok(())
 }
 
-/// Prints the rows of the table of a file as a list in CSV, and the faults of a row that is not valid
-/// on standard error. The answer is whether each row is valid.
-pub fn list(rt: &HostRuntime, path: &str) -> Result<bool> {
-    let alloc = rt.alloc();
-    let mut stock = file::open(rt, path)?;
-    let mut out = records_on(alloc, io::writer(rt))?;
-    out.write_fields(&[b"code", b"name", b"quantity", b"price", b"page"])?;
-    let mut rows = stock.rows(alloc);
+/// Writes rows as records, and prints the faults of a row that is not valid on standard error. The answer
+/// is whether each row is valid.
+fn write_rows<W: Write + Drop>(
+    rt: &HostRuntime,
+    rows: &mut Rows<'_, FileStore<File>>,
+    out: &mut Writer<W>,
+) -> Result<bool> {
     let mut valid = true;
     'rows: for _ in 0..u64::MAX {
         match rows.next()? {
-            Some(Stored::Valid(row)) => write_row(alloc, &row, &mut out)?,
+            Some(Stored::Valid(row)) => write_row(rt.alloc(), &row, out)?,
             Some(Stored::Faulty(report)) => {
                 eprint!(rt; "{report}")?;
                 valid = false;
@@ -59,8 +60,25 @@ pub fn list(rt: &HostRuntime, path: &str) -> Result<bool> {
             None => break 'rows,
         }
     }
+    Ok(valid)
+}
+
+/// Prints the rows of a table as a list in CSV. The answer is whether each row is valid.
+fn print(rt: &HostRuntime, stock: &mut Stock<FileStore<File>>) -> Result<bool> {
+    let mut out = records_on(rt.alloc(), io::writer(rt))?;
+    out.write_fields(&[b"code", b"name", b"quantity", b"price", b"page"])?;
+    let valid = write_rows(rt, &mut stock.rows(rt.alloc()), &mut out)?;
     out.flush()?;
-    drop(rows);
-    file::close(stock)?;
+    Ok(valid)
+}
+
+/// Prints the rows of the table of a file as a list in CSV, and the faults of a row that is not valid
+/// on standard error. The answer is whether each row is valid.
+pub fn list(rt: &HostRuntime, path: &str) -> Result<bool> {
+    let mut stock = file::open(rt, path)?;
+    let printed = print(rt, &mut stock);
+    let closed = file::close(stock);
+    let valid = printed?;
+    closed?;
     Ok(valid)
 }

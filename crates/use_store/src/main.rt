@@ -14,6 +14,7 @@ use crate::options::{Task, USAGE};
 use anyhow::{Error, Result, anyhow};
 use example_import::run::{Batch, Cause, Progress, Stopped, import};
 use example_table::database::Stock;
+use example_table::opening::OpenError;
 use garde_csv::ListError;
 use sqlite::{File, FileStore};
 use std::fmt::Display;
@@ -68,17 +69,25 @@ fn end<W: Write>(
     }
 }
 
+/// Why there is no table of a file, and what the file keeps where its disk is full.
+fn not_opened(error: OpenError) -> Error {
+    if file::is_full(&error) {
+        ended_by(&error, NOTHING)
+    } else {
+        error.into()
+    }
+}
+
 /// Imports the list on standard input into the table of a file. The answer is whether all of its rows
 /// were stored.
 fn store(rt: &HostRuntime, path: &str, batch: Batch) -> Result<bool> {
+    let mut out = Faults {
+        out: BufWriter::new(rt.alloc(), io::writer(rt))?,
+    };
     let mut list = CsvList::new(rt.alloc(), rt.stdin())?;
     let mut stock = match file::open(rt, path) {
         Ok(stock) => stock,
-        Err(error) if file::is_full(&error) => return Err(ended_by(&error, NOTHING)),
-        Err(error) => return Err(error.into()),
-    };
-    let mut out = Faults {
-        out: BufWriter::new(rt.alloc(), io::writer(rt))?,
+        Err(error) => return Err(not_opened(error)),
     };
     match import(rt.alloc(), &mut stock, &mut list, &mut out, batch) {
         Ok(progress) => end(stock, progress, &mut out),

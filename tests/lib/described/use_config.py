@@ -8,6 +8,7 @@ TOML, which `tomllib` does not ask. Before Python 3.11 there is no `tomllib`, an
 import codecs
 import datetime
 import ipaddress
+import json
 import re
 
 from lib.described import Case, pattern
@@ -112,6 +113,18 @@ def some(dice):
     body, cuts = some_bytes(dice, (end.join(toml_lines(dice, [], without_nulls(value))) + end).encode("utf-8"), PIECES)
     mark = codecs.BOM_UTF8 if dice.random() < 0.1 else b""
     return Case(dice.choice(((), ("toml",))), mark + body, ways | cuts)
+
+
+def large():
+    """A hundred limits under names of 800 characters, each in order or none, in JSON and, where it can be read, in TOML."""
+    server = {"host": "a", "port": 1, "workers": 1, "connections": 1}
+    for least in 1, 3:
+        limits = {f"{number:0800}": {"min": least, "max": 2} for number in range(100)}
+        yield Case(("json",), json.dumps({"server": server, "logging": {"level": "info"}, "limits": limits}).encode())
+        tables = {"server": server, "logging": {"level": "info"}, **{f"limits.{name}": it for name, it in limits.items()}}
+        rows = (f"[{name}]\n" + "".join(f"{key} = {json.dumps(part)}\n" for key, part in it.items()) for name, it in tables.items())
+        if tomllib is not None:
+            yield Case((), "".join(rows).encode())
 
 
 def without_nulls(value):

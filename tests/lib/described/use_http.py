@@ -1,10 +1,11 @@
-"""The program use_http, by crates/use_http/README.md: orders in JSON over HTTP, and problem details in two languages. The order is that
-of `example_order` too."""
+"""The program use_http, by crates/use_http/README.md: orders in JSON over HTTP, and problem details in the language that is asked for.
+The order is that of `example_order` too."""
 import re
 import typing
 
+from lib import languages
 from lib.described import Case, run
-from lib.faults import ENGLISH, between, chars, items, prefix
+from lib.faults import between, chars, items, prefix
 from lib.form import Closed, ListUnder, Member, Object, Text, Whole, read
 from lib.json_values import NoJson, of_bytes, printed
 from lib.reports import details
@@ -17,12 +18,6 @@ ORDER = Object(Closed(
         Member("count", Whole("u32", between(1, 99))),
     )))),
 ))
-CZECH = {
-    "wrong_form": "jiný druh hodnoty", "member_missing": "položka chybí", "member_repeated": "položka se opakuje",
-    "member_unknown": "neznámá položka", "length_lower_than": "délka je menší než {min}", "length_greater_than": "délka je větší než {max}",
-    "range_lower_than": "hodnota je menší než {min}", "range_greater_than": "hodnota je větší než {max}",
-    "prefix_missing": "text nezačíná na {pattern}",
-}
 MOST = 1024 * 1024
 PHRASES = {
     400: "Bad Request", 404: "Not Found", 405: "Method Not Allowed", 413: "Content Too Large", 414: "URI Too Long",
@@ -31,6 +26,10 @@ PHRASES = {
 TARGETS = {"": "CONNECT", "*": "OPTIONS"}
 MEDIA = ("", "text/plain", "application/json; charset=utf-8", "application/jsonp", "APPLICATION/JSON")
 PATHS = ("/orders", "/orders?x=1", "/health", "/", "/orders/1", "orders", "x:80", "*", "http://x/orders", "http://x")
+
+
+RANGES = ("en", "cs", "cs-CZ", "CS", "csb", "de-AT-1901", "zh-Hant-TW", "zh-CN", "pt", "ja", "ar-EG", "tlh", "*", "e", "", "fr--ca", "hi-abcdefghi")
+WEIGHTS = ("", "", ";q=0.5", ";q=0", "; q=1.000", " ;Q=0.1", ";q=0.501", ";q=1.001", ";q=", ";level=1")
 
 
 class Request(typing.NamedTuple):
@@ -52,15 +51,15 @@ def no_json(title, why):
     return re.compile(re.escape(text).replace("WHY", str(why)).encode("utf-8"))
 
 
-def judged(body, language):
-    """The answer to the body of an order: a status, and bytes or a pattern of them."""
+def judged(body, tag):
+    """The answer to the body of an order in the language of a tag: a status, and bytes or a pattern of them."""
     try:
         _, faults = read(ORDER, of_bytes(body))
     except NoJson as why:
-        return 400, no_json("the body is not read as JSON", why)
+        return 400, no_json("the body is not read as JSON", languages.no_json(str(why), tag))
     if not faults:
         return 204, b""
-    return 422, printed({"title": "the order has faults", "status": 422, "errors": details(faults, language)})
+    return 422, printed({"title": "the order has faults", "status": 422, "errors": details(faults, languages.of_tag(tag))})
 
 
 def path_of(target):
@@ -70,6 +69,11 @@ def path_of(target):
     elif target != "*" and not target.startswith("/"):
         target = ""
     return target.partition("?")[0]
+
+
+def tag_of(request):
+    """The tag of the language that a request asks for, and that of English where it asks for none."""
+    return languages.asked(request.language) or "en"
 
 
 def answer(request):
@@ -87,7 +91,7 @@ def answer(request):
         return refused(405)
     if not re.fullmatch(r"application/json([; \t].*)?", request.media, re.IGNORECASE):
         return refused(415)
-    return judged(request.body, CZECH if re.match(r"cs([-,; \t]|$)", request.language, re.IGNORECASE) else ENGLISH)
+    return judged(request.body, tag_of(request))
 
 
 def offered(request, status):
@@ -97,13 +101,25 @@ def offered(request, status):
     return ("accept", "application/json") if status == 415 else None
 
 
+def spoken(request, status):
+    """The fields of an answer that name its language: of an order that was judged, and has faults or is not read."""
+    is_order = path_of(request.path) == "/orders" and request.method == "POST"
+    return (tag_of(request), "accept-language") if status == 422 or (status == 400 and is_order) else (None, None)
+
+
 # ---- random requests, and the wire
+
+def some_field(dice):
+    """A field `Accept-Language`, with some faults of its grammar."""
+    elements = [dice.choice(RANGES) + dice.choice(WEIGHTS) for _ in range(dice.choice((0, 1, 1, 2, 3)))]
+    return dice.choice((",", ", ", " ,\t")).join(elements).strip()
+
 
 def some_request(dice):
     """A request, and how its body was spoiled."""
     body, ways = some_json(dice, ORDER)
     if dice.random() < 0.9:
-        return Request(body, language=dice.choice(("", "en", "cs", "cs-CZ,en;q=0.5", "en,cs", "csb"))), ways
+        return Request(body, language=some_field(dice)), ways
     return Request(body, dice.choice(("POST", "GET", "PUT", "DELETE", "OPTIONS")), dice.choice(PATHS), dice.choice(MEDIA)), {"no order"}
 
 
@@ -133,10 +149,10 @@ def request_of(given):
 
 
 def wanted(case):
-    """The status of the run, the status of the answer, its type, its body, what it offers, and standard error."""
+    """The status of the run, the status of the answer, its type, its body, its language, what it offers, and standard error."""
     request = request_of(case.given)
     status, body = answer(request)
-    return 0, status, "application/problem+json" if body else None, body, offered(request, status), b""
+    return 0, status, "application/problem+json" if body else None, body, spoken(request, status), offered(request, status), b""
 
 
 def status(answer):
@@ -158,4 +174,5 @@ def met(program, case):
     first, *rest = head.decode("latin-1").split("\r\n")
     fields = dict(line.split(": ", 1) for line in rest)
     offers = next(((name, fields[name]) for name in ("accept", "allow") if name in fields), None)
-    return ended, int((first.split() + ["0", "0"])[1]), fields.get("content-type"), body, offers, err
+    language = fields.get("content-language"), fields.get("vary")
+    return ended, int((first.split() + ["0", "0"])[1]), fields.get("content-type"), body, language, offers, err

@@ -60,6 +60,14 @@ def some(dice):
     return Case(words, body, cuts | ({"columns"} if columns != COLUMNS else set()) | ({"cells"} if odd else set()))
 
 
+def large():
+    """A list of 3,000 rows, some of them faulty, without and with a word, and a row whose cell has more than 64 KiB."""
+    rows = "".join(f"{'X' if row % 700 == 699 else 'P'}{row},Screw,1,5,\n" for row in range(3_000))
+    for words in (), ("--lines",), ("3",):
+        yield Case(words, ",".join(COLUMNS).encode() + b"\n" + rows.encode())
+    yield Case((), ",".join(COLUMNS).encode() + b'\nP1,"' + b"x\n" * 40_000 + b'",1,5,\nQ1,Screw,1,5,\n')
+
+
 def records(given):
     """The records of a list, of which those with a cell that is no UTF-8 have a fault."""
     for record in rfc4180.records(given.decode("utf-8", "surrogateescape")):

@@ -1,4 +1,6 @@
 """The program use_order, by crates/use_order/README.md: a page of orders in JSON."""
+import json
+
 from lib import placed
 from lib.described import Case, pattern
 from lib.faults import REQUIRED, between, chars, items, prefix
@@ -32,6 +34,14 @@ PAGE = Object(Closed(
 def some(dice):
     most, form = dice.choice(((), (), (), ("1",), ("2",), ("7",), ("18446744073709551615",))), placed.some_format(dice)
     return Case(dice.choice((most + form, form + most)), *some_json(dice, PAGE))
+
+
+def large():
+    """Pages with as many lines as there may be, of more than 64 KiB: valid, and with three faults in each line."""
+    for line, words in (("P\u00e9", 1, 1), ()), (("Q", 0, 10_000), ()), (("Q", 0, 10_000), ("2500",)):
+        lines = [dict(zip(("code", "count", "cents"), line))] * 50
+        order = {"customer": "x" * 80, "delivery": "post", "address": "y" * 200, "lines": lines}
+        yield Case(words, json.dumps({"number": 1, "entries": [order] * 20}, indent=8).encode())
 
 
 def confirmed(order):

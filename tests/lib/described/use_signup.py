@@ -44,6 +44,13 @@ def characters(count):
     return "znak" if count == 1 else "znaky" if 2 <= count <= 4 else "znaků"
 
 
+def large():
+    """Forms whose first field, which is known or not, has more than 64 KiB: what stands behind it is read too."""
+    rest = b"&username=ada123&password=analytical+engine&password_again=analytical+engine&age=36&terms=on&topics=news&topics=events&city=x"
+    for name in b"name", b"note":
+        yield Case(("en",), name + b"=" + b"%C3%A9+" * 20_000 + rest)
+
+
 def byte_of(dice, byte):
     """A byte of a name or a text: as it is where it may be, or by its number."""
     if byte == 0x20 and dice.random() < 0.8:

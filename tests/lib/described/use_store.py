@@ -68,6 +68,14 @@ def some(dice):
     return Case(("stock.db", *words), mark + ",".join(COLUMNS).encode() + dice.choice((b"\n", b"\r\n")) + body, cuts | ({"cells"} if odd else set()))
 
 
+def large():
+    """A list of 2,500 rows, some of them faulty, and one with a cell of more than 64 KiB."""
+    rows = "".join(f"{'X' if row % 700 == 699 else 'P'}{row},Screw,1,5,\n" for row in range(2_500))
+    for words in (), ("--batch", "999"):
+        yield Case(("stock.db", *words), ",".join(COLUMNS).encode() + b"\n" + rows.encode())
+    yield Case(("stock.db",), ",".join(COLUMNS).encode() + b'\nP1,"' + b"x\n" * 40_000 + b'",1,5,\nP2,Screw,1,5,\n')
+
+
 def body_of(case):
     """What stands behind the header."""
     return case.given.partition(b"\n")[2]

@@ -1,4 +1,4 @@
-/* Stands for the tests of scenarios: one ends well, the others do not. */
+/* Stands for the tests of scenarios, one of which ends well, and for a program, which says what it is told to say by its word. */
 #include <stdlib.h>
 #include <string.h>
 #include <unistd.h>
@@ -6,6 +6,14 @@
 static int say(const char *line)
 {
     return write(1, line, strlen(line)) < 0 ? 2 : 1;
+}
+
+static int answer(const char *word, int refused)
+{
+    if (!refused)
+        return write(1, "right\n", 6) != 6;
+    const char *said = strstr(word, "says_why") ? "use_planted: out of memory\n" : "use_planted: something\n";
+    return write(2, said, strlen(said)) < 0 || strstr(word, "with_status_0") ? 0 : 2;
 }
 
 int main(int count, char **words)
@@ -20,6 +28,8 @@ int main(int count, char **words)
     if (strstr(words[1], "asks_for_nothing"))
         return 0;
     void *volatile one = malloc(10), *volatile other = malloc(10);
+    if (count > 1 && strstr(words[1], "program"))
+        return answer(words[1], !one || !other);
     if (one && other)
         return 0;
     return say(strstr(words[1], "ends_well") ? "error: \"memory was refused\"\n" : "panicked\n");

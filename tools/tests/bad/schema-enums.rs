@@ -35,7 +35,7 @@ pub enum Speed { //~ `Speed` without `Clone` and `Copy` among its derives, which
 pub struct Pair(#[garde(skip)] u8, #[garde(skip)] u8); //~ `Pair`, which is a list or `null` in JSON, or has no fields: `--schema` reads structs with named fields, those of one value, and enums
 
 #[derive(Deserialize, Validate)]
-#[garde(context(Terms))] //~ a context: the form of `--schema` has none, so take the word out and write the form by hand
+#[garde(context(Terms))] //~ a context: the form of `--schema` has none, so say `--spelled TYPE`
 pub struct Under {
     #[garde(length(max = ctx.most))]
     name: String,

@@ -42,7 +42,7 @@ pub struct Order {
     #[garde(skip)]
     #[serde(skip)] //~ `skip` of serde, of which `--schema` writes no form
     pub own: bool,
-    #[garde(pattern("a+"))] //~ `pattern`, which stands in a context: the form of `--schema` has none
+    #[garde(pattern("a+"))] //~ `pattern` in quotes, of which a form has none: say `--spelled TYPE`, and name a pattern of the type's context
     pub mark: String,
     #[garde(inner(ascii))]
     pub names: BTreeMap<String, String>,

@@ -4,7 +4,7 @@ use crate::catalog::Entry;
 use crate::key::Key;
 
 /// The texts in Arabic, `ar`.
-pub static ARABIC: [Entry<'static>; 64] = [
+pub static ARABIC: [Entry<'static>; 69] = [
     (Key::LengthLowerThan, "الطول أقل من {min}"),
     (Key::LengthGreaterThan, "الطول أكبر من {max}"),
     (Key::RangeLowerThan, "القيمة أقل من {min}"),
@@ -81,4 +81,15 @@ pub static ARABIC: [Entry<'static>; 64] = [
     (Key::MemberUnknown, "غير معروف هنا"),
     (Key::ValueUnknown, "ليس من القيم المعروفة"),
     (Key::RowLength, "عدد الحقول مختلف عن سطر العناوين"),
+    (Key::NotUtf8, "ليس UTF-8: السطر {line}، العمود {column}"),
+    (Key::NotJson, "ليس JSON: السطر {line}، العمود {column}"),
+    (
+        Key::NestedTooDeep,
+        "التداخل أعمق من 128 مستوى: السطر {line}، العمود {column}",
+    ),
+    (
+        Key::LoneSurrogate,
+        "نصف زوج بديل وحده: السطر {line}، العمود {column}",
+    ),
+    (Key::TextTooLong, "أطول من 4294967040 بايت"),
 ];

@@ -4,7 +4,7 @@ use crate::catalog::Entry;
 use crate::key::Key;
 
 /// The texts in Chinese in simplified characters, `zh-Hans`.
-pub static CHINESE: [Entry<'static>; 64] = [
+pub static CHINESE: [Entry<'static>; 69] = [
     (Key::LengthLowerThan, "长度小于 {min}"),
     (Key::LengthGreaterThan, "长度大于 {max}"),
     (Key::RangeLowerThan, "值小于 {min}"),
@@ -69,4 +69,9 @@ pub static CHINESE: [Entry<'static>; 64] = [
     (Key::MemberUnknown, "此处未知"),
     (Key::ValueUnknown, "不是已知的值"),
     (Key::RowLength, "字段数与标题行不同"),
+    (Key::NotUtf8, "不是 UTF-8（第 {line} 行，第 {column} 列）"),
+    (Key::NotJson, "不是 JSON（第 {line} 行，第 {column} 列）"),
+    (Key::NestedTooDeep, "嵌套超过 128 层（第 {line} 行，第 {column} 列）"),
+    (Key::LoneSurrogate, "单独的代理项（第 {line} 行，第 {column} 列）"),
+    (Key::TextTooLong, "超过 4294967040 字节"),
 ];

@@ -4,7 +4,7 @@ use crate::catalog::Entry;
 use crate::key::Key;
 
 /// The texts in Czech, `cs`.
-pub static CZECH: [Entry<'static>; 64] = [
+pub static CZECH: [Entry<'static>; 69] = [
     (Key::LengthLowerThan, "délka je menší než {min}"),
     (Key::LengthGreaterThan, "délka je větší než {max}"),
     (Key::RangeLowerThan, "hodnota je menší než {min}"),
@@ -84,4 +84,15 @@ pub static CZECH: [Entry<'static>; 64] = [
     (Key::MemberUnknown, "zde neznámé"),
     (Key::ValueUnknown, "není to žádná ze známých hodnot"),
     (Key::RowLength, "jiný počet polí než v záhlaví"),
+    (Key::NotUtf8, "není UTF-8: řádek {line}, sloupec {column}"),
+    (Key::NotJson, "není JSON: řádek {line}, sloupec {column}"),
+    (
+        Key::NestedTooDeep,
+        "více než 128 úrovní zanoření: řádek {line}, sloupec {column}",
+    ),
+    (
+        Key::LoneSurrogate,
+        "osamocený surogát: řádek {line}, sloupec {column}",
+    ),
+    (Key::TextTooLong, "více než 4294967040 bajtů"),
 ];

@@ -4,7 +4,7 @@ use crate::catalog::Entry;
 use crate::key::Key;
 
 /// The texts in Dutch, `nl`.
-pub static DUTCH: [Entry<'static>; 64] = [
+pub static DUTCH: [Entry<'static>; 69] = [
     (Key::LengthLowerThan, "lengte is kleiner dan {min}"),
     (Key::LengthGreaterThan, "lengte is groter dan {max}"),
     (Key::RangeLowerThan, "waarde is kleiner dan {min}"),
@@ -93,4 +93,15 @@ pub static DUTCH: [Entry<'static>; 64] = [
     (Key::MemberUnknown, "hier niet bekend"),
     (Key::ValueUnknown, "niet een van de bekende waarden"),
     (Key::RowLength, "een ander aantal velden dan in de kopregel"),
+    (Key::NotUtf8, "geen UTF-8 op regel {line}, kolom {column}"),
+    (Key::NotJson, "geen JSON op regel {line}, kolom {column}"),
+    (
+        Key::NestedTooDeep,
+        "dieper dan 128 niveaus genest op regel {line}, kolom {column}",
+    ),
+    (
+        Key::LoneSurrogate,
+        "een los surrogaat op regel {line}, kolom {column}",
+    ),
+    (Key::TextTooLong, "langer dan 4294967040 bytes"),
 ];

@@ -4,7 +4,7 @@ use crate::catalog::Entry;
 use crate::key::Key;
 
 /// The texts in English, `en`.
-pub static ENGLISH: [Entry<'static>; 64] = [
+pub static ENGLISH: [Entry<'static>; 69] = [
     (Key::LengthLowerThan, "length is lower than {min}"),
     (Key::LengthGreaterThan, "length is greater than {max}"),
     (Key::RangeLowerThan, "lower than {min}"),
@@ -93,4 +93,15 @@ pub static ENGLISH: [Entry<'static>; 64] = [
     (Key::MemberUnknown, "not known here"),
     (Key::ValueUnknown, "not one of the known values"),
     (Key::RowLength, "not as many fields as in the header"),
+    (Key::NotUtf8, "not UTF-8 at line {line} column {column}"),
+    (Key::NotJson, "not JSON at line {line} column {column}"),
+    (
+        Key::NestedTooDeep,
+        "nested deeper than 128 at line {line} column {column}",
+    ),
+    (
+        Key::LoneSurrogate,
+        "a lone surrogate at line {line} column {column}",
+    ),
+    (Key::TextTooLong, "longer than 4294967040 bytes"),
 ];

@@ -4,7 +4,7 @@ use crate::catalog::Entry;
 use crate::key::Key;
 
 /// The texts in French, `fr`.
-pub static FRENCH: [Entry<'static>; 64] = [
+pub static FRENCH: [Entry<'static>; 69] = [
     (Key::LengthLowerThan, "longueur inférieure à {min}"),
     (Key::LengthGreaterThan, "longueur supérieure à {max}"),
     (Key::RangeLowerThan, "valeur inférieure à {min}"),
@@ -102,4 +102,21 @@ pub static FRENCH: [Entry<'static>; 64] = [
         Key::RowLength,
         "nombre de champs différent de celui de l’en-tête",
     ),
+    (
+        Key::NotUtf8,
+        "pas de l’UTF-8 à la ligne {line}, colonne {column}",
+    ),
+    (
+        Key::NotJson,
+        "pas du JSON à la ligne {line}, colonne {column}",
+    ),
+    (
+        Key::NestedTooDeep,
+        "imbriqué sur plus de 128 niveaux à la ligne {line}, colonne {column}",
+    ),
+    (
+        Key::LoneSurrogate,
+        "un substitut isolé à la ligne {line}, colonne {column}",
+    ),
+    (Key::TextTooLong, "plus long que 4294967040 octets"),
 ];

@@ -4,7 +4,7 @@ use crate::catalog::Entry;
 use crate::key::Key;
 
 /// The texts in German, `de`.
-pub static GERMAN: [Entry<'static>; 64] = [
+pub static GERMAN: [Entry<'static>; 69] = [
     (Key::LengthLowerThan, "Länge ist kleiner als {min}"),
     (Key::LengthGreaterThan, "Länge ist größer als {max}"),
     (Key::RangeLowerThan, "Wert ist kleiner als {min}"),
@@ -99,4 +99,15 @@ pub static GERMAN: [Entry<'static>; 64] = [
         Key::RowLength,
         "andere Anzahl von Feldern als in der Kopfzeile",
     ),
+    (Key::NotUtf8, "kein UTF-8 in Zeile {line}, Spalte {column}"),
+    (Key::NotJson, "kein JSON in Zeile {line}, Spalte {column}"),
+    (
+        Key::NestedTooDeep,
+        "tiefer als 128 geschachtelt in Zeile {line}, Spalte {column}",
+    ),
+    (
+        Key::LoneSurrogate,
+        "ein halbes Surrogatpaar in Zeile {line}, Spalte {column}",
+    ),
+    (Key::TextTooLong, "länger als 4294967040 Byte"),
 ];

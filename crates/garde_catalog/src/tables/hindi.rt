@@ -4,7 +4,7 @@ use crate::catalog::Entry;
 use crate::key::Key;
 
 /// The texts in Hindi, `hi`.
-pub static HINDI: [Entry<'static>; 64] = [
+pub static HINDI: [Entry<'static>; 69] = [
     (Key::LengthLowerThan, "लंबाई {min} से कम है"),
     (Key::LengthGreaterThan, "लंबाई {max} से अधिक है"),
     (Key::RangeLowerThan, "मान {min} से कम है"),
@@ -81,4 +81,15 @@ pub static HINDI: [Entry<'static>; 64] = [
     (Key::MemberUnknown, "यहाँ अज्ञात है"),
     (Key::ValueUnknown, "ज्ञात मानों में से नहीं है"),
     (Key::RowLength, "फ़ील्ड की संख्या शीर्षक पंक्ति से अलग है"),
+    (Key::NotUtf8, "UTF-8 नहीं है: पंक्ति {line}, स्तंभ {column}"),
+    (Key::NotJson, "JSON नहीं है: पंक्ति {line}, स्तंभ {column}"),
+    (
+        Key::NestedTooDeep,
+        "128 स्तरों से अधिक नेस्टेड: पंक्ति {line}, स्तंभ {column}",
+    ),
+    (
+        Key::LoneSurrogate,
+        "अकेला सरोगेट: पंक्ति {line}, स्तंभ {column}",
+    ),
+    (Key::TextTooLong, "4294967040 बाइट से लंबा"),
 ];

@@ -4,7 +4,7 @@ use crate::catalog::Entry;
 use crate::key::Key;
 
 /// The texts in Italian, `it`.
-pub static ITALIAN: [Entry<'static>; 64] = [
+pub static ITALIAN: [Entry<'static>; 69] = [
     (Key::LengthLowerThan, "lunghezza inferiore a {min}"),
     (Key::LengthGreaterThan, "lunghezza superiore a {max}"),
     (Key::RangeLowerThan, "valore inferiore a {min}"),
@@ -96,4 +96,21 @@ pub static ITALIAN: [Entry<'static>; 64] = [
         Key::RowLength,
         "numero di campi diverso da quello dell’intestazione",
     ),
+    (
+        Key::NotUtf8,
+        "non è UTF-8 alla riga {line}, colonna {column}",
+    ),
+    (
+        Key::NotJson,
+        "non è JSON alla riga {line}, colonna {column}",
+    ),
+    (
+        Key::NestedTooDeep,
+        "annidato oltre 128 livelli alla riga {line}, colonna {column}",
+    ),
+    (
+        Key::LoneSurrogate,
+        "un surrogato isolato alla riga {line}, colonna {column}",
+    ),
+    (Key::TextTooLong, "più lungo di 4294967040 byte"),
 ];

@@ -4,7 +4,7 @@ use crate::catalog::Entry;
 use crate::key::Key;
 
 /// The texts in Japanese, `ja`.
-pub static JAPANESE: [Entry<'static>; 64] = [
+pub static JAPANESE: [Entry<'static>; 69] = [
     (Key::LengthLowerThan, "長さが{min}より小さいです"),
     (Key::LengthGreaterThan, "長さが{max}より大きいです"),
     (Key::RangeLowerThan, "値が{min}より小さいです"),
@@ -69,4 +69,9 @@ pub static JAPANESE: [Entry<'static>; 64] = [
     (Key::MemberUnknown, "ここでは使えない名前です"),
     (Key::ValueUnknown, "使用できる値のいずれでもありません"),
     (Key::RowLength, "項目の数が見出し行と異なります"),
+    (Key::NotUtf8, "UTF-8ではありません（{line}行目、{column}列目）"),
+    (Key::NotJson, "JSONではありません（{line}行目、{column}列目）"),
+    (Key::NestedTooDeep, "入れ子が128段を超えています（{line}行目、{column}列目）"),
+    (Key::LoneSurrogate, "サロゲートの片方だけがあります（{line}行目、{column}列目）"),
+    (Key::TextTooLong, "4294967040バイトを超えています"),
 ];

@@ -4,7 +4,7 @@ use crate::catalog::Entry;
 use crate::key::Key;
 
 /// The texts in Korean, `ko`.
-pub static KOREAN: [Entry<'static>; 64] = [
+pub static KOREAN: [Entry<'static>; 69] = [
     (Key::LengthLowerThan, "길이가 {min}보다 작습니다"),
     (Key::LengthGreaterThan, "길이가 {max}보다 큽니다"),
     (Key::RangeLowerThan, "값이 {min}보다 작습니다"),
@@ -69,4 +69,9 @@ pub static KOREAN: [Entry<'static>; 64] = [
     (Key::MemberUnknown, "여기서 쓸 수 없는 이름입니다"),
     (Key::ValueUnknown, "허용된 값이 아닙니다"),
     (Key::RowLength, "필드 수가 머리글과 다릅니다"),
+    (Key::NotUtf8, "UTF-8이 아닙니다({line}행 {column}열)"),
+    (Key::NotJson, "JSON이 아닙니다({line}행 {column}열)"),
+    (Key::NestedTooDeep, "중첩이 128단계를 넘습니다({line}행 {column}열)"),
+    (Key::LoneSurrogate, "짝이 없는 서로게이트입니다({line}행 {column}열)"),
+    (Key::TextTooLong, "4294967040바이트를 넘습니다"),
 ];

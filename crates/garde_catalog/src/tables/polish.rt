@@ -4,7 +4,7 @@ use crate::catalog::Entry;
 use crate::key::Key;
 
 /// The texts in Polish, `pl`.
-pub static POLISH: [Entry<'static>; 64] = [
+pub static POLISH: [Entry<'static>; 69] = [
     (Key::LengthLowerThan, "długość jest mniejsza niż {min}"),
     (Key::LengthGreaterThan, "długość jest większa niż {max}"),
     (Key::RangeLowerThan, "wartość jest mniejsza niż {min}"),
@@ -90,4 +90,18 @@ pub static POLISH: [Entry<'static>; 64] = [
     (Key::MemberUnknown, "tutaj nieznane"),
     (Key::ValueUnknown, "to nie jest żadna ze znanych wartości"),
     (Key::RowLength, "inna liczba pól niż w nagłówku"),
+    (
+        Key::NotUtf8,
+        "to nie UTF-8: wiersz {line}, kolumna {column}",
+    ),
+    (Key::NotJson, "to nie JSON: wiersz {line}, kolumna {column}"),
+    (
+        Key::NestedTooDeep,
+        "więcej niż 128 poziomów zagnieżdżenia: wiersz {line}, kolumna {column}",
+    ),
+    (
+        Key::LoneSurrogate,
+        "pojedynczy surogat: wiersz {line}, kolumna {column}",
+    ),
+    (Key::TextTooLong, "więcej niż 4294967040 bajtów"),
 ];

@@ -4,7 +4,7 @@ use crate::catalog::Entry;
 use crate::key::Key;
 
 /// The texts in Portuguese of Brazil, `pt-BR`.
-pub static PORTUGUESE: [Entry<'static>; 64] = [
+pub static PORTUGUESE: [Entry<'static>; 69] = [
     (Key::LengthLowerThan, "comprimento menor que {min}"),
     (Key::LengthGreaterThan, "comprimento maior que {max}"),
     (Key::RangeLowerThan, "valor menor que {min}"),
@@ -93,4 +93,15 @@ pub static PORTUGUESE: [Entry<'static>; 64] = [
     (Key::MemberUnknown, "desconhecido aqui"),
     (Key::ValueUnknown, "não é um dos valores conhecidos"),
     (Key::RowLength, "número de campos diferente do cabeçalho"),
+    (Key::NotUtf8, "não é UTF-8 na linha {line}, coluna {column}"),
+    (Key::NotJson, "não é JSON na linha {line}, coluna {column}"),
+    (
+        Key::NestedTooDeep,
+        "mais de 128 níveis de aninhamento na linha {line}, coluna {column}",
+    ),
+    (
+        Key::LoneSurrogate,
+        "um substituto isolado na linha {line}, coluna {column}",
+    ),
+    (Key::TextTooLong, "mais de 4294967040 bytes"),
 ];

@@ -4,7 +4,7 @@ use crate::catalog::Entry;
 use crate::key::Key;
 
 /// The texts in Russian, `ru`.
-pub static RUSSIAN: [Entry<'static>; 64] = [
+pub static RUSSIAN: [Entry<'static>; 69] = [
     (Key::LengthLowerThan, "длина меньше {min}"),
     (Key::LengthGreaterThan, "длина больше {max}"),
     (Key::RangeLowerThan, "значение меньше {min}"),
@@ -90,4 +90,15 @@ pub static RUSSIAN: [Entry<'static>; 64] = [
     (Key::MemberUnknown, "здесь неизвестно"),
     (Key::ValueUnknown, "не входит в число известных значений"),
     (Key::RowLength, "число полей не такое, как в заголовке"),
+    (Key::NotUtf8, "не UTF-8: строка {line}, столбец {column}"),
+    (Key::NotJson, "не JSON: строка {line}, столбец {column}"),
+    (
+        Key::NestedTooDeep,
+        "вложенность больше 128: строка {line}, столбец {column}",
+    ),
+    (
+        Key::LoneSurrogate,
+        "одиночный суррогат: строка {line}, столбец {column}",
+    ),
+    (Key::TextTooLong, "длиннее 4294967040 байт"),
 ];

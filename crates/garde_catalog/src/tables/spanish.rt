@@ -4,7 +4,7 @@ use crate::catalog::Entry;
 use crate::key::Key;
 
 /// The texts in Spanish, `es`.
-pub static SPANISH: [Entry<'static>; 64] = [
+pub static SPANISH: [Entry<'static>; 69] = [
     (Key::LengthLowerThan, "longitud menor que {min}"),
     (Key::LengthGreaterThan, "longitud mayor que {max}"),
     (Key::RangeLowerThan, "valor menor que {min}"),
@@ -99,4 +99,21 @@ pub static SPANISH: [Entry<'static>; 64] = [
         Key::RowLength,
         "número de campos distinto al de la cabecera",
     ),
+    (
+        Key::NotUtf8,
+        "no es UTF-8 en la línea {line}, columna {column}",
+    ),
+    (
+        Key::NotJson,
+        "no es JSON en la línea {line}, columna {column}",
+    ),
+    (
+        Key::NestedTooDeep,
+        "más de 128 niveles de anidamiento en la línea {line}, columna {column}",
+    ),
+    (
+        Key::LoneSurrogate,
+        "un sustituto aislado en la línea {line}, columna {column}",
+    ),
+    (Key::TextTooLong, "más de 4294967040 bytes"),
 ];

@@ -4,7 +4,7 @@ use crate::catalog::Entry;
 use crate::key::Key;
 
 /// The texts in Turkish, `tr`.
-pub static TURKISH: [Entry<'static>; 64] = [
+pub static TURKISH: [Entry<'static>; 69] = [
     (Key::LengthLowerThan, "uzunluk alt sınırın altında: {min}"),
     (Key::LengthGreaterThan, "uzunluk üst sınırın üstünde: {max}"),
     (Key::RangeLowerThan, "değer alt sınırın altında: {min}"),
@@ -87,4 +87,15 @@ pub static TURKISH: [Entry<'static>; 64] = [
     (Key::MemberUnknown, "burada bilinmiyor"),
     (Key::ValueUnknown, "bilinen değerlerden biri değil"),
     (Key::RowLength, "alan sayısı başlıktakinden farklı"),
+    (Key::NotUtf8, "UTF-8 değil: satır {line}, sütun {column}"),
+    (Key::NotJson, "JSON değil: satır {line}, sütun {column}"),
+    (
+        Key::NestedTooDeep,
+        "iç içe geçme 128 düzeyi aşıyor: satır {line}, sütun {column}",
+    ),
+    (
+        Key::LoneSurrogate,
+        "tek kalmış vekil karakter: satır {line}, sütun {column}",
+    ),
+    (Key::TextTooLong, "4294967040 bayttan uzun"),
 ];

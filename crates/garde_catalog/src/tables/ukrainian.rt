@@ -4,7 +4,7 @@ use crate::catalog::Entry;
 use crate::key::Key;
 
 /// The texts in Ukrainian, `uk`.
-pub static UKRAINIAN: [Entry<'static>; 64] = [
+pub static UKRAINIAN: [Entry<'static>; 69] = [
     (Key::LengthLowerThan, "довжина менша за {min}"),
     (Key::LengthGreaterThan, "довжина більша за {max}"),
     (Key::RangeLowerThan, "значення менше за {min}"),
@@ -90,4 +90,15 @@ pub static UKRAINIAN: [Entry<'static>; 64] = [
     (Key::MemberUnknown, "тут невідоме"),
     (Key::ValueUnknown, "не належить до відомих значень"),
     (Key::RowLength, "кількість полів не така, як у заголовку"),
+    (Key::NotUtf8, "не UTF-8: рядок {line}, стовпець {column}"),
+    (Key::NotJson, "не JSON: рядок {line}, стовпець {column}"),
+    (
+        Key::NestedTooDeep,
+        "вкладеність понад 128: рядок {line}, стовпець {column}",
+    ),
+    (
+        Key::LoneSurrogate,
+        "одиничний сурогат: рядок {line}, стовпець {column}",
+    ),
+    (Key::TextTooLong, "довше за 4294967040 байтів"),
 ];

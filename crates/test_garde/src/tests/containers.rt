@@ -81,10 +81,12 @@ fn is_told_of_a_linked_list(rt: &impl Abort, alloc: Global, text: &str) -> bool 
 
 #[test]
 fn sequences_under_indexes(rt: HostRuntime) {
-    assert!(rt; is_told_of_a_slice(&rt, rt.alloc(), FIRST_TOO_SHORT));
-    assert!(rt; is_told_of_an_array(&rt, rt.alloc(), FIRST_TOO_SHORT));
-    assert!(rt; is_told_of_a_deque(&rt, rt.alloc(), FIRST_TOO_SHORT));
-    assert!(rt; is_told_of_a_linked_list(&rt, rt.alloc(), FIRST_TOO_SHORT));
+    assert!(rt;
+        is_told_of_a_slice(&rt, rt.alloc(), FIRST_TOO_SHORT)
+            && is_told_of_an_array(&rt, rt.alloc(), FIRST_TOO_SHORT)
+            && is_told_of_a_deque(&rt, rt.alloc(), FIRST_TOO_SHORT)
+            && is_told_of_a_linked_list(&rt, rt.alloc(), FIRST_TOO_SHORT)
+    );
 }
 
 fn is_told_of_an_ordered_set(rt: &impl Abort, alloc: Global, text: &str) -> bool {
@@ -101,8 +103,10 @@ fn is_told_of_a_heap(rt: &impl Abort, alloc: Global, text: &str) -> bool {
 
 #[test]
 fn sets_and_heaps_under_indexes(rt: HostRuntime) {
-    assert!(rt; is_told_of_an_ordered_set(&rt, rt.alloc(), FIRST_TOO_SHORT));
-    assert!(rt; is_told_of_a_heap(&rt, rt.alloc(), FIRST_TOO_SHORT));
+    assert!(rt;
+        is_told_of_an_ordered_set(&rt, rt.alloc(), FIRST_TOO_SHORT)
+            && is_told_of_a_heap(&rt, rt.alloc(), FIRST_TOO_SHORT)
+    );
 }
 
 /// Puts a user of this name into a set.
@@ -179,10 +183,12 @@ fn is_told_of_an_ordered_map(rt: &impl Abort, alloc: Global, text: &str) -> bool
 #[test]
 fn values_of_maps_under_their_keys(rt: HostRuntime) {
     let hashed = "x.y.username: length is lower than 3\nnodes: 2";
-    assert!(rt; is_told_of_a_hash_map(&rt, rt.alloc(), hashed));
     let ordered =
         "a.username: length is lower than 3\nb.username: length is lower than 3\nnodes: 4";
-    assert!(rt; is_told_of_an_ordered_map(&rt, rt.alloc(), ordered));
+    assert!(rt;
+        is_told_of_a_hash_map(&rt, rt.alloc(), hashed)
+            && is_told_of_an_ordered_map(&rt, rt.alloc(), ordered)
+    );
 }
 
 fn is_told_of_references(rt: &impl Abort, alloc: Global, text: &str) -> bool {
@@ -201,9 +207,11 @@ fn is_told_of_a_box(rt: &impl Abort, alloc: Global, text: &str) -> bool {
 
 #[test]
 fn wrappers_add_nothing(rt: HostRuntime) {
-    assert!(rt; is_told_of_references(&rt, rt.alloc(), TOO_SHORT));
-    assert!(rt; is_told_of_a_box(&rt, rt.alloc(), TOO_SHORT));
-    assert!(rt; is_told(&rt, rt.alloc(), &(), "nodes: 0"));
+    assert!(rt;
+        is_told_of_references(&rt, rt.alloc(), TOO_SHORT)
+            && is_told_of_a_box(&rt, rt.alloc(), TOO_SHORT)
+            && is_told(&rt, rt.alloc(), &(), "nodes: 0")
+    );
 }
 
 fn is_told_of_a_shared_value(rt: &impl Abort, alloc: Global, text: &str) -> bool {
@@ -223,9 +231,11 @@ fn is_told_of_borrowed_and_owned(rt: &impl Abort, alloc: Global, text: &str) -> 
 
 #[test]
 fn shared_and_borrowed_values_add_nothing(rt: HostRuntime) {
-    assert!(rt; is_told_of_a_shared_value(&rt, rt.alloc(), TOO_SHORT));
     let too_great = "id: greater than 4\nnodes: 1";
-    assert!(rt; is_told_of_borrowed_and_owned(&rt, rt.alloc(), too_great));
+    assert!(rt;
+        is_told_of_a_shared_value(&rt, rt.alloc(), TOO_SHORT)
+            && is_told_of_borrowed_and_owned(&rt, rt.alloc(), too_great)
+    );
 }
 
 /// A name that is not set, one that is not ASCII, and an empty one.

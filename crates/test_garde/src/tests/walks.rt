@@ -56,24 +56,50 @@ fn begins(report: &Report) -> bool {
     has(report, OLD) || has(report, &["old", "not ascii"]) || has(report, FAULTS)
 }
 
+// What a walk of users answers while memory may run out.
+fn walk<'a>(
+    alloc: Global,
+    memory: &mut Scarce,
+    users: &'a Vec<Option<User>>,
+    trail: &mut Trail<'a>,
+    report: &mut Report,
+) -> Result<(), AllocError> {
+    memory.begin();
+    let answer = users.validate_into(alloc, &(), trail, report, &DefaultI18n);
+    memory.end();
+    answer
+}
+
+// Whether the trail stands where it stood, so that a walk with ample memory reports each fault at its place.
+fn stands<'a>(
+    alloc: Global,
+    users: &'a Vec<Option<User>>,
+    trail: &mut Trail<'a>,
+) -> Result<bool, AllocError> {
+    let mut again = Report::new(alloc);
+    users.validate_into(alloc, &(), trail, &mut again, &DefaultI18n)?;
+    let text = "users[0].username: not ascii\nusers[0].username: length is lower than 3\n";
+    let same_place = reads(alloc, &again, text)?;
+    Ok(trail.depth() == 1 && has(&again, FOUND) && same_place)
+}
+
+// What the memory did, by the answer and the report of a walk behind which the trail stands or not.
+fn met(answer: Result<(), AllocError>, stands: bool, report: &Report) -> Met {
+    match answer {
+        Ok(()) if stands && has(report, FAULTS) => Met::Ample,
+        Err(AllocError) if stands && begins(report) => Met::Want,
+        _ => Met::Wrong,
+    }
+}
+
 pub fn on_users(alloc: Global, memory: &mut Scarce) -> Result<Met, AllocError> {
     let users = one(alloc, Some(user(alloc, "é")?))?;
     let mut report = report_of(alloc, OLD)?;
     let mut trail = Trail::new(alloc);
     trail.push(Component::key("users"))?;
-    memory.begin();
-    let answer = users.validate_into(alloc, &(), &mut trail, &mut report, &DefaultI18n);
-    memory.end();
-    let mut again = Report::new(alloc);
-    users.validate_into(alloc, &(), &mut trail, &mut again, &DefaultI18n)?;
-    let stands = trail.depth() == 1 && has(&again, FOUND);
-    let text = "users[0].username: not ascii\nusers[0].username: length is lower than 3\n";
-    let same_place = reads(alloc, &again, text)?;
-    Ok(match answer {
-        Ok(()) if stands && same_place && has(&report, FAULTS) => Met::Ample,
-        Err(AllocError) if stands && same_place && begins(&report) => Met::Want,
-        _ => Met::Wrong,
-    })
+    let answer = walk(alloc, memory, &users, &mut trail, &mut report);
+    let stands = stands(alloc, &users, &mut trail)?;
+    Ok(met(answer, stands, &report))
 }
 
 /// Lists in lists, four deep.

@@ -1,9 +1,9 @@
 //! Fields `Accept-Language`, each with the language that it asks for.
 
-use garde_catalog::{Language, languages, ranges_of};
+use garde_catalog::{Catalog, Catalogs, ENGLISH, Key, Language, languages, ranges_of};
 use std::alloc::Global;
 
-static ASKED: [(&str, &str); 24] = [
+static ASKED: [(&str, &str); 33] = [
     ("de", "de"),
     ("DE-at", "de"),
     ("fr-CH, fr;q=0.9, en;q=0.8, de;q=0.7, *;q=0.5", "fr"),
@@ -23,7 +23,16 @@ static ASKED: [(&str, &str); 24] = [
     ("", ""),
     ("*", ""),
     (" , de ;  q=1.000 ,", "de"),
-    ("de ; Q = 1", "de"),
+    ("de ; Q=1", "de"),
+    ("de ; q = 1", ""),
+    ("de;q=0.5 , fr;q=0.50, it;q=0.500", "de"),
+    ("de;q=1.0,\tfr;q=1.001", "de"),
+    ("en;q=0.5, *;q=1", "en"),
+    ("en;q=0, *", ""),
+    ("de-abcdefgh-1", "de"),
+    ("de-abcdefghi, 1e, -de, de-, fr--ca", ""),
+    ("\u{feff}de, d\u{0}e, dé", ""),
+    ("de\n, fr\r", ""),
     ("de;q=2, en;q=1.5, zh;q=0.1234", ""),
     ("de;q=, en;q, fr;r=1", ""),
     ("de;level=1", ""),
@@ -32,7 +41,7 @@ static ASKED: [(&str, &str); 24] = [
 
 // The tag of the language that a field asks for, or nothing.
 fn tag_of(alloc: Global, field: &str) -> &'static str {
-    match Language::asked(alloc, field, &languages()) {
+    match Language::asked(alloc, field.as_bytes(), &languages()) {
         Ok(Some(language)) => language.tag,
         _ => "",
     }
@@ -45,9 +54,30 @@ fn finds_the_language_that_is_asked_for(rt: HostRuntime) {
     }
 }
 
+// A text of so many times another one.
+fn repeated(alloc: Global, text: &str, count: usize) -> String {
+    let mut whole = String::new(alloc);
+    for _ in 0..count {
+        if whole.push_str(text).is_err() {
+            return String::new(alloc);
+        }
+    }
+    whole
+}
+
+#[test]
+fn reads_a_field_of_64_kib(rt: HostRuntime) {
+    let alloc = rt.alloc();
+    let many = repeated(alloc, "xx-yy;q=0.9,", 5461);
+    assert_eq!(rt; many.len(), 65532);
+    assert_eq!(rt; tag_of(alloc, many.as_str()), "");
+    let long = repeated(alloc, "l", 200);
+    assert_eq!(rt; tag_of(alloc, long.as_str()), "");
+}
+
 // The tag of the language that the ranges of a field ask for, or nothing.
 fn tag_of_ranges(alloc: Global, field: &str) -> &'static str {
-    match ranges_of(alloc, field) {
+    match ranges_of(alloc, field.as_bytes()) {
         Ok(ranges) => match Language::picked(ranges.as_slice(), &languages()) {
             Some(language) => language.tag,
             None => "",
@@ -61,4 +91,69 @@ fn picks_the_same_by_its_ranges(rt: HostRuntime) {
     for (field, tag) in &ASKED {
         assert_eq!(rt; tag_of_ranges(rt.alloc(), field), *tag);
     }
+}
+
+static NAMED: [(&str, &str); 12] = [
+    ("de", "de"),
+    ("DE-at", "de"),
+    ("zh-Hant-TW", "zh"),
+    ("zh-hans-CN", "zh-Hans"),
+    ("pt-BR", "pt-BR"),
+    ("en-GB-oed", "en"),
+    ("den", ""),
+    ("d", ""),
+    ("", ""),
+    ("*", ""),
+    ("de;q=1", ""),
+    ("cs_CZ", ""),
+];
+
+#[test]
+fn finds_the_language_of_a_tag(rt: HostRuntime) {
+    for (tag, known) in &NAMED {
+        let found = match Language::named(tag, &languages()) {
+            Some(language) => language.tag,
+            None => "",
+        };
+        assert_eq!(rt; found, *known);
+    }
+}
+
+// Whether the catalog of a tag has this text.
+fn is_in(alloc: Global, tag: &str, text: &str) -> bool {
+    match Catalog::in_language(alloc, tag, &languages(), &ENGLISH) {
+        Ok(catalog) => catalog.word(Key::MemberMissing) == text,
+        Err(_) => false,
+    }
+}
+
+#[test]
+fn makes_the_catalog_of_a_tag(rt: HostRuntime) {
+    assert!(rt; is_in(rt.alloc(), "de-AT", "fehlt"));
+    assert!(rt; is_in(rt.alloc(), "tlh", "missing"));
+}
+
+// Whether the catalogs answer a field by this tag and this text.
+fn is_answered(catalogs: &Catalogs, alloc: Global, field: &[u8], tag: &str, text: &str) -> bool {
+    match catalogs.asked(alloc, field) {
+        Ok(place) => {
+            catalogs.tag(place) == tag && catalogs.catalog(place).word(Key::MemberMissing) == text
+        }
+        Err(_) => false,
+    }
+}
+
+#[test]
+fn has_the_catalogs_of_all_languages(rt: HostRuntime) {
+    let (alloc, offered) = (rt.alloc(), languages());
+    let is_right = match Catalogs::new(alloc, &offered, offered[0]) {
+        Ok(all) => {
+            is_answered(&all, alloc, b"en;q=0.5, cs", "cs", "chybí")
+                && is_answered(&all, alloc, b"hi-IN", "hi", "मौजूद नहीं है")
+                && is_answered(&all, alloc, b"cs;q=0", "en", "missing")
+                && is_answered(&all, alloc, b"\xff", "en", "missing")
+        }
+        Err(_) => false,
+    };
+    assert!(rt; is_right);
 }

@@ -10,7 +10,8 @@ use garde_i18n::{
     Code, Datum, InvalidCreditCard, InvalidPhoneNumber, InvalidUrl, IpKind, Named, Texts, Value,
 };
 use garde_schema::{
-    FormFault, FormI18n, Integer, Kind, ReadError, Scratch, Text, TextRef, Wanted, read_json,
+    FormFault, FormI18n, Integer, Kind, ParseError, Place, ReadError, Scratch, Text, TextRef,
+    Wanted, read_json,
 };
 use std::alloc::Global;
 
@@ -278,6 +279,20 @@ const FORM: &[(FormFault, Key)] = &[
     (FormFault::RowLength, Key::RowLength),
 ];
 
+/// A place in a text.
+const PLACE: Place = Place {
+    line: 12,
+    column: 3,
+};
+
+const PARSE: &[(ParseError, Key)] = &[
+    (ParseError::NotUtf8(PLACE), Key::NotUtf8),
+    (ParseError::NotJson(PLACE), Key::NotJson),
+    (ParseError::TooDeep(PLACE), Key::NestedTooDeep),
+    (ParseError::LoneSurrogate(PLACE), Key::LoneSurrogate),
+    (ParseError::TooLong, Key::TextTooLong),
+];
+
 // The text of a table under a key.
 fn text_under<'t>(table: &[Entry<'t>], wanted: Key) -> &'t str {
     for (key, text) in table {
@@ -303,6 +318,45 @@ fn is_filled(told: &str, text: &str, value: &str) -> bool {
         },
         None => false,
     }
+}
+
+// Whether the first of the texts is the second with this line and this column in it.
+fn is_placed(told: &str, text: &str) -> bool {
+    let Some((before, behind)) = text.split_once("{line}") else {
+        return told == text;
+    };
+    let Some((between, after)) = behind.split_once("{column}") else {
+        return false;
+    };
+    match told.strip_prefix(before) {
+        Some(rest) => match rest.strip_prefix("12") {
+            Some(rest) => is_placed_behind(rest, between, after),
+            None => false,
+        },
+        None => false,
+    }
+}
+
+fn is_placed_behind(told: &str, between: &str, after: &str) -> bool {
+    match told.strip_prefix(between) {
+        Some(rest) => rest.strip_prefix("3") == Some(after),
+        None => false,
+    }
+}
+
+// How many of the messages of what is not read as JSON are not those of the table.
+fn wrong_parses(alloc: Global, h: &Catalog<'_>, table: &[Entry<'_>]) -> usize {
+    let mut wrong: usize = 0;
+    for (error, key) in PARSE {
+        let is_told = match h.parse_error(alloc, error) {
+            Ok(told) => is_placed(told.as_str(), text_under(table, *key)),
+            Err(_) => false,
+        };
+        if !is_told {
+            wrong = wrong.saturating_add(1);
+        }
+    }
+    wrong
 }
 
 // Whether a text that breaks a rule is reported by this text.
@@ -357,7 +411,8 @@ fn wrong_in(alloc: Global, table: &[Entry<'_>]) -> Option<usize> {
     match Catalog::new(alloc, table) {
         Ok(h) => {
             let wrong = wrong_messages(alloc, &h, table);
-            Some(wrong.saturating_add(wrong_forms(alloc, &h, table)))
+            let wrong = wrong.saturating_add(wrong_forms(alloc, &h, table));
+            Some(wrong.saturating_add(wrong_parses(alloc, &h, table)))
         }
         Err(_) => None,
     }
@@ -381,4 +436,27 @@ fn names_the_numbers_of_a_type(rt: HostRuntime) {
         Err(_) => false,
     };
     assert!(rt; is_told);
+}
+
+// The message of what is not read as JSON, or nothing.
+fn is_told(alloc: Global, bytes: &[u8], text: &str) -> bool {
+    let (Ok(h), mut scratch) = (
+        Catalog::new(alloc, &garde_catalog::CZECH),
+        Scratch::new(alloc),
+    ) else {
+        return false;
+    };
+    match read_json(alloc, bytes, &mut scratch, &Text(()), &h) {
+        Err(ReadError::Parse(error)) => match h.parse_error(alloc, &error) {
+            Ok(told) => told.as_str() == text,
+            Err(_) => false,
+        },
+        _ => false,
+    }
+}
+
+#[test]
+fn tells_why_a_text_is_no_json(rt: HostRuntime) {
+    assert!(rt; is_told(rt.alloc(), b"[\n1", "není JSON: řádek 2, sloupec 1"));
+    assert!(rt; is_told(rt.alloc(), b"\xff", "není UTF-8: řádek 1, sloupec 1"));
 }

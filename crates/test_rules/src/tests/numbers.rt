@@ -47,10 +47,12 @@ fn phone_tells<T: PhoneNumber>(alloc: Global, value: &T, fault: Option<&str>) ->
 fn asks_for_a_credit_card_number(rt: HostRuntime) {
     let wrong = Card(Err(InvalidCreditCard::InvalidLength));
     let fault = Some("not a valid credit card number: invalid length");
-    assert!(rt; card_tells(rt.alloc(), &Card(Ok(())), None));
-    assert!(rt; card_tells(rt.alloc(), &wrong, fault));
-    assert!(rt; card_tells(rt.alloc(), &None::<Card>, None));
-    assert!(rt; card_tells(rt.alloc(), &Some(wrong), fault));
+    assert!(rt;
+        card_tells(rt.alloc(), &Card(Ok(())), None)
+            && card_tells(rt.alloc(), &wrong, fault)
+            && card_tells(rt.alloc(), &None::<Card>, None)
+            && card_tells(rt.alloc(), &Some(wrong), fault)
+    );
 }
 
 #[test]
@@ -58,11 +60,13 @@ fn asks_for_a_phone_number(rt: HostRuntime) {
     let long = Phone(Err(InvalidPhoneNumber::TooLong));
     let fault = Some("not a valid phone number: the number is too long");
     let invalid = Phone(Err(InvalidPhoneNumber::Invalid));
-    assert!(rt; phone_tells(rt.alloc(), &Phone(Ok(())), None));
-    assert!(rt; phone_tells(rt.alloc(), &long, fault));
-    assert!(rt; phone_tells(rt.alloc(), &invalid, Some("not a valid phone number")));
-    assert!(rt; phone_tells(rt.alloc(), &None::<Phone>, None));
-    assert!(rt; phone_tells(rt.alloc(), &Some(long), fault));
+    assert!(rt;
+        phone_tells(rt.alloc(), &Phone(Ok(())), None)
+            && phone_tells(rt.alloc(), &long, fault)
+            && phone_tells(rt.alloc(), &invalid, Some("not a valid phone number"))
+            && phone_tells(rt.alloc(), &None::<Phone>, None)
+            && phone_tells(rt.alloc(), &Some(long), fault)
+    );
 }
 
 /// Whether a rule as a value finds this in a value.
@@ -81,6 +85,5 @@ fn finds_the_same_by_rules_as_values(rt: HostRuntime) {
     assert!(rt; finds(alloc, &values::PhoneNumber, &phone, fault));
     let rule = values::Ip(IpKind::V6);
     let fault = Some("not a valid IPv6 address");
-    assert!(rt; finds(alloc, &rule, &"1.2.3.4", fault));
-    assert!(rt; finds(alloc, &rule, &"::1", None));
+    assert!(rt; finds(alloc, &rule, &"1.2.3.4", fault) && finds(alloc, &rule, &"::1", None));
 }

@@ -36,24 +36,28 @@ fn asks_the_lower_bound_first(rt: HostRuntime) {
 fn asks_numbers_without_a_sign(rt: HostRuntime) {
     let alloc = rt.alloc();
     let high = Some("greater than 0");
-    assert!(rt; finds(alloc, &u16::MAX, (None, Some(0)), high));
-    assert!(rt; finds(alloc, &u32::MAX, (None, Some(0)), high));
-    assert!(rt; finds(alloc, &u64::MAX, (None, Some(0)), high));
-    assert!(rt; finds(alloc, &u128::MAX, (None, Some(0)), high));
-    assert!(rt; finds(alloc, &usize::MAX, (None, Some(0)), high));
+    assert!(rt;
+        finds(alloc, &u16::MAX, (None, Some(0)), high)
+            && finds(alloc, &u32::MAX, (None, Some(0)), high)
+            && finds(alloc, &u64::MAX, (None, Some(0)), high)
+            && finds(alloc, &u128::MAX, (None, Some(0)), high)
+            && finds(alloc, &usize::MAX, (None, Some(0)), high)
+    );
 }
 
 #[test]
 fn asks_numbers_with_a_sign(rt: HostRuntime) {
     let alloc = rt.alloc();
     let low = Some("lower than -127");
-    assert!(rt; finds(alloc, &i8::MIN, (Some(-127), None), low));
-    assert!(rt; finds(alloc, &i16::MIN, (Some(-127), None), low));
-    assert!(rt; finds(alloc, &i32::MIN, (Some(-127), None), low));
-    assert!(rt; finds(alloc, &i64::MIN, (Some(-127), None), low));
-    assert!(rt; finds(alloc, &isize::MIN, (Some(-127), None), low));
     let least = Some("lower than -170141183460469231731687303715884105727");
-    assert!(rt; finds(alloc, &i128::MIN, (Some(i128::MIN + 1), None), least));
+    assert!(rt;
+        finds(alloc, &i8::MIN, (Some(-127), None), low)
+            && finds(alloc, &i16::MIN, (Some(-127), None), low)
+            && finds(alloc, &i32::MIN, (Some(-127), None), low)
+            && finds(alloc, &i64::MIN, (Some(-127), None), low)
+            && finds(alloc, &isize::MIN, (Some(-127), None), low)
+            && finds(alloc, &i128::MIN, (Some(i128::MIN + 1), None), least)
+    );
 }
 
 /// Whether this is found in a value that has to be a multiple of a divisor.
@@ -129,16 +133,18 @@ fn asks_numbers_of_each_width_for_multiples(rt: HostRuntime) {
     let alloc = rt.alloc();
     let three = "not a multiple of 3";
     let two = "not a multiple of 2";
-    assert!(rt; is_multiple(alloc, &u16::MAX, 3, 2, two));
-    assert!(rt; is_multiple(alloc, &u32::MAX, 3, 2, two));
-    assert!(rt; is_multiple(alloc, &u64::MAX, 3, 2, two));
-    assert!(rt; is_multiple(alloc, &u128::MAX, 3, 2, two));
-    assert!(rt; is_multiple(alloc, &usize::MAX, 3, 2, two));
-    assert!(rt; is_multiple(alloc, &i16::MIN, 2, 3, three));
-    assert!(rt; is_multiple(alloc, &i32::MIN, 2, 3, three));
-    assert!(rt; is_multiple(alloc, &i64::MIN, 2, 3, three));
-    assert!(rt; is_multiple(alloc, &i128::MIN, 2, 3, three));
-    assert!(rt; is_multiple(alloc, &isize::MIN, 2, 3, three));
+    assert!(rt;
+        is_multiple(alloc, &u16::MAX, 3, 2, two)
+            && is_multiple(alloc, &u32::MAX, 3, 2, two)
+            && is_multiple(alloc, &u64::MAX, 3, 2, two)
+            && is_multiple(alloc, &u128::MAX, 3, 2, two)
+            && is_multiple(alloc, &usize::MAX, 3, 2, two)
+            && is_multiple(alloc, &i16::MIN, 2, 3, three)
+            && is_multiple(alloc, &i32::MIN, 2, 3, three)
+            && is_multiple(alloc, &i64::MIN, 2, 3, three)
+            && is_multiple(alloc, &i128::MIN, 2, 3, three)
+            && is_multiple(alloc, &isize::MIN, 2, 3, three)
+    );
 }
 
 #[test]
@@ -146,10 +152,13 @@ fn asks_the_value_of_an_option_for_multiples(rt: HostRuntime) {
     let alloc = rt.alloc();
     let five = Some("multiple_of_mismatch divisor=5");
     let none: Option<u8> = None;
-    assert!(rt; multiple_finds(alloc, &Some(16u8), 5, &CodeI18n, five));
-    assert!(rt; multiple_finds(alloc, &Some(15u8), 5, &CodeI18n, None));
-    assert!(rt; multiple_finds(alloc, &none, 5, &CodeI18n, None));
-    assert!(rt; none.validate_multiple_of(5) && !Some(16u8).validate_multiple_of(5));
+    assert!(rt;
+        multiple_finds(alloc, &Some(16u8), 5, &CodeI18n, five)
+            && multiple_finds(alloc, &Some(15u8), 5, &CodeI18n, None)
+            && multiple_finds(alloc, &none, 5, &CodeI18n, None)
+            && none.validate_multiple_of(5)
+            && !Some(16u8).validate_multiple_of(5)
+    );
 }
 
 #[test]
@@ -159,7 +168,7 @@ fn finds_the_same_as_a_value(rt: HostRuntime) {
         tells(
             rule.find(rt.alloc(), &16u8, &DefaultI18n),
             Some("not a multiple of 5")
-        )
+        ) && rule.holds(&15u8)
+            && !rule.holds(&16u8)
     );
-    assert!(rt; rule.holds(&15u8) && !rule.holds(&16u8));
 }

@@ -30,20 +30,35 @@ fn draw_members(out: &mut String, tree: &Tree<'_, '_>) -> Result<(), AllocError>
     Ok(())
 }
 
+// Writes a text, a number or a flag, where the value is one.
+fn draw_leaf(out: &mut String, tree: &Tree<'_, '_>) -> Result<(), AllocError> {
+    if let Some(text) = tree.as_str() {
+        write!(out, " {text:?}")
+    } else if let Some(number) = tree.as_number() {
+        write!(out, " {number}")
+    } else {
+        draw_flag(out, tree)
+    }
+}
+
+fn draw_flag(out: &mut String, tree: &Tree<'_, '_>) -> Result<(), AllocError> {
+    match tree.as_bool() {
+        Some(flag) => write!(out, " {flag}"),
+        None => Ok(()),
+    }
+}
+
+fn draw(out: &mut String, tree: &Tree<'_, '_>) -> Result<(), AllocError> {
+    write!(out, "{:?}", tree.kind())?;
+    draw_leaf(out, tree)?;
+    draw_items(out, tree)?;
+    draw_members(out, tree)
+}
+
 // A value: its kind, and what stands in it, of an object and of a list one level deep.
 pub(super) fn drawn(alloc: Global, tree: &Tree<'_, '_>) -> Result<String, AllocError> {
-    let mut out = format!(in alloc; "{:?}", tree.kind())?;
-    if let Some(text) = tree.as_str() {
-        write!(out, " {text:?}")?;
-    }
-    if let Some(number) = tree.as_number() {
-        write!(out, " {number}")?;
-    }
-    if let Some(flag) = tree.as_bool() {
-        write!(out, " {flag}")?;
-    }
-    draw_items(&mut out, tree)?;
-    draw_members(&mut out, tree)?;
+    let mut out = String::new(alloc);
+    draw(&mut out, tree)?;
     Ok(out)
 }
 

@@ -1,5 +1,5 @@
 use Rattle.std.proofs.Common.{arith}
-use Rattle.garde_catalog.proofs.SoFar.{lighter, vain, heavier, best_found, none_asked, no_range}
+use Rattle.garde_catalog.proofs.SoFar.{lighter, vain, heavier, no_range, picked}
 use Rattle.garde_catalog.proofs.lookup.pick.Goals as goal
 
 pub loop-range-preserved-then-range-weight : goal.loop-range-preserved-then-range-weight
@@ -11,8 +11,5 @@ loop-range-preserved-in_default c = vain c.args.ranges.now c.args.offered.now c.
 pub loop-range-preserved : goal.loop-range-preserved
 loop-range-preserved c = heavier c.args.ranges.now c.args.offered.now c.loop-range.range-index c.loop-range.best c.loop-range.weight no_range c.in-Some.place c.loop-range-test.true c.if-range-weight.false c.in-Some.ensures.found c.loop-range.invariant
 
-pub returns-clause-found : goal.returns-clause-found
-returns-clause-found c = best_found c.args.ranges.now c.args.offered.now c.loop-range.range-index c.loop-range.best c.loop-range.weight (omega arith) c.loop-range.invariant
-
-pub returns-clause-none : goal.returns-clause-none
-returns-clause-none c = none_asked c.args.ranges.now c.args.offered.now c.loop-range.range-index c.loop-range.best c.loop-range.weight (omega arith) c.loop-range.invariant
+pub returns : goal.returns
+returns c = picked c.args.ranges.now c.args.offered.now c.loop-range.range-index c.loop-range.best c.loop-range.weight (omega arith) c.loop-range.invariant

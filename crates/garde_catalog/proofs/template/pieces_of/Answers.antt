@@ -1,5 +1,5 @@
-use Rattle.std.proofs.Common.{rules, None, Some}
-use Rattle.garde_catalog.proofs.Reading.{all_read, none_read, nothing_read, one_more}
+use Rattle.std.proofs.Common.{rules}
+use Rattle.garde_catalog.proofs.Reading.{all_read, one_more}
 use Rattle.garde_catalog.proofs.template.pieces_of.Goals as goal
 
 pub places-preserved : goal.places-preserved

@@ -1,4 +1,4 @@
-use Rattle.std.proofs.Common.{◌≡◌, ◌∙◌, List, Bool, true, false, IsTrue, sym}
+use Rattle.std.proofs.Common.{◌≡◌, ◌∙◌, Bool, true, IsTrue, sym}
 use Rattle.garde_catalog.proofs.Reading.{no_first, no_second, unknown}
 use Rattle.garde_catalog.proofs.template.read_template.Goals.{then-not-has_place-via-then-not-has_place, then-not-has_place-via-else-not-has_place+then-not-has_place-2}
 use Rattle.garde_catalog.proofs.template.read_template.Goals as goal

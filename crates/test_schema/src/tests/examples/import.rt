@@ -1,7 +1,5 @@
 //! An import into a table in memory.
 
-mod database;
-
 use example_import::item::{Flaw, Item, Sink, Source};
 use example_import::memory::MemoryTable;
 use example_import::row::Row;
@@ -48,26 +46,47 @@ impl Sink for Lines {
     }
 }
 
-fn item(alloc: Global, code: &str, name: &str, quantity: Option<u64>) -> Result<Item, AllocError> {
-    Ok(Item::Row(Row {
+/// A row of this code, name and quantity, or a record that is none.
+#[derive(Clone, Copy)]
+enum Record {
+    Row(&'static str, &'static str, Option<u64>),
+    Broken(Flaw),
+}
+
+/// A record of each kind.
+const RECORDS: &[Record] = &[
+    Record::Row("P3", "Nut", Some(10_000)),
+    Record::Broken(Flaw::Record(Fault::OpenQuote { line: 7 })),
+    Record::Row("P1", "", Some(1)),
+    Record::Row("P1", "Other screw", Some(1)),
+    Record::Broken(Flaw::Lengths),
+    Record::Row("4", "Bolt", None),
+    Record::Row("P1", "Screw", Some(1)),
+];
+
+fn row(alloc: Global, code: &str, name: &str, quantity: Option<u64>) -> Result<Row, AllocError> {
+    Ok(Row {
         code: String::from_str(alloc, code)?,
         name: String::from_str(alloc, name)?,
         quantity,
         price: Some(5),
         page: None,
-    }))
+    })
+}
+
+fn item(alloc: Global, record: Record) -> Result<Item, AllocError> {
+    match record {
+        Record::Row(code, name, quantity) => Ok(Item::Row(row(alloc, code, name, quantity)?)),
+        Record::Broken(flaw) => Ok(Item::Broken(flaw)),
+    }
 }
 
 /// A list with an item of each kind.
 fn list(alloc: Global) -> Result<Items, AllocError> {
     let mut items = Vec::new(alloc);
-    items.push(item(alloc, "P3", "Nut", Some(10_000))?)?;
-    items.push(Item::Broken(Flaw::Record(Fault::OpenQuote { line: 7 })))?;
-    items.push(item(alloc, "P1", "", Some(1))?)?;
-    items.push(item(alloc, "P1", "Other screw", Some(1))?)?;
-    items.push(Item::Broken(Flaw::Lengths))?;
-    items.push(item(alloc, "4", "Bolt", None)?)?;
-    items.push(item(alloc, "P1", "Screw", Some(1))?)?;
+    for record in RECORDS {
+        items.push(item(alloc, *record)?)?;
+    }
     Ok(Items { items })
 }
 

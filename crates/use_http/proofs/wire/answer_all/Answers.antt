@@ -1,4 +1,4 @@
-use Rattle.std.proofs.Common.{◌≡◌, ℕ, List, ◌++◌}
+use Rattle.std.proofs.Common.{◌≡◌, ℕ, List, ◌++◌, refl}
 use Rattle.std.specs.contracts.io.Error as io_error
 use Rattle.http_server.specs.Connection.{history}
 use Rattle.http_server.proofs.KnownLemmas.{Appends-then}
@@ -10,7 +10,7 @@ pub returns-in_err-talk : goal.returns-in_err-talk
 returns-in_err-talk g c =
     let read = c.talk.ensures.read in
     let written = c.talk.ensures.written in
-    let t = talked _ (λ old new call is. is) c.args.config c.new-connection.result c.talk.new.connection _ _ read.0 written.0
+    let t = talked c.args.catalogs.now _ (λ o. o.catalogs.now) (λ old new call is. is) c.args.config c.new-connection.result c.talk.new.connection _ _ refl read.0 written.0
     c.new-connection.ensures.config c.new-connection.ensures.history c.talk.ensures.config read.2 written.2 c.talk.ensures.calls in (
       read.0,
       written.0,
@@ -18,7 +18,7 @@ returns-in_err-talk g c =
       read.1,
       written.1,
       c.talk.ensures.end (ended_first _ _ c.new-connection.ensures.history),
-      of_err _ _ _ _ _ _ c.from_residual.ensures.0 (λ e. failed_at_once _ c.args.config c.talk.new.connection read.0 written.0 e t),
+      of_err c.args.catalogs.now _ _ _ _ _ _ c.from_residual.ensures.0 (λ e. failed_at_once c.args.catalogs.now _ c.args.config c.talk.new.connection read.0 written.0 e t),
     )
 
 -- where the end of it was not written
@@ -26,7 +26,7 @@ pub returns-in_err-close : goal.returns-in_err-close
 returns-in_err-close g c =
     let read = c.talk.ensures.read in
     let written = c.talk.ensures.written in
-    let t = talked _ (λ old new call is. is) c.args.config c.new-connection.result c.talk.new.connection _ _ read.0 written.0
+    let t = talked c.args.catalogs.now _ (λ o. o.catalogs.now) (λ old new call is. is) c.args.config c.new-connection.result c.talk.new.connection _ _ refl read.0 written.0
     c.new-connection.ensures.config c.new-connection.ensures.history c.talk.ensures.config read.2 written.2 c.talk.ensures.calls in
     let end = c.close.ensures in (
       read.0,
@@ -35,14 +35,14 @@ returns-in_err-close g c =
       read.1,
       Appends-then _ _ _ written.0 end.0 written.1 end.2,
       c.talk.ensures.end (ended_first _ _ c.new-connection.ensures.history),
-      of_err _ _ _ _ _ _ c.from_residual-in_err-close.ensures.0 (λ e. failed _ c.args.config c.talk.new.connection read.0 written.0 end.0 end.1 e t end.3),
+      of_err c.args.catalogs.now _ _ _ _ _ _ c.from_residual-in_err-close.ensures.0 (λ e. failed c.args.catalogs.now _ c.args.config c.talk.new.connection read.0 written.0 end.0 end.1 e t end.3),
     )
 
 pub returns : goal.returns
 returns g c =
     let read = c.talk.ensures.read in
     let written = c.talk.ensures.written in
-    let t = talked _ (λ old new call is. is) c.args.config c.new-connection.result c.talk.new.connection _ _ read.0 written.0
+    let t = talked c.args.catalogs.now _ (λ o. o.catalogs.now) (λ old new call is. is) c.args.config c.new-connection.result c.talk.new.connection _ _ refl read.0 written.0
     c.new-connection.ensures.config c.new-connection.ensures.history c.talk.ensures.config read.2 written.2 c.talk.ensures.calls in
     let end = c.in_ok-close.ensures in (
       read.0,
@@ -51,5 +51,5 @@ returns g c =
       read.1,
       Appends-then _ _ _ written.0 end.0 written.1 end.2,
       c.talk.ensures.end (ended_first _ _ c.new-connection.ensures.history),
-      closed io_error.the_row.Denot c.args.config c.talk.new.connection read.0 written.0 end.0 end.1 _ t c.state-stands.ensures c.in_ok-talk.ensures.closed end.3 end.4,
+      closed c.args.catalogs.now io_error.the_row.Denot c.args.config c.talk.new.connection read.0 written.0 end.0 end.1 _ t c.state-stands.ensures c.in_ok-talk.ensures.closed end.3 end.4,
     )

@@ -1,0 +1,122 @@
+//! The catalogs of several languages, of which a request or a user asks for one.
+ghost use Rattle.std.specs.Prelude.{◌≡◌, ◌∷◌, ◌++◌, [], IfOk, OnOk};
+ghost use Rattle.garde_catalog.specs.Catalogs.{AddsLanguage, AreCatalogs, catalog_at, offered_by, tag_at};
+ghost use Rattle.garde_catalog.specs.Lookup.{IsAskedBy, IsTagged};
+
+use crate::catalog::{Catalog, Entry};
+use crate::fault::CatalogError;
+use crate::language::Language;
+use std::alloc::{AllocError, Global};
+
+impl Catalog<'static> {
+    /// The catalog of the language that a tag asks for, as `Language::named` finds it. Where the tag
+    /// asks for none that is offered, it is the catalog of the other table, as `&ENGLISH`.
+    pub fn in_language(
+        alloc: Global,
+        tag: &str,
+        offered: &[Language],
+        otherwise: &'static [Entry<'static>],
+    ) -> Result<Catalog<'static>, CatalogError>
+        ensures { IfOk result (IsTagged offered.now tag.now otherwise.now) }
+    {
+        match Language::named(tag, offered) {
+            Some(language) => Catalog::new(alloc, language.table),
+            None => Catalog::new(alloc, otherwise),
+        }
+    }
+}
+
+// Appends a language and a catalog.
+fn keep(
+    language: Language,
+    catalog: Catalog<'static>,
+    languages: &mut Vec<Language>,
+    catalogs: &mut Vec<Catalog<'static>>,
+) -> Result<(), AllocError>
+    ensures { OnOk result ((languages.new.items ≡ languages.old.items ++ language ∷ [])
+        × (catalogs.new.items ≡ catalogs.old.items ++ catalog.entry ∷ [])) }
+{
+    languages.push(language)?;
+    catalogs.push(catalog)?;
+    Ok(())
+}
+
+// Appends a language and its catalog.
+fn add(
+    alloc: Global,
+    language: Language,
+    languages: &mut Vec<Language>,
+    catalogs: &mut Vec<Catalog<'static>>,
+) -> Result<(), CatalogError>
+    ensures { OnOk result (AddsLanguage language languages.old.items languages.new.items
+        catalogs.old.items catalogs.new.items) }
+{
+    let catalog = Catalog::new(alloc, language.table)?;
+    keep(language, catalog, languages, catalogs)?;
+    Ok(())
+}
+
+/// The catalogs of several languages, and which of them is used where none is asked for.
+#[derive(Debug, Drop)]
+pub struct Catalogs {
+    languages: Vec<Language>,
+    catalogs: Vec<Catalog<'static>>,
+    otherwise: Language,
+    other: Catalog<'static>,
+}
+
+impl Catalogs {
+    /// Makes the catalogs of the languages that are offered, and of the one that is used where none
+    /// of them is asked for.
+    pub fn new(
+        alloc: Global,
+        offered: &[Language],
+        otherwise: Language,
+    ) -> Result<Catalogs, CatalogError>
+        ensures { IfOk result (AreCatalogs offered.now otherwise) }
+    {
+        let mut languages = Vec::new(alloc);
+        let mut catalogs = Vec::new(alloc);
+        for language in offered {
+            add(alloc, *language, &mut languages, &mut catalogs)?;
+        }
+        let other = Catalog::new(alloc, otherwise.table)?;
+        Ok(Catalogs {
+            languages,
+            catalogs,
+            otherwise,
+            other,
+        })
+    }
+
+    /// The place of the language that the field `Accept-Language` of a request asks for, among those
+    /// that are offered, as `Language::asked` finds it.
+    pub fn asked(&self, alloc: Global, field: &[u8]) -> Result<Option<usize>, AllocError>
+        ensures { IfOk result (λ place. IsAskedBy field.now (offered_by self.now) place) }
+    {
+        Language::place_asked(alloc, field, self.languages.as_slice())
+    }
+
+    /// The catalog of the language in a place, or the one that is used where none is asked for.
+    pub fn catalog(&self, place: Option<usize>) -> &Catalog<'static>
+        ensures { result.now ≡ catalog_at self.now place }
+    {
+        match place {
+            Some(place) => self.catalogs.get(place).unwrap_or(&self.other),
+            None => &self.other,
+        }
+    }
+
+    /// The tag of that language.
+    pub fn tag(&self, place: Option<usize>) -> &'static str
+        ensures { result.now ≡ tag_at self.now place }
+    {
+        match place {
+            Some(place) => match self.languages.get(place) {
+                Some(language) => language.tag,
+                None => self.otherwise.tag,
+            },
+            None => self.otherwise.tag,
+        }
+    }
+}

@@ -1,0 +1,98 @@
+"""The languages of the catalogs: the texts of faults, as docs/reference/languages.md has them, and which language a field
+`Accept-Language` (RFC 9110, section 12.5.4) or a tag asks for, by the look-up of RFC 4647, section 3.4.
+
+A language is a table from codes to texts, as in `faults`.
+"""
+import re
+
+from lib import repository
+from lib.faults import INTEGERS
+
+PAGE = "docs/reference/languages.md"
+KEY = re.compile(r"^`Key::(\w+)`", re.MULTILINE)
+ROW = re.compile(r"^\| ([\w-]+) \| (.*) \|$", re.MULTILINE)
+# Tags under which a language is offered too.
+OTHER_TAGS = {"pt": "pt-BR", "zh-CN": "zh-Hans", "zh-SG": "zh-Hans", "zh": "zh-Hans"}
+RANGE = re.compile(r"[ \t]*([A-Za-z]{1,8}(?:-[A-Za-z0-9]{1,8})*)[ \t]*(?:;[ \t]*[qQ]=(0(?:\.[0-9]{0,3})?|1(?:\.0{0,3})?)[ \t]*)?")
+CODES = (
+    "member_missing", "member_repeated", "member_unknown", "value_unknown", "length_lower_than", "length_greater_than",
+    "range_lower_than", "range_greater_than", "prefix_missing", "suffix_missing", "pattern_no_match", "matches_field_mismatch",
+    "ascii_invalid", "alphanumeric_invalid", "required_not_set",
+)
+NO_JSON = {"not UTF-8": "NotUtf8", "not JSON": "NotJson", "nested deeper than 128": "NestedTooDeep", "a lone surrogate": "LoneSurrogate"}
+
+
+def texts():
+    """The texts of the page: by their tag, and then by their key."""
+    found = {}
+    for part in repository.text_of(PAGE).split("\n## ")[1:]:
+        for tag, text in ROW.findall(part):
+            if tag != "language":
+                found.setdefault(tag, {})[KEY.search(part).group(1)] = text
+    return found
+
+
+def camel(code):
+    return "".join(word.capitalize() for word in code.split("_"))
+
+
+def url_text(said, english):
+    """The text of a URL that is none: its reason stands in the same language."""
+    keys = {text: key for key, text in english.items() if key.startswith("Url") and key != "UrlInvalid"}
+    return lambda reason: said["UrlInvalid"].format(reason=said[keys[reason]])
+
+
+def language(said, english):
+    """A language, by its texts."""
+    return {
+        **{code: said[camel(code)] for code in CODES},
+        "wrong_form": lambda wanted, found: said[f"Not{wanted}"],
+        "out_of_range": lambda of: said["OutOfRange"].format(least=INTEGERS[of][0], greatest=INTEGERS[of][1]),
+        "url_invalid": url_text(said, english), "own": "{text}",
+    }
+
+
+TEXTS = texts()
+LANGUAGES = {tag: language(said, TEXTS["en"]) for tag, said in TEXTS.items()}
+
+
+def tag_of(given):
+    """The tag that is offered and that a range asks for: the longest that cutting subtags off its end comes to."""
+    subtags = given.lower().split("-")
+    offered = {tag.lower(): tag for tag in (*LANGUAGES, *OTHER_TAGS)}
+    return next((offered["-".join(subtags[:count])] for count in range(len(subtags), 0, -1) if "-".join(subtags[:count]) in offered), None)
+
+
+def asked(field):
+    """The tag that a field asks for: of the greatest weight, the first. An element that is not of the grammar is passed over."""
+    best, most = None, 0.0
+    for element in field.split(","):
+        found = RANGE.fullmatch(element)
+        weight = float(found.group(2) or 1) if found else 0.0
+        if weight > most and (tag := tag_of(found.group(1))):
+            best, most = tag, weight
+    return best
+
+
+def said_in(tag):
+    """The texts under a tag, by their keys."""
+    return TEXTS[OTHER_TAGS.get(tag, tag)]
+
+
+def of_tag(tag):
+    """The language of a tag that is offered."""
+    return LANGUAGES[OTHER_TAGS.get(tag, tag)]
+
+
+def placed(text):
+    """The pattern of a text with a line and a column in it."""
+    return re.sub(r"\\{(line|column)\\}", "[0-9]+", re.escape(text))
+
+
+def no_json(why, tag):
+    """The pattern of why bytes are no JSON, in a language, by that in English."""
+    said = said_in(tag)
+    if exact := re.fullmatch(r"not UTF-8 at line (\d+) column (\d+)", why):
+        return re.escape(said["NotUtf8"].format(line=exact.group(1), column=exact.group(2)))
+    reasons = re.match(r"\((.*?)\)", why).group(1).split("|")
+    return f"({'|'.join(placed(said[NO_JSON[reason]]) for reason in reasons)})"

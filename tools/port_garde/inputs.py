@@ -1,0 +1,199 @@
+"""What a form reads, where that is no body of a library: the function that reads it, with what it promises."""
+import textwrap
+from dataclasses import dataclass
+
+from .layout import WIDTH
+from .names import of_field
+from .scope import SIGNED, UNSIGNED, is_option, is_path, is_text
+
+READ = """{constant}{docs}
+#[tactic(auto, unfolding(garde::specs::Fields::Known))]
+{vis}fn read_{name}<{lives}, H: I18n + FormI18n>(
+{params}
+) -> Result<Valid<{made}>, {error}>
+    ensures answer {{ {answer} }}
+    ensures value {{ IfOk result (λ v. {value} }}
+{{
+{forms}
+    match {call} {{
+        Ok(value) => Ok(Valid::known(value, {context})),
+        Err(error) => Err(error),
+    }}
+}}"""
+LISTED = """/// The fields of the form that are sent once for each choice.
+fn listed() -> [&'static str; {count}]
+    ensures {{ map (λ name. name.now) result ≡ {names} }}
+{{
+    [{texts}]
+}}
+
+"""
+# The answers for the goals of what reads a web form: the lists that it was read by are those that the promise speaks of.
+ANSWERS = """use Rattle.std.proofs.Common.{{refl, sym}}
+use {module}.Goals as goal
+
+pub returns-in-Ok-clause-answer : goal.returns-in-Ok-clause-answer
+returns-in-Ok-clause-answer g c known = record {{
+  lists = c.listed-lists.result;
+  named = c.listed-lists.ensures;
+  is = c.in-Ok.ensures.answer (λ e. let q = e in cc);
+}}
+
+pub returns-in-Ok-clause-value : goal.returns-in-Ok-clause-value
+returns-in-Ok-clause-value g c = record {{
+  lists = c.listed-lists.result;
+  named = c.listed-lists.ensures;
+  is = rw c.known.ensures c.in-Ok.ensures.value;
+}}
+
+pub returns-in-Err-clause-answer : goal.returns-in-Err-clause-answer
+returns-in-Err-clause-answer g c known = record {{
+  lists = c.listed-lists.result;
+  named = c.listed-lists.ensures;
+  is = c.in-Err.ensures.answer (λ e. known (let q = e in cc));
+}}
+"""
+COLUMNS = "/// The columns of the table, which may stand in any order.\n"
+
+
+@dataclass(frozen=True)
+class Input:
+    """An input: how it is called, the parameters beside the handler, the call that reads it, its error, and what the call promises of the
+    spelling `S`."""
+
+    told: str
+    lives: str
+    params: tuple
+    call: str
+    error: str
+    answer: tuple
+    value: tuple
+    uses: tuple
+    ghosts: tuple
+
+
+BYTES = ("bytes: &'a [u8]", "scratch: &'a mut Scratch")
+OF_BYTES = (
+    "Rattle.garde_schema.specs.Forms.{forget}", "Rattle.garde_tape.specs.Input.{without_mark}",
+)
+INPUTS = {
+    "json": Input(
+        "in JSON", "'a", BYTES, "read_json(alloc, bytes, scratch, &{form}, h)", "ReadError",
+        ("AnswersBytes", "(λ j. {S}.visits (H.form_text h.now) j)", "(H.text h.now) (without_mark bytes.now) (forget result)"),
+        ("OfDocument (without_mark bytes.now)", "(λ j. {S}.value j ≡ Some v)"),
+        ("garde_schema::read_json", "garde_schema::ReadError", "garde_schema::Scratch"),
+        (*OF_BYTES, "Rattle.garde_schema.specs.Bytes.{AnswersBytes, OfDocument}"),
+    ),
+    "first of json": Input(
+        "in JSON", "'a", (*BYTES, "most: usize"), "read_json_first(alloc, bytes, scratch, &{form}, most, h)", "FirstReadError",
+        ("AnswersFirstBytes", "(λ j. {S}.visits (H.form_text h.now) j)", "(H.text h.now) most (without_mark bytes.now) (forget result)"),
+        ("OfDocument (without_mark bytes.now)", "(λ j. {S}.value j ≡ Some v)"),
+        ("garde_schema::read_json_first", "garde_schema::FirstReadError", "garde_schema::Scratch"),
+        (*OF_BYTES, "Rattle.garde_schema.specs.Bytes.{OfDocument}", "Rattle.garde_schema.specs.FirstRead.{AnswersFirstBytes}"),
+    ),
+    "web-form": Input(
+        "from the fields of a web form", "'a", ("fields: &'a [FormField<'_>]",), "read_form(alloc, fields, &lists, &{form}, h)", "ValidateError",
+        ("result ≢ Err ValidateError.Memory → OfForm {L} (field_texts fields.now)", "(λ j. Answers ({S}.visits (H.form_text h.now) j) (H.text h.now) (forget result))"),
+        ("OfForm {L} (field_texts fields.now)", "(λ j. {S}.value j ≡ Some v)"),
+        ("garde_form::read_form", "garde_form::FormField", "garde::ValidateError"),
+        (
+            "Rattle.garde.specs.Answers.{Answers}", "Rattle.garde_form.specs.WebForm.{field_texts}",
+            "Rattle.garde_schema.specs.Forms.{forget}",
+        ),
+    ),
+    "rows": Input(
+        "from a row of a table", "'a, 'c: 'a", ("index: usize", "columns: &Columns<'c>", "cells: &'a StringRecord"),
+        "garde_rows::read_row(alloc, index, columns, cells, &{form}, h)", "ValidateError",
+        (
+            "AnswersRow (row_visits index (H.form_text h.now)", "(λ j. {S}.visits (H.form_text h.now) j) columns.now (fields_of cells.now))",
+            "(H.text h.now) (forget result)",
+        ),
+        ("{S}.value (row_json columns.now (fields_of cells.now))", "≡ Some v"),
+        ("garde_rows::Columns", "csv::StringRecord", "garde::ValidateError"),
+        (
+            "Rattle.csv.specs.Records.{fields_of}", "Rattle.garde_rows.specs.Rows.{AnswersRow, row_json, row_visits}",
+            "Rattle.garde_schema.specs.Forms.{forget}",
+        ),
+    ),
+}
+
+
+def may_be_missing(kind, input):
+    """Whether the member of an option may be missing. A browser sends a choice, and a list of them, only where something is chosen."""
+    held = kind.args[0]
+    return input == "json" or input == "web-form" and (is_option(held) or is_path(held, "Vec") or not is_plain(held))
+
+
+def is_plain(kind):
+    """Whether a type is one that a text field writes: a text, a number or a `bool`."""
+    return is_text(kind) or is_path(kind, *UNSIGNED, *SIGNED, "bool")
+
+
+class Reader:
+    """The function that reads values of the type of a source."""
+
+    def __init__(self, schema, item):
+        self.schema, self.writer, self.item = schema, schema.writer, item
+        self.kind = self.writer.input
+        self.input = INPUTS["first of json" if self.kind == "json" and self.writer.first else self.kind]
+
+    def text(self, spelling, context):
+        """The function, of a spelling as it is stated, under a context: its type and its name, or nothing."""
+        uses, given = self.writer.uses, self.input
+        uses.others |= {*given.uses, "std::alloc::Global", "garde::I18n", "garde::Valid", "garde_schema::FormI18n"}
+        uses.prelude |= {"◌≡◌", "Some", "IfOk"}
+        name, made = self.schema.names_of(self.item)
+        lists = ""
+        if self.kind == "web-form":
+            uses.prelude |= {"◌≢◌", "Err", "codes", "map", "[]"} | ({"◌∷◌"} if self.lists() else set())
+            uses.written.add("OfForm")
+            lists = "    let lists = listed();\n"
+            crate, *modules = self.writer.module.split("::")
+            self.writer.answers = (f"read_{name}", ANSWERS.format(module=".".join(["Rattle", crate, "proofs", *modules, f"read_{name}"])))
+        uses.paths |= set(given.ghosts)
+        params = ["alloc: Global", *given.params, *([f"{context[1]}: &{context[0]}"] if context else []), "h: &H"]
+        told = "at most so many faults" if self.writer.first else "every fault of its form and of its rules"
+        return READ.format(
+            constant=self.constant(), docs=docs_of(f"Reads a value of the type `{self.item.name}` {given.told}, or reports {told}."),
+            vis=self.item.vis, name=name, lives=given.lives, params="\n".join(f"    {it}," for it in params), made=made, error=given.error,
+            answer=clause(given.answer, spelling, self.stated(), "    ensures answer { "),
+            value=clause(given.value, spelling, self.stated(), "    ensures value { IfOk result (λ v. ", ")"),
+            forms=lists + self.schema.forms(self.item, 4), call=given.call.format(form=f"{name}_form"), context=context[1] if context else "&()",
+        )
+
+    def constant(self):
+        """The names that the input is read by, as a constant."""
+        if self.kind == "json":
+            return ""
+        if self.kind == "web-form":
+            names = self.lists()
+            return LISTED.format(count=len(names), names=self.stated().removeprefix("(").removesuffix(")"), texts=", ".join(names))
+        names = self.names(self.item.variants[0].fields)
+        line = f"{self.item.vis}const COLUMNS: [&str; {len(names)}] = [{', '.join(names)}];"
+        if len(line) > WIDTH:
+            rows = "".join(f"    {it},\n" for it in names)
+            line = f"{self.item.vis}const COLUMNS: [&str; {len(names)}] = [\n{rows}];"
+        return f"{COLUMNS}{line}\n\n"
+
+    def names(self, fields):
+        return [f'"{of_field(it, self.item.variants[0], self.item)}"' for it in fields]
+
+    def lists(self):
+        """The names of the members that are lists."""
+        return self.names(it for it in self.item.variants[0].fields if is_path(it.type, "Vec") or is_option(it.type) and is_path(it.type.args[0], "Vec"))
+
+    def stated(self):
+        """The same as they are stated."""
+        return f"({' ∷ '.join([*(f'codes {it}' for it in self.lists()), '[]'])})" if self.lists() else "[]"
+
+
+def docs_of(text):
+    """A doc, in lines."""
+    return "\n".join(f"/// {line}" for line in textwrap.wrap(text, WIDTH - 4))
+
+
+def clause(parts, spelling, lists, before, after=""):
+    """A clause of a contract: on one line where it fits, or each part on its own."""
+    parts = [it.format(S=spelling, L=lists) for it in parts]
+    line = before + " ".join(parts) + after + " }"
+    return " ".join(parts) + after if len(line) <= WIDTH else "\n        ".join(parts) + after
