@@ -70,7 +70,7 @@ fn stands(rt: &impl Abort, alloc: Global, places: &[(usize, usize)]) -> bool {
         return false;
     }
     for (index, place) in placed.places.iter().enumerate() {
-        if (place.line, place.column) != places[index] {
+        if places.get(index) != Some(&(place.line, place.column)) {
             return false;
         }
     }
