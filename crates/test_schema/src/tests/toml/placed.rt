@@ -1,6 +1,5 @@
 //! Where in a TOML text the tokens of its JSON stand, beside places that were counted by hand.
 
-use crate::tests::OrEnd;
 use garde_toml::{TomlError, toml_to_json, toml_to_json_with_places};
 use std::alloc::Global;
 use std::process::Abort;
