@@ -143,9 +143,14 @@ class File:
                 yield code.parts[0], found[1]
 
     def bound(self, name, at):
-        """What a name stands for at a place: the expression that it was given last before."""
-        ends = [end for known, end in self.lets if known == name and end <= at]
-        return Reader(self.plain, ends[-1]).code() if ends else None
+        """What a name stands for at a place: the expression that it was given last before. That in which the place lies is given to
+        the name behind it: `let limit = Object(limit);`."""
+        for start in (end for known, end in reversed(self.lets) if known == name and end <= at):
+            reader = Reader(self.plain, start)
+            code = reader.code()
+            if reader.at <= at:
+                return code
+        return None
 
     def solved(self, code):
         """An expression in place of a name that stands for one."""

@@ -158,7 +158,7 @@ fn spot_in<'n, 'a>(nodes: &[Node<'a>], from: usize, from_there: &'n [Node<'a>], 
 }
 
 // Where a name stands among the members at `from`. A read asks for each member this way, so the loop
-// asks nothing of a member but its name and where the next one is, and keeps an index alone.
+// asks nothing of a member but its name and where the next one is.
 #[inline(never)]
 pub(crate) fn spot_from(nodes: &[Node<'_>], from: usize, name: &str) -> Spot
     requires { AreMembersAt nodes.now from }

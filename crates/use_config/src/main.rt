@@ -2,18 +2,14 @@
 //! form, and prints each fault of form and of the rules at its path.
 #![tactic(auto)]
 
-ghost use Rattle.garde.specs.Fields.{between, is, Known, range};
-
 mod config;
-mod limit;
-mod logging;
-mod server;
+mod rely;
 
 use crate::config::{Config, read_config};
-use crate::server::{NAME, share};
+use crate::rely::{NAME, share};
 use anyhow::{Context, Error, Result, bail};
-use garde::DefaultI18n;
 use garde::rules::pattern::regex::Regex;
+use garde::{DefaultI18n, Valid};
 use garde_problem::Escaped;
 use garde_schema::{ReadError, Scratch};
 use garde_toml::toml_to_json;
@@ -78,12 +74,10 @@ fn to_json(alloc: Global, text: &str) -> Result<String> {
 }
 
 /// Prints what a valid configuration asks for.
-fn show(rt: &HostRuntime, config: &Config<'_>) -> Result<ExitCode>
-    requires { Known (is (range (between 1 64) config.now.server.workers)) }
-{
+fn show(rt: &HostRuntime, config: Valid<Config<'_>>) -> Result<ExitCode> {
     let server = &config.server;
     let (host, port, workers) = (server.host.text(), server.port, server.workers);
-    let most = share(server);
+    let most = share(&config);
     println!(rt; "{host}, port {port}: {workers} workers, {most} connections each")?;
     Ok(ExitCode::SUCCESS)
 }
@@ -94,7 +88,7 @@ fn judge(rt: &HostRuntime, text: &str) -> Result<ExitCode> {
     let names = Regex::new(alloc, NAME)?;
     let mut scratch = Scratch::new(alloc);
     match read_config(alloc, text.as_bytes(), &mut scratch, &names, &DefaultI18n) {
-        Ok(config) => show(rt, &config),
+        Ok(config) => show(rt, config),
         Err(ReadError::Report(report)) => {
             print!(rt; "{}", Escaped(alloc, &report))?;
             Ok(ExitCode::FAILURE)

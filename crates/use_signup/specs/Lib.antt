@@ -1,2 +1,1 @@
 pub mod CzechText
-pub mod SignUp

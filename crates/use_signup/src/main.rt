@@ -3,10 +3,14 @@
 #![tactic(auto)]
 
 mod czech;
+mod rely;
 mod sign_up;
+mod terms;
 
 use crate::czech::Czech;
-use crate::sign_up::{SignUp, Words, read_sign_up};
+use crate::rely::age;
+use crate::sign_up::{SignUp, read_sign_up};
+use crate::terms::Words;
 use anyhow::{Context, Result};
 use garde::{DefaultI18n, I18n, ValidateError};
 use garde_form::form_fields;
@@ -70,8 +74,8 @@ impl Task {
 
 /// Welcomes who signs up, and names the topics that were chosen. The name stands in quotes, with
 /// what is not shown escaped.
-fn welcome(rt: &impl Print, who: &SignUp<'_>, words: &Words) -> io::Result<()> {
-    let (welcome, name, age) = (words.welcome, who.name.text(), who.age);
+fn welcome(rt: &impl Print, who: &SignUp<'_>, age: u8, words: &Words) -> io::Result<()> {
+    let (welcome, name) = (words.welcome, who.name.text());
     println!(rt; "{welcome}, {name:?} ({age})")?;
     if let Some(topics) = &who.topics {
         for topic in topics.as_slice() {
@@ -82,6 +86,7 @@ fn welcome(rt: &impl Print, who: &SignUp<'_>, words: &Words) -> io::Result<()> {
 }
 
 /// Prints the faults of a form, or welcomes who sent it.
+#[tactic(auto, unfolding(garde::specs::Fields::Known))]
 fn answer<H: I18n + FormI18n>(
     rt: &HostRuntime,
     body: &[u8],
@@ -92,7 +97,8 @@ fn answer<H: I18n + FormI18n>(
     let fields = form_fields(alloc, body)?;
     match read_sign_up(alloc, fields.as_slice(), words, h) {
         Ok(who) => {
-            welcome(rt, &who, words)?;
+            let who = who.into_inner();
+            welcome(rt, &who, age(&who), words)?;
             Ok(ExitCode::SUCCESS)
         }
         Err(ValidateError::Report(report)) => {

@@ -1,3 +1,4 @@
+-- Written by tools/port-garde from sign_up.garde.rs: edit that file, not this one. Its sum is 3a8457329a82775f.
 use Rattle.std.proofs.Common.{refl, sym}
 use Rattle.use_signup.proofs.sign_up.read_sign_up.Goals as goal
 
@@ -12,7 +13,7 @@ pub returns-in-Ok-clause-value : goal.returns-in-Ok-clause-value
 returns-in-Ok-clause-value g c = record {
   lists = c.listed-lists.result;
   named = c.listed-lists.ensures;
-  is = record { parts = c.in-Ok.fields; spelled = c.in-Ok.ensures.value; name = refl; age = sym c.unwrap-age.ensures; topics = refl };
+  is = rw c.known.ensures c.in-Ok.ensures.value;
 }
 
 pub returns-in-Err-clause-answer : goal.returns-in-Err-clause-answer
