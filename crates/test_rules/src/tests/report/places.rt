@@ -2,7 +2,7 @@
 
 use crate::tests::OrEnd;
 use crate::tests::report::samples::{path_of, report_of};
-use garde_places::{Fault, Format, GitHub, JsonLine, Places, Short, sort_by_place};
+use garde_places::{Fault, Format, GitHub, Places, Short, sort_by_place};
 use garde_report::{Kind, Report};
 use garde_tape::{Scratch, parse};
 use std::alloc::Global;
@@ -201,17 +201,6 @@ fn faults_are_printed_in_each_format(rt: HostRuntime) {
         assert!(rt; in_format(&rt, alloc, name, faults.as_slice()).as_str() == text);
     }
     assert!(rt; Format::of("plain").is_none());
-}
-
-#[test]
-fn a_fault_prints_an_object(rt: HostRuntime) {
-    let alloc = rt.alloc();
-    let report = report_of(&rt, alloc, &FAULTS);
-    let faults = placed(&rt, alloc, &report);
-    let text = JsonLine(alloc, FILE, &faults.as_slice()[0])
-        .to_string(alloc)
-        .or_end(&rt);
-    assert!(rt; OBJECTS.lines().next() == Some(text.as_str()));
 }
 
 #[test]

@@ -94,7 +94,7 @@ fn json_stops_nowhere(rt: HostRuntime) {
 #[test]
 fn the_129th_bracket_stops_a_text(rt: HostRuntime) {
     let alloc = rt.alloc();
-    let mut text = String::new(&rt);
+    let mut text = String::new(alloc);
     for _ in 0..200 {
         text.push('[').or_end(&rt);
     }
@@ -153,5 +153,5 @@ fn listed_lines(rt: &impl Abort, alloc: Global, report: &Report) -> Vec<usize> {
 fn faults_stand_where_the_list_says(rt: HostRuntime) {
     let alloc = rt.alloc();
     let report = report_of(&rt, alloc, &FAULTS);
-    assert!(rt; listed_lines(&rt, alloc, &report).as_slice() == [14, 12, 11, 10]);
+    assert!(rt; listed_lines(&rt, alloc, &report).as_slice() == [14, 12, 11, 10].as_slice());
 }
