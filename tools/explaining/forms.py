@@ -143,9 +143,10 @@ class File:
                 yield code.parts[0], found[1]
 
     def bound(self, name, at):
-        """What a name stands for at a place: the expression that it was given last, which ends before."""
-        for end in reversed([end for known, end in self.lets if known == name and end <= at]):
-            reader = Reader(self.plain, end)
+        """What a name stands for at a place: the expression that it was given last before. That in which the place lies is given to
+        the name behind it: `let limit = Object(limit);`."""
+        for start in (end for known, end in reversed(self.lets) if known == name and end <= at):
+            reader = Reader(self.plain, start)
             code = reader.code()
             if reader.at <= at:
                 return code
