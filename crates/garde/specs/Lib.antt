@@ -16,6 +16,7 @@ pub mod Validated
 pub mod Operators
 pub mod Firsts
 pub mod Fields
+pub mod RedactionLaws
 pub mod Handlers
 pub mod Cards
 pub mod Phones

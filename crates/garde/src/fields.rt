@@ -23,6 +23,7 @@ mod condition;
 mod each;
 mod field;
 mod if_some;
+mod redaction;
 mod required_if;
 mod rules;
 mod tuples;
@@ -33,13 +34,14 @@ pub use check::{Check, Dive, check_under};
 pub use condition::When;
 pub use each::{Each, check_part};
 pub use field::{Field, Fields, Item, Transparent};
-pub use garde_rules::Rule;
 pub use garde_rules::values::{
     Adapt, Alphanumeric, Ascii, ByteLength, CharLength, Contains, CreditCard, GraphemeLength, Ip,
     Length, Matches, MultipleOf, Pattern, PhoneNumber, Prefix, Range, Required, Suffix, Url,
     Utf16Length, View, WithMessage,
 };
+pub use garde_rules::{Discreet, DiscreetInMemory, Rule};
 pub use if_some::IfSome;
+pub use redaction::DiscreetRules;
 pub use required_if::RequiredIf;
 pub use rules::{Is, IsInMemory, Rules, ask_under};
 pub use unique::{Equal, Same, Unique, includes};

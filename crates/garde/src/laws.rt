@@ -2,10 +2,10 @@
 ghost use Rattle.garde.specs.Nest.{NestLaw};
 ghost use Rattle.garde.specs.Parts.{ItemsInParts, ReadInParts};
 ghost use Rattle.garde.specs.Reading.{ReadsUnder, ReadsByHandler};
-ghost use Rattle.garde.specs.Redaction.{FoundByArguments, SaysNoMore};
+ghost use Rattle.garde.specs.Redaction.{AsksOnly, FindsOnly, SaysNoMore, SaysOnly, SaysOnlyInMemory};
 ghost use Rattle.garde.specs.Select.{SelectGivesPart};
 
-use crate::fields::Check;
+use crate::fields::{Check, Discreet, DiscreetInMemory, DiscreetRules};
 use crate::recursive::Recursive;
 
 /// What `select` keeps of the report of a tree are the messages of that part of the tree which
@@ -43,12 +43,31 @@ pub fn items_in_parts<'a, T, C: Check<'a, T>>()
     ensures reading { ReadInParts }
 {}
 
-/// What a rule of the library finds is one of a few faults, which the arguments of the rule give:
-/// the value only decides which of them, or none. So a message depends on the arguments, and not on
-/// the value that the rule is asked of. An argument that is taken from another field is reported.
-/// Messages of user-defined rules say what their authors write. Paths are not meant: the component
-/// of a value in a map is its key.
-pub fn messages_hide_values()
-    ensures found { FoundByArguments }
-    ensures messages { SaysNoMore }
+/// What a rule finds is one of the faults that it may find, by its arguments alone: the value only
+/// decides which of them, or none. So a message depends on the arguments, and not on the value that
+/// the rule is asked of: under each handler, the messages of two values are among the same texts.
+/// An argument that is taken from another field is reported.
+///
+/// Each rule of the library is `Discreet`. A user-defined rule is where its author says so, and
+/// proves it.
+pub fn messages_hide_values<T, R: Discreet<T>>()
+    ensures found { FindsOnly R.may_find R.finds }
+    ensures messages { SaysOnly R.may_find R.finds }
+{}
+
+/// The same of a rule that may allocate for its answer, as a pattern or a URL.
+pub fn messages_in_memory_hide_values<T, R: DiscreetInMemory<T>>()
+    ensures found { FindsOnly R.may_find R.finds }
+    ensures messages { SaysOnlyInMemory R.may_find R.finds }
+{}
+
+/// What rules find in a value are some of the faults that they may find, by their arguments alone.
+/// So each message of a report of theirs is one of a few texts, whatever the value is. Paths are not
+/// meant: the component of a value in a map is its key.
+///
+/// `read` says it of every tree whose faults are some of these, so it serves a tree that is put
+/// together of the rules of several fields.
+pub fn reports_hide_values<T, R: DiscreetRules<T>>()
+    ensures found { AsksOnly R.may_find R.asks }
+    ensures read { SaysNoMore }
 {}

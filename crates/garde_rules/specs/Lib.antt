@@ -3,6 +3,8 @@ pub mod Inner
 pub mod Memory
 pub mod Range
 pub mod Reasons
+pub mod Redaction
+pub mod RedactionLaws
 pub mod Text
 pub use Rattle.garde_engines.specs.Applies.{Fault, rule, own, fault_text, Applies}
 pub use Rattle.garde_engines.specs.Bounds.{bounds_answer, length_fault, option_answer}

@@ -4,6 +4,7 @@ mod asked_rules;
 mod badge;
 mod contact;
 mod containers;
+mod counted;
 mod couple;
 mod custom;
 mod documents;

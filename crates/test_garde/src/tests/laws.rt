@@ -1,10 +1,14 @@
 //! What a caller concludes from the laws of visit trees.
 ghost use Rattle.std.specs.Prelude.{◌≡◌, ℕ, List, [], ◌∷◌, map, Err};
 ghost use Rattle.std.specs.List.{All, Contains};
+ghost use Rattle.garde_i18n.specs.Datum as datum;
 ghost use Rattle.garde_i18n.specs.Datum.{Datum, not_ascii, length_lower, length_greater};
 ghost use Rattle.garde_i18n.specs.DefaultText.{default_text};
 ghost use Rattle.garde_report.specs.Part.{Part};
 ghost use Rattle.garde_report.specs.Report.{Entry};
+ghost use Rattle.garde.specs.Fields.{asks, byte_count, codes, nat_lt, str};
+ghost use Rattle.garde.specs.Redaction.{SaysOneOf, fault_texts, own_fault, url_faults};
+ghost use Rattle.garde.specs.RedactionLaws.{asks_among};
 ghost use Rattle.garde.specs.Select.{messages};
 ghost use Rattle.garde.specs.Tree.{Tree, flat};
 ghost use Rattle.garde.specs.declared.validate_error.ValidateError.TheVariants as errors;
@@ -12,9 +16,15 @@ ghost use Rattle.garde.specs.declared.validate_error.ValidateError.TheVariants a
 use crate::tests::OrEnd;
 use crate::tests::told::tells_all;
 use crate::tests::user::User;
-use garde::laws::{messages_hide_values, read_by_handler, read_under, select_part};
-use garde::{Validate, ValidateError};
+use garde::fields::{Ascii, Discreet, Is, Length, Prefix, Rule, Url};
+use garde::laws::{
+    messages_hide_values, messages_in_memory_hide_values, read_by_handler, read_under,
+    reports_hide_values, select_part,
+};
+use garde::rules::values::MemoryRule;
+use garde::{DefaultI18n, I18n, RuleError, Validate, ValidateError};
 use std::alloc::Global;
+use std::borrow::CowStr;
 use std::process::Abort;
 
 /// Wherever a tree is read, its report has the same messages.
@@ -39,7 +49,7 @@ fn validate_in_secret(alloc: Global, user: &User) -> Result<(), ValidateError>
     ensures { (report : List Entry) → result ≡ Err (errors.Report report)
         → All (λ (e : Entry). Contains (map default_text (not_ascii ∷ length_lower 3 ∷ length_greater 25 ∷ [])) e.1) report }
 {
-    messages_hide_values();
+    reports_hide_values::<String, (Is<Ascii>, Is<Length>)>();
     user.validate(alloc)
 }
 
@@ -60,6 +70,71 @@ fn messages_hold_no_part_of_a_name(rt: HostRuntime) {
     let line = "username: length is greater than 25\n";
     assert!(rt; is_kept_secret(&rt, rt.alloc(), long, line));
     assert!(rt; is_kept_secret(&rt, rt.alloc(), "ab", "username: length is lower than 3\n"));
+}
+
+/// Asks of a code whether it begins with a prefix. The message is one text, whatever the code is.
+fn code_in_secret(alloc: Global, prefix: &str, code: &&str) -> Result<(), RuleError>
+    ensures { SaysOneOf (default_text (datum.prefix prefix.now) ∷ []) result }
+{
+    messages_hide_values::<&str, Prefix<'_>>();
+    Prefix(prefix).find(alloc, code, &DefaultI18n)
+}
+
+/// The rule that a text has fewer than 8 bytes, with a message of its own.
+#[derive(Clone, Copy)]
+struct Short;
+
+impl Rule<String> for Short {
+    ghost finds = { λ _ v. asks "too long" (nat_lt (byte_count (str v)) 8) };
+
+    fn find<H: I18n>(&self, alloc: Global, value: &String, _h: &H) -> Result<(), RuleError> {
+        if value.len() < 8 {
+            Ok(())
+        } else {
+            Err(RuleError::of(alloc, Ok(CowStr::Borrowed("too long"))))
+        }
+    }
+}
+
+impl Discreet<String> for Short {
+    ghost may_find = { λ _. own_fault (codes "too long") };
+
+    ghost discreet = { λ _ v. asks_among (codes "too long") (nat_lt (byte_count (str v)) 8) };
+}
+
+/// Asks of a text whether it is short. The message is one text, whatever the text is.
+fn text_in_secret(alloc: Global, text: &String) -> Result<(), RuleError>
+    ensures { SaysOneOf (codes "too long" ∷ []) result }
+{
+    messages_hide_values::<String, Short>();
+    Short.find(alloc, text, &DefaultI18n)
+}
+
+/// Asks of a text whether it is a URL. The message is one of those of the reasons.
+fn url_in_secret(alloc: Global, text: &&str) -> Result<(), RuleError>
+    ensures { SaysOneOf (fault_texts default_text url_faults) result }
+{
+    messages_in_memory_hide_values::<&str, Url>();
+    Url.find_in_memory(alloc, text, &DefaultI18n)
+}
+
+/// Whether this is said.
+fn says(answer: Result<(), RuleError>, message: &str) -> bool {
+    match answer {
+        Err(RuleError::Fault(error)) => error.message() == message,
+        _ => false,
+    }
+}
+
+#[test]
+fn messages_hold_no_part_of_a_text(rt: HostRuntime) {
+    let line = "value does not begin with \"P\"";
+    assert!(rt; says(code_in_secret(rt.alloc(), "P", &"a secret"), line));
+    assert!(rt; says(code_in_secret(rt.alloc(), "P", &"another"), line));
+    let text = String::from_str(rt.alloc(), "a secret").or_end(&rt);
+    assert!(rt; says(text_in_secret(rt.alloc(), &text), "too long"));
+    let line = "not a valid url: relative URL without a base";
+    assert!(rt; says(url_in_secret(rt.alloc(), &"a secret"), line));
 }
 
 #[test]
