@@ -221,9 +221,8 @@ class Conditions:
         if not texts and not (held is not None and is_path(held, *UNSIGNED) and asked.kind == "number" and asked.value >= 0):
             told = f"`contains` of `{'.'.join(place.value)}`"
             raise Refusal(it.line, f"{told}: it is written of texts and lists of texts that a form reads, and of lists of numbers without a sign")
-        self.uses.paths.add("Rattle.garde.specs.Firsts.{includes}")
         self.uses.fields |= {"includes", "Equal"}
-        self.uses.words |= {"text_eq", "codes"} if texts else {"nat_eq"} | ({"slice"} if kind.name == "Vec" else set())
+        self.uses.words |= {"includes"} | ({"text_eq", "codes"} if texts else {"nat_eq"} | ({"slice"} if kind.name == "Vec" else set()))
         self.uses.others |= {"garde_schema::TextRef"} if texts else set()
         listed = f"(slice {spec})" if kind.name == "Vec" else spec
         item, same, stated = (f'&TextRef::new("{asked.value}")', "text_eq", f'(codes "{asked.value}")') if texts else (f"&{asked.value}", "nat_eq", asked.value)

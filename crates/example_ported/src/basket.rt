@@ -1,9 +1,8 @@
 //! A basket as it comes in a request, whose fields ask of one another.
 ghost use Rattle.std.specs.Prelude.{is_some, refl, ◌&&◌, ◌||◌};
-ghost use Rattle.garde.specs.Firsts.{includes};
 ghost use Rattle.garde.specs.Words.{has_part};
 ghost use Rattle.garde_schema.specs.Maps.{each_key, names_of};
-ghost use Rattle.garde.specs.Fields.{◌and◌, alphanumeric, ascii, at_least, at_most, between, Bool, bytes, chars, codes, each, each_value, false, field, if_some, is, items, key_part, matches, multiple_of, nat_eq, not, prefix, range, required, text_eq, text_is, true, unique, when};
+ghost use Rattle.garde.specs.Fields.{◌and◌, alphanumeric, ascii, at_least, at_most, between, Bool, bytes, chars, codes, each, each_value, false, field, if_some, includes, is, items, key_part, matches, multiple_of, nat_eq, not, prefix, range, required, text_eq, text_is, true, unique, when};
 ghost use Rattle.example_ported.specs.declared.basket.Payment.TheVariants.{Cash, Card, Bill};
 
 use crate::own::{FitsOnAPage, HasRoom, IsNamed};

@@ -1,6 +1,5 @@
 //! Rules that the Rust crate does not have, and conditions on enums and texts, in a walk.
-ghost use Rattle.garde.specs.Firsts.{includes};
-ghost use Rattle.garde.specs.Fields.{◌and◌, ascii, at_least, at_most, between, Bool, each, false, field, if_some, is, items, minus, multiple_of, nat_eq, not, plus, range, required, signed_multiple_of, signed_range, slice, str, text_eq, text_is, true, unique, when};
+ghost use Rattle.garde.specs.Fields.{◌and◌, ascii, at_least, at_most, between, Bool, each, false, field, if_some, includes, is, items, minus, multiple_of, nat_eq, not, plus, range, required, signed_multiple_of, signed_range, slice, str, text_eq, text_is, true, unique, when};
 ghost use Rattle.example_ported.specs.declared.shelf.Room.TheVariants.{Cold, Dry, Open};
 
 use garde::fields::{

@@ -1,8 +1,7 @@
 //! Lists whose items differ from one another.
 ghost use Rattle.std.specs.Prelude.{◌≡◌, Bool};
 ghost use Rattle.garde.specs.Visits.{Visited};
-ghost use Rattle.garde.specs.Fields.{unique_text};
-ghost use Rattle.garde.specs.Firsts.{includes};
+ghost use Rattle.garde.specs.Fields.{includes, unique_text};
 
 use super::asks::Asks;
 use super::check::Check;

@@ -73,6 +73,23 @@ fn each_check_of_a_tuple(rt: HostRuntime) {
     assert!(rt; is_told_of_checks(&rt, rt.alloc(), text));
 }
 
+/// Whether this is reported for a text under five checks, and for one under six.
+fn is_told_of_more_checks(rt: &impl Abort, alloc: Global, text: &str) -> bool {
+    let long = Is(Length { min: 3, max: 9 });
+    let short = Is(Length { min: 0, max: 1 });
+    let five = all!(Is(Ascii), long, short, Is(Ascii), long);
+    let six = all!(Is(Ascii), long, short, Is(Ascii), long, short);
+    let fields = (Field("five", &"é", five), Field("six", &"é", six));
+    is_told(rt, alloc, &fields, text)
+}
+
+#[test]
+fn each_of_five_and_of_six_checks(rt: HostRuntime) {
+    let text =
+        "five: not ascii\nfive: length is lower than 3\nfive: length is greater than 1\nfive: not ascii\nfive: length is lower than 3\nsix: not ascii\nsix: length is lower than 3\nsix: length is greater than 1\nsix: not ascii\nsix: length is lower than 3\nsix: length is greater than 1\n";
+    assert!(rt; is_told_of_more_checks(&rt, rt.alloc(), text));
+}
+
 /// Whether this is reported for letters that have to differ.
 fn is_told_of_letters(rt: &impl Abort, alloc: Global, letters: &str, text: &str) -> bool {
     let letters = Vec::from_slice(alloc, letters.as_bytes()).or_end(rt);

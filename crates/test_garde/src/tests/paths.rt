@@ -1,9 +1,12 @@
-//! Lists and paths, also where memory runs out.
+//! Lists and paths, also where memory runs out, and what paths print.
 
+use super::OrEnd;
+use super::told::{prints, shows};
 use garde::Path;
 use garde::error::PathComponentKind;
 use garde::rc_list::{JoinError, List};
 use std::alloc::{AllocError, Global};
+use std::process::Abort;
 use test_memory::{Met, Scarce};
 
 /// The list with one item more.
@@ -97,4 +100,34 @@ pub fn iter(alloc: Global, memory: &mut Scarce) -> Result<Met, AllocError> {
     };
     memory.end();
     Ok(answer.when(are_equal(&path, &like)))
+}
+
+// Whether the path of these keys has as many components, and prints these texts.
+fn keys_print(rt: &impl Abort, alloc: Global, texts: &[&str], text: &str, shown: &str) -> bool {
+    let path = keys(alloc, texts).or_end(rt);
+    path.len() == texts.len()
+        && prints(rt, alloc, &path, text)
+        && shows(alloc, &path, shown).or_end(rt)
+}
+
+/// Keys, what their path prints, and what it prints for a programmer.
+static KEYED: [(&[&str], &str, &str); 3] = [
+    (
+        &["a", "b", "c"],
+        "a.b.c",
+        "Path { components: [(Key, \"a\"), (Key, \"b\"), (Key, \"c\")] }",
+    ),
+    (
+        &["array", "0", "c"],
+        "array.0.c",
+        "Path { components: [(Key, \"array\"), (Key, \"0\"), (Key, \"c\")] }",
+    ),
+    (&["0"], "0", "Path { components: [(Key, \"0\")] }"),
+];
+
+#[test]
+fn a_key_that_is_a_number_is_a_key(rt: HostRuntime) {
+    for (texts, text, shown) in &KEYED {
+        assert!(rt; keys_print(&rt, rt.alloc(), texts, text, shown), "{text}");
+    }
 }

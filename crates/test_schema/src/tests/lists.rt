@@ -1,14 +1,13 @@
 //! Lists: the whole report of each body, or its values in order.
 ghost use Rattle.std.specs.Prelude.{bytes_eq, codes, nat_le};
-ghost use Rattle.garde.specs.Fields.{asks, is, required, when};
-ghost use Rattle.garde.specs.Firsts.{includes};
+ghost use Rattle.garde.specs.Fields.{asks, includes, is, required, when};
 
 use super::OrEnd;
 use super::told::{Case as Form, check_many, compare, told};
 use garde::fields::{
     Ascii, Each, Equal, IfSome, Is, Required, Rule, Rules, Unique, When, includes,
 };
-use garde::{DefaultI18n, I18n, Report, RuleError, Trail, length, range};
+use garde::{DefaultI18n, I18n, Report, RuleError, Trail, all, length, range};
 use garde_schema::{
     Checked, Count, Flag, FormI18n, Items, List, ListUnder, Member, Object, Optional, Scratch,
     Text, TextRef, U8, U16, Under, Whole, read_json,
@@ -25,6 +24,7 @@ pub enum Case {
     Few,
     Several,
     Apart,
+    Many,
     Each,
     MaybeApart,
     Rush,
@@ -44,6 +44,7 @@ pub fn told_by<H: I18n + FormI18n>(
         Case::Few => few(alloc, tree, h),
         Case::Several => told(alloc, tree, &ListUnder(Is(Several), Whole(U8, ())), h),
         Case::Apart => apart(alloc, tree, h),
+        Case::Many => many(alloc, tree, h),
         Case::Each => each(alloc, tree, h),
         Case::MaybeApart => maybe_apart(alloc, tree, h),
         Case::Rush => rush(alloc, tree, h),
@@ -194,6 +195,41 @@ static APART: [(&str, &str); 9] = [
 #[test]
 fn tells_each_item_that_stands_before_after_all_items(rt: HostRuntime) {
     compare(&rt, rt.alloc(), Form::Lists(Case::Apart), &APART);
+}
+
+// Lists of texts under five and under six rules: of how many there are, and of the texts.
+fn many<H: I18n + FormI18n>(
+    alloc: Global,
+    tree: &Tree<'_, '_>,
+    h: &H,
+) -> Result<String, AllocError> {
+    let (few, short) = (Is(length!(max = 2)), Each(Is(length!(max = 1))));
+    let apart = Unique("stands before", Equal);
+    let five = ListUnder(all!(few, apart, few, short, Is(Several)), Text(()));
+    let six = ListUnder(all!(few, few, few, Is(Several), short, apart), Text(()));
+    let form = Object((Member("five", five), Member("six", six)));
+    told(alloc, tree, &form, h)
+}
+
+// Bodies, and what each reads as.
+static MANY: [(&str, &str); 3] = [
+    (
+        "{\"five\":[\"a\",\"b\"],\"six\":[\"c\",\"\"]}",
+        "(Items([TextRef(\"a\"), TextRef(\"b\")]), Items([TextRef(\"c\"), TextRef(\"\")]))",
+    ),
+    (
+        "{\"five\":[\"ab\"],\"six\":[\"ab\"]}",
+        "five: alone\nfive[0]: length is greater than 1\nsix: alone\nsix[0]: length is greater than 1\n",
+    ),
+    (
+        "{\"five\":[\"a\",\"a\",\"bc\"],\"six\":[\"a\",\"a\",\"bc\"]}",
+        "five: length is greater than 2\nfive: length is greater than 2\nfive[1]: stands before\nfive[2]: length is greater than 1\nsix: length is greater than 2\nsix: length is greater than 2\nsix: length is greater than 2\nsix[2]: length is greater than 1\nsix[1]: stands before\n",
+    ),
+];
+
+#[test]
+fn asks_five_and_six_rules_of_a_list_in_turn(rt: HostRuntime) {
+    compare(&rt, rt.alloc(), Form::Lists(Case::Many), &MANY);
 }
 
 // Texts of two bytes at most, asked after all of them, unless there are two or more.

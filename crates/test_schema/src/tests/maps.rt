@@ -3,7 +3,7 @@
 use super::OrEnd;
 use super::told::{Case as Form, check, compare, told, told_of};
 use garde::fields::{Alphanumeric, Ascii, Is};
-use garde::{DefaultI18n, I18n, length, range};
+use garde::{DefaultI18n, I18n, all, length, range};
 use garde_schema::{
     Flag, FormI18n, Keys, List, Map, MapUnder, Member, Object, Text, U8, U16, Whole,
 };
@@ -17,6 +17,7 @@ pub enum Case {
     Labels,
     FewLabels,
     Named,
+    Many,
     Numbers,
     Nested,
 }
@@ -32,6 +33,7 @@ pub fn told_by<H: I18n + FormI18n>(
         Case::Labels => labels(alloc, tree, h),
         Case::FewLabels => few_labels(alloc, tree, h),
         Case::Named => named(alloc, tree, h),
+        Case::Many => many(alloc, tree, h),
         Case::Numbers => told(alloc, tree, &Map(Whole(U16, ())), h),
         Case::Nested => told(alloc, tree, &Map(List(Map(Map(Whole(U8, ()))))), h),
     }
@@ -152,6 +154,37 @@ static NAMED: [(&str, &str); 8] = [
 #[test]
 fn tells_a_wrong_name_under_itself_after_all_values(rt: HostRuntime) {
     compare(&rt, rt.alloc(), Form::Maps(Case::Named), &NAMED);
+}
+
+// Numbers under five and under six rules: of how many there are, and of their names.
+fn many<H: I18n + FormI18n>(
+    alloc: Global,
+    tree: &Tree<'_, '_>,
+    h: &H,
+) -> Result<String, AllocError> {
+    let (few, plain) = (Is(length!(max = 1)), Keys(Is(Alphanumeric)));
+    let short = Keys(Is(length!(max = 1)));
+    let five = MapUnder(all!(few, plain, short, few, plain), Whole(U8, ()));
+    let six = MapUnder(all!(plain, few, few, plain, few, short), Whole(U8, ()));
+    let form = Object((Member("five", five), Member("six", six)));
+    told(alloc, tree, &form, h)
+}
+
+// Bodies, and what each reads as.
+static MANY: [(&str, &str); 2] = [
+    (
+        "{\"five\":{\"a\":1},\"six\":{\"b\":2}}",
+        "(Items([(TextRef(\"a\"), 1)]), Items([(TextRef(\"b\"), 2)]))",
+    ),
+    (
+        "{\"five\":{\"a\":1,\"b-\":2},\"six\":{\"a\":1,\"b-\":2}}",
+        "five: length is greater than 1\nfive: length is greater than 1\nfive.b-: not alphanumeric\nfive.b-: length is greater than 1\nfive.b-: not alphanumeric\nsix: length is greater than 1\nsix: length is greater than 1\nsix: length is greater than 1\nsix.b-: not alphanumeric\nsix.b-: not alphanumeric\nsix.b-: length is greater than 1\n",
+    ),
+];
+
+#[test]
+fn asks_five_and_six_rules_of_a_map_in_turn(rt: HostRuntime) {
+    compare(&rt, rt.alloc(), Form::Maps(Case::Many), &MANY);
 }
 
 // An object of this many members whose values are their numbers. The last one is named so.
