@@ -2,4 +2,4 @@ use Rattle.garde.specs.Words.{default_text}
 use Rattle.test_garde.proofs.tests.laws.code_in_secret.Goals as goal
 
 pub returns : goal.returns
-returns c = c.messages_hide_values.ensures.messages _ _ default_text _ c.find.ensures
+returns c = c.messages_hide_values.ensures.messages (record { 0 = c.args.prefix }) c.args.code.now default_text _ c.find.ensures

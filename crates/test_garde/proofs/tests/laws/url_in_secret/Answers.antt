@@ -2,4 +2,4 @@ use Rattle.garde.specs.Words.{default_text}
 use Rattle.test_garde.proofs.tests.laws.url_in_secret.Goals as goal
 
 pub returns : goal.returns
-returns c = c.messages_in_memory_hide_values.ensures.messages _ _ default_text _ c.find_in_memory.ensures.fault
+returns c = c.messages_in_memory_hide_values.ensures.messages (record {}) c.args.text.now default_text _ c.find_in_memory.ensures.fault
