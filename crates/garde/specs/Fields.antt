@@ -12,7 +12,7 @@ pub use Rattle.garde.specs.Operators.{both, either, choose, product, quotient, r
 unfoldable pub use Rattle.garde.specs.Visits.{Known}
 pub use Rattle.garde.specs.Visits.{Visits, Visited, none, ◌and◌, under, item, when, each_of_option}
 pub use Rattle.garde.specs.Nest.{recursive_visits, child_visits, in_map, in_vec, nest_visits}
-pub use Rattle.garde.specs.Firsts.{AreApart}
+pub use Rattle.garde.specs.Firsts.{AreApart, includes}
 pub use Rattle.garde_report.specs.Part.{key_part, index_part, signed_index_part, part_of}
 pub use Rattle.garde_rules.specs.Inner.{component_items}
 pub use Rattle.garde_rules.specs.{Fault, rule, own, byte_count, char_count, unit_count, grapheme_count}

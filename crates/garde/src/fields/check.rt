@@ -1,7 +1,9 @@
 //! Checks of a value.
 ghost use Rattle.std.specs.Prelude.{◌≡◌};
 ghost use Rattle.garde_report.specs.Part.{part_of};
-ghost use Rattle.garde.specs.Visits.{Visits, Visited, under, found, may_allocate, ◌and◌};
+ghost use Rattle.garde.specs.Visits.{Visits, Visited, under, found, may_allocate};
+
+mod tuples;
 
 use super::rules::{Is, IsInMemory, Rules};
 use crate::validate::Validate;
@@ -87,24 +89,6 @@ impl<'a, 'c, T: Validate> Check<'a, T> for Dive<'c, T::Context> {
     }
 }
 
-/// One check, and then the other.
-impl<'a, T, A: Check<'a, T>, B: Check<'a, T>> Check<'a, T> for (A, B) {
-    ghost visits = { λ both v. A.visits both.0 v and B.visits both.1 v };
-
-    #[inline(always)]
-    fn check<H: I18n>(
-        &self,
-        alloc: Global,
-        value: &'a T,
-        trail: &mut Trail<'a>,
-        report: &mut Report,
-        h: &H,
-    ) -> Result<(), AllocError> {
-        self.0.check(alloc, value, trail, report, h)?;
-        self.1.check(alloc, value, trail, report, h)
-    }
-}
-
 /// The check that is referred to.
 impl<'a, 'r, T, C: Check<'a, T>> Check<'a, T> for &'r C {
     ghost visits = { λ check v. C.visits check.now v };
@@ -119,42 +103,6 @@ impl<'a, 'r, T, C: Check<'a, T>> Check<'a, T> for &'r C {
         h: &H,
     ) -> Result<(), AllocError> {
         (**self).check(alloc, value, trail, report, h)
-    }
-}
-
-/// Three checks in turn.
-impl<'a, T, A: Check<'a, T>, B: Check<'a, T>, C: Check<'a, T>> Check<'a, T> for (A, B, C) {
-    ghost visits = { λ all v. A.visits all.0 v and B.visits all.1 v and C.visits all.2 v };
-
-    #[inline(always)]
-    fn check<H: I18n>(
-        &self,
-        alloc: Global,
-        value: &'a T,
-        trail: &mut Trail<'a>,
-        report: &mut Report,
-        h: &H,
-    ) -> Result<(), AllocError> {
-        (&self.0, (&self.1, &self.2)).check(alloc, value, trail, report, h)
-    }
-}
-
-/// Four checks in turn.
-impl<'a, T, A: Check<'a, T>, B: Check<'a, T>, C: Check<'a, T>, D: Check<'a, T>> Check<'a, T>
-    for (A, B, C, D) {
-    ghost visits = { λ all v.
-        A.visits all.0 v and B.visits all.1 v and C.visits all.2 v and D.visits all.3 v };
-
-    #[inline(always)]
-    fn check<H: I18n>(
-        &self,
-        alloc: Global,
-        value: &'a T,
-        trail: &mut Trail<'a>,
-        report: &mut Report,
-        h: &H,
-    ) -> Result<(), AllocError> {
-        (&self.0, (&self.1, (&self.2, &self.3))).check(alloc, value, trail, report, h)
     }
 }
 
