@@ -1,7 +1,7 @@
 //! Codes beside sentences, for the faults of form.
 ghost use Rattle.garde_schema.specs.FormCode.{form_message};
 
-use crate::code::{name_of_fault, name_of_integer, name_of_kind, name_of_wanted};
+use crate::code::name_of_kind;
 use crate::fault::FormFault;
 use crate::handler::FormI18n;
 use garde_problem::WithCodes;
@@ -15,17 +15,17 @@ impl<H: FormI18n> FormI18n for WithCodes<H> {
 
     fn form_fault(&self, alloc: Global, fault: FormFault) -> Result<CowStr<'static>, AllocError> {
         let detail = self.0.form_fault(alloc, fault)?;
-        let name = name_of_fault(fault);
+        let name = fault.code();
         Ok(CowStr::Owned(match fault {
             FormFault::Wrong(wanted, found) => {
-                let wanted = name_of_wanted(wanted);
+                let wanted = wanted.code();
                 let found = name_of_kind(found);
                 format!(in alloc;
                     "\u{1f}{name}\u{1f}{detail}\u{1f}wanted\u{1f}{wanted}\u{1f}found\u{1f}{found}\u{1f}"
                 )?
             }
             FormFault::OutOfRange(of) => {
-                let of = name_of_integer(of);
+                let of = of.code();
                 format!(in alloc; "\u{1f}{name}\u{1f}{detail}\u{1f}of\u{1f}{of}\u{1f}")?
             }
             _ => format!(in alloc; "\u{1f}{name}\u{1f}{detail}\u{1f}")?,
