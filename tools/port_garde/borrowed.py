@@ -35,9 +35,8 @@ def fields_of(item):
     return [it for variant in item.variants for it in variant.fields]
 
 
-# The rules of lists and of maps that a form asks, and those that `--body` states.
+# The rules of lists and of maps that a form asks.
 OF_LISTS = {True: ("inner", "dive", "length", "unique", "custom"), False: ("inner", "dive", "length", "keys", "custom")}
-STATED = {True: ("inner", "dive", "length", "unique", "custom"), False: ("inner", "dive", "length", "custom")}
 
 
 def below(item):
@@ -279,9 +278,8 @@ class Borrowed:
         elif is_path(kind, "Vec") or is_map(kind):
             is_list = kind.name == "Vec"
             for it in rules:
-                if it.name not in (STATED if self.is_stated else OF_LISTS)[is_list] or it.name == "length" and it.mode != "simple":
-                    told = "which `--schema` does not write" if not self.is_stated else "which `--spelled` and `--body` do not state: say `--schema --no-walk`"
-                    yield it.line, f"`{it.name}` of a {'list' if is_list else 'map'}, {told}"
+                if it.name not in OF_LISTS[is_list] or it.name == "length" and it.mode != "simple":
+                    yield it.line, f"`{it.name}` of a {'list' if is_list else 'map'}, which `--schema` does not write"
             within = [found for it in rules if it.name == "inner" for found in it.rules]
             yield from self.of_lists(kind.args[-1], within)
 

@@ -15,9 +15,9 @@ from .source import is_ported
 from .spelled import Spellings
 from .words import Checks, camel, together
 
-# The rules of a list or a map that its form takes; where what is spelled is stated, it takes those of the number alone.
+# The rules of a list or a map that its form takes; where what is spelled is stated, it takes those of the number and of the names.
 UNDER = ("length", "unique", "keys")
-UNDER_SPELLED = ("length",)
+UNDER_SPELLED = ("length", "keys")
 READ = """{docs}
 {tactic}{vis}fn read_{name}<'a, H: I18n + FormI18n>(
     alloc: Global,

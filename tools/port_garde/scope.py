@@ -36,6 +36,7 @@ class Uses:
     cited: set = field(default_factory=set)
     paths: set = field(default_factory=set)
     spelled: set = field(default_factory=set)
+    unions: set = field(default_factory=set)
     written: set = field(default_factory=set)
     rules: dict = field(default_factory=dict)
 

@@ -8,7 +8,7 @@ from .groups import Group, filled, grouped, numbers_in, own_rules, shared_rules
 from .inputs import Reader, may_be_missing
 from .layout import WIDTH
 from .makers import places
-from .names import of_field
+from .names import of_field, of_variant
 from .scope import SIGNED, Place, Seen, is_option, is_path, is_text
 from .source import is_ported
 from .tokens import Refusal
@@ -79,8 +79,8 @@ def lay(tree, column, after):
     *front, last = tree.parts
     if front and isinstance(front[0], Record):
         return lay_made(tree.head, front[0], last, column, after)
-    if not any(it.parts for it in front):
-        head = " ".join([tree.head, *map(flat, front)])
+    head = " ".join([tree.head, *map(flat, front)])
+    if not any(it.parts for it in front) and (column + len(head) <= WIDTH or not front):
         return f"{head} {lay_bracketed(last, column + len(head) + 1, after)}"
     return tree.head + "".join(NEXT + lay_bracketed(it, len(NEXT) - 1, after) for it in tree.parts)
 
@@ -110,6 +110,11 @@ class Spellings:
         self.writer.uses.spelled.add(name)
         return name
 
+    def union(self, name):
+        """A word of what is spelled of a union, which is imported."""
+        self.writer.uses.unions.add(name)
+        return name
+
     def written(self, name):
         """A word of what a text writes, which is imported."""
         self.writer.uses.written.add(name)
@@ -122,8 +127,6 @@ class Spellings:
             notes.refuse(item.line if item else 1, f"the {'body' if self.writer.is_library else 'type'} `{self.body}`: there is no type of that name which derives `Deserialize` and `Validate`")
             return
         for it in self.schema.order(item):
-            if it.kind == "enum" and not is_named(it):
-                notes.refuse(it.line, f"`{it.name}`, an enum whose variants have fields, which `--body` does not state")
             if it.name in ("Body", "Spelled", "ReadBody"):
                 notes.refuse(it.line, f"the name `{it.name}`, which `--body` writes")
 
@@ -174,6 +177,9 @@ class Spellings:
             rows = [f'("{name}", {it.name})' for it in item.variants for name in self.schema.names(it, item)]
             self.writer.uses.prelude |= {"◌∷◌", "[]"}
             return said(self.word("a_name"), Said(f"({' ∷ '.join(rows)} ∷ [])"))
+        if item.kind == "enum":
+            makes = f"⟦<{self.schema.makers.type_name(self.turned[item.name])} as FromParts>⟧.builds"
+            return said(self.word("made"), Said(makes), self.of_union(item))
         variant = item.variants[0]
         names = [it.name or str(at) for at, it in enumerate(variant.fields)]
         rows = [f"{name} = {place}" for name, place in zip(names, places(self.schema.makers.tree(variant, names), "parts"))]
@@ -187,6 +193,30 @@ class Spellings:
             members = said(self.word("closed"), members)
         return said(self.word("an_object"), members)
 
+    def of_union(self, item):
+        """The variants of an enum, one of which its tag chooses, or the name of the only member."""
+        tag = options(item).get("tag")
+        variants = [self.of_variant(it, item, tag) for it in item.variants]
+        while len(variants) > 1:
+            variants = [*variants[:-2], said(self.union("either_of"), *variants[-2:])]
+        whole = variants[0]
+        if not tag:
+            return said(self.union("one_member"), whole)
+        if "deny_unknown_fields" in options(item):
+            whole = said(self.union("closed_variants"), whole)
+        return said(self.union("tagged"), f'"{tag.value}"', whole)
+
+    def of_variant(self, variant, item, tag):
+        """A variant, as its form reads it. One without members asks for the tag alone, which is there."""
+        name, content = f'"{of_variant(variant, item)}"', options(item).get("content")
+        if tag and not content:
+            members = self.of_group(grouped(variant.fields), variant, item) if variant.fields else said(self.word("member"), f'"{tag.value}"', self.union("anything"))
+            return said(self.union("variant"), name, members)
+        one = self.of_struct(variant, item) if variant.shape == "named" else self.value(variant.fields[0].type, variant.fields[0].attributes.rules)
+        if not tag:
+            return said(self.union("variant_member"), name, one)
+        return said(self.union("variant"), name, said(self.word("member"), f'"{content.value}"', one))
+
     def of_group(self, group, variant, item):
         """Members, and then the rules that are asked of all of them, each under its own member."""
         fields = variant.fields
@@ -196,7 +226,7 @@ class Spellings:
         self.writer.uses.words.add("field")
         numbers = numbers_in(group)
         at = dict(zip(numbers, places(filled(group, [it.name for it in fields]), "v")))
-        turned = self.turned[item.name].variants[0].fields
+        turned = next(it.fields for it in self.turned[item.name].variants if it.name == variant.name)
         own = {fields[it].name: Place(fields[it].name, at[it], turned[it].type) for it in numbers}
         asked = [f'field "{of_field(fields[it], variant, item)}" ({self.shared(turned[it], own)})' for it in group.asked]
         if len(asked) > 1:
@@ -272,20 +302,37 @@ class Spellings:
         return said(self.written("a_written"), self.written(f"{kind.name}_texts"), rules)
 
     def several(self, kind, rules):
-        """A list or a map: rules of how many there are, and what each of them is."""
+        """A list or a map: rules of how many there are and of the names of a map, and what each of them is."""
         word, whole, inside = "a_list" if kind.name == "Vec" else "a_map", [], []
         for it in rules:
             if it.name == "inner":
                 inside += it.rules
             elif it.name == "dive":
                 inside.append(it)
-            elif it.name == "length":
+            elif it.name in ("length", "keys"):
                 whole.append(it)
         one, ruled = self.value(kind.args[-1], inside), [it for it in rules if it.name in ("unique", "custom")]
         if not whole:
             return self.ruled(said(self.word(word), one), kind, ruled)
+        if any(it.name == "keys" for it in whole):
+            counts, names = self.asked_under(kind, whole)
+            return self.ruled(said(self.word("a_map_under"), counts, names, one), kind, ruled)
+        return self.ruled(said(self.word(f"{word}_of"), self.counted(self.asked(kind, whole)), one), kind, ruled)
+
+    def asked_under(self, kind, rules):
+        """What rules ask of how many members a map has, and what they ask of their names. Each asks one of these alone."""
+        counts, names = [], []
+        for it in rules:
+            _, text = self.checks(kind, [it])
+            counts.append("none" if it.name == "keys" else self.counted(text))
+            names.append(text.removesuffix(" (names_of v)") + " v" if it.name == "keys" else "none")
+        self.writer.uses.words |= {"none"} | ({"◌and◌"} if len(rules) > 1 else set())
+        return tuple(f"(λ {'v' if any(it != 'none' for it in found) else '_'}. {' and '.join(found)})" for found in (counts, names))
+
+    def counted(self, text):
+        """What is asked of a list or a map, as what is asked of how many there are."""
         self.writer.uses.words.add("count")
-        return self.ruled(said(self.word(f"{word}_of"), self.asked(kind, whole).replace("is (items ", "is (count "), one), kind, ruled)
+        return text.replace("is (items ", "is (count ")
 
     def ruled(self, one, kind, rules):
         return said(self.word("a_ruled"), one, self.asked(kind, rules)) if rules else one
@@ -299,7 +346,7 @@ class Spellings:
 
     def found(self, kind, rule):
         """What a rule finds in a number, whose bound is that of the numbers beyond the type."""
-        if rule.name not in ("range", "custom"):
+        if rule.name not in ("range", "custom", "multiple_of"):
             raise Refusal(rule.line, f"`{rule.name}` of a number, which `--body` does not state")
         _, text = self.checks(kind, [rule])
         fault = text.removeprefix("is (").removesuffix(")")

@@ -131,7 +131,7 @@ class Checks:
         """Rules of the names of a map that a form reads."""
         if not is_path(seen.type, "Entries"):
             told = f"`keys` of the type `{self.writer.type_text(seen.type, True)}`"
-            raise Refusal(rule.line, f"{told}: it is asked of maps that are read by `--schema --no-walk`")
+            raise Refusal(rule.line, f"{told}: it is asked of maps that are read by `--schema --no-walk` or `--spelled`")
         self.refuse_walk(rule)
         name = seen.part(seen.type.args[0]) if not isinstance(seen.type.args[0], str) else seen.part(TEXT)
         code, spec = self.of(rule.rules, name)

@@ -1,3 +1,4 @@
 pub mod Checked
 pub mod Room
 pub mod Spelling
+pub mod Unions

@@ -1,14 +1,7 @@
-//! What `--body` does not state.
+//! A name that `--body` writes.
 //@ --body Trip --module made::body
 use garde::Validate;
 use serde::Deserialize;
-
-/// How it is paid.
-#[derive(Deserialize)]
-pub enum Payment { //~ `Payment`, an enum whose variants have fields, which `--body` does not state
-    Card { number: String },
-    Cash { coins: u8 },
-}
 
 /// A body.
 #[derive(Deserialize, Validate)]
@@ -20,8 +13,6 @@ pub struct Body { //~ the name `Body`, which `--body` writes
 /// A trip.
 #[derive(Deserialize, Validate)]
 pub struct Trip {
-    #[garde(skip)]
-    pub payment: Payment,
     #[garde(dive)]
     pub body: Body,
 }

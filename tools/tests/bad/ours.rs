@@ -20,7 +20,7 @@ pub struct Bad {
     pub pairs: Vec<u8>,
     #[garde(custom(unique("a"), ascii))] //~ `unique` with more than the port reads, from `,` on
     pub both: Vec<u8>,
-    #[garde(custom(keys(ascii)))] //~ `keys` of the type `BTreeMap<String, u8>`: it is asked of maps that are read by `--schema --no-walk`
+    #[garde(custom(keys(ascii)))] //~ `keys` of the type `BTreeMap<String, u8>`: it is asked of maps that are read by `--schema --no-walk` or `--spelled`
     pub map: BTreeMap<String, u8>,
     #[garde(custom(keys))] //~ `keys` without its argument
     pub set: BTreeSet<String>,
