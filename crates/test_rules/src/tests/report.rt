@@ -1,7 +1,9 @@
-//! Tests of lists, paths, errors, reports and the trail, of reports as JSON, and of what `garde_problem` prints.
+//! Tests of lists, paths, errors, reports and the trail, of reports as JSON, and of what `garde_problem` and
+//! `garde_html` print.
 
 mod ample;
 mod errors;
+mod html;
 mod json;
 mod json_read;
 mod json_text;

@@ -1,0 +1,26 @@
+//! Laws of texts within HTML and of faults at fields. Each function does nothing, and its contract is a
+//! law for all values.
+ghost use Rattle.garde_html.specs.Laws.{FaultsHavePlaces, TextsAreRead, TextsEndAtTheirEnds, TextsEndNothing};
+
+/// An escaped text has no `<`, no `>`, no `"` and no `'`, whatever the text is.
+pub fn texts_end_nothing()
+    ensures { TextsEndNothing }
+{}
+
+/// An escaped text is read back to the text. What is read has `&` only before one of the five
+/// entities, so an escaped text has it nowhere else.
+pub fn texts_are_read()
+    ensures { TextsAreRead }
+{}
+
+/// Where an escaped text stands before a byte that ends a text or an attribute, that byte is the first
+/// one that does: the page goes on behind it as it would behind any other text.
+pub fn texts_end_at_their_ends()
+    ensures { TextsEndAtTheirEnds }
+{}
+
+/// A fault that `field_of` finds at a field is one of those that `field_faults` gives of that field. So
+/// each fault of a report stands beside a field, or is one of the `other_faults`.
+pub fn faults_have_places()
+    ensures { FaultsHavePlaces }
+{}
