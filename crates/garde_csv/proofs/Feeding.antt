@@ -1,6 +1,6 @@
 -- How the bytes of a list are given, and what that leaves.
-use Rattle.std.proofs.Common.{◌≡◌, ◌<◌, ◌+◌, ℕ, List, [], ◌∷◌, ◌++◌, take, drop, length, Option, Some, None, min, get_or, refl, sym, ap, ◌∙◌, arith, true, false, Bool, ◌≤◌}
-use Rattle.std.proofs.lemmas.List.{append-nil, drop_more, get_or-take, length-take}
+use Rattle.std.proofs.Common.{◌≡◌, ◌<◌, ℕ, List, [], ◌∷◌, ◌++◌, take, drop, length, Option, Some, None, get_or, refl, sym, ◌∙◌, arith, true, false, ◌≤◌}
+use Rattle.std.proofs.lemmas.List.{append-nil, length-take}
 use borrow.Author.Tests.{eqb-true}
 use Rattle.std.specs.Prelude.{◌==◌, option_map, ⊤, if◌then◌else◌}
 use Rattle.std.specs.Io.KnownBytes.{IsAtEnd, Keeps, prepend_known}

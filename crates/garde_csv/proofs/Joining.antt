@@ -1,6 +1,6 @@
 -- How the bytes of a record are read, a run at a time: bytes that are no quote, no comma and no end of a line only join the cell.
-use Rattle.std.proofs.Common.{◌≡◌, ◌<◌, ◌≤◌, ◌+◌, ℕ, List, [], ◌∷◌, ◌++◌, take, drop, length, get_or, Option, Some, None, refl, sym, ap, subst, ◌∙◌, arith, true, false, Bool, append_assoc, below_more, suc, zero}
-use Rattle.std.proofs.lemmas.List.{append-nil, drop-drop, drop_min, drop-take, drop_more, get_or-take, length-take, length-take-le, take-append-drop, take_min}
+use Rattle.std.proofs.Common.{◌≡◌, ◌<◌, ◌≤◌, ◌+◌, ℕ, List, [], ◌∷◌, ◌++◌, take, drop, length, get_or, Option, Some, None, refl, sym, ap, subst, ◌∙◌, arith, true, false, Bool, append_assoc, below_more, suc}
+use Rattle.std.proofs.lemmas.List.{append-nil, drop_min, drop-take, get_or-take, length-take-le, take-append-drop, take_min}
 use Rattle.std.specs.Prelude.{◌||◌, ◌-◌, ◌==◌, min}
 use Rattle.csv.specs.Machine.{field_after, fields_after, is_end, next_record, step}
 use Rattle.csv.specs.Reading.{default_config}
@@ -9,7 +9,7 @@ use Rattle.csv.specs.declared.parser.Action.TheVariants as act
 use Rattle.csv.specs.declared.parser.State.{State}
 use Rattle.csv.specs.declared.parser.State.TheVariants as st
 use Rattle.garde_csv.specs.Places.{state_of}
-use Rattle.garde_csv.specs.Quotes.{Seen, fault_of, first_of, is_before, joined_fault, joined_state, line_after, may_follow, seen_after, seen_in, seen_joined}
+use Rattle.garde_csv.specs.Quotes.{Seen, fault_of, first_of, is_before, joined_fault, joined_state, may_follow, seen_after, seen_in, seen_joined}
 use Rattle.garde_csv.specs.Steps.{EndsRecord, Reads, SameRecord}
 use Rattle.garde_csv.specs.declared.fault.Fault.{Fault}
 use Rattle.garde_csv.specs.declared.place.Place.{Place}
@@ -61,8 +61,8 @@ plain-step st.InComment c h j = cc j
 plain-step st.StartRecord c h j = let n = none-of (c == 34) (c == 44) (c == 13) (c == 10) h in simp (n.0, n.1, n.2, n.3)
 plain-step st.AfterCr c h j = let n = none-of (c == 34) (c == 44) (c == 13) (c == 10) h in simp (n.0, n.1, n.2, n.3)
 plain-step st.StartField c h j = let n = none-of (c == 34) (c == 44) (c == 13) (c == 10) h in simp (n.0, n.1, n.2, n.3)
-plain-step st.InField c h j = let n = none-of (c == 34) (c == 44) (c == 13) (c == 10) h in simp (n.0, n.1, n.2, n.3)
-plain-step st.InQuoted c h j = let n = none-of (c == 34) (c == 44) (c == 13) (c == 10) h in simp (n.0, n.1, n.2, n.3)
+plain-step st.InField c h j = let n = none-of (c == 34) (c == 44) (c == 13) (c == 10) h in simp (n.1, n.2, n.3)
+plain-step st.InQuoted c h j = let n = none-of (c == 34) (c == 44) (c == 13) (c == 10) h in simp n.0
 plain-step st.AfterQuote c h j = let n = none-of (c == 34) (c == 44) (c == 13) (c == 10) h in simp (n.0, n.1, n.2, n.3)
 plain-step st.InEscape c h j = refl
 
@@ -208,7 +208,7 @@ four-more P at before a b c d =
     let second : at + 2 ≡ at + 1 + 1 = omega arith in
     let third : at + 3 ≡ at + 1 + 1 + 1 = omega arith in
     let all : (k : ℕ) → k < at + 1 + 1 + 1 + 1 → P k =
-        below_more P (at + 1 + 1 + 1) (below_more P (at + 1 + 1) (below_more P (at + 1) (below_more P at before a) b) (subst P second c)) (subst P third d) in
+    below_more P (at + 1 + 1 + 1) (below_more P (at + 1 + 1) (below_more P (at + 1) (below_more P at before a) b) (subst P second c)) (subst P third d) in
     λ k lt. all k (omega arith)
 
 -- the bytes of a buffer behind a place, as a part of it

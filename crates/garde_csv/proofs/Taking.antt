@@ -1,11 +1,10 @@
 -- How the reading of a record follows the bytes of its list.
-use Rattle.std.proofs.Common.{◌≡◌, ℕ, List, [], ◌∷◌, ◌++◌, Option, Some, None, refl, sym, ap, ◌∙◌, true, false, Bool}
+use Rattle.std.proofs.Common.{◌≡◌, ℕ, List, [], ◌∷◌, ◌++◌, Option, Some, None, refl, ap, ◌∙◌, true, false}
 use Rattle.std.specs.Prelude.{IfOk, MatchOption, Result, Ok, Err}
 use Rattle.std.specs.Io.KnownBytes.{IsAtEnd, Keeps, prepend_known}
 use Rattle.csv.proofs.ReadFacts.{Tracks}
 use Rattle.csv.specs.Machine.{Read, ends_at_end, next_record}
 use Rattle.csv.specs.Reading.{default_config}
-use Rattle.csv.specs.declared.parser.State.{State}
 use Rattle.garde_csv.proofs.Feeding.{SeesOn}
 use Rattle.garde_csv.specs.Lists.{Gives, GivesNext, IsAnswer, TakesAt, TakesNext, list_state, next_line}
 use Rattle.garde_csv.specs.Places.{state_of}

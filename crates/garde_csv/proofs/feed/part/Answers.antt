@@ -1,4 +1,4 @@
-use Rattle.std.proofs.Common.{◌≡◌, ◌+◌, ◌<◌, ◌++◌, ◌∷◌, ℕ, List, drop, get_or, length, take, arith, refl, subst, sym}
+use Rattle.std.proofs.Common.{◌+◌, ◌<◌, ◌++◌, ℕ, List, drop, get_or, length, take, arith, refl, subst, sym}
 use Rattle.std.proofs.lemmas.List.{drop_more}
 use Rattle.csv.specs.Records.{fields_of}
 use Rattle.garde_csv.specs.Places.{action_of}
@@ -25,10 +25,10 @@ returns-clause-reads c =
     let within : n < length text = omega arith in
     let next = drop_more text n 0 within in
     let front = run-reads text n (seen_of c.args.walk.now) (seen_of c.join.new.self) fields c.args.cell.now.items field
-        (joins-place c.args.walk.now.place) run.bound run.plain c.join.ensures.none c.join.ensures.some refl in
+    (joins-place c.args.walk.now.place) run.bound run.plain c.join.ensures.none c.join.ensures.some refl in
     let byte = byte-reads (seen_of c.join.new.self) (seen_of c.step-action.new.self) fields (fields_of c.apply.new.cells) field c.apply.new.cell.items
-        (get_or text n 0) (drop (n + 1) text) (action_of c.step-action.result) c.in_ok-ended.ended
-        c.step-action.ensures.action done.ends c.step-action.ensures.seen done.fields done.field in
+    (get_or text n 0) (drop (n + 1) text) (action_of c.step-action.result) c.in_ok-ended.ended
+    c.step-action.ensures.action done.ends c.step-action.ensures.seen done.fields done.field in
     reads-both (seen_of c.args.walk.now) (seen_of c.join.new.self) (seen_of c.step-action.new.self) fields fields (fields_of c.apply.new.cells)
     c.args.cell.now.items field c.apply.new.cell.items text (drop n text) (drop (n + 1) text) c.in_ok-ended.ended front
     (subst (λ (l : List ℕ). Reads (seen_of c.join.new.self) fields field l (seen_of c.step-action.new.self) (fields_of c.apply.new.cells) c.apply.new.cell.items (drop (n + 1) text) c.in_ok-ended.ended) (sym next) byte)
