@@ -1,25 +1,17 @@
--- How the bytes of a list are given one after the other, and what that leaves.
-use Rattle.std.proofs.Common.{◌≡◌, ◌<◌, ◌+◌, ℕ, List, [], ◌∷◌, ◌++◌, take, drop, length, Option, Some, None, min, get_or, refl, sym, ap, ◌∙◌, arith, true, false, Bool, ◌≤◌}
-use Rattle.std.proofs.lemmas.List.{append-nil, drop_more, get_or-take, length-take}
-use Rattle.std.specs.Prelude.{option_map, ⊤, if◌then◌else◌}
+-- How the bytes of a list are given, and what that leaves.
+use Rattle.std.proofs.Common.{◌≡◌, ◌<◌, ℕ, List, [], ◌∷◌, ◌++◌, take, drop, length, Option, Some, None, get_or, refl, sym, ◌∙◌, arith, true, false, ◌≤◌}
+use Rattle.std.proofs.lemmas.List.{append-nil, length-take}
+use borrow.Author.Tests.{eqb-true}
+use Rattle.std.specs.Prelude.{◌==◌, option_map, ⊤, if◌then◌else◌}
 use Rattle.std.specs.Io.KnownBytes.{IsAtEnd, Keeps, prepend_known}
-use Rattle.csv.specs.Reading.{default_config, is_bom, strip_bom}
-use Rattle.csv.specs.Machine.{is_end, step}
+use Rattle.csv.specs.Reading.{is_bom, strip_bom}
 use Rattle.csv.proofs.ReadFacts.{strip-short}
-use Rattle.garde_csv.specs.Quotes.{Seen, seen_after, seen_at_end, seen_in}
+use Rattle.garde_csv.specs.Quotes.{Seen, seen_in}
 
--- the first byte behind a place, and those behind it
-pub first-byte : (buf : List ℕ) (at filled : ℕ) → at < min filled (length buf)
-    → drop at (take filled buf) ≡ get_or buf at 0 ∷ drop (at + 1) (take filled buf)
-first-byte buf at filled lt =
-    let size = length-take filled buf in
-    drop_more (take filled buf) at 0 (omega arith) ∙ ap (λ b. b ∷ drop (at + 1) (take filled buf)) (get_or-take filled buf at 0 (omega arith))
-
--- the first byte of known ones, and those behind it
-pub byte-given : (known : Option (List ℕ)) (byte : ℕ) (front rest : List ℕ) → front ≡ byte ∷ rest
-    → Keeps (prepend_known front known) (prepend_known (byte ∷ []) (prepend_known rest known))
-byte-given None byte front rest e = tt
-byte-given (Some xs) byte front rest e = rw e refl
+-- a part of a buffer that is empty, where it is all that is left
+pub none-left : (left part : List ℕ) → part ≡ left → (length part == 0) ≡ true → left ≡ []
+none-left left [] e t = sym e
+none-left left (c ∷ rest) e t = let none : length (c ∷ rest) ≡ 0 = eqb-true (length (c ∷ rest)) 0 t in absurd (omega arith)
 
 -- bytes that stay twice
 pub keeps-both : (a b c : Option (List ℕ)) → Keeps a b → Keeps b c → Keeps a c
@@ -85,12 +77,3 @@ SeesOn a (Some xs) b (Some ys) = seen_in a xs ≡ seen_in b ys
 pub sees-start : (a : Seen) (p : Option (List ℕ)) → SeesOn a p a p
 sees-start a None = tt
 sees-start a (Some xs) = refl
-
--- a byte that does not end the record
-pub sees-step : (a b : Seen) (p q k : Option (List ℕ)) (c : ℕ) → Keeps q (prepend_known (c ∷ []) k)
-    → is_end (step default_config b.state c).1 ≡ false → SeesOn a p b q → SeesOn a p (seen_after b c) k
-unfolding seen_in
-sees-step a b None q k c h e t = tt
-sees-step a b (Some xs) None k c h e t = absurd t
-sees-step a b (Some xs) (Some ys) None c h e t = h
-sees-step a b (Some xs) (Some ys) (Some zs) c h e t = rw (← h, e) at t

@@ -1,4 +1,5 @@
 pub mod Places
 pub mod Quotes
+pub mod Steps
 pub mod Lists
 pub mod Texts

@@ -1,5 +1,5 @@
 -- What is left of a list, and what reading a record does to it.
-use Rattle.std.specs.Prelude.{◌≡◌, ℕ, List, [], take, drop, Bool, true, false, Option, Some, None, if◌then◌else◌, ⊤}
+use Rattle.std.specs.Prelude.{◌≡◌, ℕ, List, [], take, drop, Bool, Option, Some, None, ⊤}
 use Rattle.std.specs.Io.KnownBytes.{prepend_known}
 use Rattle.csv.specs.Machine.{Read, next_record}
 use Rattle.csv.specs.Reading.{default_config}

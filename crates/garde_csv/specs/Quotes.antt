@@ -86,6 +86,36 @@ seen_after s c = record {
   fault = first_of s.fault (fault_of s.state s.quote s.line c);
 }
 
+-- the state behind a byte that is no quote, no comma and no end of a line
+abbrev pub joined_state : State → State
+joined_state st.StartRecord = st.InField
+joined_state st.AfterCr = st.InField
+joined_state st.StartField = st.InField
+joined_state st.InField = st.InField
+joined_state st.AfterQuote = st.InField
+joined_state st.InQuoted = st.InQuoted
+joined_state st.InEscape = st.InQuoted
+joined_state st.InComment = st.InComment
+
+-- the fault that such a byte makes here: text behind a closing quote
+abbrev pub joined_fault : State → ℕ → Option Fault
+joined_fault st.AfterQuote quote = Some (fault.TextBehindQuote quote)
+joined_fault st.StartRecord quote = None
+joined_fault st.AfterCr quote = None
+joined_fault st.StartField quote = None
+joined_fault st.InField quote = None
+joined_fault st.InQuoted quote = None
+joined_fault st.InEscape quote = None
+joined_fault st.InComment quote = None
+
+-- what was seen behind one such byte, and behind more of them
+abbrev pub seen_joined : Seen → Seen
+seen_joined s = record s {
+  state = joined_state s.state;
+  start = if is_before s.state then s.line else s.start;
+  fault = first_of s.fault (joined_fault s.state s.quote);
+}
+
 -- what was seen behind the end of the list
 abbrev pub seen_at_end : Seen → Seen
 seen_at_end s = record s { state = st.StartRecord; fault = first_of s.fault (end_fault s.state s.quote) }

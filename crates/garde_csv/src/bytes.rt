@@ -1,6 +1,6 @@
-//! The bytes of a list, one by one.
-ghost use Rattle.std.specs.Prelude.{◌≡◌, ◌∷◌, [], ◌+◌, ◌<◌, ◌≤◌, length, true, false, IfNone, IfSome, IsSome, IfOk, OnOk, MatchOption, option_map};
-ghost use Rattle.std.specs.Io.KnownBytes.{IsAtEnd, Keeps, prepend_known};
+//! The bytes of a list, as many at a time as lie in a buffer.
+ghost use Rattle.std.specs.Prelude.{◌≡◌, [], ◌+◌, ◌<◌, ◌≤◌, drop, length, true, false, IfOk, OnOk, option_map};
+ghost use Rattle.std.specs.Io.KnownBytes.{IsAtEnd, Keeps};
 ghost use Rattle.csv.specs.Reading.{is_bom, strip_bom};
 ghost use Rattle.garde_csv.specs.Lists.{buffered, unread_of};
 
@@ -96,20 +96,6 @@ impl<R: Read + Drop> Bytes<R> {
         }
     }
 
-    // The next byte of the buffer, if there is one.
-    fn first(&self) -> Option<u8>
-        ensures none { IfNone result (buffered self.now ≡ []) }
-        ensures some { IfSome result (λ byte. buffered self.now ≡ byte ∷ buffered (record self.now { at = self.now.at + 1 })) }
-        ensures place { IsSome result → self.now.at < 8192 }
-    {
-        let buffer = &self.buffer[..];
-        if self.at < self.filled.min(buffer.len()) {
-            Some(buffer[self.at])
-        } else {
-            None
-        }
-    }
-
     // Reads on, where no byte is left in the buffer.
     fn refill(&mut self) -> Result<(), ListError>
         requires { buffered self.old ≡ [] }
@@ -121,20 +107,35 @@ impl<R: Read + Drop> Bytes<R> {
         Ok(())
     }
 
-    /// The next byte, or `None` behind the last one.
+    /// Reads on, if no byte is left in the buffer. It is empty behind the last byte alone.
     #[inline]
-    pub(crate) fn next(&mut self) -> Result<Option<u8>, ListError>
-        ensures { IfOk result (λ next. MatchOption next
-            (Keeps (unread_of R.remaining self.old) (unread_of R.remaining self.new) × IsAtEnd (unread_of R.remaining self.new))
-            (λ byte. Keeps (unread_of R.remaining self.old) (prepend_known (byte ∷ []) (unread_of R.remaining self.new)))) }
+    pub(crate) fn fill(&mut self) -> Result<(), ListError>
+        ensures keeps { OnOk result (Keeps (unread_of R.remaining self.old) (unread_of R.remaining self.new)) }
+        ensures end { OnOk result (buffered self.new ≡ [] → IsAtEnd (unread_of R.remaining self.new)) }
     {
-        if self.first().is_none() {
+        if self.ready().is_empty() {
             self.refill()?;
         }
-        let Some(byte) = self.first() else {
-            return Ok(None);
-        };
-        self.at += 1;
-        Ok(Some(byte))
+        Ok(())
+    }
+
+    /// The bytes of the buffer that are not yet given.
+    #[inline]
+    pub(crate) fn ready(&self) -> &[u8]
+        ensures { result.now ≡ buffered self.now }
+    {
+        let buffer = &self.buffer[..];
+        let end = self.filled.min(buffer.len());
+        &buffer[self.at.min(end)..end]
+    }
+
+    /// Gives so many bytes of the buffer.
+    #[inline]
+    pub(crate) fn skip(&mut self, count: usize)
+        requires { count ≤ length (buffered self.old) }
+        ensures bytes { buffered self.new ≡ drop count (buffered self.old) }
+        ensures source { self.new.source ≡ self.old.source }
+    {
+        self.at += count;
     }
 }

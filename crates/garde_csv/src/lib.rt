@@ -4,9 +4,11 @@
 
 mod bytes;
 mod fault;
+mod feed;
 mod list_error;
 mod place;
 mod records;
+mod run;
 mod walk;
 
 pub use fault::Fault;

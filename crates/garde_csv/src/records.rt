@@ -2,17 +2,18 @@
 ghost use Rattle.std.specs.Prelude.{◌≡◌, ◌++◌, ◌∷◌, [], MatchOption, true, false, Err, IfOk, OnErr, OnOk, option_map};
 ghost use Rattle.std.specs.Io.KnownBytes.{Keeps};
 ghost use Rattle.csv.specs.Reading.{strip_bom};
-ghost use Rattle.csv.specs.Machine.{ends_at_end, field_after, fields_after, is_end};
+ghost use Rattle.csv.specs.Machine.{ends_at_end};
 ghost use Rattle.csv.specs.Records.{fields_of, partial_of};
 ghost use Rattle.csv.specs.declared.parser.State.TheVariants as st;
-ghost use Rattle.garde_csv.specs.Places.{action_of, state_of};
+ghost use Rattle.garde_csv.specs.Places.{state_of};
 ghost use Rattle.garde_csv.specs.Quotes.{seen_at_end, seen_of, unbegun};
 ghost use Rattle.garde_csv.specs.Lists.{GivesNext, IsAnswer, TakesNext, has_stopped, list_state, next_line, rest_of, row_line};
 
 use crate::bytes::Bytes;
 use crate::fault::Fault;
+use crate::feed::feed;
 use crate::list_error::ListError;
-use crate::place::{Action, Place};
+use crate::place::Place;
 use crate::walk::Walk;
 use csv::{ByteRecord, StringRecord};
 use std::alloc::Global;
@@ -28,33 +29,6 @@ pub enum Next {
     Faulty(Fault),
     /// The list has no further record.
     End,
-}
-
-// Does with a byte what is to be done. The answer is whether the record has ended.
-fn apply(
-    action: Action,
-    byte: u8,
-    cell: &mut Vec<u8>,
-    cells: &mut ByteRecord,
-) -> Result<bool, ListError>
-    requires { partial_of cells.old ≡ [] }
-    ensures ends { IfOk result (λ ended. ended ≡ is_end (action_of action)) }
-    ensures fields { OnOk result (fields_of cells.new ≡ fields_after (action_of action) (fields_of cells.old) cell.old.items) }
-    ensures field { OnOk result (cell.new.items ≡ field_after (action_of action) byte cell.old.items) }
-    ensures partial { OnOk result (partial_of cells.new ≡ []) }
-{
-    match action {
-        Action::Skip => Ok(false),
-        Action::Keep => match cell.push(byte) {
-            Ok(()) => Ok(false),
-            Err(_) => Err(ListError::Memory),
-        },
-        Action::EndCell | Action::EndRecord => {
-            cells.push_field(cell.as_slice())?;
-            cell.clear();
-            Ok(action == Action::EndRecord)
-        }
-    }
 }
 
 // What is known of the record at the end of the list, if there is one.
@@ -140,13 +114,15 @@ impl<R: Read + Drop> Records<R> {
     {
         self.cell.clear();
         let mut walk = Walk::new(self.place, self.line);
-        'bytes: for _ in 0..u64::MAX {
-            let Some(byte) = self.bytes.next()? else {
+        'pieces: for _ in 0..u64::MAX {
+            self.bytes.fill()?;
+            let piece = self.bytes.ready();
+            if piece.is_empty() {
                 return finish(walk, &self.cell, cells);
-            };
-            let (next, action) = walk.step(byte);
-            walk = next;
-            if apply(action, byte, &mut self.cell, cells)? {
+            }
+            let fed = feed(&mut walk, piece, &mut self.cell, cells)?;
+            self.bytes.skip(fed.taken);
+            if fed.ended {
                 return Ok(Some(walk));
             }
         }

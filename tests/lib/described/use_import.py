@@ -61,11 +61,16 @@ def some(dice):
 
 
 def large():
-    """A list of 3,000 rows, some of them faulty, without and with a word, and a row whose cell has more than 64 KiB."""
+    """A list of 3,000 rows, some of them faulty, without and with a word, a row whose cell has more than 64 KiB, and rows with
+    quotes, empty cells and both ends of lines, of which another byte is the last one of each buffer."""
     rows = "".join(f"{'X' if row % 700 == 699 else 'P'}{row},Screw,1,5,\n" for row in range(3_000))
     for words in (), ("--lines",), ("3",):
         yield Case(words, ",".join(COLUMNS).encode() + b"\n" + rows.encode())
     yield Case((), ",".join(COLUMNS).encode() + b'\nP1,"' + b"x\n" * 40_000 + b'",1,5,\nQ1,Screw,1,5,\n')
+    yield Case((), ",".join(COLUMNS).encode() + b"\nP1," + b"x" * 40_000 + b",1,5,\nQ1,Screw,1,5,")
+    row = b'P1,"a ""b"",\r\nc",1,5,\r\n'
+    for before in range(len(row)):
+        yield Case(("--lines",), ",".join(COLUMNS).encode() + b"\n" * before + row * 400 + b'Q1,"x"y,1,5,\r\nQ1,,1,5,')
 
 
 def records(given):

@@ -1,4 +1,4 @@
-use Rattle.std.proofs.Common.{◌≡◌, ◌≤◌, ◌<◌, length, rules, true, false, slice_index_or, arith, sym, ◌∙◌}
+use Rattle.std.proofs.Common.{◌≡◌, ◌≤◌, ◌<◌, length, rules, true, false, slice_index_or}
 use Rattle.csv.specs.Reading.{is_bom}
 use Rattle.garde_csv.proofs.Feeding.{head-marked, head-short, head-unmarked}
 use Rattle.garde_csv.proofs.bytes.Bytes.drop_mark.Goals as goal

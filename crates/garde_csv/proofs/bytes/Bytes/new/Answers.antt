@@ -1,6 +1,4 @@
-use Rattle.std.proofs.Common.{◌≡◌, ◌≤◌, ◌<◌, length, rules, sym, arith}
-use Rattle.std.specs.Io.KnownBytes.{IsAtEnd, Keeps, prepend_known}
-use Rattle.garde_csv.specs.Lists.{buffered, unread_of}
+use Rattle.garde_csv.specs.Lists.{buffered}
 use Rattle.garde_csv.proofs.Feeding.{without-mark}
 use Rattle.garde_csv.proofs.bytes.Bytes.new.Goals as goal
 

@@ -1,4 +1,4 @@
-use Rattle.std.proofs.Common.{◌≡◌, refl}
+use Rattle.std.proofs.Common.{refl}
 use Rattle.garde_csv.proofs.Taking.{gives-next}
 use Rattle.garde_csv.proofs.records.Records.read.Goals as goal
 
