@@ -1,6 +1,7 @@
 //! Tests of lists, paths, errors, reports and the trail, of reports as JSON, and of what `garde_problem` prints.
 
 mod ample;
+mod asked;
 mod errors;
 mod json;
 mod json_read;
