@@ -51,9 +51,22 @@ def lines(form, file, spots, walk, language=ENGLISH):
     return text
 
 
+def lines_at(form, file, place, walk, language=ENGLISH):
+    """The faults of a walk, which stand at one place."""
+    return "".join(line(form, file, place, path, it.text(language), it.code, it.params) + "\n" for path, it in walk)
+
+
 def stop(form, file, text, code):
     """The line of a text that is no JSON, as a pattern: the place where it stops, and some words."""
     return re.escape(line(form, file, stops.place_of(text), (), "WHY", code, {})).replace("WHY", "[^\\n]+") + "\n"
+
+
+def stop_anywhere(form, file, code):
+    """The line of a text that stops somewhere, as a pattern."""
+    text = re.escape(line(form, file, (1111, 2222), (), "WHY", code, {})) + "\n"
+    for one, pattern in ("1111", "[1-9]\\d*"), ("2222", "[1-9]\\d*"), ("WHY", "[^\\n]+"):
+        text = text.replace(one, pattern)
+    return re.compile(text.encode(), re.DOTALL)
 
 
 def stops_at(form, file, body, code):

@@ -13,3 +13,5 @@ pub mod JsonLine
 pub mod Format
 pub mod Stop
 pub mod Listed
+pub mod Printed
+pub mod Asked

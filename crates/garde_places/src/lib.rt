@@ -1,6 +1,7 @@
 //! Where in a JSON text the faults of a report stand: the line and the column of each.
 #![tactic(auto)]
 
+mod asked;
 mod escape;
 mod fault;
 mod find;
@@ -13,6 +14,8 @@ mod literal;
 mod order;
 mod place;
 mod places;
+mod printed;
+mod report;
 mod scan;
 mod short;
 mod stop;
@@ -20,6 +23,7 @@ mod string;
 mod syntax;
 mod way;
 
+pub use asked::Asked;
 pub use fault::Fault;
 pub use format::Format;
 pub use github::GitHub;
@@ -28,5 +32,7 @@ pub use listed::ListedPlaces;
 pub use order::sort_by_place;
 pub use place::Place;
 pub use places::Places;
+pub use printed::Printed;
+pub use report::{faults_of, listed_faults_of};
 pub use short::Short;
-pub use stop::{Stop, place_of_byte, stop_of};
+pub use stop::{Stop, place_of_byte, stop_of, stop_of_utf8};

@@ -1,5 +1,6 @@
 //! Where a text stops being JSON, and why.
-ghost use Rattle.std.specs.Prelude.{◌≡◌, ◌≤◌, ◌≢◌, IfErr, IfOk, IfSome, None, Some, length};
+ghost use Rattle.std.specs.Prelude.{◌≡◌, IfOk, IfSome, IsUtf8, MatchOption};
+ghost use Rattle.std.specs.Str.Lossy.{utf8_valid_len};
 ghost use Rattle.garde_places.specs.Places.{place_at};
 ghost use Rattle.garde_places.specs.Stop.{IsStopIn};
 
@@ -25,11 +26,8 @@ pub struct Stop<'w> {
 pub fn stop_of(alloc: Global, bytes: &[u8]) -> Result<Option<Stop<'static>>, AllocError>
     ensures { IfOk result (λ stop. IfSome stop (λ it. IsStopIn bytes.now it.place)) }
 {
-    if let Err(error) = str::from_utf8(bytes) {
-        return Ok(Some(Stop {
-            place: place_of_byte(bytes, error.valid_up_to()),
-            why: "not UTF-8",
-        }));
+    if let Some(stop) = stop_of_utf8(bytes) {
+        return Ok(Some(stop));
     }
     match stop_in(alloc, bytes)? {
         Some((offset, why)) => Ok(Some(Stop {
@@ -37,6 +35,20 @@ pub fn stop_of(alloc: Global, bytes: &[u8]) -> Result<Option<Stop<'static>>, All
             why,
         })),
         None => Ok(None),
+    }
+}
+
+/// Where the bytes stop being UTF-8: at the first byte that is none. None where they are UTF-8.
+pub fn stop_of_utf8(bytes: &[u8]) -> Option<Stop<'static>>
+    ensures { MatchOption result (IsUtf8 bytes.now)
+        (λ stop. ¬ IsUtf8 bytes.now × (stop.place ≡ place_at bytes.now (utf8_valid_len bytes.now))) }
+{
+    match str::from_utf8(bytes) {
+        Ok(_) => None,
+        Err(error) => Some(Stop {
+            place: place_of_byte(bytes, error.valid_up_to()),
+            why: "not UTF-8",
+        }),
     }
 }
 

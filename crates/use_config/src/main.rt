@@ -1,64 +1,40 @@
-//! Checks the configuration of a service: reads it from standard input, in TOML or in JSON, by one
-//! form, and prints each fault of form and of the rules at its path.
+//! Checks the configuration of a service: reads it from a file or from standard input, in TOML or in
+//! JSON, by one form, and prints each fault of form and of the rules at its path.
 #![tactic(auto)]
 
 mod config;
+mod judging;
+mod options;
+mod placed;
 mod rely;
 
-use crate::config::{Config, read_config};
-use crate::rely::{NAME, share};
+use crate::judging::judge;
+use crate::options::{Options, Task, USAGE, Written};
+use crate::placed::check_placed;
 use anyhow::{Context, Error, Result, bail};
-use garde::rules::pattern::regex::Regex;
-use garde::{DefaultI18n, Valid};
+use garde::DefaultI18n;
 use garde_problem::Escaped;
-use garde_schema::{ReadError, Scratch};
+use garde_schema::ReadError;
 use garde_toml::toml_to_json;
 use std::alloc::Global;
 use std::fmt::Write;
-use std::io::read_to_string;
+use std::io::Read;
 use std::process::ExitCode;
-use std::{env, io};
+use std::{env, fs, io};
 
 /// The status of a run that judged no configuration.
 const NOT_JUDGED: u8 = 2;
 
-/// How the program is called.
-const USAGE: &str = "\
-usage: use_config [toml | json]
-Reads the configuration of a service on standard input, and prints what it asks for or every fault.
-
-  toml    reads TOML, as without a word
-  json    reads JSON
-  --help  prints this";
-
-/// How a configuration is written.
-#[derive(Clone, Copy)]
-enum Format {
-    Toml,
-    Json,
-}
-
-/// What the words of the command line ask for.
-enum Task {
-    /// The usage is printed.
-    Help,
-    /// A configuration is read.
-    Read(Format),
-}
-
-impl Task {
-    /// What the words after the program's name ask for, or what is wrong with them.
-    fn of(words: &[String]) -> Result<Task, &'static str> {
-        match words {
-            [] => Ok(Task::Read(Format::Toml)),
-            [word] => match word.as_str() {
-                "toml" => Ok(Task::Read(Format::Toml)),
-                "json" => Ok(Task::Read(Format::Json)),
-                "--help" => Ok(Task::Help),
-                _ => Err("the word is toml or json"),
-            },
-            _ => Err("there is one word at most"),
-        }
+/// The bytes of a file, or of standard input.
+fn read(rt: &HostRuntime, file: Option<&str>) -> Result<Vec<u8>> {
+    let Some(name) = file else {
+        let mut bytes = Vec::new(rt.alloc());
+        rt.stdin().read_to_end(&mut bytes)?;
+        return Ok(bytes);
+    };
+    match fs::read(rt, name) {
+        Ok(bytes) => Ok(bytes),
+        Err(error) => bail!("{name:?}: {error}"),
     }
 }
 
@@ -73,39 +49,31 @@ fn to_json(alloc: Global, text: &str) -> Result<String> {
     }
 }
 
-/// Prints what a valid configuration asks for.
-fn show(rt: &HostRuntime, config: Valid<Config<'_>>) -> Result<ExitCode> {
-    let server = &config.server;
-    let (host, port, workers) = (server.host.text(), server.port, server.workers);
-    let most = share(&config);
-    println!(rt; "{host}, port {port}: {workers} workers, {most} connections each")?;
-    Ok(ExitCode::SUCCESS)
-}
-
-/// Reads a configuration in JSON, and prints what it asks for or each fault.
-fn judge(rt: &HostRuntime, text: &str) -> Result<ExitCode> {
-    let alloc = rt.alloc();
-    let names = Regex::new(alloc, NAME)?;
-    let mut scratch = Scratch::new(alloc);
-    match read_config(alloc, text.as_bytes(), &mut scratch, &names, &DefaultI18n) {
-        Ok(config) => show(rt, config),
-        Err(ReadError::Report(report)) => {
-            print!(rt; "{}", Escaped(alloc, &report))?;
+/// Prints what a configuration in JSON asks for, or each fault with its path.
+fn check_plain(rt: &HostRuntime, json: &[u8]) -> Result<ExitCode> {
+    match judge(rt, json, &DefaultI18n)? {
+        None => Ok(ExitCode::SUCCESS),
+        Some(ReadError::Report(report)) => {
+            print!(rt; "{}", Escaped(rt.alloc(), &report))?;
             Ok(ExitCode::FAILURE)
         }
-        Err(error) => Err(error.into()),
+        Some(error) => Err(error.into()),
     }
 }
 
-/// Reads the configuration on standard input, and judges it.
-fn check(rt: &HostRuntime, format: Format) -> Result<ExitCode> {
-    let alloc = rt.alloc();
-    let text = read_to_string(alloc, rt.stdin()).context("the configuration is not read")?;
-    match format {
-        Format::Json => judge(rt, text.as_str()),
-        Format::Toml => {
-            let text = to_json(alloc, text.as_str())?;
-            judge(rt, text.as_str())
+/// Reads a configuration, and judges it.
+fn check(rt: &HostRuntime, options: Options<'_>) -> Result<ExitCode> {
+    let Options { written, asked } = options;
+    let body = read(rt, asked.file())?;
+    if let Some(printed) = asked.printed() {
+        return check_placed(rt, printed, written, &body);
+    }
+    match written {
+        Written::Json => check_plain(rt, &body),
+        Written::Toml => {
+            let text = str::from_utf8(&body).context("the configuration is not read")?;
+            let json = to_json(rt.alloc(), text)?;
+            check_plain(rt, json.as_bytes())
         }
     }
 }
@@ -115,7 +83,7 @@ fn run(rt: &HostRuntime) -> Result<ExitCode> {
     let words = env::args(rt).context("the command line is not read")?;
     let words: Vec<String> = words.skip(1).collect(rt.alloc())?;
     match Task::of(&words) {
-        Ok(Task::Read(format)) => check(rt, format),
+        Ok(Task::Read(options)) => check(rt, options),
         Ok(Task::Help) => {
             println!(rt; "{USAGE}")?;
             Ok(ExitCode::SUCCESS)

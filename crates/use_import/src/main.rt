@@ -1,21 +1,23 @@
-//! Reads a stock list in CSV on standard input, or a part of one, a row at a time, and prints the
-//! faults of each row: all of them, or as many at most as a word says.
+//! Reads a stock list in CSV, or a part of one, a row at a time, and prints the faults of each row: all
+//! of them, or as many at most as a word says.
 #![tactic(auto)]
 
 mod options;
-mod place;
 mod row;
+mod spot;
 
 use crate::options::{Options, Task, USAGE};
-use crate::place::Place;
 use crate::row::{COLUMNS, read_row};
-use anyhow::{Result, anyhow};
+use crate::spot::{Naming, Spot, tell_header};
+use anyhow::{Result, anyhow, bail};
 use csv::StringRecord;
-use garde::{DefaultI18n, ValidateError};
+use garde::{DefaultI18n, I18n, Report, ValidateError};
 use garde_csv::{Next, Records};
-use garde_problem::Escaped;
+use garde_problem::{Escaped, WithCodes};
 use garde_rows::{Columns, Names, read_columns};
+use garde_schema::FormI18n;
 use std::alloc::Global;
+use std::fs::File;
 use std::io::{BufWriter, Read, Write};
 use std::process::ExitCode;
 use std::{env, io};
@@ -30,28 +32,29 @@ struct List<'a, R> {
 
 impl<'a, R: Read + Drop> List<'a, R> {
     /// Prints at most so many faults of the row that was read, and returns how many it printed.
-    fn check<W: Write>(
+    fn check<W: Write, H: I18n + FormI18n>(
         &mut self,
         alloc: Global,
-        place: Place,
+        spot: Spot<'_>,
         most: usize,
+        h: &H,
         out: &mut W,
     ) -> Result<usize> {
-        let index = place.index();
-        match read_row(alloc, index, &self.columns, &self.cells, &DefaultI18n) {
+        match read_row(alloc, spot.index, &self.columns, &self.cells, h) {
             Ok(_) => Ok(0),
-            Err(ValidateError::Report(report)) => place.tell_report(alloc, &report, most, out),
+            Err(ValidateError::Report(report)) => spot.tell_report(alloc, &report, most, out),
             Err(error) => Err(error.into()),
         }
     }
 
     /// Where the row stands that was read last, and before which there are so many.
-    fn place(&self, options: &Options, count: usize) -> Result<Place> {
-        if options.lines {
-            return Ok(Place::Line(self.records.line()));
-        }
+    fn spot<'w>(&self, options: &Options<'w>, count: usize) -> Result<Spot<'w>> {
         match options.first_row.unwrap_or(0).checked_add(count) {
-            Some(index) => Ok(Place::Row(index)),
+            Some(index) => Ok(Spot {
+                naming: options.naming,
+                index,
+                line: self.records.line(),
+            }),
             None => Err(anyhow!("a row has no number")),
         }
     }
@@ -59,10 +62,11 @@ impl<'a, R: Read + Drop> List<'a, R> {
 
 /// Prints the faults of one row after the other, so many at most. The answer is whether there was
 /// none.
-fn import<R: Read + Drop, W: Write>(
+fn import<R: Read + Drop, W: Write, H: I18n + FormI18n>(
     alloc: Global,
     list: &mut List<'_, R>,
-    options: &Options,
+    options: &Options<'_>,
+    h: &H,
     out: &mut W,
 ) -> Result<bool> {
     let most = options.most.unwrap_or(usize::MAX);
@@ -72,13 +76,13 @@ fn import<R: Read + Drop, W: Write>(
         if next == Next::End {
             break;
         }
-        let place = list.place(options, count)?;
+        let spot = list.spot(options, count)?;
         let told = match next {
             Next::Faulty(fault) => {
-                place.tell(fault, out)?;
+                spot.tell(alloc, fault, out)?;
                 1
             }
-            _ => list.check(alloc, place, left, out)?,
+            _ => list.check(alloc, spot, left, h, out)?,
         };
         left = left.saturating_sub(told);
         if left == 0 {
@@ -104,77 +108,115 @@ fn header<R: Read + Drop>(
     }
 }
 
+/// Prints every fault of a header row, which begins in this line.
+fn tell_columns<W: Write>(
+    alloc: Global,
+    naming: Naming<'_>,
+    line: u64,
+    report: &Report,
+    out: &mut W,
+) -> Result<()> {
+    match naming {
+        Naming::Placed(printed) => tell_header(alloc, printed, line, report, out),
+        _ => Ok(write!(out, "{}", Escaped(alloc, report))?),
+    }
+}
+
 /// The list of these records, whose header row has each of the columns and no other. It prints every
 /// fault of another header row.
-fn open<'a, R: Read + Drop, W: Write>(
+fn open<'a, R: Read + Drop, W: Write, H: I18n + FormI18n>(
     alloc: Global,
     records: Records<R>,
     header: &'a StringRecord,
+    naming: Naming<'_>,
+    h: &H,
     out: &mut W,
 ) -> Result<List<'a, R>> {
-    match read_columns(alloc, header, Names(&COLUMNS), &DefaultI18n) {
+    match read_columns(alloc, header, Names(&COLUMNS), h) {
         Ok(columns) => Ok(List {
             records,
             columns,
             cells: StringRecord::new(alloc),
         }),
         Err(ValidateError::Report(report)) => {
-            write!(out, "{}", Escaped(alloc, &report))?;
+            tell_columns(alloc, naming, records.line(), &report, out)?;
             Err(anyhow!("these are not the columns of a list"))
         }
         Err(error) => Err(error.into()),
     }
 }
 
-/// Prints how the program is called, or checks the list on standard input. The answer is whether
-/// nothing is wrong.
-fn run(rt: &HostRuntime, task: Task) -> Result<bool> {
-    let mut out = BufWriter::new(rt.alloc(), io::writer(rt))?;
+/// Checks the list of a source. The answer is whether nothing is wrong.
+fn check<R: Read + Drop, W: Write, H: I18n + FormI18n>(
+    alloc: Global,
+    source: R,
+    options: &Options<'_>,
+    h: &H,
+    out: &mut W,
+) -> Result<bool> {
+    let mut records = Records::new(alloc, source)?;
+    let header = header(alloc, &mut records, options.has_header)?;
+    let mut list = open(alloc, records, &header, options.naming, h, out)?;
+    import(alloc, &mut list, options, h, out)
+}
+
+/// Checks the list of a source. A fault that has a place has a code, too.
+fn check_source<R: Read + Drop, W: Write>(
+    alloc: Global,
+    source: R,
+    options: &Options<'_>,
+    out: &mut W,
+) -> Result<bool> {
+    match options.naming {
+        Naming::Placed(_) => check(alloc, source, options, &WithCodes(DefaultI18n), out),
+        _ => check(alloc, source, options, &DefaultI18n, out),
+    }
+}
+
+/// The file of this name.
+fn file(rt: &HostRuntime, name: &str) -> Result<File> {
+    match File::open(rt, name) {
+        Ok(file) => Ok(file),
+        Err(error) => bail!("{name:?}: {error}"),
+    }
+}
+
+/// Prints how the program is called, or checks a list. The answer is whether nothing is wrong.
+fn run(rt: &HostRuntime, task: Task<'_>) -> Result<bool> {
+    let alloc = rt.alloc();
+    let mut out = BufWriter::new(alloc, io::writer(rt))?;
     let valid = match task {
         Task::Help => {
             writeln!(out, "{USAGE}")?;
             true
         }
-        Task::Import(options) => {
-            let mut records = Records::new(rt.alloc(), rt.stdin())?;
-            let header = header(rt.alloc(), &mut records, options.has_header)?;
-            let mut list = open(rt.alloc(), records, &header, &mut out)?;
-            import(rt.alloc(), &mut list, &options, &mut out)?
-        }
+        Task::Import(options) => match options.file {
+            Some(name) => check_source(alloc, file(rt, name)?, &options, &mut out)?,
+            None => check_source(alloc, rt.stdin(), &options, &mut out)?,
+        },
     };
     out.flush()?;
     Ok(valid)
 }
 
-/// The words of the command line.
-fn words(rt: &HostRuntime) -> Result<Vec<String>> {
-    Ok(env::args(rt)?.skip(1).collect(rt.alloc())?)
-}
-
-/// What the command line asks for, or what is wrong with it, which is printed.
-fn task(rt: &HostRuntime) -> Option<Task> {
-    match words(rt) {
-        Ok(words) => match Task::of(&words) {
-            Ok(task) => Some(task),
-            Err(reason) => {
-                let _ = eprintln!(rt; "use_import: {reason}\n{USAGE}");
-                None
-            }
-        },
-        Err(error) => {
-            let _ = eprintln!(rt; "use_import: {error}");
-            None
+/// Does what the words of the command line ask for. The answer is whether nothing is wrong with the list,
+/// or none where the words are wrong, which is printed.
+fn obey(rt: &HostRuntime) -> Result<Option<bool>> {
+    let words: Vec<String> = env::args(rt)?.skip(1).collect(rt.alloc())?;
+    match Task::of(&words) {
+        Ok(task) => Ok(Some(run(rt, task)?)),
+        Err(reason) => {
+            eprintln!(rt; "use_import: {reason}\n{USAGE}")?;
+            Ok(None)
         }
     }
 }
 
 fn main(rt: HostRuntime) -> ExitCode {
-    let Some(task) = task(&rt) else {
-        return ExitCode::from(2);
-    };
-    match run(&rt, task) {
-        Ok(true) => ExitCode::SUCCESS,
-        Ok(false) => ExitCode::FAILURE,
+    match obey(&rt) {
+        Ok(Some(true)) => ExitCode::SUCCESS,
+        Ok(Some(false)) => ExitCode::FAILURE,
+        Ok(None) => ExitCode::from(2),
         Err(error) => {
             let _ = eprintln!(rt; "use_import: {error}");
             ExitCode::from(2)

@@ -1,86 +1,126 @@
 //! What the words of the command line ask for.
 
-/// How the program is called.
-pub const USAGE: &str = "usage: use_import [--no-header] [--first-row N | --lines] [MOST]
-Reads a stock list in CSV on standard input, and prints every fault of each row.
+use crate::spot::Naming;
+use garde_places::Asked;
 
-  --no-header    reads rows without a header row, with the columns code, name, quantity, price, page
-  --first-row N  numbers the rows from N, N from 0
-  --lines        names each row by the line in which it begins, from 1
-  MOST           prints at most MOST faults, MOST from 1
-  --help         prints this";
+/// How the program is called.
+pub const USAGE: &str = "\
+usage: use_import [--no-header] [--first-row N | --lines] [--format FORMAT] [MOST] [FILE | -]
+Reads a stock list in CSV, and prints every fault of each row.
+
+  FILE             reads this file, and without a name or with - standard input
+  --no-header      reads rows without a header row, with the columns code, name, quantity, price, page
+  --first-row N    numbers the rows from N, N from 0
+  --lines          names each row by the line in which it begins, from 1, in a format without places
+  MOST             prints at most MOST faults, MOST from 1
+  --format FORMAT  prints faults as short, json or github with their places, or as plain without;
+                   else as short where FILE or - stands, and as plain where none does
+  --help           prints this";
 
 /// How a list is to be checked.
 #[derive(Debug, Clone, Copy)]
-pub struct Options {
+pub struct Options<'w> {
+    /// The name of the file, and none for standard input.
+    pub file: Option<&'w str>,
     /// How many faults are to be printed at most.
     pub most: Option<usize>,
     /// The number of the first row in the whole list.
     pub first_row: Option<usize>,
     /// Whether a header row stands in front of the rows.
     pub has_header: bool,
-    /// Whether rows are named by their lines.
-    pub lines: bool,
+    /// How rows are named.
+    pub naming: Naming<'w>,
 }
 
 /// What is to be done.
 #[derive(Debug, Clone, Copy)]
-pub enum Task {
+pub enum Task<'w> {
     /// The usage is printed.
     Help,
     /// A list is checked.
-    Import(Options),
+    Import(Options<'w>),
 }
 
-impl Task {
+impl<'w> Task<'w> {
     /// What these words ask for, or why they cannot be followed.
-    pub fn of(words: &[String]) -> Result<Task, &'static str> {
+    pub fn of(words: &'w [String]) -> Result<Task<'w>, &'static str> {
         match words {
             [word] if word.as_str() == "--help" => Ok(Task::Help),
-            _ => Ok(Task::Import(Options::of(words)?)),
+            _ => Ok(Task::Import(Words::of(words)?.options()?)),
         }
     }
 }
 
-impl Options {
-    // The options of these words, each of which may be left out and stands once.
-    fn of(words: &[String]) -> Result<Options, &'static str> {
-        let mut options = Options {
+/// The words that were taken. Each may be left out and stands once.
+#[derive(Clone, Copy)]
+struct Words<'w> {
+    most: Option<usize>,
+    first_row: Option<usize>,
+    has_header: bool,
+    lines: bool,
+    asked: Asked<'w>,
+}
+
+impl<'w> Words<'w> {
+    fn of(words: &'w [String]) -> Result<Words<'w>, &'static str> {
+        let mut taken = Words {
             most: None,
             first_row: None,
             has_header: true,
             lines: false,
+            asked: Asked::new(),
         };
         let mut is_first_row = false;
         for word in words {
             if is_first_row {
-                options.first_row = Some(first_row(word)?);
+                taken.first_row = Some(first_row(word)?);
                 is_first_row = false;
-            } else if word.as_str() == "--first-row" && options.first_row.is_none() {
+            } else if word.as_str() == "--first-row" && taken.can_be_first_row() {
                 is_first_row = true;
-            } else {
-                options.take(word)?;
+            } else if !taken.asked.take(word)? {
+                taken.take(word)?;
             }
         }
         if is_first_row {
             return Err(NO_FIRST_ROW);
         }
-        if options.lines && options.first_row.is_some() {
-            return Err("--lines and --first-row cannot be combined");
-        }
-        Ok(options)
+        Ok(taken)
     }
 
-    // Takes a word that stands alone.
+    // Whether `--first-row` may stand here.
+    fn can_be_first_row(&self) -> bool {
+        self.first_row.is_none() && !self.asked.is_open
+    }
+
+    // Takes a word that stands alone, and names no file.
     fn take(&mut self, word: &str) -> Result<(), &'static str> {
         match word {
             "--no-header" if self.has_header => self.has_header = false,
             "--lines" if !self.lines => self.lines = true,
             "--no-header" | "--lines" | "--first-row" => return Err("a word stands twice"),
             number if self.most.is_none() => self.most = Some(most(number)?),
-            _ => return Err("there is a word too many"),
+            _ => return Err("there must be one number at most"),
         }
         Ok(())
+    }
+
+    fn options(self) -> Result<Options<'w>, &'static str> {
+        if self.lines && self.first_row.is_some() {
+            return Err("--lines and --first-row cannot be combined");
+        }
+        let asked = self.asked.finish()?;
+        let naming = match asked.printed() {
+            Some(printed) => Naming::Placed(printed),
+            None if self.lines => Naming::Line,
+            None => Naming::Index,
+        };
+        Ok(Options {
+            file: asked.file(),
+            most: self.most,
+            first_row: self.first_row,
+            has_header: self.has_header,
+            naming,
+        })
     }
 }
 

@@ -17,7 +17,7 @@ use crate::rely::{cost, destination, first};
 use anyhow::{Result, bail};
 use garde::{DefaultI18n, Report, Valid};
 use garde_library::ReadBody;
-use garde_places::{Format, stop_of};
+use garde_places::{Printed, stop_of};
 use garde_problem::{Escaped, WithCodes};
 use garde_schema::{FirstReadError, Scratch};
 use std::io::Read;
@@ -91,13 +91,6 @@ fn judge(rt: &HostRuntime, body: &[u8], most: usize) -> Result<ExitCode> {
     }
 }
 
-/// A file as its faults are printed.
-#[derive(Clone, Copy)]
-struct Printed<'w> {
-    format: Format,
-    file: &'w str,
-}
-
 /// The same, with the place of each fault.
 fn judge_places(
     rt: &HostRuntime,
@@ -124,9 +117,8 @@ fn judge_places(
 
 /// Prints the faults of a report.
 fn show(rt: &HostRuntime, printed: Printed<'_>, body: &[u8], report: &Report) -> Result<ExitCode> {
-    let Printed { format, file } = printed;
     let text = str::from_utf8(without_mark(body))?;
-    let lines = report_lines(rt.alloc(), format, file, text, report)?;
+    let lines = report_lines(rt.alloc(), printed, text, report)?;
     print!(rt; "{lines}")?;
     Ok(ExitCode::FAILURE)
 }
@@ -138,11 +130,10 @@ fn show_stop(
     body: &[u8],
     error: FirstReadError,
 ) -> Result<ExitCode> {
-    let Printed { format, file } = printed;
     let Some(stop) = stop_of(rt.alloc(), without_mark(body))? else {
         return Err(error.into());
     };
-    let line = stop_line(rt.alloc(), format, file, &stop)?;
+    let line = stop_line(rt.alloc(), printed, &stop)?;
     print!(rt; "{line}")?;
     Ok(ExitCode::from(NOT_JUDGED))
 }
@@ -154,13 +145,13 @@ fn without_mark(body: &[u8]) -> &[u8] {
 
 /// Reads and judges a page.
 fn check(rt: &HostRuntime, options: Options<'_>) -> Result<ExitCode> {
-    let body = read(rt, options.file)?;
-    let most = options.most.unwrap_or(usize::MAX);
-    let Some(format) = options.format else {
-        return judge(rt, &body, most);
-    };
-    let file = options.file.unwrap_or("<stdin>");
-    judge_places(rt, Printed { format, file }, &body, most)
+    let Options { asked, most } = options;
+    let body = read(rt, asked.file())?;
+    let most = most.unwrap_or(usize::MAX);
+    match asked.printed() {
+        Some(printed) => judge_places(rt, printed, &body, most),
+        None => judge(rt, &body, most),
+    }
 }
 
 /// Does what the words of the command line ask for.

@@ -1,6 +1,6 @@
 //! What the words of the command line ask for.
 
-use garde_places::Format;
+use garde_places::Asked;
 
 /// How the program is called.
 pub const USAGE: &str = "\
@@ -16,12 +16,10 @@ Reads a page of orders in JSON, and confirms each of them or prints every fault.
 /// How a page is to be judged.
 #[derive(Debug, Clone, Copy)]
 pub struct Options<'w> {
-    /// The name of the file, and none for standard input.
-    pub file: Option<&'w str>,
+    /// Which page is read, and how its faults are printed.
+    pub asked: Asked<'w>,
     /// How many faults are to be printed at most.
     pub most: Option<usize>,
-    /// How faults are printed. Those of `None` are plain.
-    pub format: Option<Format>,
 }
 
 /// What is to be done.
@@ -41,96 +39,31 @@ impl<'w> Task<'w> {
             _ if words.iter().any(|word| word.as_str() == "--help") => Err(
                 "--help must stand alone",
             ),
-            _ => Ok(Task::Judge(Words::of(words)?.options())),
+            _ => Ok(Task::Judge(Options::of(words)?)),
         }
     }
 }
 
-const NO_FORMAT: &str = "--format must be followed by short, json, github or plain";
-
-/// The words that were taken. Each may be left out and stands once.
-#[derive(Clone, Copy)]
-struct Words<'w> {
-    file: Option<&'w str>,
-    most: Option<usize>,
-    /// The format, and `Some(None)` for plain.
-    format: Option<Option<Format>>,
-}
-
-impl<'w> Words<'w> {
-    fn of(words: &'w [String]) -> Result<Words<'w>, &'static str> {
-        let mut taken = Words {
-            file: None,
-            most: None,
-            format: None,
-        };
-        let mut is_format = false;
+impl<'w> Options<'w> {
+    // The options of these words, each of which may be left out and stands once.
+    fn of(words: &'w [String]) -> Result<Options<'w>, &'static str> {
+        let mut asked = Asked::new();
+        let mut most = None;
         for word in words {
-            if is_format {
-                taken.format = Some(format(word)?);
-                is_format = false;
-            } else if word.as_str() == "--format" && taken.format.is_none() {
-                is_format = true;
-            } else {
-                taken.take(word)?;
+            if !asked.take(word)? {
+                most = Some(next_most(most, word)?);
             }
         }
-        if is_format {
-            return Err(NO_FORMAT);
-        }
-        Ok(taken)
-    }
-
-    // Takes a word that stands alone: a number, or the name of a file.
-    fn take(&mut self, word: &'w str) -> Result<(), &'static str> {
-        if is_name(word) {
-            if self.file.is_some() {
-                return Err("there must be one file at most");
-            }
-            self.file = Some(word);
-        } else {
-            if self.most.is_some() {
-                return Err("there must be one number at most");
-            }
-            self.most = Some(most(word)?);
-        }
-        Ok(())
-    }
-
-    // Where an input is named, its faults have their places.
-    fn options(self) -> Options<'w> {
-        let named = match self.file {
-            Some(_) => Some(Format::Short),
-            None => None,
-        };
-        Options {
-            file: self.file.filter(|name| *name != "-"),
-            most: self.most,
-            format: self.format.unwrap_or(named),
-        }
+        let asked = asked.finish()?;
+        Ok(Options { asked, most })
     }
 }
 
-// Whether a word names a file. One that begins with `-` is an option, and one of digits a number.
-fn is_name(word: &str) -> bool {
-    word == "-" || !(word.starts_with('-') || word.bytes().all(|byte| byte.is_ascii_digit()))
-}
-
-// A number of faults.
-fn most(word: &str) -> Result<usize, &'static str> {
+// A number of faults, where there was none before.
+fn next_most(before: Option<usize>, word: &str) -> Result<usize, &'static str> {
     match word.parse() {
+        Ok(_) if before.is_some() => Err("there must be one number at most"),
         Ok(number) if number > 0 => Ok(number),
         _ => Err("the word must be a number from 1"),
-    }
-}
-
-// The format of a name, none for plain.
-fn format(word: &str) -> Result<Option<Format>, &'static str> {
-    match word {
-        "plain" => Ok(None),
-        _ => match Format::of(word) {
-            Some(format) => Ok(Some(format)),
-            None => Err(NO_FORMAT),
-        },
     }
 }

@@ -1,5 +1,6 @@
 """The program use_config, by crates/use_config/README.md: settings in TOML, which Python's `tomllib` reads, or in JSON.
 
+The places of faults are found in TOML by `lib.toml_positions`, and in JSON by `lib.positions`.
 Of a text that is no TOML the line and the column are not compared: two readers may stop at different places. `tomllib` reads TOML 1.0
 and the program TOML 1.1, so no line feed is put into a text, which may fall into an inline table, and a time without seconds is left
 out. An integer beyond 64 bits is no
@@ -11,6 +12,7 @@ import ipaddress
 import json
 import re
 
+from lib import placed, positions, toml_positions
 from lib.described import Case, pattern
 from lib.faults import REQUIRED, Rule, between, items, length, matches, suffix
 from lib.form import Checked, Closed, ListUnder, MapUnder, Member, Nullish, Object, OneOf, Text, Under, Whole, read
@@ -106,13 +108,14 @@ def toml_lines(dice, path, value):
 
 
 def some(dice):
+    form = placed.some_format(dice)
     if tomllib is None or dice.random() < 0.3:
-        return Case(("json",), *some_json(dice, CONFIG))
+        return Case(dice.choice((("json", *form), (*form, "json"))), *some_json(dice, CONFIG))
     value, ways = some_of(dice, CONFIG, some_value, (missing, repeated, wrong_type, wrong_type, unknown, renamed, many))
     end = dice.choice(("\n", "\n", "\r\n"))
     body, cuts = some_bytes(dice, (end.join(toml_lines(dice, [], without_nulls(value))) + end).encode("utf-8"), PIECES)
     mark = codecs.BOM_UTF8 if dice.random() < 0.1 else b""
-    return Case(dice.choice(((), ("toml",))), mark + body, ways | cuts)
+    return Case((*form, *dice.choice(((), ("toml",)))), mark + body, ways | cuts)
 
 
 def large():
@@ -152,14 +155,18 @@ def of_toml(value):
     return Number(repr(value))
 
 
+def is_json(case):
+    return "json" in placed.asked(case.words)[0]
+
+
 def value_of(case):
     """The value that is read, or what standard error says, as a pattern."""
+    if is_json(case):
+        return of_bytes(case.given)
     try:
         text = case.given.decode("utf-8").removeprefix("\ufeff")
     except UnicodeDecodeError:
         raise NoJson("the configuration is not read: .*") from None
-    if case.words == ("json",):
-        return of_bytes(case.given)
     if re.search(r"(?<![-+\d:])\d\d:\d\d(?!:)", text):
         raise Unsaid("a time without seconds")
     try:
@@ -172,13 +179,33 @@ def value_of(case):
     return value
 
 
+def stopped(form, case, why):
+    """What is said of a text that is no TOML or no JSON."""
+    if form == "plain" or why == TOO_DEEP:
+        return 2, b"", pattern(f"use_config: {why}\n")
+    if is_json(case):
+        return 2, placed.stops_at(form, "<stdin>", case.given, "not_json"), b""
+    if TOO_DEEP in why:
+        raise Unsaid("either no TOML or too deep")
+    try:
+        case.given.decode("utf-8")
+    except UnicodeDecodeError:
+        return 2, placed.stops_at(form, "<stdin>", case.given, "not_toml"), b""
+    return 2, placed.stop_anywhere(form, "<stdin>", "not_toml"), b""
+
+
 def wanted(case):
+    form = placed.asked(case.words)[1]
     try:
         config, faults = read(CONFIG, value_of(case))
     except NoJson as why:
-        return 2, b"", pattern(f"use_config: {why}\n")
-    if faults:
+        return stopped(form, case, str(why))
+    if faults and form == "plain":
         return 1, lines(faults).encode("utf-8"), b""
+    if faults:
+        spots_of = positions.spots_of if is_json(case) else toml_positions.spots_of
+        spots = spots_of(case.given.decode("utf-8").removeprefix("\ufeff"))
+        return 1, placed.lines(form, "<stdin>", spots, faults).encode("utf-8"), b""
     it = config["server"]
     share = it["connections"] // it["workers"]
     return 0, f"{it['host']}, port {it['port']}: {it['workers']} workers, {share} connections each\n".encode("utf-8"), b""

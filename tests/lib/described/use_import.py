@@ -2,7 +2,7 @@
 import csv
 import io
 
-from lib import rfc4180
+from lib import placed, rfc4180
 from lib.described import Case
 from lib.faults import ALPHANUMERIC, URL, URLS, between, chars, prefix
 from lib.form import Closed, Member, Object, OrEmpty, Parsed, Text, Walk, read
@@ -51,13 +51,13 @@ def some_columns(dice):
 
 
 def some(dice):
-    words = dice.choice(WORDS)
+    words, form = dice.choice(WORDS), placed.some_format(dice)
     columns, odd = COLUMNS if "--no-header" in words else some_columns(dice), dice.choice((0, 0, 0.1, 0.4))
     rows = [some_row(dice, columns, odd) for _ in range(dice.randrange(6))]
     body, cuts = written(dice, rows if "--no-header" in words else [columns, *rows]), set()
     for _ in range(dice.choice((0, 0, 0, 1, 2, 4))):
         body, cuts = cut(dice, body, PIECES), {"cut"}
-    return Case(words, body, cuts | ({"columns"} if columns != COLUMNS else set()) | ({"cells"} if odd else set()))
+    return Case(dice.choice((words + form, form + words)), body, cuts | ({"columns"} if columns != COLUMNS else set()) | ({"cells"} if odd else set()))
 
 
 def large():
@@ -91,6 +91,17 @@ def row_lines(place, header, record):
     return "".join(f"{place}{between}{it}\n" for it in lines(walk).splitlines())
 
 
+def placed_lines(form, index, header, record):
+    """The lines of a record with the line in which it begins."""
+    place, walk = (record.line, 1), Walk()
+    if record.fault:
+        return placed.line(form, "<stdin>", place, (index,), record.fault, "not_csv", {}) + "\n"
+    if len(record.cells) != len(header):
+        return placed.line(form, "<stdin>", place, (index,), "not as many fields as in the header", "row_length", {}) + "\n"
+    ROW.read(Pairs(zip(header, record.cells)), (index,), walk)
+    return placed.lines_at(form, "<stdin>", place, walk)
+
+
 def first_row(words):
     return int(words[words.index("--first-row") + 1]) if "--first-row" in words else 0
 
@@ -101,18 +112,26 @@ def most(words, all_of_them):
     return int(numbers[0]) if numbers else all_of_them
 
 
+def lines_of(words, form, index, header, record):
+    if form != "plain":
+        return placed_lines(form, index, header, record)
+    return row_lines(f"line {record.line}" if "--lines" in words else f"[{index}]", header, record)
+
+
 def wanted(case):
+    words, form = placed.asked(case.words)
     found, header = list(records(case.given)), COLUMNS
-    if "--no-header" not in case.words:
+    if "--no-header" not in words:
         first, *found = found or [rfc4180.Record(1, [], None)]
         if first.fault:
             return 2, b"", f"use_import: the header: {first.fault}\n".encode()
         _, faults = read(HEADER, Pairs((name, "") for name in first.cells))
         if faults:
-            return 2, lines(faults).encode("utf-8"), b"use_import: these are not the columns of a list\n"
+            told = lines(faults) if form == "plain" else placed.lines_at(form, "<stdin>", (first.line, 1), faults)
+            return 2, told.encode("utf-8"), b"use_import: these are not the columns of a list\n"
         header = first.cells
-    start = first_row(case.words)
-    places = (f"line {record.line}" if "--lines" in case.words else f"[{start + index}]" for index, record in enumerate(found))
-    said = "".join(row_lines(place, header, record) for place, record in zip(places, found[:GREATEST - start + 1])).splitlines(keepends=True)
-    out = "".join(said[:most(case.words, len(said))]).encode("utf-8")
+    start = first_row(words)
+    rows = enumerate(found[:GREATEST - start + 1], start)
+    said = "".join(lines_of(words, form, index, header, record) for index, record in rows).splitlines(keepends=True)
+    out = "".join(said[:most(words, len(said))]).encode("utf-8")
     return (2, out, b"use_import: a row has no number\n") if start + len(found) > GREATEST + 1 else (1 if said else 0, out, b"")

@@ -2,6 +2,7 @@
 //! `garde_html` print.
 
 mod ample;
+mod asked;
 mod errors;
 mod html;
 mod json;

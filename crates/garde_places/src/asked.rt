@@ -1,0 +1,175 @@
+//! What the words of a command line ask for: which input is read, and how its faults are printed.
+ghost use Rattle.std.specs.Prelude.{◌≡◌, IfOk, IsSome, MatchOption, None, OnErr, Some, false, option_map, true};
+ghost use Rattle.std.specs.Str.{all_ascii_digits};
+ghost use Rattle.garde_places.specs.Asked.{IsTaken, IsWrong, OpensFormat, TakesFormat, file_asked, format_asked, input_word, is_input, name_asked, named_format};
+
+use crate::format::Format;
+use crate::printed::Printed;
+
+/// Which input the words of a command line ask for, and how its faults are to be printed. A program
+/// hands over its words one after the other, and does itself with those that are not taken.
+#[derive(Clone, Copy, Debug, Drop)]
+pub struct Asked<'w> {
+    /// The word that names the input: a file, or `-` for standard input.
+    pub input: Option<&'w str>,
+    /// The format of the name behind `--format`. It is `Some(None)` for `plain`, where faults are printed
+    /// without places.
+    pub format: Option<Option<Format>>,
+    /// Whether `--format` was the last word, so that the next one names a format.
+    pub is_open: bool,
+}
+
+/// Whether these bytes are decimal digits.
+fn is_numeral(bytes: &[u8]) -> bool
+    ensures { result ≡ all_ascii_digits bytes.now }
+{
+    for byte in bytes {
+        if !byte.is_ascii_digit() {
+            return false;
+        }
+    }
+    true
+}
+
+/// Whether a word names an input.
+fn is_input(word: &str) -> bool
+    ensures { result ≡ is_input word.now }
+{
+    let bytes = word.as_bytes();
+    match bytes.split_first() {
+        None => false,
+        Some((b'-', rest)) => rest.is_empty(),
+        Some(_) => !is_numeral(bytes),
+    }
+}
+
+/// The format of a name, none for `plain`.
+fn named_format(name: &str) -> Option<Option<Format>>
+    ensures { result ≡ named_format name.now }
+{
+    if name == "plain" {
+        return Some(None);
+    }
+    match Format::of(name) {
+        Some(format) => Some(Some(format)),
+        None => None,
+    }
+}
+
+impl<'w> Asked<'w> {
+    /// What no word asks for.
+    pub fn new() -> Asked<'w>
+        ensures input { result.input ≡ None }
+        ensures format { result.format ≡ None }
+        ensures closed { result.is_open ≡ false }
+    {
+        Asked {
+            input: None,
+            format: None,
+            is_open: false,
+        }
+    }
+
+    /// Takes a word: `--format`, the name of a format behind it, or the name of an input. That is `-`, or
+    /// a word that neither begins with `-` nor has digits alone: the file `20` is written `./20`. Returns
+    /// whether it took the word.
+    ///
+    /// # Errors
+    ///
+    /// Why the word cannot be followed: no format has this name, or it is a second format or a second
+    /// input.
+    pub fn take(&mut self, word: &'w str) -> Result<bool, &'static str>
+        ensures taken { IfOk result (λ is_taken. IsTaken is_taken self.old word.now self.new) }
+        ensures wrong { OnErr result (IsWrong self.old word.now) }
+    {
+        if self.is_open {
+            return self.take_format(word);
+        }
+        if word == "--format" {
+            return self.take_option();
+        }
+        if !is_input(word) {
+            return Ok(false);
+        }
+        if self.input.is_some() {
+            return Err("there must be one file at most");
+        }
+        self.input = Some(word);
+        Ok(true)
+    }
+
+    // Takes the word behind `--format`.
+    fn take_format(&mut self, name: &str) -> Result<bool, &'static str>
+        ensures taken { IfOk result (λ is_taken. (is_taken ≡ true) × TakesFormat self.old name.now self.new) }
+        ensures wrong { OnErr result (named_format name.now ≡ None) }
+    {
+        let Some(format) = named_format(name) else {
+            return Err(NO_FORMAT);
+        };
+        self.format = Some(format);
+        self.is_open = false;
+        Ok(true)
+    }
+
+    // Takes `--format`.
+    fn take_option(&mut self) -> Result<bool, &'static str>
+        ensures taken { IfOk result (λ is_taken. (is_taken ≡ true) × OpensFormat self.old self.new) }
+        ensures wrong { OnErr result (IsSome self.old.format) }
+    {
+        if self.format.is_some() {
+            return Err("--format must stand once at most");
+        }
+        self.is_open = true;
+        Ok(true)
+    }
+
+    /// What was asked for, at the end of the words.
+    ///
+    /// # Errors
+    ///
+    /// Where `--format` is the last of them.
+    pub fn finish(self) -> Result<Asked<'w>, &'static str>
+        ensures ok { IfOk result (λ asked. (asked ≡ self.entry) × (asked.is_open ≡ false)) }
+        ensures err { OnErr result (self.entry.is_open ≡ true) }
+    {
+        if self.is_open {
+            return Err(NO_FORMAT);
+        }
+        Ok(self)
+    }
+
+    /// The name of the file to be read, none for standard input.
+    pub fn file(&self) -> Option<&'w str>
+        ensures { option_map (λ name. name.now) result ≡ file_asked (input_word self.now) }
+    {
+        match self.input {
+            Some(name) if name != "-" => Some(name),
+            _ => None,
+        }
+    }
+
+    /// How faults are to be printed, under the name of the file, or under `<stdin>` for standard input. It
+    /// is none where they are printed without places: that is asked for, or neither an input nor a format
+    /// is. An input alone is printed as `short`.
+    pub fn printed(&self) -> Option<Printed<'w>>
+        ensures { MatchOption result (format_asked self.now ≡ None)
+            (λ it. (format_asked self.now ≡ Some it.format) × (it.file.now ≡ name_asked (input_word self.now))) }
+    {
+        let format = self.format_or_short()?;
+        let file = self.file().unwrap_or("<stdin>");
+        Some(Printed { format, file })
+    }
+
+    // The format that is named, or `short` where an input is.
+    fn format_or_short(&self) -> Option<Format>
+        ensures { result ≡ format_asked self.now }
+    {
+        match (self.format, self.input) {
+            (Some(format), _) => format,
+            (None, Some(_)) => Some(Format::Short),
+            (None, None) => None,
+        }
+    }
+}
+
+const NO_FORMAT: &str = "--format must be followed by short, json, github or plain";

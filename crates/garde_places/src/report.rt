@@ -1,0 +1,75 @@
+//! The faults of a report, with the places in the text that was read.
+ghost use Rattle.std.specs.Prelude.{◌≡◌, IfOk, Some, map};
+ghost use Rattle.json.specs.Json.{Json, document};
+ghost use Rattle.garde_tape.specs.Reading.{json_of};
+ghost use Rattle.garde_places.specs.Fault.{ArePlaced, fault_entry};
+ghost use Rattle.garde_places.specs.Listed.{AreListed};
+
+use crate::fault::Fault;
+use crate::listed::ListedPlaces;
+use crate::place::Place;
+use crate::places::Places;
+use garde_report::Report;
+use garde_tape::{ParseError, Scratch, Tape, parse};
+use std::alloc::{AllocError, Global};
+
+/// The faults of a report of a JSON text, in its order, each with its place, as `Places::locate_all` has
+/// it. The text is read once more, so ask where there is a fault.
+///
+/// # Errors
+///
+/// Where the text is no JSON, of which there is no report, and `Memory`.
+pub fn faults_of<'r>(
+    alloc: Global,
+    text: &str,
+    report: &'r Report,
+) -> Result<Vec<Fault<'r>>, ParseError>
+    ensures faults { IfOk result (λ faults. map fault_entry faults.items ≡ report.now) }
+    ensures places { IfOk result (λ faults. (j : Json) → document text.now ≡ Some j
+        → ArePlaced text.now j faults.items) }
+{
+    let mut scratch = Scratch::new(alloc);
+    let tape = parse(alloc, text, &mut scratch)?;
+    match place_all(alloc, text, &tape, report) {
+        Ok(faults) => Ok(faults),
+        Err(_) => Err(ParseError::Memory),
+    }
+}
+
+fn place_all<'a, 'r>(
+    alloc: Global,
+    text: &'a str,
+    tape: &Tape<'a>,
+    report: &'r Report,
+) -> Result<Vec<Fault<'r>>, AllocError>
+    requires { document text.now ≡ Some (json_of tape.now) }
+    ensures faults { IfOk result (λ faults. map fault_entry faults.items ≡ report.now) }
+    ensures places { IfOk result (λ faults. (j : Json) → document text.now ≡ Some j
+        → ArePlaced text.now j faults.items) }
+{
+    Places::of(alloc, text, tape)?.locate_all(alloc, report)
+}
+
+/// The same of a text in another format that was written as JSON, with a place for each token of it, as
+/// `ListedPlaces::locate_all` has it.
+///
+/// # Errors
+///
+/// Where what was written is no JSON, and `Memory`.
+pub fn listed_faults_of<'r>(
+    alloc: Global,
+    json: &str,
+    places: Vec<Place>,
+    report: &'r Report,
+) -> Result<Vec<Fault<'r>>, ParseError>
+    ensures faults { IfOk result (λ faults. map fault_entry faults.items ≡ report.now) }
+    ensures places { IfOk result (λ faults. (j : Json) → document json.now ≡ Some j
+        → AreListed places.items j faults.items) }
+{
+    let mut scratch = Scratch::new(alloc);
+    let tape = parse(alloc, json, &mut scratch)?;
+    match ListedPlaces::of(json, &tape, places).locate_all(alloc, report) {
+        Ok(faults) => Ok(faults),
+        Err(_) => Err(ParseError::Memory),
+    }
+}

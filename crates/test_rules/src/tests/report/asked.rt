@@ -1,0 +1,179 @@
+//! What words of a command line ask for, and the lines of faults under the name of their file.
+
+use crate::tests::OrEnd;
+use crate::tests::report::samples::report_of;
+use garde_places::{
+    Asked, Fault, Format, Place, Printed, faults_of, listed_faults_of, stop_of_utf8,
+};
+use garde_report::{Kind, Path, Report};
+use std::alloc::Global;
+use std::process::Abort;
+
+/// Words, the file that they ask for, and the format and the name in what is printed.
+static ASKED: [(&[&str], Option<&str>, Option<(Format, &str)>); 9] = [
+    (&[], None, None),
+    (&["-"], None, Some((Format::Short, "<stdin>"))),
+    (&["a"], Some("a"), Some((Format::Short, "a"))),
+    (&["./20"], Some("./20"), Some((Format::Short, "./20"))),
+    (&["--format", "plain"], None, None),
+    (&["--format", "plain", "a"], Some("a"), None),
+    (
+        &["a", "--format", "json"],
+        Some("a"),
+        Some((Format::Json, "a")),
+    ),
+    (
+        &["--format", "github"],
+        None,
+        Some((Format::GitHub, "<stdin>")),
+    ),
+    (
+        &["--format", "short", "json"],
+        Some("json"),
+        Some((Format::Short, "json")),
+    ),
+];
+
+/// Words that cannot be followed.
+static REJECTED: [&[&str]; 5] = [
+    &["--format"],
+    &["--format", "xml"],
+    &["--format", "-"],
+    &["--format", "json", "--format", "json"],
+    &["-", "a"],
+];
+
+/// Words that are for the program itself.
+static LEFT: [&str; 5] = ["", "20", "-1", "--", "--help"];
+
+// What words ask for, if all of them are taken.
+fn asked_by<'w>(words: &[&'w str]) -> Option<Asked<'w>> {
+    let mut asked = Asked::new();
+    for word in words {
+        if asked.take(word) != Ok(true) {
+            return None;
+        }
+    }
+    match asked.finish() {
+        Ok(asked) => Some(asked),
+        Err(_) => None,
+    }
+}
+
+// Whether faults are printed in this format and under this name.
+fn is_printed(printed: Option<Printed<'_>>, wanted: Option<(Format, &str)>) -> bool {
+    match (printed, wanted) {
+        (Some(it), Some((format, file))) => it.format == format && it.file == file,
+        (None, None) => true,
+        _ => false,
+    }
+}
+
+#[test]
+fn words_ask_for_a_file_and_a_format(rt: HostRuntime) {
+    for (words, file, printed) in &ASKED {
+        let Some(asked) = asked_by(words) else {
+            rt.abort()
+        };
+        assert!(rt; asked.file() == *file && is_printed(asked.printed(), *printed));
+    }
+}
+
+#[test]
+fn other_words_are_rejected_or_left(rt: HostRuntime) {
+    for words in &REJECTED {
+        assert!(rt; asked_by(words).is_none());
+    }
+    for word in &LEFT {
+        assert!(rt; Asked::new().take(word) == Ok(false));
+    }
+}
+
+/// A text whose members do not stand in the order of the faults.
+const TEXT: &str = "{\"b\":1,\n\"a\":2}";
+
+static FAULTS: [(&[(Kind, &str)], &str); 2] = [
+    (&[(Kind::Key, "a")], "lower"),
+    (&[(Kind::Key, "b")], "higher"),
+];
+
+const FOR_PEOPLE: &str = "f:1:6: error: b: higher\nf:2:5: error: a: lower\n";
+
+const FOR_PROGRAMS: &str = "\
+{\"file\":\"f\",\"path\":\"a\",\"pointer\":\"/a\",\"line\":2,\"column\":5,\"detail\":\"lower\",\"code\":\"custom\",\"params\":{}}
+{\"file\":\"f\",\"path\":\"b\",\"pointer\":\"/b\",\"line\":1,\"column\":6,\"detail\":\"higher\",\"code\":\"custom\",\"params\":{}}
+";
+
+// Whether faults are printed as this text.
+fn print_as(
+    rt: &impl Abort,
+    alloc: Global,
+    format: Format,
+    faults: &mut Vec<Fault<'_>>,
+    text: &str,
+) -> bool {
+    let printed = Printed { format, file: "f" };
+    printed.lines(alloc, faults).or_end(rt).as_str() == text
+}
+
+// The faults of a report of the text.
+fn faults<'r>(rt: &impl Abort, alloc: Global, report: &'r Report) -> Vec<Fault<'r>> {
+    match faults_of(alloc, TEXT, report) {
+        Ok(faults) => faults,
+        Err(_) => rt.abort(),
+    }
+}
+
+#[test]
+fn faults_are_sorted_for_people(rt: HostRuntime) {
+    let alloc = rt.alloc();
+    let report = report_of(&rt, alloc, &FAULTS);
+    let mut found = faults(&rt, alloc, &report);
+    assert!(rt; print_as(&rt, alloc, Format::Json, &mut found, FOR_PROGRAMS));
+    assert!(rt; print_as(&rt, alloc, Format::Short, &mut found, FOR_PEOPLE));
+}
+
+// The line of the second fault, by a list of places whose lines count the tokens of the text.
+fn listed_line(rt: &impl Abort, alloc: Global, report: &Report) -> Option<usize> {
+    let mut places = Vec::new(alloc);
+    for line in 10..16 {
+        places.push(Place { line, column: 1 }).or_end(rt);
+    }
+    match listed_faults_of(alloc, TEXT, places, report) {
+        Ok(faults) => match faults.as_slice() {
+            [_, second] => Some(second.place.line),
+            _ => None,
+        },
+        Err(_) => None,
+    }
+}
+
+#[test]
+fn listed_faults_have_the_places_of_a_list(rt: HostRuntime) {
+    let alloc = rt.alloc();
+    let report = report_of(&rt, alloc, &FAULTS);
+    assert!(rt; listed_line(&rt, alloc, &report) == Some(12));
+}
+
+#[test]
+fn a_fault_of_no_report_is_printed(rt: HostRuntime) {
+    let printed = Printed {
+        format: Format::GitHub,
+        file: "f",
+    };
+    let place = Place { line: 2, column: 1 };
+    let message = "\u{1f}not_csv\u{1f}50%\u{1f}";
+    let line = printed
+        .line(rt.alloc(), place, &Path::empty(), message)
+        .or_end(&rt);
+    assert!(rt; line.as_str() == "::error file=f,line=2,col=1::50%25\n");
+}
+
+#[test]
+fn bytes_stop_being_utf8(rt: HostRuntime) {
+    match stop_of_utf8(b"a\n\xc3\xa4\xff") {
+        Some(stop) => assert!(rt; stop.place == Place { line: 2, column: 2 }),
+        None => rt.abort(),
+    }
+    assert!(rt; stop_of_utf8("\u{e4}".as_bytes()).is_none());
+}

@@ -1,0 +1,94 @@
+//! What the words of the command line ask for.
+
+use garde_places::Asked;
+
+/// How the program is called.
+pub const USAGE: &str = "\
+usage: use_config [--format FORMAT] [toml | json] [FILE | -]
+Reads the configuration of a service, and prints what it asks for or every fault.
+
+  FILE             reads this file, and without a name or with - standard input
+  toml             reads TOML, as without a word
+  json             reads JSON, as of a file whose name ends with .json
+  --format FORMAT  prints faults as short, json or github with their places, or as plain without;
+                   else as short where FILE or - stands, and as plain where none does
+  --help           prints this";
+
+/// How a configuration is written.
+#[derive(Clone, Copy, Debug)]
+pub enum Written {
+    Toml,
+    Json,
+}
+
+/// Which configuration is to be read, and how its faults are printed.
+#[derive(Clone, Copy, Debug)]
+pub struct Options<'w> {
+    pub written: Written,
+    pub asked: Asked<'w>,
+}
+
+/// What is to be done.
+#[derive(Clone, Copy, Debug)]
+pub enum Task<'w> {
+    /// The usage is printed.
+    Help,
+    /// A configuration is read.
+    Read(Options<'w>),
+}
+
+impl<'w> Task<'w> {
+    /// What the words after the program's name ask for, or what is wrong with them.
+    pub fn of(words: &'w [String]) -> Result<Task<'w>, &'static str> {
+        match words {
+            [word] if word.as_str() == "--help" => Ok(Task::Help),
+            _ => Ok(Task::Read(Options::of(words)?)),
+        }
+    }
+}
+
+impl<'w> Options<'w> {
+    // The options of these words, each of which may be left out and stands once.
+    fn of(words: &'w [String]) -> Result<Options<'w>, &'static str> {
+        let mut written = None;
+        let mut asked = Asked::new();
+        for word in words {
+            match written_named(word) {
+                Some(_) if !asked.is_open && written.is_some() => {
+                    return Err("there must be one of toml and json at most");
+                }
+                Some(named) if !asked.is_open => written = Some(named),
+                _ => take(&mut asked, word)?,
+            }
+        }
+        let asked = asked.finish()?;
+        let written = written.unwrap_or(written_in(asked.file()));
+        Ok(Options { written, asked })
+    }
+}
+
+// Takes a word about the file or the format.
+fn take<'w>(asked: &mut Asked<'w>, word: &'w str) -> Result<(), &'static str> {
+    if asked.take(word)? {
+        Ok(())
+    } else {
+        Err("the word is no option, and no name of a file")
+    }
+}
+
+// What a word names.
+fn written_named(word: &str) -> Option<Written> {
+    match word {
+        "toml" => Some(Written::Toml),
+        "json" => Some(Written::Json),
+        _ => None,
+    }
+}
+
+// How a file of this name is written.
+fn written_in(file: Option<&str>) -> Written {
+    match file {
+        Some(name) if name.ends_with(".json") => Written::Json,
+        _ => Written::Toml,
+    }
+}

@@ -1,0 +1,108 @@
+//! The faults of a configuration in lines, each with its place in the text.
+
+use crate::judging::judge;
+use crate::options::Written;
+use anyhow::Result;
+use garde::{DefaultI18n, Path, Report};
+use garde_places::{Printed, Stop, faults_of, listed_faults_of, stop_of, stop_of_utf8};
+use garde_problem::{WithCodes, coded_message};
+use garde_schema::ReadError;
+use garde_toml::{Placed, TomlError, toml_to_json, toml_to_json_with_places};
+use std::alloc::Global;
+use std::process::ExitCode;
+
+/// The bytes behind a byte order mark, which is no part of a configuration.
+fn without_mark(body: &[u8]) -> &[u8] {
+    body.strip_prefix(b"\xef\xbb\xbf").unwrap_or(body)
+}
+
+/// The faults of a report of a text in JSON.
+fn json_lines(alloc: Global, printed: Printed<'_>, text: &str, report: &Report) -> Result<String> {
+    let mut faults = faults_of(alloc, text, report)?;
+    Ok(printed.lines(alloc, &mut faults)?)
+}
+
+/// The faults of a report of a text in TOML.
+fn toml_lines(alloc: Global, printed: Printed<'_>, text: &str, report: &Report) -> Result<String> {
+    let Placed { json, places } = toml_to_json_with_places(alloc, text)?;
+    let mut faults = listed_faults_of(alloc, json.as_str(), places, report)?;
+    Ok(printed.lines(alloc, &mut faults)?)
+}
+
+/// Prints where a text stops being what it is to be, which this code says.
+fn show_stop(
+    rt: &HostRuntime,
+    printed: Printed<'_>,
+    code: &str,
+    stop: &Stop<'_>,
+) -> Result<ExitCode> {
+    let alloc = rt.alloc();
+    let message = coded_message(alloc, code, stop.why, &[])?;
+    let line = printed.line(alloc, stop.place, &Path::empty(), message.as_str())?;
+    print!(rt; "{line}")?;
+    Ok(ExitCode::from(crate::NOT_JUDGED))
+}
+
+/// Judges a configuration in JSON.
+fn check_json(rt: &HostRuntime, printed: Printed<'_>, body: &[u8]) -> Result<ExitCode> {
+    match judge(rt, body, &WithCodes(DefaultI18n))? {
+        None => Ok(ExitCode::SUCCESS),
+        Some(ReadError::Report(report)) => {
+            let text = str::from_utf8(without_mark(body))?;
+            print!(rt; "{}", json_lines(rt.alloc(), printed, text, &report)?)?;
+            Ok(ExitCode::FAILURE)
+        }
+        Some(error) => match stop_of(rt.alloc(), without_mark(body))? {
+            Some(stop) => show_stop(rt, printed, "not_json", &stop),
+            None => Err(error.into()),
+        },
+    }
+}
+
+/// Prints where a text stops being TOML, if that is why it was not read.
+fn show_toml_stop(
+    rt: &HostRuntime,
+    printed: Printed<'_>,
+    text: &str,
+    error: TomlError,
+) -> Result<ExitCode> {
+    if let Some(stop) = error.stop(text) {
+        return show_stop(rt, printed, "not_toml", &stop);
+    }
+    Err(error.into())
+}
+
+/// Judges a configuration in TOML.
+fn check_toml(rt: &HostRuntime, printed: Printed<'_>, text: &str) -> Result<ExitCode> {
+    let json = match toml_to_json(rt.alloc(), text) {
+        Ok(json) => json,
+        Err(error) => return show_toml_stop(rt, printed, text, error),
+    };
+    match judge(rt, json.as_bytes(), &WithCodes(DefaultI18n))? {
+        None => Ok(ExitCode::SUCCESS),
+        Some(ReadError::Report(report)) => {
+            print!(rt; "{}", toml_lines(rt.alloc(), printed, text, &report)?)?;
+            Ok(ExitCode::FAILURE)
+        }
+        Some(error) => Err(error.into()),
+    }
+}
+
+/// Prints what a configuration asks for, or each fault with its place.
+pub fn check_placed(
+    rt: &HostRuntime,
+    printed: Printed<'_>,
+    written: Written,
+    body: &[u8],
+) -> Result<ExitCode> {
+    match written {
+        Written::Json => check_json(rt, printed, body),
+        Written::Toml => match str::from_utf8(body) {
+            Ok(text) => check_toml(rt, printed, text),
+            Err(error) => match stop_of_utf8(without_mark(body)) {
+                Some(stop) => show_stop(rt, printed, "not_toml", &stop),
+                None => Err(error.into()),
+            },
+        },
+    }
+}
