@@ -19,7 +19,6 @@ pub mod pair;
 pub mod parcel;
 pub mod place;
 pub mod reading;
-pub mod receipt;
 pub mod shelf;
 pub mod shop;
 pub mod team;
