@@ -39,6 +39,10 @@ class Fault(typing.NamedTuple):
         said = language[self.code]
         return said.format(**self.params) if isinstance(said, str) else said(**self.params)
 
+    def told(self):
+        """The parameters as they stand beside a code: a reason by its name."""
+        return {name: urls.NAMES[it] if self.code == "url_invalid" else it for name, it in self.params.items()}
+
 
 def fault(code, **params):
     return Fault(code, {name: str(value) for name, value in params.items()})

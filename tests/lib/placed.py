@@ -45,7 +45,7 @@ def lines(form, file, spots, walk, language=ENGLISH):
     placed = [(place_of(spots, path, found.code), path, found.text(language), found) for path, found in walk]
     if form != "json":
         placed.sort(key=lambda it: it[0])
-    text = "".join(line(form, file, place, path, detail, found.code, found.params) + "\n" for place, path, detail, found in placed)
+    text = "".join(line(form, file, place, path, detail, found.code, found.told()) + "\n" for place, path, detail, found in placed)
     if form == "short" and [it[1:] for it in read_back(text)] != [(str(l), str(c), told(path, detail)) for (l, c), path, detail, _ in placed]:
         raise AssertionError(f"an editor reads something else of {text!r}")
     return text
@@ -53,7 +53,7 @@ def lines(form, file, spots, walk, language=ENGLISH):
 
 def lines_at(form, file, place, walk, language=ENGLISH):
     """The faults of a walk, which stand at one place."""
-    return "".join(line(form, file, place, path, it.text(language), it.code, it.params) + "\n" for path, it in walk)
+    return "".join(line(form, file, place, path, it.text(language), it.code, it.told()) + "\n" for path, it in walk)
 
 
 def stop(form, file, text, code):

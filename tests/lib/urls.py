@@ -10,6 +10,11 @@ EMPTY = "empty host"
 NO_DOMAIN = "invalid international domain name"
 NO_ADDRESS = "invalid IPv4 address"
 NO_HOST = "invalid domain character"
+# The reasons as a code has them.
+NAMES = {
+    RELATIVE: "RelativeUrlWithoutBase", EMPTY: "EmptyHost", NO_DOMAIN: "IdnaError", NO_ADDRESS: "InvalidIpv4Address",
+    NO_HOST: "InvalidDomainCharacter",
+}
 # The forbidden host code points but for controls, and those that a domain may not have either.
 FORBIDDEN = set("\0\t\n\r #/:<>?@[\\]^|")
 FORBIDDEN_IN_DOMAINS = FORBIDDEN | {"%", "\x7f"} | {chr(code) for code in range(32)}
