@@ -65,7 +65,7 @@ select_plain = (refl, refl)
 abbrev equals : Value → List ℕ → Bool
 equals v code = is_true (binary (op.Compare test.Eq Binary) v (Text code))
 
-truthful : (b : Bool) → is_true (from_truth (Some b)) ≡ b
+pub truthful : (b : Bool) → is_true (from_truth (Some b)) ≡ b
 truthful true = refl
 truthful false = refl
 
@@ -147,88 +147,3 @@ shown_stays sql params is_plain old new rows table h =
 
 pub found_stays : (old new : State) (code : List ℕ) (rows : List Row) → HasTable old → Shown select_text (Text code ∷ []) old new rows → Stays old new
 found_stays old new code rows table h = shown_stays select_text (Text code ∷ []) select_plain old new rows table h
-
-abbrev pub page_text : List ℕ
-page_text = codes "SELECT id, code, name, quantity, price, page FROM stock WHERE id > ?1 ORDER BY id LIMIT 1000"
-
-page_plain : IsPlain (understood stock_schema page_text)
-unfolding understood everything
-page_plain = (refl, refl)
-
-pub page_stays : (old new : State) (last : ℤ) (rows : List Row) → HasTable old → Shown page_text (Int last ∷ []) old new rows → Stays old new
-page_stays old new last rows table h = shown_stays page_text (Int last ∷ []) page_plain old new rows table h
-
--- ---- the rows behind one
-
-abbrev query_of : Command → Query
-query_of (Select q names) = q.body
-query_of command = query
-
-abbrev page_query : Query
-page_query = query_of (command_of (understood stock_schema page_text))
-
-page_is : (command_of (understood stock_schema page_text) ≡ Select (record { lets = []; body = page_query }) (codes "id" ∷ codes "code" ∷ codes "name" ∷ codes "quantity" ∷ codes "price" ∷ codes "page" ∷ []))
-    × (reads_listing stock_schema page_text ≡ false)
-unfolding understood everything
-page_is = (refl, refl)
-
--- what is shown of each row, from rows whose id is greater, a thousand at most
-abbrev plain_page : Query
-plain_page = record page_query {
-  from = inner 0 end;
-  filter = op2 (op.Compare test.Gt Binary) (col 1 0) (col 0 0) ∷ [];
-  group = None;
-  distinct = false;
-  limit = lit (Int (pos 1000));
-  offset = lit (Int (pos 0));
-}
-
-page_plainly : page_query ≡ plain_page
-unfolding understood everything
-page_plainly = refl
-
-abbrev greater : Value → ℤ → Bool
-greater v last = is_true (binary (op.Compare test.Gt Binary) v (Int last))
-
-greater_int : (n last : ℤ) → last <ℤ n → greater (Int n) last ≡ true
-unfolding binary
-greater_int n last more =
-    truthful (is_gt (value_cmp (Int n) (Int last))) ∙ ap is_gt (value_cmp-Int n last) ∙ grind (arith, ints, nat_tests, more)
-
-abbrev hits_behind : ℤ → Row → List Env
-hits_behind last r = matches_as Null (λ _. []) plain_page.filter end ((Int last ∷ []) ∷ r ∷ [])
-
-abbrev kept_if : ℤ → Row → List Env → Bool → List Env
-kept_if last r more b = cond (b && true) (((Int last ∷ []) ∷ r ∷ []) ∷ []) [] ++ more
-
-none_of : (last : ℤ) (r : Row) (more : List Env) (b : Bool) → greater (column r 0) last ≡ b → length (kept_if last r more b) ≡ 0 → (greater (column r 0) last ≡ false) × (length more ≡ 0)
-none_of last r more true is none = absurd (omega (arith, none))
-none_of last r more false is none = (is, none)
-
-not_behind : (last : ℤ) (r : Row) → IsTrue (is_int (rowid r)) → greater (rowid r) last ≡ false → ¬ (last <ℤ id_in (rowid r))
-not_behind last r keyed off less =
-    true≢false (sym (ap (λ v. greater v last) (int_is (rowid r) keyed) ∙ greater_int (id_in (rowid r)) last less) ∙ off)
-
-none_behind : (last : ℤ) (rows : List Row) → AllByRecursion (λ r. IsTrue (is_int (rowid r))) rows → length (flat_map (hits_behind last) rows) ≡ 0 → NoneBehind last rows
-none_behind last [] keyed none = tt
-none_behind last (r ∷ rows) keyed none =
-    let parts = none_of last r (flat_map (hits_behind last) rows) (greater (column r 0) last) refl none in
-    (not_behind last r keyed.0 parts.0, none_behind last rows keyed.1 parts.1)
-
-nothing_taken : {X : Type 0} (n : ℕ) (xs : List X) → 0 < n → length (take n xs) ≡ 0 → length xs ≡ 0
-nothing_taken zero xs some none = absurd (omega (arith, some))
-nothing_taken (suc n) [] some none = refl
-nothing_taken (suc n) (x ∷ xs) some none = absurd (omega (arith, none))
-
-pub page_ends : (old new : State) (last : ℤ) (rows : List Row) → HasTable old → Ordered (old.now.trees 0) → Shown page_text (Int last ∷ []) old new rows → length rows ≡ 0
-    → NoneBehind last (old.now.trees 0)
-page_ends old new last rows table ordered h none =
-    let params = Int last ∷ [] in
-    let got = reads_as page_text params old new stock_schema table.0 _ page_is.0 page_plain page_is.1 rows h in
-    let a : IsAnswer plain_page (overlay old.now.trees []) params rows = subst (λ q. IsAnswer q (overlay old.now.trees []) params rows) page_plainly (got.answer Null) in
-    let shown : length (take 1000 (map (λ (o : Output). o.1) a.ordered)) ≡ 0 = sym (ap length a.shown) ∙ none in
-    let ordered_none : length a.ordered ≡ 0 = sym (length-map a.ordered (λ (o : Output). o.1)) ∙ nothing_taken {X = Row} 1000 (map (λ (o : Output). o.1) a.ordered) (omega arith) shown in
-    let kept : length a.ordered ≡ length a.kept = length_permutation a.kept a.ordered a.same in
-    let staged : length a.kept ≡ length a.staged = ap length a.distinct ∙ length-map a.staged (output plain_page) in
-    let found : length a.staged ≡ length (flat_map (hits_behind last) (old.now.trees 0)) = ap length a.grouped in
-    none_behind last (old.now.trees 0) ordered.1 (sym (kept ∙ staged ∙ found) ∙ ordered_none)

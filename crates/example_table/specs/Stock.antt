@@ -1,5 +1,5 @@
 -- The table of a stock list in a database.
-use Rattle.std.specs.Prelude.{◌≡◌, ◌⊎◌, ◌<ℤ◌, ℤ, true, false, List, [], ◌∷◌, map, Some, codes, IsTrue}
+use Rattle.std.specs.Prelude.{◌≡◌, ◌⊎◌, ℤ, int_lt, true, false, List, [], ◌∷◌, filter, length, map, take, Some, codes, IsTrue}
 use Rattle.std.specs.List.{AllByRecursion}
 use Rattle.sqlite.specs.Collation.TheVariants.{Binary}
 use Rattle.sqlite.specs.declared.types.Value.{Value}
@@ -78,9 +78,21 @@ stored rows line = Int (next_rowid rows) ∷ Null ∷ params_of line
 abbrev pub Ordered : List Row → Type 0
 Ordered rows = IsTable rows × AllByRecursion (λ r. IsTrue (is_int (rowid r))) rows
 
--- no row stands behind the one with this rowid
-abbrev pub NoneBehind : ℤ → List Row → Type 0
-NoneBehind last rows = AllByRecursion (λ r. ¬ (last <ℤ id_in (rowid r))) rows
+-- the rows behind the one with this rowid
+abbrev pub behind : ℤ → List Row → List Row
+behind last = filter (λ r. int_lt last (id_in (rowid r)))
+
+-- what a query shows of a row: its rowid and its columns
+abbrev pub shown : Row → Row
+shown r = rowid r ∷ column r 2 ∷ column r 3 ∷ column r 4 ∷ column r 5 ∷ column r 6 ∷ []
+
+-- a page of the rows behind the one with this rowid: what is shown of the first thousand
+abbrev pub page_behind : ℤ → List Row → List Row
+page_behind last rows = take 1000 (map shown (behind last rows))
+
+-- these rows are what is shown of the first ones behind the one with this rowid
+abbrev pub IsFront : List Row → ℤ → List Row → Type 0
+IsFront page last rows = page ≡ take (length page) (map shown (behind last rows))
 
 -- the connection is open, and the disk gave back what was written to it
 abbrev pub IsUp : State → Type 0

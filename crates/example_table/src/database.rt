@@ -1,9 +1,9 @@
 //! The table as one that takes valid rows alone.
-ghost use Rattle.std.specs.Prelude.{◌≡◌, ◌↔◌, false, [], length, IfErr, IfOk, OnOk, IsTrue};
+ghost use Rattle.std.specs.Prelude.{◌≡◌, ◌↔◌, false, [], IfErr, IfOk, OnOk, IsTrue};
 ghost use Rattle.sqlite.specs.Held.{state};
 ghost use mathlib.Core.HLevel.{Π_prop};
 ghost use Rattle.example_table.specs.Props.{Holds-prop};
-ghost use Rattle.example_table.specs.Stock.{Holds, IsFree, IsNotMade, IsUp, NoneBehind};
+ghost use Rattle.example_table.specs.Stock.{Holds, IsFree, IsNotMade, IsUp, page_behind};
 
 use crate::opening::OpenError;
 use crate::statements;
@@ -64,10 +64,12 @@ impl<S: Alter + Drop> Stock<S> {
         }
     }
 
-    /// The rows behind the one with this rowid, a thousand at most.
+    /// The rows behind the one with this rowid, a thousand at most, in their order.
     pub(crate) fn page(&mut self, last: i64) -> Result<Vec<sqlite::Row>, Error>
-        ensures end { IsTrue self.new.is_made → IsUp (state S.Store self.new.conn)
-            → IfOk result (λ rows. length rows.items ≡ 0 → NoneBehind last ((state S.Store self.old.conn).now.trees 0)) }
+        ensures rows { IsTrue self.new.is_made → IsUp (state S.Store self.new.conn)
+            → IfOk result (λ rows. rows.items ≡ page_behind last ((state S.Store self.old.conn).now.trees 0)) }
+        ensures kept { IsTrue self.new.is_made → IsUp (state S.Store self.new.conn)
+            → OnOk result ((state S.Store self.new.conn).now.trees 0 ≡ (state S.Store self.old.conn).now.trees 0) }
         ensures made { self.new.is_made ≡ self.old.is_made }
     {
         match statements::page(&mut self.conn, last) {

@@ -1,16 +1,18 @@
 //! The rows of the table, read back.
-ghost use Rattle.std.specs.Prelude.{◌≡◌, ◌-◌, ◌^◌, negsuc, [], ◌∷◌, IfNone, IfOk, IfSome, IsTrue};
+ghost use Rattle.std.specs.Prelude.{◌≡◌, ◌-◌, ◌^◌, negsuc, [], ◌∷◌, IfOk, IfSome, IsTrue, OnErr, OnOk};
 ghost use Rattle.sqlite.specs.Held.{state};
+ghost use Rattle.sqlite.specs.Order.{column};
 ghost use Rattle.garde.specs.Words.{index_part};
-ghost use Rattle.example_table.specs.Reading.{IsStored};
-ghost use Rattle.example_table.specs.Stock.{IsUp, NoneBehind};
+ghost use Rattle.example_table.specs.Props.{IsFront-prop};
+ghost use Rattle.example_table.specs.Reading.{IsStored, IsStoredAs, Reads, Spells, line_shown, unsigned};
+ghost use Rattle.example_table.specs.Stock.{IsFront, IsUp, behind, cell};
 
 use crate::database::Stock;
 use example_import::row::Row;
 use garde::{Component, DefaultI18n, Report, Trail, Valid, Validate, ValidateError};
 use sqlite::{Alter, Error, ErrorCode};
 use std::alloc::{AllocError, Global};
-use std::vec::IntoIter;
+use std::collections::VecDeque;
 
 /// A row of the table. What the rules ask is known of a valid one.
 #[derive(Debug, Drop)]
@@ -25,22 +27,33 @@ pub enum Stored {
 #[derive(Drop)]
 pub struct Rows<'a, S: Alter> {
     stock: &'a mut Stock<S>,
-    page: IntoIter<sqlite::Row>,
+    /// The first of the rows behind `last`.
+    page: VecDeque<sqlite::Row>,
+    /// The rowid of the row that was read last.
     last: i64,
     /// How many rows were read.
     pub index: usize,
     alloc: Global,
+    ghost is_front: { IsTrue stock.now.is_made → IsUp (state S.Store stock.now.conn) → IsFront page.items last ((state S.Store stock.now.conn).now.trees 0) } by { IsFront-prop (IsTrue stock.now.is_made) (state S.Store stock.now.conn) page.items last },
+}
+
+/// The number in a column, if it has no sign.
+fn number(row: &sqlite::Row, at: usize) -> Result<Option<u64>, Error>
+    ensures { IfOk result (λ number. number ≡ unsigned (cell (column row.now at))) }
+{
+    let number: i64 = row.get(at)?;
+    Ok(u64::try_from(number).ok())
 }
 
 /// The row of an article, which a row of the table spells.
-fn row_of(row: &sqlite::Row) -> Result<Row, Error> {
-    let quantity: i64 = row.get(3)?;
-    let price: i64 = row.get(4)?;
+fn row_of(row: &sqlite::Row) -> Result<Row, Error>
+    ensures { IfOk result (Spells (line_shown row.now)) }
+{
     Ok(Row {
         code: row.get(1)?,
         name: row.get(2)?,
-        quantity: u64::try_from(quantity).ok(),
-        price: u64::try_from(price).ok(),
+        quantity: number(row, 3)?,
+        price: number(row, 4)?,
         page: row.get(5)?,
     })
 }
@@ -56,7 +69,7 @@ fn trail_to<'a>(alloc: Global, index: usize) -> Result<Trail<'a>, AllocError>
 
 /// A row with this index, validated.
 fn validated(alloc: Global, index: usize, row: Row) -> Result<Stored, Error>
-    ensures { IfOk result (IsStored index) }
+    ensures { IfOk result (IsStoredAs index row) }
 {
     let mut trail = trail_to(alloc, index)?;
     match row.validate_on(alloc, &(), &mut trail, &DefaultI18n) {
@@ -76,7 +89,7 @@ impl<S: Alter + Drop> Stock<S> {
     {
         Rows {
             stock: self,
-            page: Vec::new(alloc).into_iter(),
+            page: VecDeque::new(alloc),
             last: i64::MIN,
             index: 0,
             alloc,
@@ -85,23 +98,41 @@ impl<S: Alter + Drop> Stock<S> {
 }
 
 impl<'a, S: Alter + Drop> Rows<'a, S> {
-    /// The next row, or `None` behind the last one: of a table that was made here, it comes only where no
-    /// row is left.
+    /// Reads the next page, where no row of the last one is left.
+    fn fill(&mut self) -> Result<(), Error>
+        ensures same { (self.new.last ≡ self.old.last) × (self.new.index ≡ self.old.index) }
+        ensures made { self.new.stock.now.is_made ≡ self.old.stock.now.is_made }
+        ensures kept { IsTrue self.new.stock.now.is_made → IsUp (state S.Store self.new.stock.now.conn)
+            → OnOk result ((state S.Store self.new.stock.now.conn).now.trees 0 ≡ (state S.Store self.old.stock.now.conn).now.trees 0) }
+        ensures end { IsTrue self.new.stock.now.is_made → IsUp (state S.Store self.new.stock.now.conn)
+            → OnOk result (self.new.page.items ≡ [] → behind self.old.last ((state S.Store self.old.stock.now.conn).now.trees 0) ≡ []) }
+    {
+        if self.page.is_empty() {
+            self.page = VecDeque::from(self.stock.page(self.last)?);
+        }
+        Ok(())
+    }
+
+    /// The next row, or `None` behind the last one. Of a table that was made here, it is the first row
+    /// whose rowid is greater than that of the row before, and `None` comes only where no row is left.
+    /// A call that failed has read no row: the next one goes on behind the same row.
     pub fn next(&mut self) -> Result<Option<Stored>, Error>
         ensures stored { IfOk result (λ next. IfSome next (IsStored self.old.index)) }
-        ensures end { IsTrue self.new.stock.now.is_made → IsUp (state S.Store self.new.stock.now.conn)
-            → IfOk result (λ next. IfNone next
-            (NoneBehind self.old.last ((state S.Store self.old.stock.now.conn).now.trees 0))) }
+        ensures kept { IsTrue self.new.stock.now.is_made → IsUp (state S.Store self.new.stock.now.conn)
+            → OnOk result ((state S.Store self.new.stock.now.conn).now.trees 0 ≡ (state S.Store self.old.stock.now.conn).now.trees 0) }
+        ensures read { IsTrue self.new.stock.now.is_made → IsUp (state S.Store self.new.stock.now.conn)
+            → IfOk result (λ next. Reads ((state S.Store self.old.stock.now.conn).now.trees 0) self.old.last self.old.index next self.new.last) }
+        ensures err { OnErr result ((self.new.last ≡ self.old.last) × (self.new.index ≡ self.old.index)) }
     {
-        if self.page.len() == 0 {
-            self.page = self.stock.page(self.last)?.into_iter();
-        }
-        let Some(row) = self.page.next() else {
+        self.fill()?;
+        let Some(shown) = self.page.front() else {
             return Ok(None);
         };
-        self.last = row.get(0)?;
-        let index = self.index;
-        self.index = index.saturating_add(1);
-        Ok(Some(validated(self.alloc, index, row_of(&row)?)?))
+        let last = shown.get(0)?;
+        let stored = validated(self.alloc, self.index, row_of(shown)?)?;
+        self.last = last;
+        self.index = self.index.saturating_add(1);
+        self.page.pop_front();
+        Ok(Some(stored))
     }
 }

@@ -1,11 +1,11 @@
 //! The statements on the table.
-ghost use Rattle.std.specs.Prelude.{◌≡◌, false, [], ◌∷◌, length, IfOk, IfSome, OnOk, OnErr, IsTrue, ◌≤◌};
+ghost use Rattle.std.specs.Prelude.{◌≡◌, false, [], ◌∷◌, IfOk, IfSome, OnOk, OnErr, IsTrue, ◌≤◌};
 ghost use Rattle.sqlite.specs.Held.{state};
 ghost use Rattle.sqlite.specs.Values.{bound};
 ghost use Rattle.sqlite.specs.Tree.{put_row};
 ghost use Rattle.example_import.specs.Line.{line_of, number_cell, text_cell, page_bytes};
 ghost use Rattle.example_import.specs.Import.{Tells};
-ghost use Rattle.example_table.specs.Stock.{no_schema, stock_schema, value, lines_in, params_of, stored, IsUp, HasTable, NoneBehind, Ordered, Stays, Fails};
+ghost use Rattle.example_table.specs.Stock.{no_schema, stock_schema, value, lines_in, params_of, stored, IsUp, HasTable, Ordered, Stays, Fails, page_behind};
 
 use example_import::row::Row;
 use garde::Valid;
@@ -86,8 +86,8 @@ pub(crate) fn page<S: Alter>(conn: &mut Connection<S>, last: i64) -> Result<Vec<
     ensures up { IsUp (state S.Store conn.new) → IsUp (state S.Store conn.old) }
     ensures ok { IsUp (state S.Store conn.new) → HasTable (state S.Store conn.old)
         → OnOk result (Stays (state S.Store conn.old) (state S.Store conn.new)) }
-    ensures end { IsUp (state S.Store conn.new) → HasTable (state S.Store conn.old) → Ordered ((state S.Store conn.old).now.trees 0)
-        → IfOk result (λ rows. length rows.items ≡ 0 → NoneBehind last ((state S.Store conn.old).now.trees 0)) }
+    ensures rows { IsUp (state S.Store conn.new) → HasTable (state S.Store conn.old) → Ordered ((state S.Store conn.old).now.trees 0)
+        → IfOk result (λ rows. rows.items ≡ page_behind last ((state S.Store conn.old).now.trees 0)) }
     ensures err { IsUp (state S.Store conn.new) → OnErr result (Fails (state S.Store conn.old) (state S.Store conn.new)) }
 {
     match conn.query_all(
