@@ -100,8 +100,8 @@ in_order a b less = then-Equal (value_cmp (rowid a) (rowid b)) ∙ less
 rises : (last : ℤ) (rows : List Row) → IsTable rows → IsAscending (λ a b. output_cmp page_query a b ≡ Less) (map put_out (behind last rows))
 rises last rows table =
     ascending-map (λ a b. output_cmp page_query a b ≡ Less) put_out (behind last rows) (
-      ascending-filter (λ a b. output_cmp page_query (put_out a) (put_out b) ≡ Less) (λ r. int_lt last (id_in (rowid r))) rows (
-        ascending_weaker (λ a b. value_cmp (rowid a) (rowid b) ≡ Less) (λ a b. output_cmp page_query (put_out a) (put_out b) ≡ Less) in_order rows table))
+    ascending-filter (λ a b. output_cmp page_query (put_out a) (put_out b) ≡ Less) (λ r. int_lt last (id_in (rowid r))) rows (
+    ascending_weaker (λ a b. value_cmp (rowid a) (rowid b) ≡ Less) (λ a b. output_cmp page_query (put_out a) (put_out b) ≡ Less) in_order rows table))
 
 -- a page is what is shown of the first thousand rows behind one, in their order
 pub page_shows : (old new : State) (last : ℤ) (rows : List Row) → HasTable old → Ordered (old.now.trees 0) → Shown page_text (Int last ∷ []) old new rows → rows ≡ page_behind last (old.now.trees 0)
