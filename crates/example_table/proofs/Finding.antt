@@ -34,7 +34,7 @@ use Rattle.sqlite_value.proofs.OrderLemmas.{value_cmp-Int, value_cmp-Text, value
 use Rattle.sqlite_tied.specs.Compute.{everything}
 use Rattle.example_import.specs.Line.{text}
 use Rattle.example_import.specs.Import.{Tells}
-use Rattle.example_table.specs.Stock.{stock_schema, cell, lines_in, HasTable, NoneBehind, Ordered, Stays}
+use Rattle.example_table.specs.Stock.{stock_schema, cell, lines_in, HasTable, Ordered, Stays}
 
 abbrev pub select_text : List ℕ
 select_text = codes "SELECT id FROM stock WHERE code = ?1"
