@@ -4,7 +4,7 @@ ghost use Rattle.csv.specs.Records.{fields_of};
 ghost use Rattle.garde_schema.specs.Forms.{forget};
 ghost use Rattle.garde_rows.specs.Rows.{AnswersRow, header_visits};
 
-use crate::fields::row_fields;
+use crate::fields::Room;
 use csv::StringRecord;
 use garde::{I18n, ValidateError};
 use garde_schema::{Closed, FormI18n, Members, Object, Tree, read};
@@ -43,11 +43,12 @@ pub fn read_columns<'a, M: Members<'a> + Drop, H: I18n + FormI18n>(
         (H.text h.now) (forget result) }
     ensures columns { IfOk result (λ columns. columns ≡ fields_of header.now) }
 {
-    let Ok(fields) = row_fields(alloc, header, header) else {
+    let mut room = Room::new(alloc);
+    let Ok(fields) = room.fill(alloc, header, header) else {
         return Err(ValidateError::Memory);
     };
     let form = Object(Closed(known));
-    match read(alloc, &form, &Tree::fields(fields.as_slice()), h) {
+    match read(alloc, &form, &Tree::fields(fields), h) {
         Ok(_) => Ok(Columns { header }),
         Err(error) => Err(error),
     }

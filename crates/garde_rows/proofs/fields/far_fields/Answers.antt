@@ -1,7 +1,7 @@
 use Rattle.std.proofs.Common.{◌≡◌, ◌+◌, Some, [], inl, inr, ap, sym, ◌∙◌}
 use Rattle.csv.specs.Records.{field_at, fields_of}
 use Rattle.garde_rows.proofs.Cells.{cell_then, no_column_left, no_cell_left, cells_from, one_more, all_cells}
-use Rattle.garde_rows.proofs.fields.row_fields.Goals as goal
+use Rattle.garde_rows.proofs.fields.far_fields.Goals as goal
 
 pub loop-name-preserved : goal.loop-name-preserved
 loop-name-preserved c =
