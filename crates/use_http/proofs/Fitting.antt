@@ -31,7 +31,7 @@ use Rattle.http_server.specs.declared.state.Config.{Config}
 use Rattle.http_server.specs.declared.response.Response.{Response}
 use Rattle.http_server.specs.Exchange.{Call, Exchanges}
 use Rattle.use_http.specs.declared.request.Route.{Route}
-use Rattle.use_http.specs.declared.request.Route.TheVariants.{Order, OtherForm, OtherOfOrders, Health, OtherOfHealth, Nowhere, Unserved, BadTarget}
+use Rattle.use_http.specs.declared.request.Route.TheVariants.{Order, OtherForm, OtherOfOrders, Health, OtherOfHealth, Description, OtherOfDescription, Nowhere, Unserved, BadTarget}
 use Rattle.use_http.specs.Answered.{voice_at, IsAnswered, IsAnsweredSometime, AnswersRoute}
 use Rattle.use_http.specs.Fits.{Fits, IsOrderIn, IsFaultless, HasReport, IsProblemOf, IsShort, ReadsIn}
 use Rattle.use_http.specs.Judged.{Reads, Tells, Voice}
@@ -51,18 +51,30 @@ pub is_one_language : (catalogs : Catalogs) (one other : Option ℕ) (head : Par
     → one ≡ other
 is_one_language catalogs one other head a b = is_one_place (offered_by catalogs) (get head.headers (codes "accept-language")) one other a b
 
-abbrev second : List ℕ → ℕ
-second [] = 0
-second (a ∷ []) = 0
-second (a ∷ b ∷ rest) = b
+abbrev third : List ℕ → ℕ
+third [] = 0
+third (a ∷ []) = 0
+third (a ∷ b ∷ []) = 0
+third (a ∷ b ∷ c ∷ rest) = c
 
--- one path is not that of orders and of health
+-- two texts that a path is have one third byte
+same_third : (path one other : List ℕ) → Is path one → Is path other → third one ≡ third other
+same_third path one other is is_other = ap third (sym ((bytes_eq-Decides path one).0 is) ∙ (bytes_eq-Decides path other).0 is_other)
+
+-- no path is two of those of orders, of health and of the description
 not_both : (path : List ℕ) → Is path (codes "/orders") → Is path (codes "/health") → ⊥
 not_both path orders health =
-    let one : path ≡ codes "/orders" = (bytes_eq-Decides path (codes "/orders")).0 orders in
-    let two : path ≡ codes "/health" = (bytes_eq-Decides path (codes "/health")).0 health in
-    let same : codes "/orders" ≡ codes "/health" = sym one ∙ two in
-    let differ : 111 ≡ 104 = ap second same in
+    let differ : 114 ≡ 101 = same_third path (codes "/orders") (codes "/health") orders health in
+    omega (arith, differ)
+
+not_described : (path : List ℕ) → Is path (codes "/orders") → Is path (codes "/openapi.json") → ⊥
+not_described path orders described =
+    let differ : 114 ≡ 112 = same_third path (codes "/orders") (codes "/openapi.json") orders described in
+    omega (arith, differ)
+
+not_healthy : (path : List ℕ) → Is path (codes "/health") → Is path (codes "/openapi.json") → ⊥
+not_healthy path health described =
+    let differ : 101 ≡ 112 = same_third path (codes "/health") (codes "/openapi.json") health described in
     omega (arith, differ)
 
 other_path : (path text : List ℕ) → Is path text → IsNot path text → ⊥
@@ -74,6 +86,8 @@ only_order OtherForm head is order = absurd (is.2 order.2)
 only_order OtherOfOrders head is order = absurd (other_path head.method (codes "POST") order.1 is.1)
 only_order Health head is order = absurd (not_both (path_of head) order.0 is.0)
 only_order OtherOfHealth head is order = absurd (not_both (path_of head) order.0 is.0)
+only_order Description head is order = absurd (not_described (path_of head) order.0 is.0)
+only_order OtherOfDescription head is order = absurd (not_described (path_of head) order.0 is.0)
 only_order Nowhere head is order = absurd (other_path (path_of head) (codes "/orders") order.0 is.0)
 only_order Unserved head is order = absurd (other_path (path_of head) (codes "/orders") order.0 is.0)
 only_order BadTarget head is order = absurd (other_path (path_of head) (codes "/orders") order.0 is.0)
@@ -89,6 +103,8 @@ only_health OtherForm head is health = absurd (not_both (path_of head) is.0 heal
 only_health OtherOfOrders head is health = absurd (not_both (path_of head) is.0 health.0)
 only_health Health head is health = refl
 only_health OtherOfHealth head is health = absurd (other_method head.method health.1 is.1 is.2)
+only_health Description head is health = absurd (not_healthy (path_of head) health.0 is.0)
+only_health OtherOfDescription head is health = absurd (not_healthy (path_of head) health.0 is.0)
 only_health Nowhere head is health = absurd (other_path (path_of head) (codes "/health") health.0 is.1)
 only_health Unserved head is health = absurd (other_path (path_of head) (codes "/health") health.0 is.1)
 only_health BadTarget head is health = absurd (other_path (path_of head) (codes "/health") health.0 is.1)
@@ -206,6 +222,10 @@ module _ (catalogs : Catalogs) where
       other head body _ sent Health is_route (λ e. cc) (λ e. omega (arith, e, a.status)) (λ e. omega (arith, e, a.status))
   by_route head body plain sent OtherOfHealth is_route a is =
       other head body _ sent OtherOfHealth is_route (λ e. cc) (λ e. omega (arith, e, a.status)) (λ e. omega (arith, e, a.status))
+  by_route head body plain sent Description is_route a is =
+      other head body _ sent Description is_route (λ e. cc) (λ e. omega (arith, e, a.status)) (λ e. omega (arith, e, a.status))
+  by_route head body plain sent OtherOfDescription is_route a is =
+      other head body _ sent OtherOfDescription is_route (λ e. cc) (λ e. omega (arith, e, a.status)) (λ e. omega (arith, e, a.status))
   by_route head body plain sent Nowhere is_route a is =
       other head body _ sent Nowhere is_route (λ e. cc) (λ e. omega (arith, e, a.status)) (λ e. omega (arith, e, a.status))
   by_route head body plain sent Unserved is_route a is =
@@ -273,6 +293,8 @@ module _ (catalogs : Catalogs) where
   stays_http OtherOfOrders head body plain a = λ e. omega (arith, e, a.status)
   stays_http Health head body plain a = λ e. omega (arith, e, a.status)
   stays_http OtherOfHealth head body plain a = λ e. omega (arith, e, a.status)
+  stays_http Description head body plain a = λ e. omega (arith, e, a.status)
+  stays_http OtherOfDescription head body plain a = λ e. omega (arith, e, a.status)
   stays_http Nowhere head body plain a = λ e. omega (arith, e, a.status)
   stays_http Unserved head body plain a = λ e. omega (arith, e, a.status)
   stays_http BadTarget head body plain a = λ e. omega (arith, e, a.status)

@@ -13,8 +13,9 @@ use Rattle.http1.specs.Fields.{Header}
 use Rattle.http_server.specs.declared.response.Response.{Response}
 use Rattle.http_server.specs.Response.{IsResponse}
 use Rattle.httpdate.specs.declared.date.HttpDate.{HttpDate}
+use Rattle.use_http.specs.declared.description.TheConstants.{OPEN_API}
 use Rattle.use_http.specs.declared.request.Route.{Route}
-use Rattle.use_http.specs.declared.request.Route.TheVariants.{Order, OtherForm, OtherOfOrders, Health, OtherOfHealth, Nowhere, Unserved, BadTarget}
+use Rattle.use_http.specs.declared.request.Route.TheVariants.{Order, OtherForm, OtherOfOrders, Health, OtherOfHealth, Description, OtherOfDescription, Nowhere, Unserved, BadTarget}
 use Rattle.use_http.specs.declared.refused.Refused.{Refused}
 use Rattle.use_http.specs.declared.refused.Refused.TheVariants.{BadRequest, NotFound, MethodNotAllowed, UnsupportedMediaType, NotImplemented}
 use Rattle.use_http.specs.Dated.{IsDated}
@@ -40,6 +41,10 @@ abbrev pub IsJudged : Catalogs → Parts → List ℕ → Response → Type 0
 IsJudged catalogs head body response =
     (place : Option ℕ) × IsLanguage catalogs place head × Judges (voice_at catalogs place) body response
 
+-- the field that says that a body is JSON
+abbrev pub json_fields : List Header
+json_fields = (codes "content-type", codes "application/json") ∷ []
+
 -- no order is judged, for this reason, with these fields beside the type of the body
 abbrev pub Refuses : Refused → List Header → Response → Type 0
 Refuses why fields response = IsResponse (status_of why) (problem_fields ++ fields) (problem_of why) response
@@ -52,6 +57,8 @@ AnswersRoute catalogs OtherForm head body response =
 AnswersRoute catalogs OtherOfOrders head body response = Refuses MethodNotAllowed ((codes "allow", codes "POST") ∷ []) response
 AnswersRoute catalogs Health head body response = IsResponse 200 [] [] response
 AnswersRoute catalogs OtherOfHealth head body response = Refuses MethodNotAllowed ((codes "allow", codes "GET, HEAD") ∷ []) response
+AnswersRoute catalogs Description head body response = IsResponse 200 json_fields OPEN_API.now response
+AnswersRoute catalogs OtherOfDescription head body response = Refuses MethodNotAllowed ((codes "allow", codes "GET, HEAD") ∷ []) response
 AnswersRoute catalogs Nowhere head body response = Refuses NotFound [] response
 AnswersRoute catalogs Unserved head body response = Refuses NotImplemented [] response
 AnswersRoute catalogs BadTarget head body response = Refuses BadRequest [] response

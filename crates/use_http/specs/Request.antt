@@ -12,7 +12,7 @@ use Rattle.http_header.specs.FieldValue.{FieldValue}
 use Rattle.http_header.specs.HeaderMap.{get}
 use Rattle.http_uri.specs.Uri.{uri_path}
 use Rattle.use_http.specs.declared.request.Route.{Route}
-use Rattle.use_http.specs.declared.request.Route.TheVariants.{Order, OtherForm, OtherOfOrders, Health, OtherOfHealth, Nowhere, Unserved, BadTarget}
+use Rattle.use_http.specs.declared.request.Route.TheVariants.{Order, OtherForm, OtherOfOrders, Health, OtherOfHealth, Description, OtherOfDescription, Nowhere, Unserved, BadTarget}
 use Rattle.use_http.specs.declared.request.TheConstants.{TYPE_ENDS}
 
 -- the value ends there, or one of these bytes stands there
@@ -70,6 +70,10 @@ IsRoute OtherOfOrders head = Is (path_of head) (codes "/orders") × IsNot head.m
 IsRoute Health head = Is (path_of head) (codes "/health") × (Is head.method (codes "GET") ⊎ Is head.method (codes "HEAD"))
 IsRoute OtherOfHealth head =
     Is (path_of head) (codes "/health") × IsNot head.method (codes "GET") × IsNot head.method (codes "HEAD")
+IsRoute Description head =
+    Is (path_of head) (codes "/openapi.json") × (Is head.method (codes "GET") ⊎ Is head.method (codes "HEAD"))
+IsRoute OtherOfDescription head =
+    Is (path_of head) (codes "/openapi.json") × IsNot head.method (codes "GET") × IsNot head.method (codes "HEAD")
 IsRoute route head =
-    IsNot (path_of head) (codes "/orders") × IsNot (path_of head) (codes "/health")
+    IsNot (path_of head) (codes "/orders") × IsNot (path_of head) (codes "/health") × IsNot (path_of head) (codes "/openapi.json")
     × IsRouteElsewhere route (path_of head) head.method

@@ -1,5 +1,6 @@
 //! What is answered to the body of an order.
-ghost use Rattle.std.specs.Prelude.{◌≡◌, ◌++◌, [], OnOk};
+ghost use Rattle.std.specs.Prelude.{◌≡◌, ◌∷◌, ◌++◌, [], IsTrue, OnOk, codes};
+ghost use Rattle.http_header.specs.FieldValue.{is_visible_text};
 ghost use Rattle.garde_catalog.specs.Parse.{catalog_parse_text};
 ghost use Rattle.http_server.specs.Response.{IsBlank, IsResponse};
 ghost use Rattle.use_http.specs.Answered.{voice};
@@ -22,6 +23,23 @@ fn put(body: &mut Rope, text: &[u8]) -> Result<(), AllocError>
     body.put_slice(text)
 }
 
+/// Answers with a text of this media type.
+pub fn put_text(
+    response: &mut Response,
+    status: StatusCode,
+    media: &'static str,
+    text: &str,
+) -> Result<(), AllocError>
+    requires blank { IsBlank response.old }
+    requires value { IsTrue (is_visible_text media.now) }
+    ensures { OnOk result (IsResponse status ((codes "content-type", media.now) ∷ []) text.now
+        response.new) }
+{
+    response.status = status;
+    response.add_header(header::CONTENT_TYPE, HeaderValue::from_static(media))?;
+    put(&mut response.body, text.as_bytes())
+}
+
 /// Answers with problem details.
 pub fn put_problem(
     response: &mut Response,
@@ -31,10 +49,7 @@ pub fn put_problem(
     requires { IsBlank response.old }
     ensures { OnOk result (IsResponse status problem_fields text.now response.new) }
 {
-    let media = HeaderValue::from_static("application/problem+json");
-    response.status = status;
-    response.add_header(header::CONTENT_TYPE, media)?;
-    put(&mut response.body, text.as_bytes())
+    put_text(response, status, "application/problem+json", text)
 }
 
 /// Answers with problem details in the language of this tag, which is one that a field may have: with

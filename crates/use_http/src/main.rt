@@ -5,6 +5,7 @@
 mod answer;
 mod command;
 mod date;
+mod description;
 mod order;
 mod refusal;
 mod refused;

@@ -21,6 +21,10 @@ pub enum Route {
     Health,
     /// Anything else of that path.
     OtherOfHealth,
+    /// The description of the service.
+    Description,
+    /// Anything else of that path.
+    OtherOfDescription,
     /// Another path.
     Nowhere,
     /// A tunnel, or what the server as a whole can do (RFC 9112, sections 3.2.3 and 3.2.4).
@@ -107,12 +111,20 @@ pub fn route_of(request: &Request<Bytes>) -> Route
     let (path, method) = (request.uri().path(), request.method().as_str());
     if path == "/orders" {
         route_of_orders(request)
-    } else if path != "/health" {
-        route_elsewhere(path, method)
-    } else if method == "GET" || method == "HEAD" {
-        Route::Health
+    } else if path == "/health" {
+        if method == "GET" || method == "HEAD" {
+            Route::Health
+        } else {
+            Route::OtherOfHealth
+        }
+    } else if path == "/openapi.json" {
+        if method == "GET" || method == "HEAD" {
+            Route::Description
+        } else {
+            Route::OtherOfDescription
+        }
     } else {
-        Route::OtherOfHealth
+        route_elsewhere(path, method)
     }
 }
 

@@ -3,18 +3,19 @@ ghost use Rattle.std.specs.Prelude.{◌≡◌, [], ◌∷◌, ◌++◌, IsOk, Is
 ghost use Rattle.http.specs.Request.{head_of, body_of};
 ghost use Rattle.http_header.specs.FieldValue.{is_visible_text};
 ghost use Rattle.http_server.specs.Response.{IsBlank, IsResponse};
-ghost use Rattle.use_http.specs.Answered.{AnswersRoute, IsAnswered, IsAnsweredSometime, IsJudged};
+ghost use Rattle.use_http.specs.Answered.{AnswersRoute, IsAnswered, IsAnsweredSometime, IsJudged, json_fields};
 ghost use Rattle.use_http.specs.Judged.{problem_fields};
 ghost use Rattle.use_http.specs.Refused.{status_of, problem_of};
 ghost use Rattle.use_http.specs.Request.{IsRoute};
 
-use crate::answer::{judge, put_problem};
+use crate::answer::{judge, put_problem, put_text};
 use crate::date::{date_of, put_date};
+use crate::description::OPEN_API;
 use crate::refused::Refused;
 use crate::request::{Route, language_of, route_of};
 use bytes::Bytes;
 use garde_catalog::Catalogs;
-use http::{HeaderName, HeaderValue, Request, header};
+use http::{HeaderName, HeaderValue, Request, StatusCode, header};
 use http_server::{Response, Service};
 use httpdate::HttpDate;
 use std::alloc::{AllocError, Global};
@@ -43,6 +44,14 @@ fn put_offer(
 {
     put_refused(response, why)?;
     response.add_header(name, HeaderValue::from_static(offer))
+}
+
+/// Answers with the description of the service.
+fn put_description(response: &mut Response) -> Result<(), AllocError>
+    requires { IsBlank response.old }
+    ensures { OnOk result (IsResponse 200 json_fields OPEN_API.now response.new) }
+{
+    put_text(response, StatusCode::OK, "application/json", OPEN_API)
 }
 
 /// Judges an order in the language that the request asks for.
@@ -85,6 +94,8 @@ fn answer_route(
         Route::OtherOfOrders => put_offer(response, other, header::ALLOW, "POST"),
         Route::Health => Ok(()),
         Route::OtherOfHealth => put_offer(response, other, header::ALLOW, "GET, HEAD"),
+        Route::Description => put_description(response),
+        Route::OtherOfDescription => put_offer(response, other, header::ALLOW, "GET, HEAD"),
         Route::Nowhere => put_refused(response, Refused::NotFound),
         Route::Unserved => put_refused(response, Refused::NotImplemented),
         Route::BadTarget => put_refused(response, Refused::BadRequest),

@@ -3,7 +3,7 @@ The order is that of `example_order` too."""
 import re
 import typing
 
-from lib import languages
+from lib import languages, repository
 from lib.described import Case, run
 from lib.faults import between, chars, items, prefix
 from lib.form import Closed, ListUnder, Member, Object, Text, Whole, read
@@ -24,8 +24,9 @@ PHRASES = {
     415: "Unsupported Media Type", 431: "Request Header Fields Too Large", 501: "Not Implemented", 505: "HTTP Version Not Supported",
 }
 TARGETS = {"": "CONNECT", "*": "OPTIONS"}
+DESCRIPTION = "tools/tests/library/order.openapi.json"
 MEDIA = ("", "text/plain", "application/json; charset=utf-8", "application/jsonp", "APPLICATION/JSON")
-PATHS = ("/orders", "/orders?x=1", "/health", "/", "/orders/1", "orders", "x:80", "*", "http://x/orders", "http://x")
+PATHS = ("/orders", "/orders?x=1", "/health", "/openapi.json", "/openapi.json?x", "/openapi", "/", "/orders/1", "orders", "x:80", "*", "http://x/orders", "http://x")
 
 
 RANGES = ("en", "cs", "cs-CZ", "CS", "csb", "de-AT-1901", "zh-Hant-TW", "zh-CN", "pt", "ja", "ar-EG", "tlh", "*", "e", "", "fr--ca", "hi-abcdefghi")
@@ -85,6 +86,8 @@ def answer(request):
         return refused(501 if request.method == TARGETS[path] else 400)
     if path == "/health":
         return (200, b"") if request.method in ("GET", "HEAD") else refused(405)
+    if path == "/openapi.json":
+        return (200, repository.text_of(DESCRIPTION).encode()) if request.method in ("GET", "HEAD") else refused(405)
     if path != "/orders":
         return refused(404)
     if request.method != "POST":
@@ -92,6 +95,11 @@ def answer(request):
     if not re.fullmatch(r"application/json([; \t].*)?", request.media, re.IGNORECASE):
         return refused(415)
     return judged(request.body, tag_of(request))
+
+
+def media_of(status, body):
+    """The type of an answer: its only one with status 200 and a body is the description."""
+    return ("application/json" if status == 200 else "application/problem+json") if body else None
 
 
 def offered(request, status):
@@ -152,7 +160,7 @@ def wanted(case):
     """The status of the run, the status of the answer, its type, its body, its language, what it offers, and standard error."""
     request = request_of(case.given)
     status, body = answer(request)
-    return 0, status, "application/problem+json" if body else None, body, spoken(request, status), offered(request, status), b""
+    return 0, status, media_of(status, body), body, spoken(request, status), offered(request, status), b""
 
 
 def status(answer):
