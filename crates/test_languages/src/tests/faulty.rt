@@ -34,7 +34,11 @@ static TEXTS: [(Key, &str, TemplateFault); 9] = [
 ];
 
 // How many faults a table has, and whether this is one of them.
-fn faults_of(alloc: Global, table: &[Entry<'_>], wanted: CatalogFault) -> Option<(usize, bool)> {
+fn faults_of<'t>(
+    alloc: Global,
+    table: &'t [Entry<'t>],
+    wanted: CatalogFault,
+) -> Option<(usize, bool)> {
     match Catalog::new(alloc, table) {
         Err(CatalogError::Faults(faults)) => {
             Some((faults.len(), faults.as_slice().contains(&wanted)))
