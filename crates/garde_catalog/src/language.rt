@@ -3,7 +3,7 @@
 use crate::catalog::Entry;
 use crate::tables::{
     ARABIC, CHINESE, CZECH, DUTCH, ENGLISH, FRENCH, GERMAN, HINDI, ITALIAN, JAPANESE, KOREAN,
-    POLISH, PORTUGUESE, RUSSIAN, SPANISH, TURKISH, UKRAINIAN,
+    POLISH, PORTUGUESE, RUSSIAN, SPANISH, SWEDISH, TURKISH, UKRAINIAN,
 };
 
 /// A language: its tag and the table of its texts.
@@ -22,7 +22,7 @@ fn tagged(tag: &'static str, table: &'static [Entry<'static>]) -> Language {
 
 /// The languages that are shipped, each under its tag. Portuguese of any country is that of Brazil,
 /// and Chinese of any country is in simplified characters, so these have several tags.
-pub fn languages() -> [Language; 21] {
+pub fn languages() -> [Language; 22] {
     [
         tagged("en", &ENGLISH),
         tagged("de", &GERMAN),
@@ -32,6 +32,7 @@ pub fn languages() -> [Language; 21] {
         tagged("pt-BR", &PORTUGUESE),
         tagged("pt", &PORTUGUESE),
         tagged("nl", &DUTCH),
+        tagged("sv", &SWEDISH),
         tagged("pl", &POLISH),
         tagged("cs", &CZECH),
         tagged("ru", &RUSSIAN),

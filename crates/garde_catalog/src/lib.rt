@@ -1,4 +1,4 @@
-//! Handlers whose texts are a table, one template for each kind of fault; tables in 17 languages; and
+//! Handlers whose texts are a table, one template for each kind of fault; tables in 18 languages; and
 //! which of them a request asks for.
 #![tactic(auto)]
 
@@ -24,6 +24,6 @@ pub use language::{Language, languages};
 pub use lookup::Range;
 pub use tables::{
     ARABIC, CHINESE, CZECH, DUTCH, ENGLISH, FRENCH, GERMAN, HINDI, ITALIAN, JAPANESE, KOREAN,
-    POLISH, PORTUGUESE, RUSSIAN, SPANISH, TURKISH, UKRAINIAN,
+    POLISH, PORTUGUESE, RUSSIAN, SPANISH, SWEDISH, TURKISH, UKRAINIAN,
 };
 pub use template::TemplateFault;

@@ -15,6 +15,7 @@ mod polish;
 mod portuguese;
 mod russian;
 mod spanish;
+mod swedish;
 mod turkish;
 mod ukrainian;
 
@@ -33,5 +34,6 @@ pub use polish::POLISH;
 pub use portuguese::PORTUGUESE;
 pub use russian::RUSSIAN;
 pub use spanish::SPANISH;
+pub use swedish::SWEDISH;
 pub use turkish::TURKISH;
 pub use ukrainian::UKRAINIAN;
