@@ -4,6 +4,7 @@
 #![tactic(auto)]
 
 mod faults;
+mod language;
 mod options;
 mod order;
 mod rely;
@@ -11,11 +12,13 @@ mod rely;
 mod tests;
 
 use crate::faults::{report_lines, stop_line};
+use crate::language::catalog_of;
 use crate::options::{Options, Task, USAGE};
 use crate::order::{Order, Page};
 use crate::rely::{cost, destination, first};
 use anyhow::{Result, bail};
-use garde::{DefaultI18n, Report, Valid};
+use garde::{Report, Valid};
+use garde_catalog::Catalog;
 use garde_library::ReadBody;
 use garde_places::{Format, stop_of};
 use garde_problem::{Escaped, WithCodes};
@@ -71,10 +74,15 @@ fn read(rt: &HostRuntime, file: Option<&str>) -> Result<Vec<u8>> {
 }
 
 /// Confirms each order of a page, or prints its faults with their paths, so many at most.
-fn judge(rt: &HostRuntime, body: &[u8], most: usize) -> Result<ExitCode> {
+fn judge(
+    rt: &HostRuntime,
+    catalog: &Catalog<'static>,
+    body: &[u8],
+    most: usize,
+) -> Result<ExitCode> {
     let alloc = rt.alloc();
     let mut scratch = Scratch::new(alloc);
-    match Page::read_body(alloc, body, &mut scratch, most, &DefaultI18n) {
+    match Page::read_body(alloc, body, &mut scratch, most, catalog) {
         Ok(page) => {
             confirm_all(rt, Valid::known(page, &()))?;
             Ok(ExitCode::SUCCESS)
@@ -87,6 +95,7 @@ fn judge(rt: &HostRuntime, body: &[u8], most: usize) -> Result<ExitCode> {
             println!(rt; "{}there are more", Escaped(alloc, &report))?;
             Ok(ExitCode::FAILURE)
         }
+        Err(FirstReadError::Parse(error)) => bail!("{}", catalog.parse_error(alloc, &error)?),
         Err(error) => Err(error.into()),
     }
 }
@@ -102,12 +111,13 @@ struct Printed<'w> {
 fn judge_places(
     rt: &HostRuntime,
     printed: Printed<'_>,
+    catalog: &Catalog<'static>,
     body: &[u8],
     most: usize,
 ) -> Result<ExitCode> {
     let alloc = rt.alloc();
     let mut scratch = Scratch::new(alloc);
-    match Page::read_body(alloc, body, &mut scratch, most, &WithCodes(DefaultI18n)) {
+    match Page::read_body(alloc, body, &mut scratch, most, &WithCodes(catalog)) {
         Ok(page) => {
             confirm_all(rt, Valid::known(page, &()))?;
             Ok(ExitCode::SUCCESS)
@@ -154,13 +164,14 @@ fn without_mark(body: &[u8]) -> &[u8] {
 
 /// Reads and judges a page.
 fn check(rt: &HostRuntime, options: Options<'_>) -> Result<ExitCode> {
+    let catalog = catalog_of(rt.alloc(), options.language)?;
     let body = read(rt, options.file)?;
     let most = options.most.unwrap_or(usize::MAX);
     let Some(format) = options.format else {
-        return judge(rt, &body, most);
+        return judge(rt, &catalog, &body, most);
     };
     let file = options.file.unwrap_or("<stdin>");
-    judge_places(rt, Printed { format, file }, &body, most)
+    judge_places(rt, Printed { format, file }, &catalog, &body, most)
 }
 
 /// Does what the words of the command line ask for.

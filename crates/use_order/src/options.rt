@@ -4,11 +4,12 @@ use garde_places::Format;
 
 /// How the program is called.
 pub const USAGE: &str = "\
-usage: use_order [--format FORMAT] [N] [FILE | -]
+usage: use_order [--language TAG] [--format FORMAT] [N] [FILE | -]
 Reads a page of orders in JSON, and confirms each of them or prints every fault.
 
   FILE             reads this file, and without a name or with - standard input
   N                prints at most N faults, N from 1
+  --language TAG   prints faults in this language, as de or pt-BR, and without it in English
   --format FORMAT  prints faults as short, json or github with their places, or as plain without;
                    else as short where FILE or - stands, and as plain where none does
   --help           prints this";
@@ -22,6 +23,8 @@ pub struct Options<'w> {
     pub most: Option<usize>,
     /// How faults are printed. Those of `None` are plain.
     pub format: Option<Format>,
+    /// The tag of the language in which faults are printed, and none for English.
+    pub language: Option<&'w str>,
 }
 
 /// What is to be done.
@@ -48,6 +51,16 @@ impl<'w> Task<'w> {
 
 const NO_FORMAT: &str = "--format must be followed by short, json, github or plain";
 
+const NO_LANGUAGE: &str = "--language must be followed by the tag of a language";
+
+/// What the next word is: one that stands alone, or that of an option.
+#[derive(Clone, Copy)]
+enum Next {
+    Alone,
+    Format,
+    Language,
+}
+
 /// The words that were taken. Each may be left out and stands once.
 #[derive(Clone, Copy)]
 struct Words<'w> {
@@ -55,6 +68,7 @@ struct Words<'w> {
     most: Option<usize>,
     /// The format, and `Some(None)` for plain.
     format: Option<Option<Format>>,
+    language: Option<&'w str>,
 }
 
 impl<'w> Words<'w> {
@@ -63,26 +77,39 @@ impl<'w> Words<'w> {
             file: None,
             most: None,
             format: None,
+            language: None,
         };
-        let mut is_format = false;
+        let mut next = Next::Alone;
         for word in words {
-            if is_format {
-                taken.format = Some(format(word)?);
-                is_format = false;
-            } else if word.as_str() == "--format" && taken.format.is_none() {
-                is_format = true;
-            } else {
-                taken.take(word)?;
+            next = taken.take(next, word)?;
+        }
+        match next {
+            Next::Alone => Ok(taken),
+            Next::Format => Err(NO_FORMAT),
+            Next::Language => Err(NO_LANGUAGE),
+        }
+    }
+
+    // Takes a word, and says what the next one is.
+    fn take(&mut self, next: Next, word: &'w str) -> Result<Next, &'static str> {
+        match next {
+            Next::Format => self.format = Some(format(word)?),
+            Next::Language => self.language = Some(word),
+            Next::Alone => {
+                if word == "--format" && self.format.is_none() {
+                    return Ok(Next::Format);
+                }
+                if word == "--language" && self.language.is_none() {
+                    return Ok(Next::Language);
+                }
+                self.take_alone(word)?;
             }
         }
-        if is_format {
-            return Err(NO_FORMAT);
-        }
-        Ok(taken)
+        Ok(Next::Alone)
     }
 
     // Takes a word that stands alone: a number, or the name of a file.
-    fn take(&mut self, word: &'w str) -> Result<(), &'static str> {
+    fn take_alone(&mut self, word: &'w str) -> Result<(), &'static str> {
         if is_name(word) {
             if self.file.is_some() {
                 return Err("there must be one file at most");
@@ -107,6 +134,7 @@ impl<'w> Words<'w> {
             file: self.file.filter(|name| *name != "-"),
             most: self.most,
             format: self.format.unwrap_or(named),
+            language: self.language,
         }
     }
 }
