@@ -1,4 +1,4 @@
-//! The language in which faults are told.
+//! The language in which faults are reported.
 
 use anyhow::{Result, bail};
 use garde_catalog::{Catalog, Language, languages};
