@@ -86,7 +86,7 @@ abbrev pub text_in_place : List Entry → Key → Option (List ℕ)
 text_in_place entries key = text_on (slice_get entries (number_of key)) key
 
 -- the text of a key: that of the line in its place, if it has the key, and else the only one that the tables have
-abbrev pub word_in : List Entry → List Entry → Key → List ℕ
+pub word_in : List Entry → List Entry → Key → List ℕ
 word_in entries others key = unwrap_or (text_in_place entries key) (only_text (texts_of entries others key))
 
 abbrev pub word_of : Catalog → Key → List ℕ

@@ -46,7 +46,7 @@ reading (Some name) [] = []
 reading (Some name) (b ∷ text) = cond (b == 125) (place name ∷ reading None text) (reading (Some (name ++ (b ∷ []))) text)
 
 -- the pieces of a text
-abbrev pub pieces_of : List ℕ → List Piece
+pub pieces_of : List ℕ → List Piece
 pieces_of text = reading None text
 
 -- the name is that of a parameter, where the two have these names: one with no name is none
