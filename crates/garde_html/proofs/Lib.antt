@@ -1,2 +1,3 @@
 pub mod Entities
+pub mod Pages
 pub mod Places
