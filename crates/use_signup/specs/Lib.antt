@@ -1,1 +1,2 @@
 pub mod CzechText
+pub mod Shown
