@@ -4,9 +4,12 @@ ghost use Rattle.std.specs.Cow.{cow_str_bytes};
 ghost use Rattle.garde_engines.specs.Applies.{Applies};
 ghost use Rattle.garde_rules.specs.Holds.{passes_option};
 ghost use Rattle.garde_rules.specs.Range.{int_is_multiple, is_multiple, multiple_fault, no_multiple};
+ghost use Rattle.garde_rules.specs.Redaction.{FindsOnly, one_fault};
+ghost use Rattle.garde_rules.specs.RedactionLaws.{unless_among};
 
 use crate::named::named_text;
 use crate::range::Bounds;
+use crate::redaction::Discreet;
 use garde_engines::Rule;
 use garde_i18n::I18n;
 use garde_report::RuleError;
@@ -79,6 +82,12 @@ impl<T: Divisible> Rule<T> for MultipleOf<T::Size> {
     fn find<H: I18n>(&self, alloc: Global, value: &T, h: &H) -> Result<(), RuleError> {
         apply(alloc, value, (self.0,), h)
     }
+}
+
+impl<T: Divisible> Discreet<T> for MultipleOf<T::Size> {
+    ghost may_find = { λ rule. one_fault (no_multiple (T.text rule.0)) };
+
+    ghost discreet = { λ rule v. unless_among (no_multiple (T.text rule.0)) (T.passes rule.0 v) };
 }
 
 // Whether a number is a multiple of another one.

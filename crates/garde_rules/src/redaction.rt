@@ -3,18 +3,15 @@ ghost use Rattle.std.specs.Prelude.{List};
 ghost use Rattle.garde_i18n.specs.Datum as datum;
 ghost use Rattle.garde_engines.specs.Applies.{Fault};
 ghost use Rattle.garde_rules.specs.Reasons.{read_answer};
-ghost use Rattle.garde_rules.specs.Range.{no_multiple};
-ghost use Rattle.garde_rules.specs.Redaction.{FindsOnly, one_fault, own_fault, length_faults, range_faults, card_faults, phone_faults, url_faults};
-ghost use Rattle.garde_rules.specs.RedactionLaws.{unless_among, message_among, length_among, range_among, card_among, phone_among, url_among};
+ghost use Rattle.garde_rules.specs.Redaction.{FindsOnly, one_fault, own_fault, length_faults, card_faults, phone_faults, url_faults};
+ghost use Rattle.garde_rules.specs.RedactionLaws.{unless_among, message_among, length_among, card_among, phone_among, url_among};
 
 use crate::memory_rule::MemoryRule;
-use crate::multiple_of::Divisible;
 use crate::pattern::Matcher;
-use crate::range::Bounds;
 use crate::values::{
     Adapt, Alphanumeric, Ascii, ByteLength, CharLength, Contains, CreditCard, GraphemeLength, Ip,
-    Length, Matches, MultipleOf, Pattern, PhoneNumber, Prefix, Range, Required, Suffix, Url,
-    Utf16Length, View, WithMessage,
+    Length, Matches, Pattern, PhoneNumber, Prefix, Required, Suffix, Url, Utf16Length, View,
+    WithMessage,
 };
 use crate::{
     alphanumeric, ascii, contains, credit_card, ip, matches, pattern, phone_number, prefix,
@@ -71,18 +68,6 @@ impl<T: utf16::Utf16CodeUnits> Discreet<T> for Utf16Length {
     ghost may_find = { λ rule. length_faults rule.min rule.max };
 
     ghost discreet = { λ rule v. length_among rule.min rule.max (T.answer rule.min rule.max v) };
-}
-
-impl<T: Bounds> Discreet<T> for Range<T::Size> {
-    ghost may_find = { λ rule. range_faults T.text rule.min rule.max };
-
-    ghost discreet = { λ rule v. range_among T.below T.above T.text rule.min rule.max v };
-}
-
-impl<T: Divisible> Discreet<T> for MultipleOf<T::Size> {
-    ghost may_find = { λ rule. one_fault (no_multiple (T.text rule.0)) };
-
-    ghost discreet = { λ rule v. unless_among (no_multiple (T.text rule.0)) (T.passes rule.0 v) };
 }
 
 impl<T: ascii::Ascii> Discreet<T> for Ascii {

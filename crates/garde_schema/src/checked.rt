@@ -1,13 +1,15 @@
 //! Rules on the whole value of a form, or of several members.
 ghost use Rattle.std.specs.Prelude.{◌≡◌};
 ghost use Rattle.garde_report.specs.Part.{key_part};
+ghost use Rattle.garde.specs.Redaction.{AsksOnly};
+ghost use Rattle.garde.specs.RedactionLaws.{finds_under};
 ghost use Rattle.garde.specs.Visits.{Visited, Known, under, ◌and◌};
 ghost use Rattle.garde_schema.specs.RulesOnValue.{rules_on_value};
 
 use crate::form::{Form, Members};
 use crate::handler::FormI18n;
 use crate::put::with;
-use garde::fields::{Rules, ask_under};
+use garde::fields::{DiscreetRules, Rules, ask_under};
 use garde::{Component, I18n, Report, Trail};
 use garde_tape::Tree;
 use std::alloc::{AllocError, Global};
@@ -119,4 +121,10 @@ impl<T, R: Rules<T>> Rules<T> for Under<R> {
             h,
         )
     }
+}
+
+impl<T, R: DiscreetRules<T>> DiscreetRules<T> for Under<R> {
+    ghost may_find = { λ rules. R.may_find rules.1 };
+
+    ghost discreet = { λ rules value. finds_under (key_part rules.0.now) (R.discreet rules.1 value) };
 }

@@ -1,10 +1,12 @@
 //! The values of a list's items.
 ghost use Rattle.std.specs.Prelude.{◌≡◌, [], ◌∷◌, ◌++◌, ◌==◌, length, is_ok, if◌then◌else◌, IfOk};
 ghost use Rattle.garde.specs.Fields.{unique_text};
+ghost use Rattle.garde.specs.Redaction.{AsksOnly, own_fault};
+ghost use Rattle.garde.specs.RedactionLaws.{finds_items, finds_unique};
 ghost use Rattle.garde.specs.Visits.{items};
 ghost use Rattle.garde_schema.specs.Lists.{with_last};
 
-use garde::fields::{Check, Each, Rules, Same, Unique};
+use garde::fields::{Check, DiscreetRules, Each, Rules, Same, Unique};
 use garde::rules::length::HasSimpleLength;
 use garde::{I18n, Report, Trail};
 use std::alloc::{AllocError, Global};
@@ -128,6 +130,20 @@ impl<T, S: Same<T>> Rules<Items<T>> for Unique<'_, S> {
     ) -> Result<(), AllocError> {
         self.ask(alloc, &value.as_slice(), trail, report, h)
     }
+}
+
+impl<T, R: DiscreetRules<T>> DiscreetRules<Items<T>> for Each<R> {
+    ghost may_find = { λ each. R.may_find each.0 };
+
+    ghost discreet = { λ each values.
+        finds_items (R.may_find each.0) (λ x. R.asks each.0 x) values (λ x. R.discreet each.0 x) };
+}
+
+impl<T, S: Same<T>> DiscreetRules<Items<T>> for Unique<'_, S> {
+    ghost may_find = { λ rules. own_fault rules.0.now };
+
+    ghost discreet = { λ rules values.
+        finds_unique rules.0.now (λ x y. S.same rules.1 x y) values };
 }
 
 // The values with one more, where all are there.
