@@ -67,7 +67,7 @@ pub(crate) fn tell(
     out: &mut [u8],
     len: &mut usize,
 ) -> Status
-    ensures told { IsToldBy (told telling) read.now out.old out.new len.new result }
+    ensures told { IsToldBy (told telling.entry) read.now out.old out.new len.new result }
     ensures valid { result ≡ Valid → IsOk read.now }
 {
     match text_of(alloc, telling, read) {

@@ -31,7 +31,7 @@ pub(crate) fn text_of(
     telling: Telling<'_>,
     read: &Result<(), FirstReadError>,
 ) -> Result<String, AllocError>
-    ensures { IfOk result (λ text. string_bytes text ≡ told telling read.now) }
+    ensures { IfOk result (λ text. string_bytes text ≡ told telling.entry read.now) }
 {
     match telling {
         Telling::Details(title) => details_of(alloc, title, read),
