@@ -16,8 +16,10 @@ fn main() -> io::Result<()> {
         match found {
             Ok(()) => out.write_all(b"ok\n")?,
             Err(Problem::OutOfMemory) => return Err(io::ErrorKind::OutOfMemory.into()),
-            Err(problem) if lists => write!(out, "{}--\n", problem.details())?,
-            Err(problem) => writeln!(out, "{}", problem.details())?,
+            Err(problem) => {
+                out.write_all(problem.details().as_bytes())?;
+                out.write_all(if lists { b"--\n" } else { b"\n" })?;
+            }
         }
     }
     out.flush()
