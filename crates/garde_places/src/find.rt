@@ -1,6 +1,7 @@
 //! Which token of a tape begins the value that a path leads to.
-ghost use Rattle.std.specs.Prelude.{◌≡◌, ◌+◌, ◌<◌, ◌≤◌, map, length, drop, is_some, option_map, IfSome};
+ghost use Rattle.std.specs.Prelude.{◌≡◌, ◌+◌, ◌<◌, ◌≤◌, List, map, length, drop, is_some, option_map, IfSome};
 ghost use Rattle.json.specs.Json.{Json, Items as SpecItems};
+ghost use Rattle.json.specs.Token.{Token};
 ghost use Rattle.json.specs.Tape.{node_token, Linked};
 ghost use Rattle.json.specs.Find.{as_object, as_array};
 ghost use Rattle.garde_places.specs.Index.{IndexHolds};
@@ -162,11 +163,18 @@ fn step_at<'a>(
     }
 }
 
-pub(crate) const START: Mark = Mark {
+const START: Mark = Mark {
     first: 0,
     index: 0,
     here: 0,
 };
+
+/// The marks before anything was found.
+pub(crate) fn no_marks() -> [Mark; 128]
+    ensures { (ts : List Token) → MarksHold ts result }
+{
+    [START; 128]
+}
 
 fn mark_at(marks: &[Mark], depth: usize) -> Mark
     ensures { result ≡ mark_of marks.now depth }

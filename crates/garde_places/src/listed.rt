@@ -6,7 +6,7 @@ ghost use Rattle.garde_places.specs.Fault.{fault_entry};
 ghost use Rattle.garde_places.specs.Listed.{AreListed, IsFaultSpot, IsNameSpot, value_spot};
 
 use crate::fault::{Fault, speaks_of_name};
-use crate::find::{Mark, START, find, name_at};
+use crate::find::{Mark, find, name_at, no_marks};
 use crate::index::Index;
 use crate::place::Place;
 use crate::places::place_at_token;
@@ -56,7 +56,7 @@ impl<'t, 'a> ListedPlaces<'t, 'a> {
             json,
             nodes: tape.nodes(),
             places,
-            marks: [START; 128],
+            marks: no_marks(),
             index,
         }
     }

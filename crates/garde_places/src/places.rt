@@ -7,7 +7,7 @@ ghost use Rattle.garde_places.specs.Places.{IsPlaceOf, IsNamePlace};
 ghost use Rattle.garde_places.specs.Fault.{ArePlaced, IsFaultPlace, fault_entry};
 
 use crate::fault::{Fault, speaks_of_name};
-use crate::find::{Mark, START, find, name_at};
+use crate::find::{Mark, find, name_at, no_marks};
 use crate::index::Index;
 use crate::place::Place;
 use crate::scan::scan;
@@ -67,7 +67,7 @@ impl<'t, 'a> Places<'t, 'a> {
             text,
             nodes: tape.nodes(),
             spots,
-            marks: [START; 128],
+            marks: no_marks(),
             index: Index::new(alloc),
         })
     }
