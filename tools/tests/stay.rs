@@ -1,4 +1,4 @@
-//! A stay in a hotel: rules of one's own, each with its message.
+//! A stay in a hotel: rules of its own, each with a message.
 //@ --spelled Stay
 use garde::Validate;
 use serde::Deserialize;

@@ -1,4 +1,4 @@
-//! A stay in a hotel: rules of one's own, each with its message.
+//! A stay in a hotel: rules of its own, each with a message.
 ghost use Rattle.std.specs.Prelude.{IfOk, Some, [], refl, ◌&&◌, ◌||◌, ◌∷◌, ◌≡◌};
 ghost use Rattle.garde_schema.specs.Bytes.{AnswersBytes, OfDocument};
 ghost use Rattle.garde_schema.specs.Forms.{forget};

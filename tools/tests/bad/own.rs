@@ -1,4 +1,4 @@
-//! Rules of one's own that cannot be ported.
+//! Your own rules that cannot be ported.
 //@ --spelled Stay --own crate::own
 use garde::Validate;
 use serde::Deserialize;

@@ -1,4 +1,4 @@
-//! Rules of one's own, of each kind of condition.
+//! Your own rules, with each kind of condition.
 //@ --schema --no-walk
 use garde::Validate;
 use serde::Deserialize;
