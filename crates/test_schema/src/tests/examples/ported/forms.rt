@@ -129,7 +129,7 @@ fn told_of<T: Debug, E: Display>(alloc: Global, read: &Result<T, E>) -> Result<S
 
 /// What was read of a body.
 fn told(alloc: Global, of: Of, body: &[u8]) -> Result<String, AllocError> {
-    let mut scratch = Scratch::new(alloc);
+    let (mut scratch, season) = (Scratch::new(alloc), Season { most: 20 });
     match of {
         Of::Basket => told_of(alloc, &read_basket(alloc, body, &mut scratch, &DefaultI18n)),
         Of::Bill => told_of(alloc, &read_bill(alloc, body, &mut scratch, &DefaultI18n)),
@@ -138,7 +138,7 @@ fn told(alloc: Global, of: Of, body: &[u8]) -> Result<String, AllocError> {
         Of::Parcel => told_of(alloc, &read_parcel(alloc, body, &mut scratch, &DefaultI18n)),
         Of::Stay => told_of(
             alloc,
-            &read_stay(alloc, body, &mut scratch, &Season { most: 20 }, &DefaultI18n),
+            &read_stay(alloc, body, &mut scratch, &season, &DefaultI18n),
         ),
     }
 }
