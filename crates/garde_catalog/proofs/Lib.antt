@@ -1,6 +1,5 @@
 pub mod KeysByNumber
 pub mod Cutting
-pub mod Places
 pub mod Reading
 pub mod Made
 pub mod Picked

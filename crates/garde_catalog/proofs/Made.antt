@@ -1,48 +1,34 @@
--- A catalog that is made key by key has each key's template in its place.
-use Rattle.std.proofs.Common.{◌≡◌, ◌≢◌, ◌++◌, ◌∷◌, ◌+◌, ◌<◌, ◌≤◌, ◌∙◌, ℕ, List, [], All, Option, Some, None, IsSomeAnd, Bool, true, false, ◌==◌, cond, length, take, get_or, slice_get, refl, sym, ap, subst, append-nil, drop, eq-eqb, ne_eqb, take-append-drop, arith}
-use Rattle.std.specs.List.{AllZip}
+-- The keys of a table that are checked one by one, and the text of each.
+use Rattle.std.proofs.Common.{◌≡◌, ◌≢◌, ◌++◌, ◌∷◌, ◌+◌, ◌<◌, ◌≤◌, ◌∙◌, ℕ, List, [], All, Some, None, Bool, true, false, ◌==◌, cond, length, take, get_or, slice_get, refl, sym, ap, subst, append-nil, length-append, drop, eq-eqb, eqb-true, ne_eqb, take-append-drop, inl, inr, arith}
 use Rattle.std.proofs.lemmas.List.{take_more}
-use Rattle.std.proofs.lemmas.List.Elements.{All-head}
-use Rattle.std.proofs.lemmas.Slice.Zip.{AllZip-left}
+use Rattle.std.proofs.lemmas.List.Elements.{All-get_or, All-head, All-push}
+use Rattle.std.proofs.lemmas.Option.{get_or_from_slice_get, slice_get_cases, slice_get_within}
+use Rattle.std.specs.Prelude.{unwrap_or}
 use Rattle.garde_catalog.specs.Keys.{number_of, first_of, second_of}
-use Rattle.garde_catalog.specs.Template.{IsTemplate}
-use Rattle.garde_catalog.specs.Catalog.{AreGood, Entry, IsFault, IsTemplateFor, IsWrong, or_those, pieces_in, text_in, texts_of, texts_under}
-use Rattle.garde_catalog.specs.declared.template.Piece.{Piece}
+use Rattle.garde_catalog.specs.Template.{IsTemplate, Piece, pieces_of}
+use Rattle.garde_catalog.specs.Catalog.{AreGood, Entry, HasNotOne, IsCatalog, IsFault, IsGood, IsWrong, entries_in, only_text, or_those, others_in, text_in_place, text_on, texts_of, texts_under, word_in, word_of}
 use Rattle.garde_catalog.specs.declared.key.Key.{Key}
 use Rattle.garde_catalog.specs.declared.key.TheConstants.{KEYS}
-use Rattle.garde_catalog.specs.declared.catalog.Template.{Template}
+use Rattle.garde_catalog.specs.declared.catalog.Catalog.{Catalog}
 use Rattle.garde_catalog.specs.declared.fault.CatalogFault.{CatalogFault}
 use Rattle.garde_catalog.specs.declared.fault.Wrong.{Wrong}
 use Rattle.garde_catalog.specs.declared.fault.Wrong.TheVariants as wrongs
 use Rattle.garde_catalog.proofs.KeysByNumber.{keys_by_number}
+use Rattle.garde_catalog.proofs.Reading.{its_pieces}
 
--- one more pair
-pub zip_push : {A B : Type 0} (R : A → B → Type 0) (xs : List A) (ys : List B) (x : A) (y : B) → AllZip R xs ys → R x y
-    → AllZip R (xs ++ (x ∷ [])) (ys ++ (y ∷ []))
-zip_push R [] [] x y h r = (r, tt)
-zip_push R [] (z ∷ ys) x y h r = absurd h
-zip_push R (w ∷ xs) [] x y h r = absurd h
-zip_push R (w ∷ xs) (z ∷ ys) x y h r = (h.0, zip_push R xs ys x y h.1 r)
+-- the next key is good, too
+pub next : (entries others : List Entry) (keys : List Key) (i : ℕ) (d : Key) → i < length keys → IsGood entries others (get_or keys i d)
+    → All (IsGood entries others) (take i keys) → All (IsGood entries others) (take (i + 1) keys)
+next entries others keys i d low good h =
+    rw (take_more keys i d low) (All-push (IsGood entries others) (take i keys) (get_or keys i d) h good)
 
--- the next template is that of the next key
-pub next : (entries others : List Entry) (keys : List Key) (i : ℕ) (d : Key) (old new : List Template) (template : Template)
-    → i < length keys → new ≡ old ++ (template ∷ []) → IsTemplateFor entries others (get_or keys i d) template
-    → AllZip (IsTemplateFor entries others) (take i keys) old → AllZip (IsTemplateFor entries others) (take (i + 1) keys) new
-next entries others keys i d old new template low n r h =
-    rw (n, take_more keys i d low) (zip_push (IsTemplateFor entries others) (take i keys) old (get_or keys i d) template h r)
+in_place : (P : Key → Type 0) (keys : List Key) (i : ℕ) (key : Key) → All P keys → slice_get keys i ≡ Some key → P key
+in_place P keys i key h at =
+    subst P (get_or_from_slice_get keys i key key at) (All-get_or P keys i key (slice_get_within keys i key at) h)
 
-in_place : (entries others : List Entry) (key : Key) (found : Option Template) → IsSomeAnd found (IsTemplateFor entries others key)
-    → (texts_of entries others key ≡ text_in found ∷ []) × IsTemplate (text_in found) (first_of key) (second_of key) (pieces_in found)
-in_place entries others key None h = absurd h
-in_place entries others key (Some template) h = h
-
-pub made : (entries others : List Entry) (templates : List Template) → AllZip (IsTemplateFor entries others) KEYS templates
-    → (key : Key) → (texts_of entries others key ≡ text_in (slice_get templates (number_of key)) ∷ [])
-    × IsTemplate (text_in (slice_get templates (number_of key))) (first_of key) (second_of key)
-    (pieces_in (slice_get templates (number_of key)))
-made entries others templates h key =
-    let at = rw (keys_by_number key) at (AllZip-left (IsTemplateFor entries others) KEYS templates h (number_of key)) in
-    in_place entries others key (slice_get templates (number_of key)) at
+-- each key of the list is good
+pub all_good : (entries others : List Entry) → All (IsGood entries others) KEYS → AreGood entries others
+all_good entries others h key = in_place (IsGood entries others) KEYS (number_of key) key h (keys_by_number key)
 
 branch : (t : Bool) (x : List ℕ) (fs bs whole : List (List ℕ)) → whole ≡ fs ++ bs → cond t (x ∷ whole) whole ≡ cond t (x ∷ fs) fs ++ bs
 branch true x fs bs whole e = ap (λ l. x ∷ l) e
@@ -91,6 +77,75 @@ one_text xs ys text e = ap (λ l. or_those l ys) e
 pub several_texts : (xs ys : List (List ℕ)) → 2 ≤ length xs → 2 ≤ length (or_those xs ys)
 several_texts [] ys h = absurd (omega (arith, h))
 several_texts (x ∷ xs) ys h = h
+
+-- ---- the text of a key
+
+one_of : (front back : List (List ℕ)) (text other : List ℕ) → (front ++ (text ∷ [])) ++ back ≡ other ∷ [] → text ≡ other
+one_of [] back text other e = ap (λ l. get_or l 0 []) e
+one_of (first ∷ front) back text other e =
+    absurd (omega (arith, ap length e, length-append (first ∷ (front ++ (text ∷ []))) back, length-append front (text ∷ [])))
+
+those_first : (xs ys : List (List ℕ)) (text : List ℕ) → or_those xs ys ≡ text ∷ [] → 1 ≤ length xs → xs ≡ text ∷ []
+those_first [] ys text e some = absurd (omega (arith, some))
+those_first (x ∷ xs) ys text e some = e
+
+-- a line with this key has the only text of the key
+its_text : (entries others : List Entry) (key : Key) (i : ℕ) (line : Entry) (text : List ℕ) → i < length entries → get_or entries i line ≡ line
+    → number_of line.0 ≡ number_of key → texts_of entries others key ≡ text ∷ [] → line.1.now ≡ text
+its_text entries others key i line text low at e one =
+    let back = texts_under key (drop (i + 1) entries) in
+    let front = same_line key entries i line low (ap (λ l. number_of l.0) at ∙ e) in
+    let whole = ap (texts_under key) (sym (take-append-drop (i + 1) entries)) ∙ under_both key (take (i + 1) entries) (drop (i + 1) entries)
+    ∙ ap (λ l. l ++ back) (front ∙ ap (λ l. texts_under key (take i entries) ++ (l.1.now ∷ [])) at) in
+    let some : 1 ≤ length (texts_under key entries) =
+    omega (arith, ap length whole, length-append (texts_under key (take i entries) ++ (line.1.now ∷ [])) back, length-append (texts_under key (take i entries)) (line.1.now ∷ [])) in
+    one_of (texts_under key (take i entries)) back line.1.now text (sym whole ∙ those_first (texts_under key entries) (texts_under key others) text one some)
+
+-- the word of a key whose place has it, and of any other
+pub word_in_place : (entries others : List Entry) (key : Key) (text : List ℕ) → text_in_place entries key ≡ Some text → text ≡ word_in entries others key
+unfolding word_in
+word_in_place entries others key text e = sym (ap (λ found. unwrap_or found (only_text (texts_of entries others key))) e)
+
+pub word_elsewhere : (entries others : List Entry) (key : Key) → text_in_place entries key ≡ None
+    → only_text (texts_of entries others key) ≡ word_in entries others key
+unfolding word_in
+word_elsewhere entries others key e = sym (ap (λ found. unwrap_or found (only_text (texts_of entries others key))) e)
+
+picks : (b : Bool) (mine other text : List ℕ) → (b ≡ true → mine ≡ text) → other ≡ text → unwrap_or (cond b (Some mine) None) other ≡ text
+picks true mine other text h o = h refl
+picks false mine other text h o = o
+
+-- a key with one text has that
+pub one_word : (entries others : List Entry) (key : Key) (text : List ℕ) → texts_of entries others key ≡ text ∷ []
+    → word_in entries others key ≡ text
+unfolding word_in
+one_word entries others key text one =
+    let other = only_text (texts_of entries others key) in
+    elim (slice_get_cases entries (number_of key)).1 [
+      | inl there ↦ ap (λ found. unwrap_or (text_on found key) other) there.2
+          ∙ picks (number_of there.0.0 == number_of key) there.0.1.now other text
+          (λ same. its_text entries others key (number_of key) there.0 text there.1 there.3 (eqb-true _ _ same) one) (ap only_text one)
+      | inr past ↦ ap (λ found. unwrap_or (text_on found key) other) past.1 ∙ ap only_text one
+    ]
+
+-- good tables make a catalog
+pub is_catalog : (entries others : List Entry) (catalog : Catalog) → entries_in catalog.tables ≡ entries → others_in catalog.tables ≡ others
+    → AreGood entries others → IsCatalog entries others catalog
+is_catalog entries others catalog e o good key =
+    let its = good key in
+    let word : word_of catalog key ≡ its.0 = rw (e, o) (one_word entries others key its.0 its.1) in (
+      subst (λ (t : List ℕ). texts_of entries others key ≡ t ∷ []) (sym word) its.1,
+      subst (λ (t : List ℕ). IsTemplate t (first_of key) (second_of key) (pieces_of t)) (sym word)
+          (subst (IsTemplate its.0 (first_of key) (second_of key)) (sym (its_pieces its.0 (first_of key) (second_of key) its.2.0 its.2.1)) its.2.1),
+    )
+
+-- a key without one text has none
+pub no_word : (texts : List (List ℕ)) (wrong : Wrong) → HasNotOne texts wrong → only_text texts ≡ []
+no_word texts wrongs.Missing h = ap only_text h
+no_word [] wrongs.Repeated h = refl
+no_word (x ∷ []) wrongs.Repeated h = absurd (omega (arith, h))
+no_word (x ∷ y ∷ texts) wrongs.Repeated h = refl
+no_word texts (wrongs.Template fault) h = absurd h
 
 -- a key with a fault is not good
 bad : (texts : List (List ℕ)) (key : Key) (wrong : Wrong) (text : List ℕ) (pieces : List Piece) → IsWrong texts key wrong → texts ≡ text ∷ []

@@ -1,5 +1,5 @@
 -- Catalogs: what a table of texts and a catalog have to do with each other, and the text of each datum.
-use Rattle.std.specs.Prelude.{◌≡◌, ◌≤◌, ◌==◌, ℕ, List, [], ◌∷◌, ◌++◌, Option, Some, None, cond, bytes_eq, codes, length, All, ⊤}
+use Rattle.std.specs.Prelude.{◌≡◌, ◌≤◌, ◌==◌, ℕ, List, [], ◌∷◌, Option, Some, None, cond, bytes_eq, codes, length, unwrap_or, All, ⊤}
 use Rattle.std.specs.Borrow.{Bor}
 use Rattle.std.specs.List.{slice_get}
 use Rattle.std.specs.Fmt.{decimal}
@@ -11,9 +11,8 @@ use Rattle.garde_i18n.specs.declared.reasons.InvalidCreditCard.{InvalidCreditCar
 use Rattle.garde_i18n.specs.declared.reasons.InvalidCreditCard.TheVariants as cards
 use Rattle.garde_i18n.specs.declared.reasons.InvalidPhoneNumber.{InvalidPhoneNumber}
 use Rattle.garde_i18n.specs.declared.reasons.InvalidPhoneNumber.TheVariants as phones
-use Rattle.garde_catalog.specs.Template.{filled, value_at, IsTemplate}
+use Rattle.garde_catalog.specs.Template.{Piece, at_name, filled, pieces_of, IsTemplate}
 use Rattle.garde_catalog.specs.Keys.{number_of, first_of, second_of}
-use Rattle.garde_catalog.specs.declared.template.Piece.{Piece}
 use Rattle.garde_catalog.specs.declared.key.Key.{Key}
 use Rattle.garde_catalog.specs.declared.key.Key.TheVariants as keys
 use Rattle.garde_catalog.specs.declared.fault.Wrong.{Wrong}
@@ -21,10 +20,9 @@ use Rattle.garde_catalog.specs.declared.fault.Wrong.TheVariants as wrongs
 use Rattle.garde_catalog.specs.declared.fault.CatalogFault.{CatalogFault}
 use Rattle.garde_catalog.specs.declared.fault.CatalogError.{CatalogError}
 use Rattle.garde_catalog.specs.declared.fault.CatalogError.TheVariants as errors
-use Rattle.garde_catalog.specs.declared.catalog.Refusal.{Refusal}
-use Rattle.garde_catalog.specs.declared.catalog.Refusal.TheVariants as refusals
-use Rattle.garde_catalog.specs.declared.catalog.Template.{Template}
 use Rattle.garde_catalog.specs.declared.catalog.Catalog.{Catalog}
+use Rattle.garde_catalog.specs.declared.catalog.Tables.{Tables}
+use Rattle.garde_catalog.specs.declared.catalog.Tables.TheVariants as tables
 
 -- a line of a table: a key and its text
 abbrev pub Entry : Type 0
@@ -43,15 +41,11 @@ or_those (text ∷ texts) others = text ∷ texts
 abbrev pub texts_of : List Entry → List Entry → Key → List (List ℕ)
 texts_of entries others key = or_those (texts_under key entries) (texts_under key others)
 
--- the template is that of the one text that a key has
-abbrev pub IsTemplateFor : List Entry → List Entry → Key → Template → Type 0
-IsTemplateFor entries others key template =
-    (texts_of entries others key ≡ template.text.now ∷ [])
-    × IsTemplate template.text.now (first_of key) (second_of key) template.pieces.items
-
--- the template of a key is added
-abbrev pub AddsTemplate : List Entry → List Entry → Key → List Template → List Template → Type 0
-AddsTemplate entries others key old new = (template : Template) × (new ≡ old ++ (template ∷ [])) × IsTemplateFor entries others key template
+-- a key has one text there, which is a template of its parameters
+abbrev pub IsGood : List Entry → List Entry → Key → Type 0
+IsGood entries others key =
+    (text : List ℕ) × (texts_of entries others key ≡ text ∷ [])
+    × ((pieces : List Piece) × IsTemplate text (first_of key) (second_of key) pieces)
 
 -- a key has not just one text
 abbrev pub HasNotOne : List (List ℕ) → Wrong → Type 0
@@ -70,37 +64,56 @@ IsWrong texts key (wrongs.Template fault) =
 abbrev pub IsFault : List Entry → List Entry → CatalogFault → Type 0
 IsFault entries others fault = IsWrong (texts_of entries others fault.key) fault.key fault.wrong
 
--- why a key has no template: one of these, or memory runs out
-abbrev pub IsReason : List Entry → List Entry → Key → Refusal → Type 0
-IsReason entries others key (refusals.Wrong wrong) = IsWrong (texts_of entries others key) key wrong
-IsReason entries others key refusals.Memory = ⊤
-
 -- the tables are good: each key has one text there, which is a template of its parameters
 abbrev pub AreGood : List Entry → List Entry → Type 0
-AreGood entries others =
-    (key : Key) → (text : List ℕ) × (texts_of entries others key ≡ text ∷ [])
-    × ((pieces : List Piece) × IsTemplate text (first_of key) (second_of key) pieces)
+AreGood entries others = (key : Key) → IsGood entries others key
 
 -- why no catalog is made: the faults are true ones, and the tables are not good; or memory runs out
 abbrev pub IsRefusal : List Entry → List Entry → CatalogError → Type 0
 IsRefusal entries others (errors.Faults faults) = All (IsFault entries others) faults.items × ¬ (AreGood entries others)
 IsRefusal entries others errors.Memory = ⊤
 
-abbrev pub pieces_in : Option Template → List Piece
-pieces_in None = []
-pieces_in (Some template) = template.pieces.items
+-- the only text
+abbrev pub only_text : List (List ℕ) → List ℕ
+only_text (text ∷ []) = text
+only_text _ = []
 
-abbrev pub text_in : Option Template → List ℕ
-text_in None = []
-text_in (Some template) = template.text.now
+-- the text of a line, if it has this key
+abbrev pub text_on : Option Entry → Key → Option (List ℕ)
+text_on None key = None
+text_on (Some line) key = cond (number_of line.0 == number_of key) (Some line.1.now) None
+
+-- the text of the line in the place of a key, if it has that key
+abbrev pub text_in_place : List Entry → Key → Option (List ℕ)
+text_in_place entries key = text_on (slice_get entries (number_of key)) key
+
+-- the text of a key: that of the line in its place, if it has the key, and else the only one that the tables have
+unfoldable pub word_in : List Entry → List Entry → Key → List ℕ
+word_in entries others key = unwrap_or (text_in_place entries key) (only_text (texts_of entries others key))
+
+-- the tables of a catalog
+abbrev pub entries_in : Tables → List Entry
+entries_in (tables.Fixed entries others) = entries.now
+entries_in (tables.Lent entries others) = entries.now
+
+abbrev pub others_in : Tables → List Entry
+others_in (tables.Fixed entries others) = others.now
+others_in (tables.Lent entries others) = others.now
+
+abbrev pub AreFixed : Tables → Type 0
+AreFixed (tables.Fixed entries others) = ⊤
+AreFixed (tables.Lent entries others) = ⊥
+
+-- its tables last as long as the program runs
+abbrev pub IsFixed : Catalog → Type 0
+IsFixed catalog = AreFixed catalog.tables
+
+abbrev pub word_of : Catalog → Key → List ℕ
+word_of catalog key = word_in (entries_in catalog.tables) (others_in catalog.tables) key
 
 -- the template of a key
 abbrev pub template_of : Catalog → Key → List Piece
-template_of catalog key = pieces_in (slice_get catalog.templates.items (number_of key))
-
--- the text of a key, as the table has it
-abbrev pub word_of : Catalog → Key → List ℕ
-word_of catalog key = text_in (slice_get catalog.templates.items (number_of key))
+template_of catalog key = pieces_of (word_of catalog key)
 
 -- the catalog is that of the tables: each key has one text there, and its template is that text's
 abbrev pub IsCatalog : List Entry → List Entry → Catalog → Type 0
@@ -139,19 +152,26 @@ phone_key phones.TooLong = keys.PhoneTooLong
 phone_key phones.MalformedInteger = keys.PhoneMalformed
 phone_key phones.Other = keys.PhoneOther
 
+-- the template of a key with this in its places
+abbrev pub put_in : Catalog → Key → List ℕ → List ℕ
+put_in catalog key value = filled (λ _. value) (template_of catalog key)
+
 -- the template of a key with the value of its first parameter, and that of the other one, in their places
 abbrev pub put_both : Catalog → Key → List ℕ → List ℕ → List ℕ
-put_both catalog key value other = filled (value_at (first_of key) value other) (template_of catalog key)
-
--- the template of a key with this in the place of its parameter
-abbrev pub put_in : Catalog → Key → List ℕ → List ℕ
-put_in catalog key value = put_both catalog key value []
+put_both catalog key value other = filled (at_name (first_of key) value other) (template_of catalog key)
 
 -- the text of a fault that brings its code: that of `multiple_of_mismatch` is the catalog's, and that of any other is English
 abbrev pub named_text : Catalog → Code → List ℕ → List ℕ
 named_text catalog (code, []) english = english
 named_text catalog (code, (param, value) ∷ _) english =
     cond (bytes_eq code (codes "multiple_of_mismatch")) (put_in catalog keys.MultipleOf value) english
+
+-- its text has no place
+abbrev pub IsPlaceless : Datum → Type 0
+IsPlaceless not_ascii = ⊤
+IsPlaceless not_alphanumeric = ⊤
+IsPlaceless not_set = ⊤
+IsPlaceless _ = ⊥
 
 -- the text of what a rule found
 abbrev pub catalog_text : Catalog → Datum → List ℕ

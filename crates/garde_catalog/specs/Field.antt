@@ -1,5 +1,5 @@
 -- The ranges of a field `Accept-Language`, each with its weight (RFC 9110, section 12.5.4; RFC 4647, section 2.1).
-use Rattle.std.specs.Prelude.{ℕ, ◌+◌, ◌*◌, ◌-◌, Bool, true, false, not, ◌&&◌, ◌||◌, ◌==◌, List, [], ◌∷◌, ◌++◌, map, reverse, Option, Some, None, if◌then◌else◌, nat_lt, nat_le}
+use Rattle.std.specs.Prelude.{ℕ, ◌+◌, ◌*◌, ◌-◌, Bool, true, false, not, ◌&&◌, ◌||◌, ◌==◌, List, [], ◌∷◌, ◌++◌, reverse, Option, Some, None, if◌then◌else◌, nat_lt, nat_le}
 use Rattle.garde_catalog.specs.declared.lookup.Range.{Range}
 
 -- a range of the field, and its weight in thousandths

@@ -6,3 +6,4 @@ pub mod Field
 pub mod Forms
 pub mod Lookup
 pub mod Parse
+pub mod Spoken

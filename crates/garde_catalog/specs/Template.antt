@@ -1,28 +1,33 @@
 -- Templates: texts with places for what was found, as `length is lower than {min}`.
-use Rattle.std.specs.Prelude.{◌≡◌, ◌≢◌, ℕ, List, [], ◌∷◌, ◌++◌, Bool, true, false, not, ◌&&◌, ◌||◌, IsTrue, All, cond, bytes_eq, ⊤}
+use Rattle.std.specs.Prelude.{◌≡◌, ◌≢◌, ◌==◌, ℕ, List, [], ◌∷◌, ◌++◌, Bool, true, false, not, ◌&&◌, ◌||◌, IsTrue, All, Option, Some, None, cond, bytes_eq}
 use Rattle.std.specs.List.{flat_map, list_any, list_all}
-use Rattle.garde_catalog.specs.declared.template.Piece.{Piece}
-use Rattle.garde_catalog.specs.declared.template.Piece.TheVariants.{Words, Place}
-use Rattle.garde_catalog.specs.declared.template.TemplateError.{TemplateError}
-use Rattle.garde_catalog.specs.declared.template.TemplateError.TheVariants.{Fault, Memory}
+use Rattle.garde_i18n.specs.DatumOf.{value_text}
+use Rattle.garde_catalog.specs.declared.template.Seen.{Seen}
+use Rattle.garde_catalog.specs.declared.template.Put.{Put}
+use Rattle.garde_catalog.specs.declared.template.Put.TheVariants as puts
+
+-- a piece of a template: a byte, or the place of the parameter of this name
+pub data Piece : Type 0 where
+  byte : ℕ → Piece
+  place : List ℕ → Piece
 
 -- a byte that is no brace
 abbrev pub IsPlainByte : ℕ → Type 0
-IsPlainByte byte = (byte ≢ 123) × (byte ≢ 125)
+IsPlainByte b = (b ≢ 123) × (b ≢ 125)
 
 -- a text with no brace
 abbrev pub IsPlain : List ℕ → Type 0
 IsPlain text = All IsPlainByte text
 
--- the words, or the name of the place, have no brace
+-- the byte is no brace, or the name of the place has none
 abbrev pub IsPlainPiece : Piece → Type 0
-IsPlainPiece (Words words) = IsPlain words.now
-IsPlainPiece (Place name) = IsPlain name.now
+IsPlainPiece (byte b) = IsPlainByte b
+IsPlainPiece (place name) = IsPlain name
 
 -- a piece, with this in the place of each name
 abbrev pub piece_text : (List ℕ → List ℕ) → Piece → List ℕ
-piece_text value (Words words) = words.now
-piece_text value (Place name) = value name.now
+piece_text value (byte b) = b ∷ []
+piece_text value (place name) = value name
 
 -- a template with this in the place of each name
 abbrev pub filled : (List ℕ → List ℕ) → List Piece → List ℕ
@@ -36,13 +41,16 @@ in_braces name = 123 ∷ (name ++ (125 ∷ []))
 abbrev pub written : List Piece → List ℕ
 written pieces = filled in_braces pieces
 
-abbrev pub name_in : Piece → List (List ℕ)
-name_in (Words words) = []
-name_in (Place name) = name.now ∷ []
+-- the pieces of what is left of a text: outside of a place, or in one whose name begins so
+abbrev pub reading : Option (List ℕ) → List ℕ → List Piece
+reading None [] = []
+reading None (b ∷ text) = cond (b == 123) (reading (Some []) text) (byte b ∷ reading None text)
+reading (Some name) [] = []
+reading (Some name) (b ∷ text) = cond (b == 125) (place name ∷ reading None text) (reading (Some (name ++ (b ∷ []))) text)
 
--- the names of the places of a template
-abbrev pub names_in : List Piece → List (List ℕ)
-names_in pieces = flat_map name_in pieces
+-- the pieces of a text
+unfoldable pub pieces_of : List ℕ → List Piece
+pieces_of text = reading None text
 
 -- the name is that of a parameter, where the two have these names: one with no name is none
 abbrev pub is_param : List ℕ → List ℕ → List ℕ → Bool
@@ -50,13 +58,13 @@ is_param first second name = not (bytes_eq name []) && (bytes_eq name first || b
 
 -- the piece is no place of another name
 abbrev pub is_known : List ℕ → List ℕ → Piece → Bool
-is_known first second (Words words) = true
-is_known first second (Place name) = is_param first second name.now
+is_known first second (byte b) = true
+is_known first second (place name) = is_param first second name
 
 -- the piece is the place of this name
 abbrev pub is_place : List ℕ → Piece → Bool
-is_place wanted (Words words) = false
-is_place wanted (Place name) = bytes_eq name.now wanted
+is_place wanted (byte b) = false
+is_place wanted (place name) = bytes_eq name wanted
 
 -- a parameter has a place, if there is such a parameter
 abbrev pub has_place : List ℕ → List Piece → Bool
@@ -74,18 +82,13 @@ pub record IsTemplate (text first second : List ℕ) (pieces : List Piece) : Typ
   pub has_first : IsTrue (has_place first pieces)
   pub has_second : IsTrue (has_place second pieces)
 
--- the text is no template, whatever names its parameters have: a brace is out of place
-abbrev pub IsNoText : List ℕ → Type 0
-IsNoText text = (pieces : List Piece) → All IsPlainPiece pieces → written pieces ≢ text
+-- each brace of the text is one of a place, whatever names its parameters have
+abbrev pub HasPlaces : List ℕ → Type 0
+HasPlaces text = (written (pieces_of text) ≡ text) × All IsPlainPiece (pieces_of text)
 
--- why no template is read: the text is none, or memory runs out
-abbrev pub IsRefused : List ℕ → List ℕ → List ℕ → TemplateError → Type 0
-IsRefused text first second (Fault fault) = (pieces : List Piece) → ¬ (IsTemplate text first second pieces)
-IsRefused text first second Memory = ⊤
-
-abbrev pub IsStray : List ℕ → TemplateError → Type 0
-IsStray text (Fault fault) = IsNoText text
-IsStray text Memory = ⊤
+-- the text is no template of parameters of these names
+abbrev pub IsRefused : List ℕ → List ℕ → List ℕ → Type 0
+IsRefused text first second = (pieces : List Piece) → ¬ (IsTemplate text first second pieces)
 
 -- a text in four: words, the name of its first place, and the text behind that
 pub record IsCut (text words name after : List ℕ) : Type 0 where
@@ -93,18 +96,23 @@ pub record IsCut (text words name after : List ℕ) : Type 0 where
   pub words_plain : IsPlain words
   pub name_plain : IsPlain name
 
--- the pieces are those of the text, and those of no other names are
-pub record IsReading (text : List ℕ) (pieces : List Piece) : Type 0 where
-  pub same : written pieces ≡ text
-  pub plain : All IsPlainPiece pieces
-  pub only : (others : List Piece) → All IsPlainPiece others → written others ≡ text → names_in others ≡ names_in pieces
+-- what was seen of the places of a text, where this is left of it
+pub record IsSeen (first second text rest : List ℕ) (seen : Seen) : Type 0 where
+  pub known : list_all (is_known first second) (pieces_of text) ≡ (seen.all_known && list_all (is_known first second) (pieces_of rest))
+  pub first_seen : has_place first (pieces_of text) ≡ (seen.has_first || list_any (is_place first) (pieces_of rest))
+  pub second_seen : has_place second (pieces_of text) ≡ (seen.has_second || list_any (is_place second) (pieces_of rest))
 
--- pieces are added, which write this text and have these names
-pub record AddsPieces (old new : List Piece) (text : List ℕ) (names : List (List ℕ)) : Type 0 where
-  pub text_added : written new ≡ written old ++ text
-  pub names_added : names_in new ≡ names_in old ++ names
-  pub plain_still : All IsPlainPiece old → All IsPlainPiece new
+-- all of the places of a text were seen
+pub record IsAllSeen (first second text : List ℕ) (seen : Seen) : Type 0 where
+  pub known : seen.all_known ≡ list_all (is_known first second) (pieces_of text)
+  pub first_seen : seen.has_first ≡ has_place first (pieces_of text)
+  pub second_seen : seen.has_second ≡ has_place second (pieces_of text)
 
--- what stands in a place: the first of the two values where the place has the name of the first parameter
-abbrev pub value_at : List ℕ → List ℕ → List ℕ → List ℕ → List ℕ
-value_at first value other name = cond (bytes_eq name first) value other
+-- the first of two values where the place has the name of the first parameter, and the other one elsewhere
+abbrev pub at_name : List ℕ → List ℕ → List ℕ → List ℕ → List ℕ
+at_name first value other name = cond (bytes_eq name first) value other
+
+-- what is put in the place of this name
+abbrev pub value_at : Put → List ℕ → List ℕ
+value_at (puts.One value) name = value_text value
+value_at (puts.Two first value other) name = at_name first.now (value_text value) (value_text other) name

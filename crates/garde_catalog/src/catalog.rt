@@ -1,12 +1,12 @@
 //! Catalogs: the texts of a language, one template for each key.
-ghost use Rattle.std.specs.Prelude.{◌≡◌, ◌∷◌, [], All, IfOk, IfErr, OnOk};
+ghost use Rattle.std.specs.Prelude.{◌≡◌, ◌∷◌, [], All, IfOk, IfErr, IsOk, MatchOption, None, OnOk, Some};
 ghost use Rattle.std.specs.Cow.{cow_str_bytes};
 ghost use Rattle.garde_i18n.specs.DatumOf.{value_text};
-ghost use Rattle.garde_catalog.specs.Catalog.{AddsTemplate, HasNotOne, IsCatalog, IsFault, IsReason, IsRefusal, IsTemplateFor, put_both, texts_of, texts_under, word_of};
+ghost use Rattle.garde_catalog.specs.Catalog.{AreGood, HasNotOne, IsCatalog, IsFault, IsFixed, IsGood, IsRefusal, IsWrong, only_text, put_both, put_in, text_in_place, texts_of, texts_under, word_in, word_of};
 
 use crate::fault::{CatalogError, CatalogFault, Wrong};
 use crate::key::{KEYS, Key};
-use crate::template::{Piece, TemplateError, fill, read_template};
+use crate::template::{Put, check_template, fill};
 use garde_i18n::Value;
 use std::alloc::{AllocError, Global};
 use std::borrow::CowStr;
@@ -14,47 +14,19 @@ use std::borrow::CowStr;
 /// A line of a table: a key and its text, with the parameters in braces.
 pub type Entry<'t> = (Key, &'t str);
 
-/// A text and its template.
-#[derive(Debug, Drop)]
-pub struct Template<'t> {
-    text: &'t str,
-    pieces: Vec<Piece<'t>>,
-    room: usize,
-}
-
-/// The texts of a language.
-#[derive(Debug, Drop)]
-pub struct Catalog<'t> {
-    templates: Vec<Template<'t>>,
-}
-
-// Why a key has no template.
+// The tables of a catalog, the second one for keys that the first does not have.
 #[derive(Clone, Copy, Debug, Drop)]
-enum Refusal {
-    Wrong(Wrong),
-    Memory,
+enum Tables<'t> {
+    // They last as long as the program runs.
+    Fixed(&'static [Entry<'static>], &'static [Entry<'static>]),
+    Lent(&'t [Entry<'t>], &'t [Entry<'t>]),
 }
 
-// How many bytes the words of a template have.
-fn room_of(pieces: &[Piece<'_>]) -> usize {
-    let mut room: usize = 0;
-    for piece in pieces {
-        if let Piece::Words(words) = piece {
-            room = room.saturating_add(words.len());
-        }
-    }
-    room
-}
-
-/// How many digits a number has at the most.
-const DIGITS: usize = 20;
-
-// How many bytes a value takes at the most.
-fn room_of_value(value: Value<'_>) -> usize {
-    match value {
-        Value::Text(text) => text.len(),
-        Value::Number(_) => DIGITS,
-    }
+/// The texts of a language: those of its table, and of another one where that table has none. It borrows
+/// both.
+#[derive(Clone, Copy, Debug, Drop)]
+pub struct Catalog<'t> {
+    tables: Tables<'t>,
 }
 
 // The one text that a table has under a key, or what is wrong.
@@ -89,138 +61,203 @@ fn text_of<'t>(entries: &[Entry<'t>], others: &[Entry<'t>], key: Key) -> Result<
     }
 }
 
-// The template of a key, or what is wrong.
-fn template_for<'t>(
-    alloc: Global,
-    entries: &[Entry<'t>],
-    others: &[Entry<'t>],
-    key: Key,
-) -> Result<Template<'t>, Refusal>
-    ensures ok { IfOk result (IsTemplateFor entries.now others.now key) }
-    ensures err { IfErr result (IsReason entries.now others.now key) }
+// The one text of a key, or the empty text.
+fn only_text<'t>(entries: &[Entry<'t>], others: &[Entry<'t>], key: Key) -> &'t str
+    ensures { result.now ≡ only_text (texts_of entries.now others.now key) }
 {
-    let text = match text_of(entries, others, key) {
+    match text_of(entries, others, key) {
         Ok(text) => text,
-        Err(wrong) => return Err(Refusal::Wrong(wrong)),
-    };
-    match read_template(alloc, text, key.first(), key.second()) {
-        Ok(pieces) => {
-            let room = room_of(pieces.as_slice());
-            Ok(Template { text, pieces, room })
-        }
-        Err(TemplateError::Fault(fault)) => Err(Refusal::Wrong(Wrong::Template(fault))),
-        Err(TemplateError::Memory) => Err(Refusal::Memory),
+        Err(_) => "",
     }
 }
 
-// Appends the template of a key, or the fault that the key has instead.
-fn add<'t>(
-    alloc: Global,
-    entries: &[Entry<'t>],
-    others: &[Entry<'t>],
+// The text of the line in the place of a key, if it has that key. The tables that are shipped have
+// each key in its place.
+fn text_in_place<'t>(entries: &[Entry<'t>], key: Key) -> Option<&'t str>
+    ensures { MatchOption result (text_in_place entries.now key ≡ None)
+        (λ text. text_in_place entries.now key ≡ Some text.now) }
+{
+    match entries.get(key.number()) {
+        Some((name, text)) => {
+            if name.number() == key.number() {
+                Some(*text)
+            } else {
+                None
+            }
+        }
+        None => None,
+    }
+}
+
+// Whether a key has one text, which is a template, or what is wrong.
+fn check(entries: &[Entry<'_>], others: &[Entry<'_>], key: Key) -> Result<(), Wrong>
+    ensures ok { OnOk result (IsGood entries.now others.now key) }
+    ensures err { IfErr result (IsWrong (texts_of entries.now others.now key) key) }
+{
+    let text = text_of(entries, others, key)?;
+    match check_template(text, key.first(), key.second()) {
+        Ok(()) => Ok(()),
+        Err(fault) => Err(Wrong::Template(fault)),
+    }
+}
+
+// Appends the fault of a key, if it has one.
+fn add(
+    entries: &[Entry<'_>],
+    others: &[Entry<'_>],
     key: Key,
-    templates: &mut Vec<Template<'t>>,
     faults: &mut Vec<CatalogFault>,
 ) -> Result<(), AllocError>
-    ensures made { OnOk result (faults.new.items ≡ [] → (faults.old.items ≡ [])
-        × AddsTemplate entries.now others.now key templates.old.items templates.new.items) }
+    ensures good { OnOk result (faults.new.items ≡ [] → (faults.old.items ≡ [])
+        × IsGood entries.now others.now key) }
     ensures faults { OnOk result (All (IsFault entries.now others.now) faults.old.items
         → All (IsFault entries.now others.now) faults.new.items) }
 {
-    match template_for(alloc, entries, others, key) {
-        Ok(template) => templates.push(template)?,
-        Err(Refusal::Wrong(wrong)) => faults.push(CatalogFault { key, wrong })?,
-        Err(Refusal::Memory) => return Err(AllocError),
+    if let Err(wrong) = check(entries, others, key) {
+        faults.push(CatalogFault { key, wrong })?;
     }
     Ok(())
 }
 
-// The catalog of a table, which takes from another one the texts of keys that it does not have.
-fn made<'t>(
+// The faults of a table, which takes from another one the texts of keys that it does not have.
+fn faults_of(
     alloc: Global,
-    entries: &[Entry<'t>],
-    others: &[Entry<'t>],
-) -> Result<Catalog<'t>, CatalogError>
-    ensures ok { IfOk result (IsCatalog entries.now others.now) }
-    ensures err { IfErr result (IsRefusal entries.now others.now) }
+    entries: &[Entry<'_>],
+    others: &[Entry<'_>],
+) -> Result<Vec<CatalogFault>, AllocError>
+    ensures good { IfOk result (λ faults. faults.items ≡ [] → AreGood entries.now others.now) }
+    ensures faults { IfOk result (λ faults. All (IsFault entries.now others.now) faults.items) }
 {
-    let mut templates = Vec::new(alloc);
     let mut faults = Vec::new(alloc);
     for key in KEYS {
-        add(alloc, entries, others, key, &mut templates, &mut faults)?;
+        add(entries, others, key, &mut faults)?;
     }
+    Ok(faults)
+}
+
+// That the tables are good, or why no catalog is made of them.
+fn check_tables(
+    alloc: Global,
+    entries: &[Entry<'_>],
+    others: &[Entry<'_>],
+) -> Result<(), CatalogError>
+    ensures ok { OnOk result (AreGood entries.now others.now) }
+    ensures err { IfErr result (IsRefusal entries.now others.now) }
+{
+    let faults = faults_of(alloc, entries, others)?;
     if faults.is_empty() {
-        Ok(Catalog { templates })
+        Ok(())
     } else {
         Err(CatalogError::Faults(faults))
     }
 }
 
-impl<'t> Catalog<'t> {
+// The text of a key: that of the line in its place, and else the only one that the tables have.
+fn word_in<'t>(entries: &[Entry<'t>], others: &[Entry<'t>], key: Key) -> &'t str
+    ensures { result.now ≡ word_in entries.now others.now key }
+{
+    match text_in_place(entries, key) {
+        Some(text) => text,
+        None => only_text(entries, others, key),
+    }
+}
+
+impl Catalog<'static> {
     /// Makes a catalog of a table, which has one text for each key. A text names each parameter of
     /// its key, in braces, and no other. The order of a table does not matter. The error lists
-    /// the keys that are at fault, each with what is wrong.
-    pub fn new(alloc: Global, entries: &[Entry<'t>]) -> Result<Catalog<'t>, CatalogError>
+    /// the keys that are at fault, each with what is wrong. Of a table without faults the catalog is
+    /// made with no allocation.
+    pub fn new(
+        alloc: Global,
+        entries: &'static [Entry<'static>],
+    ) -> Result<Catalog<'static>, CatalogError>
         ensures ok { IfOk result (IsCatalog entries.now []) }
         ensures err { IfErr result (IsRefusal entries.now []) }
     {
-        made(alloc, entries, &[])
+        Catalog::with_fallback(alloc, entries, &[])
     }
 
     /// Makes a catalog of a table that may lack texts: for a key that it does not have, the other
     /// table has the text, as `&ENGLISH`. So a table serves a later version, which has more keys.
     pub fn with_fallback(
         alloc: Global,
-        entries: &[Entry<'t>],
-        fallback: &[Entry<'t>],
+        entries: &'static [Entry<'static>],
+        fallback: &'static [Entry<'static>],
+    ) -> Result<Catalog<'static>, CatalogError>
+        ensures ok { IfOk result (IsCatalog entries.now fallback.now) }
+        ensures err { IfErr result (IsRefusal entries.now fallback.now) }
+    {
+        check_tables(alloc, entries, fallback)?;
+        Ok(Catalog {
+            tables: Tables::Fixed(entries, fallback),
+        })
+    }
+}
+
+impl<'t> Catalog<'t> {
+    /// Makes a catalog as `with_fallback` does, of tables that are borrowed for a while, as those that
+    /// were read from a file. It copies each text that it gives.
+    pub fn lent(
+        alloc: Global,
+        entries: &'t [Entry<'t>],
+        fallback: &'t [Entry<'t>],
     ) -> Result<Catalog<'t>, CatalogError>
         ensures ok { IfOk result (IsCatalog entries.now fallback.now) }
         ensures err { IfErr result (IsRefusal entries.now fallback.now) }
     {
-        made(alloc, entries, fallback)
+        check_tables(alloc, entries, fallback)?;
+        Ok(Catalog {
+            tables: Tables::Lent(entries, fallback),
+        })
     }
 
     /// The text under a key, as the table has it.
     pub fn word(&self, key: Key) -> &str
         ensures { result.now ≡ word_of self.now key }
     {
-        match self.templates.get(key.number()) {
-            Some(template) => template.text,
-            None => "",
+        match self.tables {
+            Tables::Fixed(entries, others) => word_in(entries, others, key),
+            Tables::Lent(entries, others) => word_in(entries, others, key),
         }
     }
 
-    // A copy of the text under a key.
-    pub(crate) fn copy(&self, alloc: Global, key: Key) -> Result<CowStr<'static>, AllocError>
-        ensures { IfOk result (λ s. cow_str_bytes s ≡ word_of self.now key) }
+    // The text under a key, which has no place. That of a fixed table is borrowed.
+    pub(crate) fn fixed(&self, alloc: Global, key: Key) -> Result<CowStr<'static>, AllocError>
+        ensures text { IfOk result (λ s. cow_str_bytes s ≡ word_of self.now key) }
+        ensures given { IsFixed self.now → IsOk result }
     {
-        Ok(CowStr::Owned(String::from_str(alloc, self.word(key))?))
+        match self.tables {
+            Tables::Fixed(entries, others) => Ok(CowStr::Borrowed(word_in(entries, others, key))),
+            Tables::Lent(entries, others) => {
+                let text = String::from_str(alloc, word_in(entries, others, key))?;
+                Ok(CowStr::Owned(text))
+            }
+        }
     }
 
-    // The text under a key, with these in the places of its two parameters.
-    pub(crate) fn text(
+    // The text under a key, with this in its places.
+    pub(crate) fn put_in(
         &self,
         alloc: Global,
         key: Key,
         value: Value<'_>,
-        other: &str,
+    ) -> Result<CowStr<'static>, AllocError>
+        ensures { IfOk result (λ s. cow_str_bytes s ≡ put_in self.now key (value_text value.entry)) }
+    {
+        fill(alloc, self.word(key), Put::One(value))
+    }
+
+    // The text under a key, with these in the places of its two parameters.
+    pub(crate) fn put_both(
+        &self,
+        alloc: Global,
+        key: Key,
+        value: Value<'_>,
+        other: Value<'_>,
     ) -> Result<CowStr<'static>, AllocError>
         ensures { IfOk result (λ s. cow_str_bytes s
-            ≡ put_both self.now key (value_text value.entry) other.now) }
+            ≡ put_both self.now key (value_text value.entry) (value_text other.entry)) }
     {
-        match self.templates.get(key.number()) {
-            Some(template) => {
-                let room = template.room.saturating_add(room_of_value(value));
-                fill(
-                    alloc,
-                    template.pieces.as_slice(),
-                    key.first(),
-                    value,
-                    other,
-                    room,
-                )
-            }
-            None => Ok(CowStr::Borrowed("")),
-        }
+        fill(alloc, self.word(key), Put::Two(key.first(), value, other))
     }
 }

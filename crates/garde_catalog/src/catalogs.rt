@@ -75,8 +75,8 @@ impl Catalogs {
     ) -> Result<Catalogs, CatalogError>
         ensures { IfOk result (AreCatalogs offered.now otherwise) }
     {
-        let mut languages = Vec::new(alloc);
-        let mut catalogs = Vec::new(alloc);
+        let mut languages = Vec::with_capacity(alloc, offered.len())?;
+        let mut catalogs = Vec::with_capacity(alloc, offered.len())?;
         for language in offered {
             add(alloc, *language, &mut languages, &mut catalogs)?;
         }

@@ -75,8 +75,8 @@ impl FormI18n for Catalog<'_> {
         let key = match fault {
             FormFault::Wrong(wanted, _) => key_of_wanted(wanted),
             FormFault::OutOfRange(of) => {
-                let least = Value::Text(least(of));
-                return self.text(alloc, Key::OutOfRange, least, greatest(of));
+                let (least, greatest) = (Value::Text(least(of)), Value::Text(greatest(of)));
+                return self.put_both(alloc, Key::OutOfRange, least, greatest);
             }
             FormFault::Missing => Key::MemberMissing,
             FormFault::Repeated => Key::MemberRepeated,
@@ -84,6 +84,6 @@ impl FormI18n for Catalog<'_> {
             FormFault::NotOneOf => Key::ValueUnknown,
             FormFault::RowLength => Key::RowLength,
         };
-        self.copy(alloc, key)
+        self.fixed(alloc, key)
     }
 }

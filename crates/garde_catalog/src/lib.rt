@@ -12,6 +12,7 @@ mod language;
 mod lookup;
 mod parse;
 mod rules;
+mod spoken;
 mod tables;
 mod template;
 
@@ -22,6 +23,7 @@ pub use field::ranges_of;
 pub use key::{KEYS, Key};
 pub use language::{Language, languages};
 pub use lookup::Range;
+pub use spoken::{Spoken, SpokenError};
 pub use tables::{
     ARABIC, CHINESE, CZECH, DUTCH, ENGLISH, FRENCH, GERMAN, HINDI, ITALIAN, JAPANESE, KOREAN,
     POLISH, PORTUGUESE, RUSSIAN, SPANISH, SWEDISH, TURKISH, UKRAINIAN,

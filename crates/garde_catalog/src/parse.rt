@@ -18,9 +18,8 @@ impl Catalog<'_> {
         ensures { IfOk result (λ s. cow_str_bytes s
             ≡ put_both self.now key (decimal place.line) (decimal place.column)) }
     {
-        let column = place.column;
-        let column = format!(in alloc; "{column}")?;
-        self.text(alloc, key, Value::Number(place.line), column.as_str())
+        let column = Value::Number(place.column);
+        self.put_both(alloc, key, Value::Number(place.line), column)
     }
 
     /// The text of what is not read as JSON. Of `ParseError::Memory` there is none: it is the
@@ -37,7 +36,7 @@ impl Catalog<'_> {
             ParseError::NotJson(place) => self.of_place(alloc, Key::NotJson, *place),
             ParseError::TooDeep(place) => self.of_place(alloc, Key::NestedTooDeep, *place),
             ParseError::LoneSurrogate(place) => self.of_place(alloc, Key::LoneSurrogate, *place),
-            ParseError::TooLong => self.copy(alloc, Key::TextTooLong),
+            ParseError::TooLong => self.fixed(alloc, Key::TextTooLong),
             ParseError::Memory => Err(AllocError),
         }
     }

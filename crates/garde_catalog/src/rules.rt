@@ -3,7 +3,7 @@ ghost use Rattle.std.specs.Prelude.{◌≡◌, IfOk};
 ghost use Rattle.std.specs.Cow.{cow_str_bytes};
 ghost use Rattle.garde_i18n.specs.DatumOf.{named_of, value_text};
 ghost use Rattle.garde_i18n.specs.Reasons.{ip_kind_text};
-ghost use Rattle.garde_catalog.specs.Catalog.{catalog_text, card_key, phone_key, put_in, url_key, word_of};
+ghost use Rattle.garde_catalog.specs.Catalog.{IsFixed, IsPlaceless, catalog_text, card_key, phone_key, put_in, url_key, word_of};
 
 use crate::catalog::Catalog;
 use crate::key::Key;
@@ -69,23 +69,11 @@ fn kind_name(kind: IpKind) -> &'static str
 }
 
 impl Catalog<'_> {
-    // The text under a key, with this in the place of its parameter.
-    fn put_in(
-        &self,
-        alloc: Global,
-        key: Key,
-        value: Value<'_>,
-    ) -> Result<CowStr<'static>, AllocError>
-        ensures { IfOk result (λ s. cow_str_bytes s ≡ put_in self.now key (value_text value.entry)) }
-    {
-        self.text(alloc, key, value, "")
-    }
-
     // The text under a key, with the text under another in the place of its parameter.
     fn because(&self, alloc: Global, key: Key, reason: Key) -> Result<CowStr<'static>, AllocError>
         ensures { IfOk result (λ s. cow_str_bytes s ≡ put_in self.now key (word_of self.now reason)) }
     {
-        self.text(alloc, key, Value::Text(self.word(reason)), "")
+        self.put_in(alloc, key, Value::Text(self.word(reason)))
     }
 
     // The text of a fault that brings its code.
@@ -105,6 +93,9 @@ impl Catalog<'_> {
 /// fault that brings its code is English, but for `multiple_of_mismatch`.
 impl Texts for Catalog<'_> {
     ghost texts = { λ catalog datum. catalog_text catalog datum };
+
+    // A text without a place that lasts as long as the program is borrowed.
+    ghost borrowed = { λ catalog datum. IsFixed catalog × IsPlaceless datum };
 
     fn text_of(&self, alloc: Global, datum: Datum<'_>) -> Result<CowStr<'static>, AllocError> {
         let (key, value) = match datum {
@@ -127,9 +118,9 @@ impl Texts for Catalog<'_> {
             Datum::PhoneNumberInvalid(reason) => {
                 return self.because(alloc, Key::PhoneNumberInvalid, key_of_phone(reason));
             }
-            Datum::AsciiInvalid => return self.copy(alloc, Key::AsciiInvalid),
-            Datum::AlphanumericInvalid => return self.copy(alloc, Key::AlphanumericInvalid),
-            Datum::RequiredNotSet => return self.copy(alloc, Key::RequiredNotSet),
+            Datum::AsciiInvalid => return self.fixed(alloc, Key::AsciiInvalid),
+            Datum::AlphanumericInvalid => return self.fixed(alloc, Key::AlphanumericInvalid),
+            Datum::RequiredNotSet => return self.fixed(alloc, Key::RequiredNotSet),
             Datum::Named(fault) => return self.of_named(alloc, fault),
         };
         self.put_in(alloc, key, value)

@@ -1,6 +1,6 @@
 //! Fields `Accept-Language`, each with the language that it asks for.
 
-use garde_catalog::{Catalog, Catalogs, ENGLISH, Key, Language, languages, ranges_of};
+use garde_catalog::{Catalog, Catalogs, ENGLISH, Key, Language, Spoken, languages, ranges_of};
 use std::alloc::Global;
 
 static ASKED: [(&str, &str); 33] = [
@@ -156,4 +156,53 @@ fn has_the_catalogs_of_all_languages(rt: HostRuntime) {
         Err(_) => false,
     };
     assert!(rt; is_right);
+}
+
+// Words of a command line, each with the text of a missing member in the language that they ask for,
+// or why there is none.
+static WORDS: [(&[&str], &str); 8] = [
+    (&[], "missing"),
+    (&["-", "--", "de"], "missing"),
+    (&["--language", "de-AT"], "fehlt"),
+    (&["20", "--language", "en"], "missing"),
+    (
+        &["--language"],
+        "--language must be followed by one of en de",
+    ),
+    (
+        &["--language", "--language"],
+        "--language must be followed by one of en de",
+    ),
+    (
+        &["--language", "cs"],
+        "--language must be followed by one of en de",
+    ),
+    (
+        &["--language", "de", "--language"],
+        "--language must stand once at most",
+    ),
+];
+
+// Whether words are answered by this text, where two languages are offered.
+fn is_spoken(alloc: Global, words: &[&str], text: &str) -> bool {
+    let (mut spoken, offered) = (Spoken::new(), languages());
+    for word in words {
+        if let Err(reason) = spoken.take(word) {
+            return reason == text;
+        }
+    }
+    match spoken.catalog(alloc, &offered[..2], &ENGLISH) {
+        Ok(catalog) => catalog.word(Key::MemberMissing) == text,
+        Err(error) => match error.to_string(alloc) {
+            Ok(said) => said.as_str() == text,
+            Err(_) => false,
+        },
+    }
+}
+
+#[test]
+fn makes_the_catalog_that_words_ask_for(rt: HostRuntime) {
+    for (words, text) in &WORDS {
+        assert!(rt; is_spoken(rt.alloc(), words, text));
+    }
 }

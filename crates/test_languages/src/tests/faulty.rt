@@ -34,8 +34,12 @@ static TEXTS: [(Key, &str, TemplateFault); 9] = [
 ];
 
 // How many faults a table has, and whether this is one of them.
-fn faults_of(alloc: Global, table: &[Entry<'_>], wanted: CatalogFault) -> Option<(usize, bool)> {
-    match Catalog::new(alloc, table) {
+fn faults_of<'t>(
+    alloc: Global,
+    table: &'t [Entry<'t>],
+    wanted: CatalogFault,
+) -> Option<(usize, bool)> {
+    match Catalog::lent(alloc, table, &[]) {
         Err(CatalogError::Faults(faults)) => {
             Some((faults.len(), faults.as_slice().contains(&wanted)))
         }
@@ -77,11 +81,26 @@ fn tells_a_repeated_and_a_missing_key(rt: HostRuntime) {
 
 static ONE: [Entry<'static>; 1] = [(Key::NotText, "kein Text")];
 
+// Whether a catalog has the text of this table, and another from its fallback.
+fn is_mixed(h: &Catalog<'_>) -> bool {
+    h.word(Key::NotText) == "kein Text" && h.word(Key::NotUrl) == "not a URL"
+}
+
 #[test]
 fn takes_missing_texts_from_the_fallback(rt: HostRuntime) {
-    let is_mixed = match Catalog::with_fallback(rt.alloc(), &ONE, &ENGLISH) {
-        Ok(h) => h.word(Key::NotText) == "kein Text" && h.word(Key::NotUrl) == "not a URL",
+    let is_right = match Catalog::with_fallback(rt.alloc(), &ONE, &ENGLISH) {
+        Ok(h) => is_mixed(&h),
         Err(_) => false,
     };
-    assert!(rt; is_mixed);
+    assert!(rt; is_right);
+}
+
+#[test]
+fn borrows_tables_for_a_while(rt: HostRuntime) {
+    let table = [(Key::NotText, "kein Text")];
+    let is_right = match Catalog::lent(rt.alloc(), &table, &ENGLISH) {
+        Ok(h) => is_mixed(&h),
+        Err(_) => false,
+    };
+    assert!(rt; is_right);
 }

@@ -406,14 +406,17 @@ fn wrong_forms(alloc: Global, h: &Catalog<'_>, table: &[Entry<'_>]) -> usize {
     wrong
 }
 
+// How many messages of a catalog are not those of its table.
+fn wrong_by(alloc: Global, h: &Catalog<'_>, table: &[Entry<'_>]) -> usize {
+    let wrong = wrong_messages(alloc, h, table);
+    let wrong = wrong.saturating_add(wrong_forms(alloc, h, table));
+    wrong.saturating_add(wrong_parses(alloc, h, table))
+}
+
 // How many messages of a language are not those of its table, or `None` where that makes no catalog.
-fn wrong_in(alloc: Global, table: &[Entry<'_>]) -> Option<usize> {
+fn wrong_in(alloc: Global, table: &'static [Entry<'static>]) -> Option<usize> {
     match Catalog::new(alloc, table) {
-        Ok(h) => {
-            let wrong = wrong_messages(alloc, &h, table);
-            let wrong = wrong.saturating_add(wrong_forms(alloc, &h, table));
-            Some(wrong.saturating_add(wrong_parses(alloc, &h, table)))
-        }
+        Ok(h) => Some(wrong_by(alloc, &h, table)),
         Err(_) => None,
     }
 }
@@ -423,6 +426,15 @@ fn tells_each_message_of_every_language(rt: HostRuntime) {
     for language in languages() {
         assert_eq!(rt; wrong_in(rt.alloc(), language.table), Some(0));
     }
+}
+
+#[test]
+fn tells_each_message_of_a_lent_table(rt: HostRuntime) {
+    let wrong = match Catalog::lent(rt.alloc(), &garde_catalog::GERMAN, &[]) {
+        Ok(h) => Some(wrong_by(rt.alloc(), &h, &garde_catalog::GERMAN)),
+        Err(_) => None,
+    };
+    assert_eq!(rt; wrong, Some(0));
 }
 
 #[test]

@@ -1,8 +1,15 @@
-use Rattle.std.proofs.Common.{◌≡◌, take, string_bytes}
-use Rattle.garde_i18n.specs.DatumOf.{value_text}
-use Rattle.garde_catalog.specs.Template.{filled, value_at}
+use Rattle.std.proofs.Common.{◌≡◌, ◌++◌, length, string_bytes}
+use denote.Text.{Utf8}
+use denote.Shadow.{shadow}
+use Rattle.garde_catalog.specs.Template.{filled, pieces_of, value_at}
 use Rattle.garde_catalog.proofs.template.fill.Given as goal
 
-abbrev pub invariant-loop-piece : goal.invariant-loop-piece
-invariant-loop-piece l =
-    string_bytes l.whole ≡ filled (value_at l.first (value_text l.value) l.other) (take l.piece-index l.pieces)
+abbrev pub invariant-places : goal.invariant-places
+invariant-places l = record {
+  text : shadow (Utf8 l.rest);
+  whole : string_bytes l.whole ++ filled (value_at l.put) (pieces_of l.rest)
+      ≡ filled (value_at l.put) (pieces_of l.text);
+}
+
+abbrev pub decreases-places : goal.decreases-places
+decreases-places l = length l.rest

@@ -1,7 +1,6 @@
 use Rattle.std.proofs.Common.{◌≡◌, ◌<◌, ◌∙◌, ◌++◌, ◌∷◌, ℕ, List, Bool, true, false, Some, None, length, get_or, ap, lit<}
 use Rattle.std.proofs.lemmas.Str.Pattern.{contains_char, split_parts}
-use Rattle.garde_catalog.proofs.Places.{Free}
-use Rattle.garde_catalog.proofs.Reading.{closed_before, closed_only, free_by_place, never_closed, opened_twice, plain_by_both}
+use Rattle.garde_catalog.proofs.Reading.{Free, closed_before, closed_only, free_by_place, never_closed, opened_twice, plain_by_both}
 use Rattle.garde_catalog.proofs.template.first_place.Goals as goal
 
 no_such : (c : ℕ) (text : List ℕ) (r : Bool) → ((k : ℕ) → k < length text → get_or text k 0 ≡ c → r ≡ true) → r ≡ false → Free c text

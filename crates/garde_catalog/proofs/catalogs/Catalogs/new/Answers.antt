@@ -4,9 +4,16 @@ use Rattle.std.proofs.lemmas.List.{take_more}
 use Rattle.garde_catalog.specs.Catalogs.{AddsLanguage, IsOfLanguage}
 use Rattle.garde_catalog.specs.declared.catalog.Catalog.{Catalog}
 use Rattle.garde_catalog.specs.declared.language.Language.{Language}
-use Rattle.garde_catalog.proofs.Made.{zip_push}
 use Rattle.garde_catalog.proofs.SoFar.{no_language}
 use Rattle.garde_catalog.proofs.catalogs.Catalogs.new.Goals as goal
+
+-- one more pair
+zip_push : {A B : Type 0} (R : A → B → Type 0) (xs : List A) (ys : List B) (x : A) (y : B) → AllZip R xs ys → R x y
+    → AllZip R (xs ++ (x ∷ [])) (ys ++ (y ∷ []))
+zip_push R [] [] x y h r = (r, tt)
+zip_push R [] (z ∷ ys) x y h r = absurd h
+zip_push R (w ∷ xs) [] x y h r = absurd h
+zip_push R (w ∷ xs) (z ∷ ys) x y h r = (h.0, zip_push R xs ys x y h.1 r)
 
 -- the next catalog is that of the next language
 next : (offered : List Language) (i : ℕ) (d : Language) (languages later : List Language) (catalogs more : List Catalog) → i < length offered
