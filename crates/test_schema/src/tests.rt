@@ -3,6 +3,7 @@
 mod bodies;
 mod bounds;
 mod checked;
+mod counted;
 mod csv_records;
 mod enums;
 mod examples;
