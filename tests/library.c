@@ -70,6 +70,24 @@ static bool same(const answer *a, const answer *b) {
   return a->status == b->status && a->len == b->len && memcmp(a->text, b->text, sizeof a->text) == 0;
 }
 
+/* The same faults in lines, in a checker that has no room yet. */
+static void try_lines(void) {
+  const char *all = "customer: length is lower than 1\nlines[0].code: value does not begin with \"P\"\n"
+                    "lines[0].count: lower than 1\nx: unknown\n";
+  order_checker checker = ORDER_CHECKER_EMPTY;
+  for (size_t most = 0; most <= 5; most++) {
+    char out[512] = {0};
+    size_t len = 0;
+    int status = order_list_with(&checker, (const uint8_t *)BAD, strlen(BAD), most, (const uint8_t *)"", 0, (uint8_t *)out, sizeof out, &len);
+    expect(status == (most ? ORDER_FAULTS : ORDER_WRONG_ARGUMENT) && len == strlen(out), "lines have a status and a length");
+    size_t end = 0, count = most < 4 ? most : 4;
+    for (size_t i = 0; i < count; i++) end += strcspn(all + end, "\n") + 1;
+    expect(!strncmp(out, all, end), "so many faults are listed");
+    expect(!strcmp(out + end, most && most < 4 ? "there are more\n" : ""), "there are more lines");
+  }
+  order_free(&checker);
+}
+
 /* The details are cut at each room that is too small, and what is behind the room stays. */
 static void try_room(void) {
   answer whole = checked(NULL, BAD, SIZE_MAX);
@@ -185,6 +203,7 @@ int main(int count, char **words) {
   if (count > 1) calls = atol(words[1]);
   try_room();
   try_bytes();
+  try_lines();
   try_size();
   for (int kept = 0; kept < 2; kept++) {
     try_memory(GOOD, kept);

@@ -90,6 +90,21 @@ uint8_t order_check_with(order_checker *checker,
                          size_t out_len,
                          size_t *len);
 
+/* Does what `order_check_with` does, and tells what is wrong in lines, for a log or a terminal: `out`
+ * gets a line `path: message` for each fault, without codes, and the line `there are more` where there
+ * are. Of bytes that are no JSON text the line says why, with line and column. It takes less time than
+ * problem details.
+ */
+uint8_t order_list_with(order_checker *checker,
+                        const uint8_t *body,
+                        size_t body_len,
+                        size_t most,
+                        const uint8_t *language,
+                        size_t language_len,
+                        uint8_t *out,
+                        size_t out_len,
+                        size_t *len);
+
 /* Frees the room of a checker, and leaves it as it began. A second call does nothing. */
 void order_free(order_checker *checker);
 

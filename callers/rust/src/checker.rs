@@ -61,24 +61,46 @@ impl Checker {
 
     /// Checks a body, and reports what the options say.
     pub fn check_with(&mut self, body: &[u8], options: Options) -> Result<(), Problem> {
+        self.answer(raw::order_check_with, body, options)
+    }
+
+    /// Checks a body, and reports every fault in English, as [`list_with`](Self::list_with) does.
+    pub fn list<T: AsRef<[u8]> + ?Sized>(&mut self, body: &T) -> Result<(), Problem> {
+        self.list_with(body, Options::new())
+    }
+
+    /// Checks a body, and reports what the options say, in lines for a log or a terminal: the text
+    /// of a problem is not its details, but a line `path: message` for each fault, and the line
+    /// `there are more` where there are. It takes less time than details.
+    // It is generic, so a library that has no such function is linked where nobody calls it.
+    pub fn list_with<T: AsRef<[u8]> + ?Sized>(
+        &mut self,
+        body: &T,
+        options: Options,
+    ) -> Result<(), Problem> {
+        self.answer(raw::order_list_with, body.as_ref(), options)
+    }
+
+    /// What this function of the library says of a body.
+    fn answer(&mut self, call: raw::Call, body: &[u8], options: Options) -> Result<(), Problem> {
         self.make_room(ROOM)?;
-        let (mut status, mut len) = self.call(body, options);
+        let (mut status, mut len) = self.call(call, body, options);
         if len > self.details.len() {
             self.make_room(len)?;
-            (status, len) = self.call(body, options);
+            (status, len) = self.call(call, body, options);
         }
         match status {
             raw::VALID => Ok(()),
             raw::FAULTS => Err(Problem::Faults(text_of(&self.details[..len])?)),
             raw::NO_JSON => Err(Problem::NoJson(text_of(&self.details[..len])?)),
             raw::MEMORY => Err(Problem::OutOfMemory),
-            other => unreachable!("order_check_with returned {other}"),
+            other => unreachable!("the library returned {other}"),
         }
     }
 
     /// The status of a body, and the length of its details: `details` begins with them, as far as
     /// it has room.
-    fn call(&mut self, body: &[u8], options: Options) -> (u8, usize) {
+    fn call(&mut self, call: raw::Call, body: &[u8], options: Options) -> (u8, usize) {
         let language = options.language.as_bytes();
         let mut len = 0;
         // SAFETY: 1: each pointer comes from a slice, with the length of that slice, or from a
@@ -86,7 +108,7 @@ impl Checker {
         // read behind `&`. 3: `raw` began as EMPTY, is private and is never copied, and `&mut self`
         // is held by one thread. 4: see the head.
         let status = unsafe {
-            raw::order_check_with(
+            call(
                 &mut self.raw,
                 body.as_ptr(),
                 body.len(),

@@ -3,7 +3,7 @@ use std::error::Error;
 use std::fmt::{self, Display, Formatter};
 
 /// Why a body is not valid. A text is the problem details (RFC 9457) of the media type
-/// `application/problem+json`.
+/// `application/problem+json`, or the lines of [`Checker::list`](crate::Checker::list).
 #[derive(Clone, Debug, PartialEq, Eq)]
 pub enum Problem {
     /// There are faults of form or of the rules. The member `errors` has them, each with `pointer`,
@@ -26,7 +26,7 @@ impl Problem {
         }
     }
 
-    /// The problem details, which are empty where memory ran out.
+    /// The problem details, or the lines, which are empty where memory ran out.
     pub fn details(&self) -> &str {
         match self {
             Problem::Faults(details) | Problem::NoJson(details) => details,

@@ -25,6 +25,19 @@ impl Checker {
     };
 }
 
+/// `order_check_with` and `order_list_with`.
+pub type Call = unsafe extern "C" fn(
+    checker: *mut Checker,
+    body: *const u8,
+    body_len: usize,
+    most: usize,
+    language: *const u8,
+    language_len: usize,
+    out: *mut u8,
+    out_len: usize,
+    len: *mut usize,
+) -> u8;
+
 unsafe extern "C" {
     pub safe fn order_version() -> u32;
 
@@ -33,6 +46,18 @@ unsafe extern "C" {
     pub fn order_reserve(checker: *mut Checker, body_len: u32) -> u8;
 
     pub fn order_check_with(
+        checker: *mut Checker,
+        body: *const u8,
+        body_len: usize,
+        most: usize,
+        language: *const u8,
+        language_len: usize,
+        out: *mut u8,
+        out_len: usize,
+        len: *mut usize,
+    ) -> u8;
+
+    pub fn order_list_with(
         checker: *mut Checker,
         body: *const u8,
         body_len: usize,

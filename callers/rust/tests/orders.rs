@@ -44,6 +44,17 @@ fn options_choose_the_language_and_the_number_of_faults() {
 }
 
 #[test]
+fn faults_are_listed_in_lines() {
+    let lines = faults(Checker::new().list(BAD));
+    assert_eq!(
+        lines,
+        "customer: length is lower than 1\n\
+         lines[0].code: value does not begin with \"P\"\n"
+    );
+    assert_eq!(Checker::new().list(GOOD), Ok(()));
+}
+
+#[test]
 fn details_longer_than_the_room_of_a_first_call_are_whole() {
     let lines = vec![r#"{"code":"X","count":0}"#; 41].join(",");
     let body = format!(r#"{{"customer":"","lines":[{lines}]}}"#);

@@ -9,7 +9,7 @@ use Rattle.garde_schema.specs.FormCode.{form_message}
 use Rattle.garde_schema.specs.FormText.{default_form_text}
 use Rattle.garde_library.specs.declared.status.Status.{Status}
 use Rattle.garde_library.specs.declared.status.Status.TheVariants.{Valid}
-use Rattle.garde_library.specs.Checked.{IsChecked, IsVerdict}
+use Rattle.garde_library.specs.Checked.{IsChecked, IsListed, IsVerdict}
 use Rattle.garde_library.specs.Spelling.{Spelling, SpellsValid}
 use Rattle.example_order.specs.declared.language.Language.{Language}
 use Rattle.example_order.specs.declared.language.Language.TheVariants.{English, Czech}
@@ -20,21 +20,34 @@ use Rattle.example_order.specs.CzechText.{czech_text, czech_form_text}
 abbrev pub language_of : List ℕ → Language
 language_of tag = if bytes_eq tag (codes "cs") then Czech else English
 
--- the messages of what rules find: codes beside sentences
-abbrev pub rule_texts : Language → Datum → List ℕ
-rule_texts English datum = datum_message (λ d. default_text d) datum
-rule_texts Czech datum = datum_message (λ d. czech_text d) datum
+-- the sentences of what rules find
+abbrev pub rule_sentences : Language → Datum → List ℕ
+rule_sentences English datum = default_text datum
+rule_sentences Czech datum = czech_text datum
 
--- the messages of the faults of form
+-- the sentences of the faults of form
+abbrev pub form_sentences : Language → FormTexts
+form_sentences English fault = default_form_text fault
+form_sentences Czech fault = czech_form_text fault
+
+-- the messages of both: codes beside sentences
+abbrev pub rule_texts : Language → Datum → List ℕ
+rule_texts language datum = datum_message (λ d. rule_sentences language d) datum
+
 abbrev pub form_texts : Language → FormTexts
-form_texts English fault = form_message (λ f. default_form_text f) fault
-form_texts Czech fault = form_message (λ f. czech_form_text f) fault
+form_texts language fault = form_message (λ f. form_sentences language f) fault
 
 -- These bytes were handed the answer to the bytes of a body, of which this is spelled under these rules. Valid are only bytes that spell
 -- a value without a fault.
 abbrev pub IsCheckedIn : {A C : Type 0} → Spelling A → (A → C → Visits) → Language → ℕ → List ℕ → List ℕ → List ℕ → ℕ → Status → Type 0
 IsCheckedIn spelling rules language most body old new len status =
     IsChecked (λ j. spelling.visits (form_texts language) j) (rule_texts language) most TITLE.now body old new len status
+    × (status ≡ Valid → SpellsValid spelling rules body)
+
+-- the same, told by lines, without codes
+abbrev pub IsListedIn : {A C : Type 0} → Spelling A → (A → C → Visits) → Language → ℕ → List ℕ → List ℕ → List ℕ → ℕ → Status → Type 0
+IsListedIn spelling rules language most body old new len status =
+    IsListed (λ j. spelling.visits (form_sentences language) j) (rule_sentences language) most body old new len status
     × (status ≡ Valid → SpellsValid spelling rules body)
 
 -- the status tells whether the bytes are those of a body without a fault

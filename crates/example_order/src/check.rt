@@ -1,11 +1,11 @@
 //! What is answered to the bytes of an order, in the language that is asked for.
-ghost use Rattle.example_order.specs.Language.{IsCheckedIn, IsOrder};
+ghost use Rattle.example_order.specs.Language.{IsCheckedIn, IsListedIn, IsOrder};
 
 use crate::body::{Body, TITLE};
 use crate::czech::Czech;
 use crate::language::Language;
 use garde::{DefaultI18n, Stated};
-use garde_library::{Spelled, Status, check_body, is_valid_body};
+use garde_library::{Spelled, Status, check_body, is_valid_body, list_body};
 use garde_problem::WithCodes;
 use garde_schema::Scratch;
 use std::alloc::Global;
@@ -33,6 +33,30 @@ pub fn check_order(
         Language::Czech => {
             let h = WithCodes(Czech);
             check_body::<Body<'_>, _>(alloc, body, scratch, most, &h, TITLE, out, len)
+        }
+    }
+}
+
+/// Checks the bytes of an order, and tells what is wrong in lines: `garde_library::list_body` says
+/// more. Sentences are in this language.
+pub fn list_order(
+    alloc: Global,
+    body: &[u8],
+    scratch: &mut Scratch,
+    most: usize,
+    language: Language,
+    out: &mut [u8],
+    len: &mut usize,
+) -> Status
+    ensures { IsListedIn ⟦<Body<'static> as Spelled>⟧.spelled ⟦<Body<'static> as Stated>⟧.visits
+        language most body.now out.old out.new len.new result }
+{
+    match language {
+        Language::English => {
+            list_body::<Body<'_>, _>(alloc, body, scratch, most, &DefaultI18n, out, len)
+        }
+        Language::Czech => {
+            list_body::<Body<'_>, _>(alloc, body, scratch, most, &Czech, out, len)
         }
     }
 }

@@ -12,6 +12,8 @@ use Rattle.garde_schema.specs.declared.first_read_error.FirstReadError.{FirstRea
 use Rattle.garde_schema.specs.declared.first_read_error.FirstReadError.TheVariants.{Parse, All, First, Memory}
 use Rattle.garde_library.specs.declared.status.Status.{Status}
 use Rattle.garde_library.specs.declared.status.Status.TheVariants as statuses
+use Rattle.garde_library.specs.declared.telling.Telling.{Telling}
+use Rattle.garde_library.specs.declared.telling.Telling.TheVariants as tellings
 
 -- the result of reading
 abbrev pub Reading : Type 0
@@ -65,17 +67,38 @@ IsHanded text old new len = (len ≡ length text) × (new ≡ take (length old) 
 abbrev pub IsOutOfMemory : List ℕ → List ℕ → ℕ → Status → Type 0
 IsOutOfMemory old new len status = (status ≡ statuses.Memory) × IsHanded [] old new len
 
--- these bytes were handed what tells the result of reading; or memory ran out
-abbrev pub IsTold : List ℕ → Reading → List ℕ → List ℕ → ℕ → Status → Type 0
-IsTold title read old new len status =
-    ((status ≡ status_of read) × IsHanded (text_of title read) old new len) ⊎ IsOutOfMemory old new len status
+-- the lines that tell it: each fault in one, as a report prints itself; of valid bytes, and where memory ran out, there is none
+abbrev pub lines_of : Reading → List ℕ
+lines_of (Ok done) = []
+lines_of (Err (All report)) = first_read_error_text (All report)
+lines_of (Err (First report)) = first_read_error_text (First report)
+lines_of (Err (Parse error)) = first_read_error_text (Parse error)
+lines_of (Err Memory) = []
+
+-- how it is told: by problem details under a title, or by lines
+abbrev pub told : Telling → Reading → List ℕ
+told (tellings.Details title) = text_of title.now
+told tellings.Lines = lines_of
+
+-- these bytes were handed what tells the result of reading, as this function of the result says; or memory ran out
+abbrev pub IsToldBy : (Reading → List ℕ) → Reading → List ℕ → List ℕ → ℕ → Status → Type 0
+IsToldBy tells read old new len status =
+    ((status ≡ status_of read) × IsHanded (tells read) old new len) ⊎ IsOutOfMemory old new len status
 
 -- These bytes were handed the answer to bytes, where visits and messages are these, and so many faults are wanted at most: what tells
 -- the result of reading, and nothing where not even one fault is wanted, or memory ran out.
-abbrev pub IsChecked : (Json → Visits) → (Datum → List ℕ) → ℕ → List ℕ → List ℕ → List ℕ → List ℕ → ℕ → Status → Type 0
-IsChecked visits text most title bytes old new len status =
-    ((0 < most) × ((read : Reading) × AnswersFirstBytes visits text most (without_mark bytes) read × IsTold title read old new len status))
+abbrev pub IsCheckedBy : (Reading → List ℕ) → (Json → Visits) → (Datum → List ℕ) → ℕ → List ℕ → List ℕ → List ℕ → ℕ → Status → Type 0
+IsCheckedBy tells visits text most bytes old new len status =
+    ((0 < most) × ((read : Reading) × AnswersFirstBytes visits text most (without_mark bytes) read × IsToldBy tells read old new len status))
     ⊎ (((most ≡ 0) × (status ≡ statuses.WrongArgument) × IsHanded [] old new len) ⊎ IsOutOfMemory old new len status)
+
+-- the same by problem details under this title
+abbrev pub IsChecked : (Json → Visits) → (Datum → List ℕ) → ℕ → List ℕ → List ℕ → List ℕ → List ℕ → ℕ → Status → Type 0
+IsChecked visits text most title bytes old new len status = IsCheckedBy (text_of title) visits text most bytes old new len status
+
+-- the same by lines
+abbrev pub IsListed : (Json → Visits) → (Datum → List ℕ) → ℕ → List ℕ → List ℕ → List ℕ → ℕ → Status → Type 0
+IsListed visits text most bytes old new len status = IsCheckedBy lines_of visits text most bytes old new len status
 
 -- The status tells whether bytes have a fault, or how they are not read
 abbrev pub IsVerdict : (Json → Visits) → (Datum → List ℕ) → List ℕ → Status → Type 0

@@ -2,11 +2,11 @@
 ghost use Rattle.std.specs.Prelude.{◌≡◌, IsOk};
 ghost use Rattle.garde_tape.specs.Input.{without_mark};
 ghost use Rattle.garde_schema.specs.FirstRead.{AnswersFirstBytes};
-ghost use Rattle.garde_library.specs.Checked.{IsChecked, IsHanded, IsOutOfMemory, IsTold, IsVerdict, status_of};
+ghost use Rattle.garde_library.specs.Checked.{IsChecked, IsHanded, IsListed, IsOutOfMemory, IsToldBy, IsVerdict, status_of, told};
 ghost use Rattle.garde_library.specs.declared.status.Status.TheVariants.{Valid};
 
-use crate::details::details_of;
 use crate::status::Status;
+use crate::telling::{Telling, text_of};
 use garde::I18n;
 use garde_schema::{FirstReadError, Form, FormI18n, Scratch, read_json_first};
 use std::alloc::Global;
@@ -59,18 +59,18 @@ fn read<'a, F: Form<'a>, H: I18n + FormI18n>(
     }
 }
 
-/// Hands over the details of the result of reading.
+/// Hands over what tells the result of reading.
 pub(crate) fn tell(
     alloc: Global,
-    title: &str,
+    telling: Telling<'_>,
     read: &Result<(), FirstReadError>,
     out: &mut [u8],
     len: &mut usize,
 ) -> Status
-    ensures told { IsTold title.now read.now out.old out.new len.new result }
+    ensures told { IsToldBy (told telling.entry) read.now out.old out.new len.new result }
     ensures valid { result ≡ Valid → IsOk read.now }
 {
-    match details_of(alloc, title, read) {
+    match text_of(alloc, telling, read) {
         Ok(text) => {
             hand_over(text.as_str().as_bytes(), out, len);
             status_of(read)
@@ -105,7 +105,33 @@ pub fn check_json<'a, F: Form<'a>, H: I18n + FormI18n>(
         return Status::WrongArgument;
     }
     let read = read(alloc, bytes, scratch, form, most, h);
-    tell(alloc, title, &read, out, len)
+    tell(alloc, Telling::Details(title), &read, out, len)
+}
+
+/// Checks bytes by a form, as `check_json` does, and tells what is wrong in lines: `out` gets a line
+/// `path: message` for each fault, as a report prints itself, and `there are more` where there are. Of
+/// bytes that are no JSON text the line says why, and where.
+///
+/// It takes less time than problem details, with a handler whose messages have no codes.
+pub fn list_json<'a, F: Form<'a>, H: I18n + FormI18n>(
+    alloc: Global,
+    bytes: &'a [u8],
+    scratch: &'a mut Scratch,
+    form: &F,
+    most: usize,
+    h: &H,
+    out: &mut [u8],
+    len: &mut usize,
+) -> Status
+    ensures { IsListed (λ j. F.visits form.now (H.form_text h.now) j) (H.text h.now)
+        most bytes.now out.old out.new len.new result }
+{
+    if most == 0 {
+        hand_over(b"", out, len);
+        return Status::WrongArgument;
+    }
+    let read = read(alloc, bytes, scratch, form, most, h);
+    tell(alloc, Telling::Lines, &read, out, len)
 }
 
 /// Whether bytes have a fault by a form, or how they are not read. Reading ends at the first fault.

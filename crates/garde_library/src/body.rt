@@ -2,13 +2,14 @@
 ghost use Rattle.std.specs.Prelude.{◌≡◌, IfOk};
 ghost use Rattle.garde_tape.specs.Input.{without_mark};
 ghost use Rattle.garde_schema.specs.FirstRead.{AnswersFirstBytes};
-ghost use Rattle.garde_library.specs.Checked.{IsChecked, IsVerdict};
+ghost use Rattle.garde_library.specs.Checked.{IsChecked, IsListed, IsVerdict};
 ghost use Rattle.garde_library.specs.Spelling.{SpellsValid};
 ghost use Rattle.garde_library.specs.declared.status.Status.TheVariants.{Valid};
 
 use crate::answer::{hand_over, status_of, tell};
 use crate::spelled::ReadBody;
 use crate::status::Status;
+use crate::telling::Telling;
 use garde::I18n;
 use garde_schema::{FirstReadError, FormI18n, Scratch};
 use std::alloc::Global;
@@ -52,7 +53,30 @@ pub fn check_body<'a, B: ReadBody<'a>, H: I18n + FormI18n>(
         return Status::WrongArgument;
     }
     let read = read::<B, H>(alloc, bytes, scratch, most, h);
-    tell(alloc, title, &read, out, len)
+    tell(alloc, Telling::Details(title), &read, out, len)
+}
+
+/// Checks the bytes of a body, and tells what is wrong in lines. It answers as `list_json` does, and
+/// `Status::Valid` only where the bytes spell a value of the type without a fault.
+pub fn list_body<'a, B: ReadBody<'a>, H: I18n + FormI18n>(
+    alloc: Global,
+    bytes: &'a [u8],
+    scratch: &'a mut Scratch,
+    most: usize,
+    h: &H,
+    out: &mut [u8],
+    len: &mut usize,
+) -> Status
+    ensures answer { IsListed (λ j. B.spelled.visits (H.form_text h.now) j) (H.text h.now)
+        most bytes.now out.old out.new len.new result }
+    ensures valid { result ≡ Valid → SpellsValid B.spelled B.visits bytes.now }
+{
+    if most == 0 {
+        hand_over(b"", out, len);
+        return Status::WrongArgument;
+    }
+    let read = read::<B, H>(alloc, bytes, scratch, most, h);
+    tell(alloc, Telling::Lines, &read, out, len)
 }
 
 /// Whether the bytes of a body have a fault, or how they are not read. Reading ends at the first fault.

@@ -346,6 +346,10 @@ abbrev pub found_if : Bool → ℕ → Option ℕ → Option ℕ
 found_if true n o = Some n
 found_if false n o = o
 
+pub found_or : (b : Bool) (n : ℕ) (o : Option ℕ) → found_if b n o ≡ cond b (Some n) o
+found_or true n o = refl
+found_or false n o = refl
+
 or_found_if : (a : Option ℕ) (b : Bool) (n : ℕ) (o : Option ℕ) → or_found (or_found a (cond b (Some n) None)) o ≡ or_found a (found_if b n o)
 or_found_if None true n o = refl
 or_found_if None false n o = refl

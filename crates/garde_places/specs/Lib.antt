@@ -4,6 +4,7 @@ pub mod Scan
 pub mod Text
 pub mod Steps
 pub mod Marks
+pub mod Index
 pub mod Places
 pub mod Fault
 pub mod Escape

@@ -12,7 +12,9 @@ use Rattle.garde_places.specs.declared.place.Place.{Place}
 use Rattle.garde_places.specs.declared.fault.Fault.{Fault}
 use Rattle.garde_places.specs.declared.find.Mark.{Mark}
 use Rattle.garde_places.specs.Fault.{speaks_of_name}
+use Rattle.garde_places.specs.declared.index.Index.{Index}
 use Rattle.garde_places.specs.Marks.{MarksHold}
+use Rattle.garde_places.specs.Index.{IndexHolds}
 use Rattle.garde_places.specs.Scan.{text_start}
 use Rattle.garde_places.specs.Steps.{reached, tokens_before, before_name}
 
@@ -42,9 +44,10 @@ IsFaultSpot places path message j place = IsSpotBy (speaks_of_name (message_part
 abbrev pub AreListed : List Place → Json → List Fault → Type 0
 AreListed places j faults = All (λ (f : Fault). IsFaultSpot places f.path.now f.error.now j f.place) faults
 
--- the nodes are the tape of the text, with these marks
-pub record IsTapeOf (text : List ℕ) (nodes : List Node) (marks : List Mark) : Type 0 where
+-- the nodes are the tape of the text, with these marks and these names of wide objects
+pub record IsTapeOf (text : List ℕ) (nodes : List Node) (marks : List Mark) (index : Index) : Type 0 where
   pub read : document text ≡ Some (json_of (map node_token nodes))
   pub value : HasValue (map node_token nodes)
   pub links : Linked (map node_token nodes) 0 nodes
   pub hold : MarksHold (map node_token nodes) marks
+  pub names : IndexHolds (map node_token nodes) index

@@ -9,7 +9,9 @@ use Rattle.json.specs.declared.tape.Node.{Node}
 use Rattle.garde_places.specs.declared.place.Place.{Place}
 use Rattle.garde_places.specs.declared.lex.Mode.TheVariants.{Between}
 use Rattle.garde_places.specs.declared.find.Mark.{Mark}
+use Rattle.garde_places.specs.declared.index.Index.{Index}
 use Rattle.garde_places.specs.Marks.{MarksHold}
+use Rattle.garde_places.specs.Index.{IndexHolds}
 use Rattle.garde_report.specs.Part.{Part}
 use Rattle.garde_tape.specs.Reading.{json_of}
 use Rattle.garde_places.specs.Place.{goes_on}
@@ -57,10 +59,11 @@ IsNamePlace text path j place =
     ((before : List Part) × (last : Part) × (path ≡ before ++ last ∷ []) × IsNamePlaceOf text before last.text j place)
     ⊎ ((path ≡ []) × IsPlaceOf text [] j place)
 
--- what the places of a text are made of: the tape of the text, the place of each token, and the marks
-pub record ArePlaces (text : List ℕ) (nodes : List Node) (found : List Place) (marks : List Mark) : Type 0 where
+-- what the places of a text are made of: the tape of the text, the place of each token, the marks, and the names of wide objects
+pub record ArePlaces (text : List ℕ) (nodes : List Node) (found : List Place) (marks : List Mark) (index : Index) : Type 0 where
   pub read : document text ≡ Some (json_of (map node_token nodes))
   pub value : HasValue (map node_token nodes)
   pub links : Linked (map node_token nodes) 0 nodes
   pub places : found ≡ spots Between text_start text
   pub hold : MarksHold (map node_token nodes) marks
+  pub names : IndexHolds (map node_token nodes) index

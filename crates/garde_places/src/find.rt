@@ -1,31 +1,21 @@
 //! Which token of a tape begins the value that a path leads to.
-ghost use Rattle.std.specs.Prelude.{◌≡◌, ◌+◌, ◌<◌, ◌≤◌, ℕ, map, length, drop, is_some, option_map, IfSome};
-ghost use Rattle.json.specs.Json.{Json, Items as SpecItems, Members as SpecMembers};
+ghost use Rattle.std.specs.Prelude.{◌≡◌, ◌+◌, ◌<◌, ◌≤◌, List, map, length, drop, is_some, option_map, IfSome};
+ghost use Rattle.json.specs.Json.{Json, Items as SpecItems};
+ghost use Rattle.json.specs.Token.{Token};
 ghost use Rattle.json.specs.Tape.{node_token, Linked};
-ghost use Rattle.json.specs.Tree.{json_tokens};
 ghost use Rattle.json.specs.Find.{as_object, as_array};
+ghost use Rattle.garde_places.specs.Index.{IndexHolds};
 ghost use Rattle.garde_places.specs.Marks.{MarkHolds, MarksHold, mark_of};
 ghost use Rattle.garde_report.specs.Part.{item_part};
 ghost use Rattle.garde_tape.specs.Number.{unsigned_of};
-ghost use Rattle.garde_places.specs.Steps.{Spells, SpellItems, SpellMembers, item_spot, member_spot};
+ghost use Rattle.garde_places.specs.Steps.{Spells, SpellItems, item_spot};
 ghost use Rattle.garde_places.specs.Steps.{inside_spot, step_spot, tokens_before, before_name};
 
+use crate::index::Index;
+use crate::walk::after;
 use fast_float::Numeral;
 use garde_report::Kind;
 use json::Node;
-
-/// The node behind the value that begins at a node.
-fn after(nodes: &[Node<'_>], at: usize) -> usize
-    requires { (at < length nodes.now) × Linked (map node_token nodes.now) 0 nodes.now }
-    ensures value { (j : Json) → Spells (drop at (map node_token nodes.now)) j
-        → result ≡ at + length (json_tokens j) }
-    ensures later { at < result }
-{
-    match nodes[at] {
-        Node::Object(end) | Node::Array(end) => end,
-        _ => at + 1,
-    }
-}
 
 fn is_object(nodes: &[Node<'_>], at: usize) -> bool
     requires { at < length nodes.now }
@@ -101,28 +91,6 @@ fn item_at(nodes: &[Node<'_>], first: usize, mark: Mark, index: usize) -> Option
     }
 }
 
-/// The value of the last member of that name, of the members that begin at a node.
-fn member_at(nodes: &[Node<'_>], at: usize, name: &str) -> Option<usize>
-    requires { Linked (map node_token nodes.now) 0 nodes.now }
-    ensures { (ms : SpecMembers) → SpellMembers (drop at (map node_token nodes.now)) ms
-        → result ≡ member_spot at name.now ms }
-{
-    let mut here = at;
-    let mut found = None;
-    loop {
-        if here >= nodes.len().saturating_sub(1) {
-            return found;
-        }
-        let Node::Key(key) = nodes[here] else {
-            return found;
-        };
-        if key == name {
-            found = Some(here + 1);
-        }
-        here = after(nodes, here + 1);
-    }
-}
-
 /// The number that a text writes by decimal digits alone, where it fits.
 fn number(text: &str) -> Option<usize>
     ensures { result ≡ unsigned_of 64 text.now }
@@ -135,16 +103,24 @@ fn number(text: &str) -> Option<usize>
 
 /// The value that a text leads to from the one at a node, if it leads to one, and the mark for later
 /// steps.
-fn inside_at(nodes: &[Node<'_>], at: usize, mark: Mark, text: &str) -> Option<(usize, Mark)>
+fn inside_at<'a>(
+    nodes: &[Node<'a>],
+    index: &mut Index<'a>,
+    at: usize,
+    mark: Mark,
+    text: &str,
+) -> Option<(usize, Mark)>
     requires links { Linked (map node_token nodes.now) 0 nodes.now }
     requires holds { MarkHolds (map node_token nodes.now) mark }
+    requires names { IndexHolds (map node_token nodes.now) index.old }
     requires within { at < length nodes.now }
     ensures value { (j : Json) → Spells (drop at (map node_token nodes.now)) j
         → option_map (λ r. r.0) result ≡ inside_spot at text.now j }
     ensures holds { IfSome result (λ r. MarkHolds (map node_token nodes.now) r.1) }
+    ensures names { IndexHolds (map node_token nodes.now) index.new }
 {
     if is_object(nodes, at) {
-        return match member_at(nodes, at + 1, text) {
+        return match index.member(nodes, at, text) {
             Some(next) => Some((next, mark)),
             None => None,
         };
@@ -152,27 +128,30 @@ fn inside_at(nodes: &[Node<'_>], at: usize, mark: Mark, text: &str) -> Option<(u
     if !is_array(nodes, at) {
         return None;
     }
-    let Some(index) = number(text) else {
+    let Some(item) = number(text) else {
         return None;
     };
-    match item_at(nodes, at + 1, mark, index) {
+    match item_at(nodes, at + 1, mark, item) {
         Some(found) => Some((found.here, found)),
         None => None,
     }
 }
 
 /// The same of a component. One without a name stays at the value.
-fn step_at(
-    nodes: &[Node<'_>],
+fn step_at<'a>(
+    nodes: &[Node<'a>],
+    index: &mut Index<'a>,
     at: usize,
     mark: Mark,
     component: &(Kind, &str),
 ) -> Option<(usize, Mark)>
     requires links { Linked (map node_token nodes.now) 0 nodes.now }
     requires holds { MarkHolds (map node_token nodes.now) mark }
+    requires names { IndexHolds (map node_token nodes.now) index.old }
     ensures value { (j : Json) → Spells (drop at (map node_token nodes.now)) j
         → option_map (λ r. r.0) result ≡ step_spot at (item_part component.now) j }
     ensures holds { IfSome result (λ r. MarkHolds (map node_token nodes.now) r.1) }
+    ensures names { IndexHolds (map node_token nodes.now) index.new }
 {
     if at >= nodes.len() {
         return None;
@@ -180,15 +159,22 @@ fn step_at(
     let (kind, text) = *component;
     match kind {
         Kind::None => Some((at, mark)),
-        Kind::Key | Kind::Index => inside_at(nodes, at, mark, text),
+        Kind::Key | Kind::Index => inside_at(nodes, index, at, mark, text),
     }
 }
 
-pub(crate) const START: Mark = Mark {
+const START: Mark = Mark {
     first: 0,
     index: 0,
     here: 0,
 };
+
+/// The marks before anything was found.
+pub(crate) fn no_marks() -> [Mark; 128]
+    ensures { (ts : List Token) → MarksHold ts result }
+{
+    [START; 128]
+}
 
 fn mark_at(marks: &[Mark], depth: usize) -> Mark
     ensures { result ≡ mark_of marks.now depth }
@@ -202,16 +188,23 @@ fn mark_at(marks: &[Mark], depth: usize) -> Mark
 
 /// The value that a path leads to, or the last one on its way where it leads to none. There is a mark
 /// for each of the first steps of a path.
-pub(crate) fn find(nodes: &[Node<'_>], marks: &mut [Mark], way: &[(Kind, &str)]) -> usize
+pub(crate) fn find<'a>(
+    nodes: &[Node<'a>],
+    index: &mut Index<'a>,
+    marks: &mut [Mark],
+    way: &[(Kind, &str)],
+) -> usize
     requires links { Linked (map node_token nodes.now) 0 nodes.now }
     requires hold { MarksHold (map node_token nodes.now) marks.old }
+    requires names { IndexHolds (map node_token nodes.now) index.old }
     ensures value { (j : Json) → Spells (map node_token nodes.now) j
         → result ≡ tokens_before (map item_part way.now) j }
     ensures hold { MarksHold (map node_token nodes.now) marks.new }
+    ensures names { IndexHolds (map node_token nodes.now) index.new }
 {
     let mut here = 0;
     for (depth, component) in way.iter().enumerate() {
-        match step_at(nodes, here, mark_at(marks, depth), component) {
+        match step_at(nodes, index, here, mark_at(marks, depth), component) {
             Some((next, mark)) => {
                 here = next;
                 if depth < marks.len() {
@@ -226,16 +219,18 @@ pub(crate) fn find(nodes: &[Node<'_>], marks: &mut [Mark], way: &[(Kind, &str)])
 
 /// The name of the last member of that name, of the object at a node. It is the node itself where there
 /// is no such member.
-pub(crate) fn name_at(nodes: &[Node<'_>], at: usize, name: &str) -> usize
-    requires { Linked (map node_token nodes.now) 0 nodes.now }
-    ensures { (j : Json) → Spells (drop at (map node_token nodes.now)) j
+pub(crate) fn name_at<'a>(nodes: &[Node<'a>], index: &mut Index<'a>, at: usize, name: &str) -> usize
+    requires links { Linked (map node_token nodes.now) 0 nodes.now }
+    requires names { IndexHolds (map node_token nodes.now) index.old }
+    ensures value { (j : Json) → Spells (drop at (map node_token nodes.now)) j
         → result ≡ at + before_name name.now j }
+    ensures names { IndexHolds (map node_token nodes.now) index.new }
 {
     if at >= nodes.len() {
         return at;
     }
     if is_object(nodes, at) {
-        match member_at(nodes, at + 1, name) {
+        match index.member(nodes, at, name) {
             Some(value) => value.saturating_sub(1),
             None => at,
         }

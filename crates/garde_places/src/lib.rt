@@ -7,6 +7,7 @@ mod fault;
 mod find;
 mod format;
 mod github;
+mod index;
 mod json_line;
 mod lex;
 mod listed;
@@ -21,6 +22,7 @@ mod short;
 mod stop;
 mod string;
 mod syntax;
+mod walk;
 mod way;
 
 pub use asked::Asked;

@@ -6,7 +6,8 @@ ghost use Rattle.garde_places.specs.Fault.{fault_entry};
 ghost use Rattle.garde_places.specs.Listed.{AreListed, IsFaultSpot, IsNameSpot, value_spot};
 
 use crate::fault::{Fault, speaks_of_name};
-use crate::find::{Mark, START, find, name_at};
+use crate::find::{Mark, find, name_at, no_marks};
+use crate::index::Index;
 use crate::place::Place;
 use crate::places::place_at_token;
 use crate::way::way_of;
@@ -24,7 +25,8 @@ pub struct ListedPlaces<'t, 'a> {
     json: &'a str,
     nodes: &'t [Node<'a>],
     places: Vec<Place>,
-    marks: [Mark; 8],
+    marks: [Mark; 128],
+    index: Index<'a>,
 }
 
 impl<'t, 'a> Model for ListedPlaces<'t, 'a> {
@@ -36,7 +38,7 @@ impl<'t, 'a> Model for ListedPlaces<'t, 'a> {
 
     ghost view = { λ a. (a.json.now, a.places.items) };
 
-    ghost invariant = { λ a. IsTapeOf a.json.now a.nodes.now a.marks };
+    ghost invariant = { λ a. IsTapeOf a.json.now a.nodes.now a.marks a.index };
 }
 
 impl<'t, 'a> ListedPlaces<'t, 'a> {
@@ -49,11 +51,13 @@ impl<'t, 'a> ListedPlaces<'t, 'a> {
     {
         // So it is known that a value begins in the tape.
         let _root = tape.root();
+        let index = Index::new(*places.allocator());
         ListedPlaces {
             json,
             nodes: tape.nodes(),
             places,
-            marks: [START; 8],
+            marks: no_marks(),
+            index,
         }
     }
 
@@ -64,7 +68,7 @@ impl<'t, 'a> ListedPlaces<'t, 'a> {
         ensures text { self.new ≡ self.old }
     {
         let way = way_of(alloc, path)?;
-        let found = find(self.nodes, &mut self.marks, way.as_slice());
+        let found = find(self.nodes, &mut self.index, &mut self.marks, way.as_slice());
         Ok(place_at_token(&self.places, found))
     }
 
@@ -78,8 +82,8 @@ impl<'t, 'a> ListedPlaces<'t, 'a> {
         let Some((last, before)) = way.as_slice().split_last() else {
             return Ok(place_at_token(&self.places, 0));
         };
-        let found = find(self.nodes, &mut self.marks, before);
-        let name = name_at(self.nodes, found, last.1);
+        let found = find(self.nodes, &mut self.index, &mut self.marks, before);
+        let name = name_at(self.nodes, &mut self.index, found, last.1);
         Ok(place_at_token(&self.places, name))
     }
 

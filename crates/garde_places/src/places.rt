@@ -7,7 +7,8 @@ ghost use Rattle.garde_places.specs.Places.{IsPlaceOf, IsNamePlace};
 ghost use Rattle.garde_places.specs.Fault.{ArePlaced, IsFaultPlace, fault_entry};
 
 use crate::fault::{Fault, speaks_of_name};
-use crate::find::{Mark, START, find, name_at};
+use crate::find::{Mark, find, name_at, no_marks};
+use crate::index::Index;
 use crate::place::Place;
 use crate::scan::scan;
 use crate::way::way_of;
@@ -24,7 +25,8 @@ pub struct Places<'t, 'a> {
     text: &'a str,
     nodes: &'t [Node<'a>],
     spots: Vec<Place>,
-    marks: [Mark; 8],
+    marks: [Mark; 128],
+    index: Index<'a>,
 }
 
 impl<'t, 'a> Model for Places<'t, 'a> {
@@ -35,7 +37,7 @@ impl<'t, 'a> Model for Places<'t, 'a> {
 
     ghost view = { λ a. a.text.now };
 
-    ghost invariant = { λ a. ArePlaces a.text.now a.nodes.now a.spots.items a.marks };
+    ghost invariant = { λ a. ArePlaces a.text.now a.nodes.now a.spots.items a.marks a.index };
 }
 
 /// The place of a token of that index.
@@ -65,7 +67,8 @@ impl<'t, 'a> Places<'t, 'a> {
             text,
             nodes: tape.nodes(),
             spots,
-            marks: [START; 8],
+            marks: no_marks(),
+            index: Index::new(alloc),
         })
     }
 
@@ -74,9 +77,10 @@ impl<'t, 'a> Places<'t, 'a> {
     /// counts. A component leads as a token of a JSON Pointer does: in an object to the member of that
     /// name, in an array to the item of that number. One without a name stays at its value.
     ///
-    /// A path of up to 8 components allocates nothing. Paths are best asked for in the order of the
-    /// text: the walk along a list goes on from the item that was asked for last, at each of the first
-    /// eight components.
+    /// A path of up to 8 components never runs out of memory. It allocates nothing but the names of an
+    /// object of more than 256 tokens, once: where there is no memory for them, each path walks along the
+    /// object. Paths are best asked for in the order of the text: the walk along a list goes on from the
+    /// item that was asked for last, for each of the first 128 components.
     pub fn locate(&mut self, alloc: Global, path: &Path) -> Result<Place, AllocError>
         ensures place { IfOk result (λ place. (j : Json) → document self.old ≡ Some j
             → IsPlaceOf self.old path.now j place) }
@@ -84,7 +88,7 @@ impl<'t, 'a> Places<'t, 'a> {
         ensures inline { length path.now ≤ 8 → IsOk result }
     {
         let way = way_of(alloc, path)?;
-        let found = find(self.nodes, &mut self.marks, way.as_slice());
+        let found = find(self.nodes, &mut self.index, &mut self.marks, way.as_slice());
         Ok(place_at_token(&self.spots, found))
     }
 
@@ -101,8 +105,8 @@ impl<'t, 'a> Places<'t, 'a> {
         let Some((last, before)) = way.as_slice().split_last() else {
             return Ok(place_at_token(&self.spots, 0));
         };
-        let found = find(self.nodes, &mut self.marks, before);
-        let name = name_at(self.nodes, found, last.1);
+        let found = find(self.nodes, &mut self.index, &mut self.marks, before);
+        let name = name_at(self.nodes, &mut self.index, found, last.1);
         Ok(place_at_token(&self.spots, name))
     }
 

@@ -14,10 +14,10 @@
 #![tactic(auto)]
 
 ghost use Rattle.std.specs.Prelude.{◌≡◌};
-ghost use Rattle.example_order.specs.Language.{IsCheckedIn, IsOrder, language_of};
+ghost use Rattle.example_order.specs.Language.{IsCheckedIn, IsListedIn, IsOrder, language_of};
 ghost use Rattle.use_library.specs.Codes.{IsCode};
 
-use example_order::{Body, Language, check_order, is_order};
+use example_order::{Body, Language, check_order, is_order, list_order};
 use garde::Stated;
 use garde_library::{Room, Spelled, Status, out_of_memory};
 use garde_schema::Scratch;
@@ -101,6 +101,33 @@ pub extern "C" fn order_check_with(
         return out_of_memory(out, len) as u8;
     };
     let status = check_order(alloc, body, &mut scratch, most, language, out, len);
+    checker.put(alloc, scratch);
+    status as u8
+}
+
+/// Does what `order_check_with` does, and tells what is wrong in lines, for a log or a terminal: `out`
+/// gets a line `path: message` for each fault, without codes, and the line `there are more` where there
+/// are. Of bytes that are no JSON text the line says why, with line and column. It takes less time than
+/// problem details.
+#[unsafe(no_mangle)]
+pub extern "C" fn order_list_with(
+    alloc: Global,
+    checker: &mut Room,
+    body: &[u8],
+    most: usize,
+    language: &[u8],
+    out: &mut [u8],
+    len: &mut usize,
+) -> u8
+    ensures { IsCode (λ s. IsListedIn
+        ⟦<Body<'static> as Spelled>⟧.spelled ⟦<Body<'static> as Stated>⟧.visits
+        (language_of language.now) most body.now out.old out.new len.new s) result }
+{
+    let language = Language::of(language);
+    let Ok(mut scratch) = checker.take_or_new(alloc) else {
+        return out_of_memory(out, len) as u8;
+    };
+    let status = list_order(alloc, body, &mut scratch, most, language, out, len);
     checker.put(alloc, scratch);
     status as u8
 }

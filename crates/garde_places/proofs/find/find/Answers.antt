@@ -48,6 +48,7 @@ loop-depth-preserved c =
         | then-depth-marks w ↦ subst (MarksHold all) (sym w.marks-is) (marks_set all c.loop-depth.marks k c.in-Some.mark w.if-depth-marks.true c.loop-depth.invariant.hold c.in-Some.ensures.holds)
         | else-depth-marks w ↦ subst (MarksHold all) (sym w.marks-is) c.loop-depth.invariant.hold
       ];
+      names = c.in-Some.ensures.names;
     }
 
 pub returns-clause-value : goal.returns-clause-value

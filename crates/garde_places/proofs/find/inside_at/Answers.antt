@@ -10,14 +10,14 @@ returns-in-Some-clause-value c j h =
     let all = map node_token c.args.nodes.now in
     let i = c.args.at in
     let f = members_of (drop i all) j (sym c.if-is_object.true ∙ c.is_object.ensures j h) h in
-    sym c.in-Some.is ∙ c.member_at.ensures f.0 (subst (λ ts. SpellMembers ts f.0) (drop-drop 1 i all) f.2) ∙ to_member i c.args.text.now f.0 ∙ ap (inside_spot i c.args.text.now) (sym f.1)
+    sym c.in-Some.is ∙ c.member.ensures.value f.0 (subst (λ ts. SpellMembers ts f.0) (drop-drop 1 i all) f.2) ∙ to_member i c.args.text.now f.0 ∙ ap (inside_spot i c.args.text.now) (sym f.1)
 
 pub returns-in-None-clause-value : goal.returns-in-None-clause-value
 returns-in-None-clause-value c j h =
     let all = map node_token c.args.nodes.now in
     let i = c.args.at in
     let f = members_of (drop i all) j (sym c.if-is_object.true ∙ c.is_object.ensures j h) h in
-    sym c.in-None.is ∙ c.member_at.ensures f.0 (subst (λ ts. SpellMembers ts f.0) (drop-drop 1 i all) f.2) ∙ to_member i c.args.text.now f.0 ∙ ap (inside_spot i c.args.text.now) (sym f.1)
+    sym c.in-None.is ∙ c.member.ensures.value f.0 (subst (λ ts. SpellMembers ts f.0) (drop-drop 1 i all) f.2) ∙ to_member i c.args.text.now f.0 ∙ ap (inside_spot i c.args.text.now) (sym f.1)
 
 pub returns-then-not-is_array-clause-value : goal.returns-then-not-is_array-clause-value
 returns-then-not-is_array-clause-value c j h =
@@ -35,11 +35,11 @@ returns-in-Some-item_at-clause-value c j h =
     let all = map node_token c.args.nodes.now in
     let i = c.args.at in
     let f = items_of (drop i all) j (sym c.if-not-is_array.false ∙ c.is_array.ensures j h) h in
-    c.in-Some-item_at.ensures.value f.0 (subst (λ ts. SpellItems ts f.0) (drop-drop 1 i all) f.2) ∙ to_item i c.in-Some-number.index c.args.text.now f.0 (sym c.in-Some-number.is ∙ c.number.ensures) ∙ ap (inside_spot i c.args.text.now) (sym f.1)
+    c.in-Some-item_at.ensures.value f.0 (subst (λ ts. SpellItems ts f.0) (drop-drop 1 i all) f.2) ∙ to_item i c.in-Some-number.item c.args.text.now f.0 (sym c.in-Some-number.is ∙ c.number.ensures) ∙ ap (inside_spot i c.args.text.now) (sym f.1)
 
 pub returns-in-None-item_at-clause-value : goal.returns-in-None-item_at-clause-value
 returns-in-None-item_at-clause-value c j h =
     let all = map node_token c.args.nodes.now in
     let i = c.args.at in
     let f = items_of (drop i all) j (sym c.if-not-is_array.false ∙ c.is_array.ensures j h) h in
-    c.in-None-item_at.ensures.value f.0 (subst (λ ts. SpellItems ts f.0) (drop-drop 1 i all) f.2) ∙ to_item i c.in-Some-number.index c.args.text.now f.0 (sym c.in-Some-number.is ∙ c.number.ensures) ∙ ap (inside_spot i c.args.text.now) (sym f.1)
+    c.in-None-item_at.ensures.value f.0 (subst (λ ts. SpellItems ts f.0) (drop-drop 1 i all) f.2) ∙ to_item i c.in-Some-number.item c.args.text.now f.0 (sym c.in-Some-number.is ∙ c.number.ensures) ∙ ap (inside_spot i c.args.text.now) (sym f.1)

@@ -86,6 +86,42 @@ fn values_and_names_stand_where_they_are_counted(rt: HostRuntime) {
     }
 }
 
+/// Names of a wide object, the places of their values, and those of the names themselves.
+static WIDE: [(&str, (usize, usize), (usize, usize)); 6] = [
+    ("k7", (301, 6), (301, 1)),
+    ("k0", (1, 7), (1, 2)),
+    ("k7", (301, 6), (301, 1)),
+    ("k299", (300, 8), (300, 1)),
+    ("k300", (1, 1), (1, 1)),
+    ("k8", (9, 6), (9, 1)),
+];
+
+// An object of 300 members, each in a line of its own, and another of the name of the eighth.
+fn wide_text(rt: &impl Abort, alloc: Global) -> String {
+    let mut text = String::new(alloc);
+    text.push('{').or_end(rt);
+    for number in 0..300 {
+        writeln!(text, "\"k{number}\":{{}},").or_end(rt);
+    }
+    text.push_str("\"k7\":[]}").or_end(rt);
+    text
+}
+
+#[test]
+fn members_of_a_wide_object_stand_where_they_are_counted(rt: HostRuntime) {
+    let alloc = rt.alloc();
+    let text = wide_text(&rt, alloc);
+    let mut scratch = Scratch::new(alloc);
+    let Ok(tape) = parse(alloc, text.as_str(), &mut scratch) else {
+        rt.abort()
+    };
+    let mut places = Places::of(alloc, text.as_str(), &tape).or_end(&rt);
+    for (name, value, key) in &WIDE {
+        let way = [(Kind::Key, *name)];
+        assert!(rt; stands(&rt, alloc, &mut places, &(way.as_slice(), *value, *key)));
+    }
+}
+
 /// Faults with and without a code, two of them at the root's place.
 static FAULTS: [(Components<'_>, &str); 6] = [
     (

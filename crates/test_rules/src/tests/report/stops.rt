@@ -9,7 +9,7 @@ use std::alloc::Global;
 use std::process::Abort;
 
 /// A text, the line and the column where it stops, and why.
-static STOPS: [(&[u8], usize, usize, &str); 24] = [
+static STOPS: [(&[u8], usize, usize, &str); 28] = [
     (b"", 1, 1, "expected a value"),
     (b" \n\t", 2, 2, "expected a value"),
     (b"{\"a\": 1", 1, 8, "expected , or } after a member"),
@@ -54,6 +54,15 @@ static STOPS: [(&[u8], usize, usize, &str); 24] = [
     (b"[01]", 1, 3, "expected , or ] after an item"),
     (b"1e+", 1, 4, "expected a digit"),
     (b"[\n\"\xff\"", 2, 2, "not UTF-8"),
+    (b"[\"a\0\"]", 1, 4, "a control character in a text"),
+    (b"[1]\0", 1, 4, "expected nothing after the value"),
+    (b"[1\r2]", 1, 4, "expected , or ] after an item"),
+    (
+        b"[\"\\ud83d\\ude00\" x",
+        1,
+        17,
+        "expected , or ] after an item",
+    ),
 ];
 
 // Whether a text stops there.

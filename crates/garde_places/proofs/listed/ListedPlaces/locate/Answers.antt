@@ -1,4 +1,4 @@
-use Rattle.std.proofs.Common.{◌≡◌, map, get_or, sym, ap, ap₂, ◌∙◌}
+use Rattle.std.proofs.Common.{◌≡◌, map, get_or, ap, ap₂, ◌∙◌}
 use Rattle.json.specs.Json.{document}
 use Rattle.json.specs.Tape.{node_token}
 use Rattle.garde_report.specs.Part.{item_part}

@@ -35,7 +35,7 @@ returns-clause-place c j e =
     let spelled = nodes_spell text j read ts c.self.invariant.read c.self.invariant.value in
     let found = c.find-found.ensures.value j spelled in
     let there = subst (λ n. Spells (drop n ts) r) (sym found) (path_there before j ts spelled) in
-    let k = c.name_at-name.ensures r there ∙ ap (λ n. n + before_name name r) found in
+    let k = c.name_at-name.ensures.value r there ∙ ap (λ n. n + before_name name r) found in
     let same = c.place_at_token-2.ensures ∙ ap₂ (λ ps n. get_or ps n text_start) c.deref-2.ensures.value k in
     let whole = sym (ap (map item_part) c.as_slice.ensures ∙ c.in_ok-way.ensures.items) ∙ ap (map item_part) c.in-Some.ensures.cases.0 ∙ map-append item_part c.in-Some.before.now (c.in-Some.last.now ∷ []) in
     inl (

@@ -4,8 +4,8 @@ use Rattle.json.specs.Tape.{node_token}
 use Rattle.json.specs.declared.tape.Node.TheVariants.{Object}
 use Rattle.garde_places.specs.Steps.{SpellMembers, member_spot}
 use Rattle.garde_places.proofs.Walking.{here, or_found, found_if, no_name, members_end, members_short, members_more, member_spot_more, past_value}
-use Rattle.garde_places.proofs.find.member_at.Goals.{then-eq, else-eq}
-use Rattle.garde_places.proofs.find.member_at.Goals as goal
+use Rattle.garde_places.proofs.walk.member_at.Goals.{then-eq, else-eq}
+use Rattle.garde_places.proofs.walk.member_at.Goals as goal
 
 pub returns-then-here-saturating_sub : goal.returns-then-here-saturating_sub
 returns-then-here-saturating_sub c ms h =

@@ -4,7 +4,7 @@ use Rattle.json.specs.Tape.{node_token, LinkAt}
 use Rattle.json.specs.declared.tape.Node.TheVariants.{Object, Null}
 use Rattle.garde_places.specs.Steps.{Spells}
 use Rattle.garde_places.proofs.Walking.{here, alone, by_link}
-use Rattle.garde_places.proofs.find.after.Goals as goal
+use Rattle.garde_places.proofs.walk.after.Goals as goal
 
 pub returns-in_default : goal.returns-in_default
 returns-in_default c =
