@@ -1,6 +1,6 @@
 """The members of a form that rules look at together. A rule of a field that speaks of other fields is asked of a run of members: from the
 first one that it speaks of to the last."""
-from .rules import Expression
+from .expressions import places_in
 from .source import all_rules
 
 MOST = 6
@@ -17,12 +17,6 @@ class Group(list):
 def places_of(rule):
     """The places that a rule speaks of."""
     return [found for it in (rule.place, *rule.bounds.values()) if it is not None for found in places_in(it)]
-
-
-def places_in(expression):
-    found = [expression] if expression.kind == "place" else []
-    within = [it for it in (*expression.parts, expression.value) if isinstance(it, Expression)]
-    return found + [it for part in within for it in places_in(part)]
 
 
 def others_of(rule):

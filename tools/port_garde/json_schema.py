@@ -232,6 +232,8 @@ class JsonSchema:
 
     def own(self, rule):
         """A rule that no schema says, in words."""
+        if rule.message is not None:
+            return f"the rule `{rule.message}` holds"
         if rule.name == "custom":
             return f"the rule `{camel(rule.text) if rule.text else 'of a closure'}` holds"
         words = {
@@ -327,7 +329,7 @@ class JsonSchema:
             place, other, mark = other, place, TURNED[mark]
         known = self.writer.resolved(other)
         if place.kind != "place" or known.kind not in ("number", "text", "path"):
-            raise Unsaid("a condition that compares two fields")
+            raise Unsaid("a condition that compares two fields" if place.kind == known.kind else "a condition on what is computed of a field")
         if known.kind == "path":
             names = self.variants(place, [known.value], variant)
             found = self.where(place, {"enum": names}, lambda default: default in names, variant, item)

@@ -218,7 +218,7 @@ class Schema:
     def of_struct(self, item):
         variant = item.variants[0]
         if variant.shape != "named" or "transparent" in options(item):
-            return self.form(variant.fields[0].type, variant.fields[0].attributes.rules)
+            return self.value(variant.fields[0])
         return self.object(variant, item)
 
     def object(self, variant, item):
@@ -273,6 +273,8 @@ class Schema:
         return call(self.use("Variant"), name, members)
 
     def value(self, it):
+        """The form of a field without a name, or of the only one."""
+        self.writer.spot = it.name or "value"
         return self.form(it.type, it.attributes.rules)
 
     # Members.

@@ -2,7 +2,7 @@
 from dataclasses import dataclass, field
 
 from .layout import Chain
-from .rules import ADDRESSES, Expression
+from .expressions import ADDRESSES, CONTEXT, VALUE, Expression
 from .source import Type
 from .tokens import Refusal
 
@@ -78,10 +78,12 @@ def is_text(kind):
 
 
 class Scope:
-    """The fields and the context that rules of one type may speak of."""
+    """The fields and the context that rules of one type may speak of, and the `value` of which a rule of one's own is asked, with its
+    `fields`, by their names, where it has such."""
 
-    def __init__(self, context, places, params, unit):
+    def __init__(self, context, places, params, unit, value=None, fields=()):
         self.context, self.places, self.params, self.unit = context, places, params, unit
+        self.value, self.fields = value, dict(fields)
         self.bound, self.asks_context = set(), False
 
     def the_context(self):
@@ -90,13 +92,29 @@ class Scope:
 
     def place(self, names, line):
         """A place as code and as it is stated, with its type where that is known."""
+        names = (self.context, *names[1:]) if names[0] == CONTEXT else names
+        if names[0] == VALUE and self.value is not None:
+            return self.of_value(names[1:], line)
         if names[0] == self.context and len(names) > 1 and not self.unit:
             return f"{self.the_context()}.{'.'.join(names[1:])}", ".".join(names), None
         if names[0] == "self" and len(names) == 2 and names[1] in self.places:
             found = self.places[names[1]]
             self.bound.add(names[1])
             return f"*{found.binding}", found.name, found.type if found.type.kind != "unread" else None
-        raise Refusal(line, f"the port cannot read `{'.'.join(names)}`: it reads fields of `self` and of the context")
+        raise Refusal(line, f"the port cannot read `{spoken(names)}`: it reads fields of `self` and of the context")
+
+    def of_value(self, names, line):
+        """The value of which a rule is asked, or a field of it."""
+        if not names:
+            return f"*{self.value.binding}", self.value.name, self.value.type
+        if len(names) > 1 or names[0] not in self.fields:
+            raise Refusal(line, f"`{spoken((VALUE, *names))}`, which is no field of a struct of this file")
+        return f"{self.value.binding}.{names[0]}", f"{self.value.name}.{names[0]}", self.fields[names[0]]
+
+
+def spoken(names):
+    """A place as a message has it."""
+    return ".".join({VALUE: "value", CONTEXT: "context"}.get(it, it) for it in names)
 
 
 class Conditions:
@@ -117,6 +135,10 @@ class Conditions:
             raise Refusal(it.line, "a condition that is a number")
         return self.comparison(it)
 
+    def whole(self, it):
+        """A condition that stands alone, whose parts may fill several lines."""
+        return (self.chain if it.kind in ("and", "or") else self.of)(it)
+
     def truth(self, it):
         self.uses.words.add(it.value)
         return it.value, it.value
@@ -124,7 +146,7 @@ class Conditions:
     def flag(self, it):
         code, spec, kind = self.scope.place(it.value, it.line)
         if kind is not None and not is_path(kind, "bool"):
-            raise Refusal(it.line, f"the condition `{'.'.join(it.value)}` is no `bool`")
+            raise Refusal(it.line, f"the condition `{spoken(it.value)}` is no `bool`")
         return code, spec
 
     def negation(self, it):
@@ -183,7 +205,7 @@ class Conditions:
         binding, borrowed = code.lstrip("*"), kind is not None and kind.kind == "ref" and is_text(kind)
         given = f"*{binding}" if borrowed else {"String": f"{binding}.as_str()", "TextRef": f"{binding}.text()"}.get(kind.name if kind else "")
         if given is None:
-            raise Refusal(place.line, f"a comparison of `{'.'.join(place.value)}` with a text, which is neither a `String` nor a `&str` nor read by a form")
+            raise Refusal(place.line, f"a comparison of `{spoken(place.value)}` with a text, which is neither a `String` nor a `&str` nor read by a form")
         self.uses.words |= {"text_is"} | ({"str"} if kind.name == "String" else set())
         spec = f"{spec}.now" if borrowed else f"(str {spec})" if kind.name == "String" else spec
         return f'{given} == "{other.value}"', f'(text_is "{other.value}" {spec})'
@@ -194,7 +216,7 @@ class Conditions:
         code, spec, kind = self.scope.place(place.value, it.line)
         item = self.writer.enum(kind.name if kind is not None and kind.kind == "path" else it.value[0][0])
         if item is None:
-            raise Refusal(it.line, f"a condition on `{'.'.join(place.value)}`, which is no enum of this file")
+            raise Refusal(it.line, f"a condition on `{spoken(place.value)}`, which is no enum of this file")
         if self.writer.module is None:
             raise Refusal(it.line, "a condition on an enum, whose statement names its module: say it by `--module CRATE::MODULE`")
         known = {one.name: one for one in item.variants}
@@ -220,7 +242,7 @@ class Conditions:
         held = kind.args[0] if kind is not None and is_path(kind, "Vec", "Items") and kind.args else None
         texts = held is not None and is_path(held, "TextRef") and asked.kind == "text"
         if not texts and not (held is not None and is_path(held, *UNSIGNED) and asked.kind == "number" and asked.value >= 0):
-            told = f"`contains` of `{'.'.join(place.value)}`"
+            told = f"`contains` of `{spoken(place.value)}`"
             raise Refusal(it.line, f"{told}: it is written of texts and lists of texts that a form reads, and of lists of numbers without a sign")
         self.uses.fields |= {"includes", "Equal"}
         self.uses.words |= {"includes"} | ({"text_eq", "codes"} if texts else {"nat_eq"} | ({"slice"} if kind.name == "Vec" else set()))
@@ -236,7 +258,7 @@ class Conditions:
         borrowed = kind is not None and kind.kind == "ref" and is_text(kind)
         given = code if borrowed else {"String": f"{code}.as_str()", "TextRef": f"{code}.text()"}.get(kind.name if kind else "")
         if given is None:
-            raise Refusal(it.line, f"`parse` of `{'.'.join(it.parts[0].value)}`, which is neither a `String` nor a `&str` nor read by a form")
+            raise Refusal(it.line, f"`parse` of `{spoken(it.parts[0].value)}`, which is neither a `String` nor a `&str` nor read by a form")
         self.uses.words |= {*names} | ({"str"} if kind.name == "String" else set())
         self.uses.prelude |= {"◌||◌"} if names[1:] else set()
         self.uses.others |= {f"garde::rules::ip::{name}" for name in names}
@@ -255,11 +277,54 @@ class Conditions:
         return f'contains::Contains::validate_contains({code}, "{asked.value}")', f'(has_part (codes "{asked.value}") {spec})'
 
     def comparison(self, it):
-        """A comparison of numbers without a sign."""
+        """A comparison of numbers without a sign, or of two texts."""
+        if it.kind in ("==", "!=") and all(part.kind == "place" for part in it.parts):
+            texts = [self.text_at(part) for part in it.parts]
+            if None not in texts:
+                self.uses.words |= {"text_eq"} | ({"not"} if it.kind == "!=" else set())
+                spec = f"(text_eq {texts[0][1]} {texts[1][1]})"
+                return f"{texts[0][0]} {it.kind} {texts[1][0]}", spec if it.kind == "==" else f"(not {spec})"
         (left, low), (right, high) = (self.number(part) for part in it.parts)
         spec = COMPARISONS[it.kind].format(low, high)
         self.uses.words |= {word for word in ("nat_eq", "nat_lt", "nat_le", "not") if word in spec.split() or f"({word}" in spec}
         return f"{left} {it.kind} {right}", f"({spec})"
+
+    def text_at(self, it):
+        """A text at a place as code and as it is stated, or nothing where there is none."""
+        code, spec, kind = self.scope.place(it.value, it.line) if self.writer.resolved(it).kind == "place" else ("", "", None)
+        if kind is None or not is_text(kind):
+            return None
+        binding = code.lstrip("*")
+        if kind.kind == "ref":
+            return f"*{binding}", f"{spec}.now"
+        if kind.name not in ("String", "TextRef"):
+            return None
+        self.uses.words |= {"str"} if kind.name == "String" else set()
+        return (f"{binding}.as_str()", f"(str {spec})") if kind.name == "String" else (f"{binding}.text()", spec)
+
+    def length(self, it):
+        """How many bytes a text has, or how many items a list or a map."""
+        place = it.parts[0]
+        text = self.text_at(place)
+        if text is not None:
+            self.uses.words.add("byte_count")
+            return f"{text[0].lstrip('*')}.len()", f"(byte_count {text[1]})"
+        code, spec, kind = self.scope.place(place.value, place.line)
+        code = code.lstrip("*")
+        if kind is None or not is_path(kind, "Vec", "Items", "Entries"):
+            raise Refusal(it.line, f"`len` of `{spoken(place.value)}`, which is neither a text nor a list nor a map that a form reads")
+        self.uses.words |= {"length"} | ({"slice"} if kind.name == "Vec" else set())
+        return (f"{code}.len()", f"(length (slice {spec}))") if kind.name == "Vec" else (f"{code}.as_slice().len()", f"(length {spec})")
+
+    def division(self, it):
+        """What a division by a number gives, or leaves over."""
+        by = self.writer.resolved(it.parts[1])
+        if by.kind != "number" or by.value < 1:
+            raise Refusal(it.line, f"`{it.kind}` by what is no number from 1 on")
+        code, spec = self.number(it.parts[0])
+        word = "remainder" if it.kind == "%" else "quotient"
+        self.uses.words.add(word)
+        return f"{code} {it.kind} {by.value}", f"({word} {spec} {by.value})"
 
     def constant(self, it):
         found = self.writer.resolved(it)
@@ -269,9 +334,13 @@ class Conditions:
         it = self.writer.resolved(it)
         if it.kind == "number" and it.value >= 0:
             return str(it.value), str(it.value)
+        if it.kind in ("%", "/"):
+            return self.division(it)
+        if it.kind == "call" and it.value == "len":
+            return self.length(it)
         if it.kind != "place":
             raise Refusal(it.line, "a comparison that the port cannot read")
         code, spec, kind = self.scope.place(it.value, it.line)
         if kind is not None and not is_path(kind, *UNSIGNED):
-            raise Refusal(it.line, f"a comparison of `{'.'.join(it.value)}`, which is no number without a sign")
+            raise Refusal(it.line, f"a comparison of `{spoken(it.value)}`, which is no number without a sign")
         return code, spec

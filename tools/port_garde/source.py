@@ -2,7 +2,9 @@
 from dataclasses import dataclass, field, replace
 
 from .derives import read_serde, type_names
-from .rules import Attributes, no_attributes, number_of, present, read_attributes
+from .expressions import number_of
+from .own import at_field
+from .rules import Attributes, no_attributes, present, read_attributes
 from .tokens import Notes, Refusal, Tokens, tokens_of
 
 
@@ -450,7 +452,8 @@ def read_named_field(tokens):
     outer = unconditional(tokens, read_outer(tokens))
     vis, line, name = read_vis(tokens), tokens.line, tokens.name("the name of a field")
     tokens.expect(":")
-    return Field(name, read_field_type(tokens), line, outer.attributes, outer.docs, vis, outer.serde, outer.others)
+    attributes = replace(outer.attributes, rules=at_field(outer.attributes.rules, name))
+    return Field(name, read_field_type(tokens), line, attributes, outer.docs, vis, outer.serde, outer.others)
 
 
 def read_tuple_field(tokens):

@@ -187,7 +187,7 @@ class Spellings:
 
     def of_struct(self, variant, item):
         if variant.shape != "named" or "transparent" in options(item):
-            return self.value(variant.fields[0].type, variant.fields[0].attributes.rules)
+            return self.of_only(variant.fields[0])
         members = self.of_group(grouped(variant.fields), variant, item)
         if "deny_unknown_fields" in options(item):
             members = said(self.word("closed"), members)
@@ -212,7 +212,7 @@ class Spellings:
         if tag and not content:
             members = self.of_group(grouped(variant.fields), variant, item) if variant.fields else said(self.word("member"), f'"{tag.value}"', self.union("anything"))
             return said(self.union("variant"), name, members)
-        one = self.of_struct(variant, item) if variant.shape == "named" else self.value(variant.fields[0].type, variant.fields[0].attributes.rules)
+        one = self.of_struct(variant, item) if variant.shape == "named" else self.of_only(variant.fields[0])
         if not tag:
             return said(self.union("variant_member"), name, one)
         return said(self.union("variant"), name, said(self.word("member"), f'"{content.value}"', one))
@@ -235,7 +235,8 @@ class Spellings:
 
     def shared(self, it, own):
         """What a field asks beside others."""
-        _, text = Checks(self.writer.form_scope(own), self.writer.uses, self.writer).of(shared_rules(it), Seen(it.type, own[it.name].name))
+        self.writer.spot, scope = it.name, self.writer.form_scope(own)
+        _, text = Checks(scope, self.writer.uses, self.writer).of(shared_rules(it), Seen(it.type, own[it.name].name))
         return text
 
     def together(self, members):
@@ -278,6 +279,11 @@ class Spellings:
         return code.rpartition("::")[2]
 
     # Values.
+
+    def of_only(self, it):
+        """What JSON spells of a field without a name, or of the only one."""
+        self.writer.spot = it.name or "value"
+        return self.value(it.type, it.attributes.rules)
 
     def value(self, kind, rules):
         """What JSON spells of a value under rules."""

@@ -1,8 +1,11 @@
 """What a rule becomes: a value of `garde::fields` in the code, and a word of `garde.specs.Fields` in `visits`."""
+from dataclasses import replace
+
+from .expressions import CONTEXT, places_in
 from .layout import Lent, Literal, Word, call
 from .rules import OURS, PLAIN, TEXTS
-from .scope import SIGNED, UNSIGNED, Conditions, Seen, is_option, is_path, is_text
-from .source import Type
+from .scope import SIGNED, UNSIGNED, Conditions, Place, Scope, Seen, is_option, is_path, is_text
+from .source import Type, type_names
 from .tokens import Refusal
 
 # The word for what a `length` counts of a text.
@@ -63,8 +66,9 @@ class Checks:
             code, spec = self.of(group, held)
             return call(self.field("IfSome"), code), f"{self.word('if_some')} (λ {held.name}. {spec}) {seen.name}"
         parts = {"dive": self.dive, "inner": self.inner, "if": self.under, "custom": self.custom, "unique": self.unique, "keys": self.keys}
-        if rule.name in OURS and rule.name in self.writer.source.functions:
-            raise Refusal(rule.line, f"`{rule.name}`, which is a rule here and a function of this file: give the function another name")
+        ours = "asks" if rule.source.startswith("asks") else rule.name
+        if ours in OURS and ours in self.writer.source.functions:
+            raise Refusal(rule.line, f"`{ours}`, which is a rule here and a function of this file: give the function another name")
         if rule.name in parts:
             return parts[rule.name](rule, seen, adapter)
         if adapter:
@@ -87,8 +91,7 @@ class Checks:
 
     def under(self, rule, seen, adapter):
         """Rules under a condition."""
-        conditions = Conditions(self.scope, self.uses, self.writer)
-        condition, stated = (conditions.chain if rule.place.kind in ("and", "or") else conditions.of)(rule.place)
+        condition, stated = Conditions(self.scope, self.uses, self.writer).whole(rule.place)
         code, spec = self.of(rule.rules, seen, adapter)
         return call(self.field("When"), condition, code), f"{self.word('when')} {stated} ({spec})"
 
@@ -184,6 +187,9 @@ class Checks:
 
     def custom(self, rule, seen, adapter):
         """A rule of one's own, which holds the context where there is one."""
+        rule = self.writer.read_own(rule)
+        if rule.place is not None:
+            return self.own(rule, seen)
         name = camel(rule.text) if rule.text else self.writer.closure_name(rule)
         kind = self.writer.type_text(seen.type)
         self.writer.own_rule(name, rule, kind, self.scope.unit)
@@ -192,6 +198,29 @@ class Checks:
             rule_value, life = call(name, self.scope.the_context()), "<'static>"
             record = f"{{ 0 = {self.word('reference_to')} {self.scope.context} }}"
         return self.asked(rule_value, f"⟦<{name}{life} as garde::fields::Rule<{kind}>>⟧.finds (record {record}) {seen.name}", False)
+
+    def own(self, rule, seen):
+        """A rule of one's own that the port reads: it is a type of its own, which holds what it asks beside the value."""
+        name = camel(rule.text) if rule.text else self.writer.closure_name(rule)
+        fields, outer = self.writer.fields_within(seen.type), self.scope
+        places = [it.value for it in places_in(rule.place)]
+        held = [outer.the_context()] if not outer.unit and any(it[0] in (CONTEXT, outer.context) for it in places) else []
+        others = [it[1] for it in places if it[0] == "self" and it[1:2] and it[1] in outer.places]
+        held += dict.fromkeys(others)
+        for one in sorted(type_names(seen.type).union(*(type_names(outer.places[it].type) for it in others)) & outer.params):
+            raise Refusal(rule.line, f"a rule of your own that is asked of a value of the parameter `{one}`: the port writes none for every type")
+        at = {it: f"rule.{number}.now" for number, it in enumerate(held)}
+        given = {it: Place("the_value" if it == "value" else outer.places[it].binding, at[it], outer.places[it].type) for it in others}
+        inner = Scope(outer.context, given, outer.params, outer.unit, Place("value", "value", seen.type), fields)
+        holds = Conditions(inner, self.uses, self.writer).whole(rule.place)
+        self.uses.fields |= {"Asks", "Rule"}
+        self.uses.others |= {"garde::I18n", "garde::RuleError", "std::alloc::Global"}
+        self.writer.written_rule(name, rule, self.writer.type_text(seen.type), holds, inner)
+        inner.value, inner.places = replace(inner.value, name=seen.name), outer.places
+        _, stated = Conditions(inner, self.uses, self.writer).whole(rule.place)
+        outer.bound |= inner.bound
+        value = call(name, *(outer.places[it].binding if it in given else it for it in held)) if held else Word(name)
+        return self.asked(value, f'{self.word("asks")} "{rule.message}" {stated}', False)
 
     def adapted(self, rule, seen, adapter):
         """A rule of a text that a view shows of the value."""

@@ -1,12 +1,14 @@
 """The Rattle source with the implementations."""
 import re
+from dataclasses import replace
 
 from .borrowed import Borrowed, below, is_named
 from .derives import SERDE, Derives, kept_derives, literal_function, named_function, options, serde_lines
+from .expressions import Expression
 from .implementation import Implementation
-from .layout import CALL, VARIANT, WIDTH, use_line
-from .rules import Expression
-from .schema import Schema
+from .layout import CALL, VARIANT, WIDTH, Method, Word, call, statement, use_line
+from .own import read_function
+from .schema import Schema, within_rule
 from .scope import SIGNED, UNSIGNED, Scope, Uses
 from .second import faults_of_values, lost_of_names, lost_of_serde, passed_by
 from .source import all_rules, is_ported, read_type, type_names
@@ -31,6 +33,23 @@ impl{bound} Rule<{kind}> for {name}{lives} {{
         todo
     }}
 }}"""
+OWN = """/// {docs}
+#[derive(Clone, Copy)]
+struct {name}{life}{holds};
+
+impl{bound} Rule<{kind}> for {name}{lives} {{
+{finds}
+
+{head}
+{taken}{asked}
+    }}
+}}"""
+FIND = """    fn find<H: I18n>(
+        &self,
+        alloc: Global,
+        value: &{kind},
+        h: &H,
+    ) -> Result<(), RuleError> {{"""
 VIEW = """{docs}
 #[derive(Clone, Copy)]
 {vis}struct {name};
@@ -376,6 +395,47 @@ class Writer:
             life="<'c>" if context else "", lives="<'_>" if context else "",
             holds=f"({self.item.vis}&'c {context})" if context else "",
         ))
+
+    def read_own(self, rule):
+        """A rule of one's own with what its function asks, where that is one of the file that the port reads."""
+        if rule.place is not None or rule.text not in self.source.functions:
+            return rule
+        try:
+            message, place = read_function(self.source.functions[rule.text])
+        except Refusal:
+            return rule
+        return replace(rule, message=message, place=place)
+
+    def fields_within(self, kind):
+        """The fields of a struct of the file, with their types."""
+        found = next((it for it in self.source.items if it.name == kind.name and it.kind == "struct"), None)
+        return {it.name: it.type for it in found.variants[0].fields if it.name} if found and kind.kind == "path" else {}
+
+    def written_rule(self, name, rule, kind, holds, scope):
+        """A rule of one's own that the port reads, with its condition as code and as it is stated. It holds the context, where the condition
+        names that, and then the other fields of the scope."""
+        if any(it.name == name for it in self.source.items):
+            raise Refusal(rule.line, f"a rule of your own, which is a type `{name}`: give that of the file another name")
+        condition, stated = holds
+        held = [(scope.context, self.context)] if scope.asks_context else []
+        held += [(it.binding, self.type_text(it.type)) for it in scope.places.values()]
+        stated = within_rule(stated, scope.context) if scope.asks_context else stated
+        head = f"    ghost finds = {{ λ {'rule' if held else '_'} value."
+        parts = [f"&'c {text}" for _, text in held]
+        said, both = f'asks "{rule.message}" {stated} }};', " ".join(text for _, text in held)
+        told = f"What the function `{rule.text}` asks of a value." if rule.text else f"What a rule of the field `{self.spot}` of `{self.item.name}` asks of its value."
+        asked = Method(call("Asks", f'"{rule.message}"', condition), "find", tuple(map(Word, ("alloc", "value", "h"))))
+        find = f"    fn find<H: I18n>(&self, alloc: Global, value: &{kind}, h: &H) -> Result<(), RuleError> {{"
+        text = OWN.format(
+            docs=told, name=name, kind=kind, bound=lifetimes_of(f"{kind} {both}"), asked=statement(asked, 8),
+            life=lifetimes_of(f"'c {both}") if held else "", lives=lifetimes_of(f"'_ {both}") if held else "",
+            holds=f"({', '.join(parts)})" if held else "",
+            finds=f"{head} {said}" if len(head) + 1 + len(said) <= WIDTH else f"{head}\n        {said}",
+            head=find if len(find) <= WIDTH else FIND.format(kind=kind),
+            taken="".join(f"        let {it} = self.{number};\n" for number, (it, _) in enumerate(held)),
+        )
+        if self.copied.setdefault(name, text) != text:
+            raise Refusal(rule.line, f"`{rule.text}` of values of two types: write a function for each")
 
     def own_view(self, name, path, kind):
         docs = f"/// A view to be written, in place of the module `{'::'.join(path)}`: the text of which the rules are asked."

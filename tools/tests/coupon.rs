@@ -29,23 +29,23 @@ pub struct Coupon {
     #[garde(adapt(tag_text), prefix("t-"), length(max = 6))]
     pub tag: Tag,
     #[garde(custom(|value: &bool, _ctx: &()| {
-        if *value { Ok(()) } else { Err(garde::Error::new("accept the terms")) }
+        value.then_some(()).ok_or(garde::Error::new("accept the terms"))
     }))]
     pub terms: bool,
 }
 
 fn is_in_season(value: &u8, season: &Season) -> garde::Result {
-    if *value <= season.most {
-        return Ok(());
+    match season.most.checked_sub(*value) {
+        Some(_) => Ok(()),
+        None => Err(garde::Error::new("not in season")),
     }
-    Err(garde::Error::new("not in season"))
 }
 
 fn is_even(value: &u32, _ctx: &()) -> garde::Result {
-    if *value % 2 == 0 {
-        return Ok(());
+    match *value % 2 {
+        0 => Ok(()),
+        _ => Err(garde::Error::new("not even")),
     }
-    Err(garde::Error::new("not even"))
 }
 
 mod tag_text {

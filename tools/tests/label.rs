@@ -18,8 +18,8 @@ pub struct Label<'a> {
 }
 
 fn is_short(value: &str, _ctx: &()) -> garde::Result {
-    if value.len() <= 4 {
-        return Ok(());
+    match value.len() {
+        0..=4 => Ok(()),
+        _ => Err(garde::Error::new("not short")),
     }
-    Err(garde::Error::new("not short"))
 }

@@ -21,6 +21,7 @@ pub mod place;
 pub mod reading;
 pub mod shelf;
 pub mod shop;
+pub mod stay;
 pub mod team;
 pub mod visitor;
 pub mod wrapped;

@@ -39,7 +39,7 @@ texts_are_read (b ∷ bs) = byte_read b (html_text bs) ∙ ap (with_byte (Some b
 -- ---- no byte ends anything
 
 -- none of these bytes ends anything, one by one
-abbrev AreFree : List ℕ → Type 0
+abbrev pub AreFree : List ℕ → Type 0
 AreFree [] = Unit {0}
 AreFree (b ∷ bs) = (is_ending b ≡ false) × AreFree bs
 
@@ -68,7 +68,7 @@ free_byte b = elim (cases_eq b 38) [
   ]
 ]
 
-free_text : (text : List ℕ) → AreFree (html_text text)
+pub free_text : (text : List ℕ) → AreFree (html_text text)
 free_text [] = tt
 free_text (b ∷ bs) = free-append (html_byte b) (html_text bs) (free_byte b) (free_text bs)
 

@@ -1,2 +1,4 @@
 pub mod Entities
+pub mod Pages
 pub mod Places
+pub mod Told

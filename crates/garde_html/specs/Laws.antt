@@ -1,10 +1,19 @@
 -- Laws of texts within HTML, and of faults at fields.
-use Rattle.std.specs.Prelude.{◌≡◌, ◌==◌, ℕ, true, false, List, ◌∷◌, [], ◌++◌, Some, All}
-use Rattle.std.specs.List.{slice_split}
+use Rattle.std.specs.Prelude.{◌≡◌, ◌==◌, ℕ, true, false, List, ◌∷◌, [], ◌++◌, Some, All, filter}
+use Rattle.std.specs.List.{Contains, slice_split}
 use Rattle.garde_report.specs.Part.{Part}
-use Rattle.garde_report.specs.Report.{begins_with}
+use Rattle.garde_report.specs.Report.{Entry, begins_with}
+use Rattle.garde_html.specs.declared.form.Control.{Control}
+use Rattle.garde_html.specs.declared.form.Control.TheVariants.{Line, Password, Boxes}
+use Rattle.garde_html.specs.declared.form.Field.{Field}
+use Rattle.garde_html.specs.declared.form.Form.{Form}
+use Rattle.garde_html.specs.Controls.{field_pieces}
+use Rattle.garde_html.specs.Document.{form_pieces}
 use Rattle.garde_html.specs.Fields.{field_of}
+use Rattle.garde_html.specs.Form.{Typed, is_checked, typed_text}
 use Rattle.garde_html.specs.Html.{html_text, html_read, is_ending}
+use Rattle.garde_html.specs.Page.{Written, blank, markup_of, rendered, text}
+use Rattle.garde_html.specs.Summary.{entries_pieces, entry_pieces, first_text}
 
 -- no byte of an escaped text ends a text, a tag or an attribute
 abbrev pub TextsEndNothing : Type 0
@@ -23,3 +32,39 @@ TextsEndAtTheirEnds = (text rest : List ℕ) (stop : ℕ) → is_ending stop ≡
 abbrev pub FaultsHavePlaces : Type 0
 FaultsHavePlaces = (fields : List (List ℕ)) (path : List Part) (field : List ℕ)
     → field_of fields path ≡ Some field → begins_with (field ∷ []) path ≡ true
+
+-- a fault stands once in the summary, behind those before it and before those behind it
+abbrev pub FaultsStandInTheSummary : Type 0
+FaultsStandInTheSummary = (fields : List Field) (before : List Entry) (e : Entry) (after : List Entry)
+    → entries_pieces fields (before ++ e ∷ after)
+    ≡ entries_pieces fields before ++ (entry_pieces fields (first_text e.0) e.1 ++ entries_pieces fields after)
+
+-- the message of a fault at a field or under it stands beside the field
+abbrev pub FaultsStandBesideTheirFields : Type 0
+FaultsStandBesideTheirFields = (field : Field) (typed : List Typed) (entries : List Entry) (e : Entry)
+    → Contains entries e → begins_with (field.name.now ∷ []) e.0 ≡ true → Contains (field_pieces field typed entries) (text e.1)
+
+-- the `<`, `>`, `"` and `'` of a page are those of its markup
+abbrev pub TextsAddNoMarkup : Type 0
+TextsAddNoMarkup = (pieces : List Written) → filter is_ending (rendered pieces) ≡ filter is_ending (rendered (markup_of pieces))
+
+-- the same boxes are checked
+abbrev pub AreCheckedAlike : List Typed → List Typed → Type 0
+AreCheckedAlike typed other = (name value : List ℕ) → is_checked name value typed ≡ is_checked name value other
+
+-- where the same boxes are checked, what was typed changes nothing of a page but its texts
+abbrev pub TypedIsText : Type 0
+TypedIsText = (form : Form) (typed other : List Typed) (entries : List Entry) → AreCheckedAlike typed other
+    → blank (form_pieces form typed entries) ≡ blank (form_pieces form other entries)
+
+-- the same is shown of what was typed into a field; of a password nothing is shown
+abbrev pub IsShownAlike : Control → List ℕ → List Typed → List Typed → Type 0
+IsShownAlike (Line kind) name typed other = typed_text name typed ≡ typed_text name other
+IsShownAlike Password name typed other = Unit {0}
+IsShownAlike (Boxes boxes) name typed other = (value : List ℕ) → is_checked name value typed ≡ is_checked name value other
+
+-- what was typed into passwords changes nothing of a page
+abbrev pub PasswordsAreKeptOff : Type 0
+PasswordsAreKeptOff = (form : Form) (typed other : List Typed) (entries : List Entry)
+    → All (λ (f : Field). IsShownAlike f.control f.name.now typed other) form.fields.now
+    → form_pieces form typed entries ≡ form_pieces form other entries

@@ -1,6 +1,6 @@
 //! Laws of texts within HTML and of faults at fields. Each function does nothing, and its contract is a
 //! law for all values.
-ghost use Rattle.garde_html.specs.Laws.{FaultsHavePlaces, TextsAreRead, TextsEndAtTheirEnds, TextsEndNothing};
+ghost use Rattle.garde_html.specs.Laws.{FaultsHavePlaces, FaultsStandBesideTheirFields, FaultsStandInTheSummary, PasswordsAreKeptOff, TextsAddNoMarkup, TextsAreRead, TextsEndAtTheirEnds, TextsEndNothing, TypedIsText};
 
 /// An escaped text has no `<`, no `>`, no `"` and no `'`, whatever the text is.
 pub fn texts_end_nothing()
@@ -23,4 +23,31 @@ pub fn texts_end_at_their_ends()
 /// each fault of a report stands beside a field, or is one of the `other_faults`.
 pub fn faults_have_places()
     ensures { FaultsHavePlaces }
+{}
+
+/// Each fault of a report stands once in the summary of its page: behind those before it and before
+/// those behind it.
+pub fn faults_stand_in_the_summary()
+    ensures { FaultsStandInTheSummary }
+{}
+
+/// The message of a fault at a field or under it stands beside the field.
+pub fn faults_stand_beside_their_fields()
+    ensures { FaultsStandBesideTheirFields }
+{}
+
+/// The `<`, `>`, `"` and `'` of a page are those of its markup, in their order: no text adds any.
+pub fn texts_add_no_markup()
+    ensures { TextsAddNoMarkup }
+{}
+
+/// What was typed changes nothing of the page of a form but its texts, where the same boxes are checked:
+/// the markup is that of the form and of the faults.
+pub fn typed_is_text()
+    ensures { TypedIsText }
+{}
+
+/// What was typed into passwords changes nothing of the page of a form.
+pub fn passwords_are_kept_off()
+    ensures { PasswordsAreKeptOff }
 {}

@@ -1,9 +1,18 @@
-//! Reports within HTML: texts that end nothing of a page, and the faults of each field of a form.
+//! Reports within HTML: texts that end nothing of a page, the faults of each field of a form, and the
+//! form as a page with its faults.
 #![tactic(auto)]
 
+mod controls;
+mod document;
 mod faults;
+mod form;
 pub mod laws;
+mod page;
+mod summary;
 mod text;
 
+pub use document::form_page;
 pub use faults::{field_faults, field_of, other_faults};
+pub use form::{Control, Field, Form};
+pub use page::{Page, Piece};
 pub use text::HtmlText;

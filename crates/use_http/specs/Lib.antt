@@ -7,4 +7,5 @@ pub mod Order
 pub mod Reasons
 pub mod Refused
 pub mod Request
+pub mod Room
 pub mod Wire

@@ -1,10 +1,11 @@
 //! What is answered to the body of an order.
-ghost use Rattle.std.specs.Prelude.{◌≡◌, ◌∷◌, ◌++◌, [], IsTrue, OnOk, codes};
+ghost use Rattle.std.specs.Prelude.{◌≡◌, ◌+◌, ◌≤◌, ◌∷◌, ◌++◌, [], IsOk, IsTrue, OnOk, codes, length};
 ghost use Rattle.http_header.specs.FieldValue.{is_visible_text};
 ghost use Rattle.garde_catalog.specs.Parse.{catalog_parse_text};
-ghost use Rattle.http_server.specs.Response.{IsBlank, IsResponse};
+ghost use Rattle.http_server.specs.Response.{IsBlank, IsResponse, fields_of};
 ghost use Rattle.use_http.specs.Answered.{voice};
 ghost use Rattle.use_http.specs.Judged.{Judges, Tells, faults_text, language_fields, no_json_text, problem_fields};
+ghost use Rattle.use_http.specs.Room.{HasRoom, field_room};
 
 use crate::order::read_order;
 use bytes::BufMut;
@@ -12,18 +13,37 @@ use garde::Report;
 use garde_catalog::Catalog;
 use garde_problem::{Problem, WithCodes, problem_to_json_text};
 use garde_schema::{ParseError, ReadError, Scratch};
-use http::{HeaderValue, StatusCode, header};
+use http::{HeaderName, HeaderValue, StatusCode, header};
 use http_server::{Response, Rope};
 use std::alloc::{AllocError, Global};
 
 fn put(body: &mut Rope, text: &[u8]) -> Result<(), AllocError>
     requires { body.old.items ≡ [] }
-    ensures { OnOk result (body.new.items ≡ text.now) }
+    ensures items { OnOk result (body.new.items ≡ text.now) }
+    ensures room { length text.now ≤ body.old.spare → IsOk result }
 {
     body.put_slice(text)
 }
 
-/// Answers with a text of this media type.
+/// Adds a field. It allocates nothing where the response has room for one more.
+pub fn put_field(
+    response: &mut Response,
+    name: HeaderName,
+    value: &'static str,
+) -> Result<(), AllocError>
+    requires { IsTrue (is_visible_text value.now) }
+    ensures headers { OnOk result
+        (fields_of response.new ≡ fields_of response.old ++ (name, value.now) ∷ []) }
+    ensures status { response.new.status ≡ response.old.status }
+    ensures body { response.new.body ≡ response.old.body }
+    ensures room { 1 ≤ field_room response.old → IsOk result }
+    ensures takes { field_room response.old ≤ field_room response.new + 1 }
+{
+    let field = (name, HeaderValue::from_static(value));
+    Ok(response.headers.push(field)?)
+}
+
+/// Answers with a text of this media type. It allocates nothing where the response has room for both.
 pub fn put_text(
     response: &mut Response,
     status: StatusCode,
@@ -32,22 +52,26 @@ pub fn put_text(
 ) -> Result<(), AllocError>
     requires blank { IsBlank response.old }
     requires value { IsTrue (is_visible_text media.now) }
-    ensures { OnOk result (IsResponse status ((codes "content-type", media.now) ∷ []) text.now
+    ensures told { OnOk result (IsResponse status ((codes "content-type", media.now) ∷ []) text.now
         response.new) }
+    ensures room { HasRoom 1 (length text.now) response.old → IsOk result }
+    ensures takes { field_room response.old ≤ field_room response.new + 1 }
 {
     response.status = status;
-    response.add_header(header::CONTENT_TYPE, HeaderValue::from_static(media))?;
+    put_field(response, header::CONTENT_TYPE, media)?;
     put(&mut response.body, text.as_bytes())
 }
 
-/// Answers with problem details.
+/// Answers with problem details. It allocates nothing where the response has room for them.
 pub fn put_problem(
     response: &mut Response,
     status: StatusCode,
     text: &str,
 ) -> Result<(), AllocError>
     requires { IsBlank response.old }
-    ensures { OnOk result (IsResponse status problem_fields text.now response.new) }
+    ensures told { OnOk result (IsResponse status problem_fields text.now response.new) }
+    ensures room { HasRoom 1 (length text.now) response.old → IsOk result }
+    ensures takes { field_room response.old ≤ field_room response.new + 1 }
 {
     put_text(response, status, "application/problem+json", text)
 }

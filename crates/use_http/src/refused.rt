@@ -1,5 +1,5 @@
 //! The answers in which no order is judged: problem details (RFC 9457) that say no more than the status.
-ghost use Rattle.std.specs.Prelude.{◌≡◌};
+ghost use Rattle.std.specs.Prelude.{◌≡◌, ◌≤◌, length};
 
 use http::StatusCode;
 
@@ -70,7 +70,8 @@ impl Refused {
     /// The problem details. Their type is `about:blank`, so the title is the phrase of the status
     /// (RFC 9457, section 4.2.1).
     pub fn problem(self) -> &'static str
-        ensures { result.now ≡ problem_of self }
+        ensures value { result.now ≡ problem_of self }
+        ensures short { length result.now ≤ 128 }
     {
         match self {
             Refused::BadRequest => BAD_REQUEST,

@@ -1,5 +1,5 @@
 //! The service: what is answered to each request.
-ghost use Rattle.std.specs.Prelude.{◌≡◌, [], ◌∷◌, ◌++◌, IsOk, IsTrue, OnOk, codes};
+ghost use Rattle.std.specs.Prelude.{◌≡◌, ◌≢◌, ◌+◌, ◌≤◌, [], ◌∷◌, ◌++◌, IsOk, IsTrue, OnOk, codes};
 ghost use Rattle.http.specs.Request.{head_of, body_of};
 ghost use Rattle.http_header.specs.FieldValue.{is_visible_text};
 ghost use Rattle.http_server.specs.Response.{IsBlank, IsResponse};
@@ -7,15 +7,16 @@ ghost use Rattle.use_http.specs.Answered.{AnswersRoute, IsAnswered, IsAnsweredSo
 ghost use Rattle.use_http.specs.Judged.{problem_fields};
 ghost use Rattle.use_http.specs.Refused.{status_of, problem_of};
 ghost use Rattle.use_http.specs.Request.{IsRoute};
+ghost use Rattle.use_http.specs.Room.{HasRoom, field_room};
 
-use crate::answer::{judge, put_problem, put_text};
+use crate::answer::{judge, put_field, put_problem, put_text};
 use crate::date::{date_of, put_date};
 use crate::description::OPEN_API;
 use crate::refused::Refused;
 use crate::request::{Route, language_of, route_of};
-use bytes::Bytes;
+use bytes::{BufMut, Bytes};
 use garde_catalog::Catalogs;
-use http::{HeaderName, HeaderValue, Request, StatusCode, header};
+use http::{HeaderName, Request, StatusCode, header};
 use http_server::{Response, Service};
 use httpdate::HttpDate;
 use std::alloc::{AllocError, Global};
@@ -24,7 +25,9 @@ use std::time::Clock;
 /// Answers that no order is judged.
 fn put_refused(response: &mut Response, why: Refused) -> Result<(), AllocError>
     requires { IsBlank response.old }
-    ensures { OnOk result (IsResponse (status_of why) problem_fields (problem_of why) response.new) }
+    ensures told { OnOk result (IsResponse (status_of why) problem_fields (problem_of why) response.new) }
+    ensures room { HasRoom 1 128 response.old → IsOk result }
+    ensures takes { field_room response.old ≤ field_room response.new + 1 }
 {
     put_problem(response, why.status(), why.problem())
 }
@@ -39,11 +42,12 @@ fn put_offer(
 ) -> Result<(), AllocError>
     requires blank { IsBlank response.old }
     requires value { IsTrue (is_visible_text offer.now) }
-    ensures { OnOk result (IsResponse (status_of why) (problem_fields ++ (name, offer.now) ∷ [])
-        (problem_of why) response.new) }
+    ensures told { OnOk result (IsResponse (status_of why)
+        (problem_fields ++ (name, offer.now) ∷ []) (problem_of why) response.new) }
+    ensures room { HasRoom 2 128 response.old → IsOk result }
 {
     put_refused(response, why)?;
-    response.add_header(name, HeaderValue::from_static(offer))
+    put_field(response, name, offer)
 }
 
 /// Answers with the description of the service.
@@ -83,6 +87,8 @@ fn answer_route(
     ensures told { OnOk result (AnswersRoute catalogs.now route (head_of request.now) (body_of request.now)
         response.new) }
     ensures health { route ≡ Route.Health → IsOk result }
+    ensures room { HasRoom 2 128 response.old → route ≢ Route.Order → route ≢ Route.Description
+        → IsOk result }
 {
     let other = Refused::MethodNotAllowed;
     match route {
@@ -103,7 +109,9 @@ fn answer_route(
 }
 
 /// Fills a blank response with the answer to a request, at this date, in the language that the request
-/// asks for. Whether the service runs is always answered: that takes no memory.
+/// asks for. Whether the service runs is always answered: that takes no memory. What is neither an order
+/// in JSON nor a request for the description takes none but room for two fields and a body of 128 bytes:
+/// it is always answered where the response has that.
 pub fn answer(
     alloc: Global,
     catalogs: &Catalogs,
@@ -115,11 +123,24 @@ pub fn answer(
     ensures told { OnOk result (IsAnswered catalogs.now date (head_of request.now) (body_of request.now)
         response.new) }
     ensures health { IsRoute Route.Health (head_of request.now) → IsOk result }
+    ensures room { HasRoom 2 128 response.old → ¬ (IsRoute Route.Order (head_of request.now))
+        → ¬ (IsRoute Route.Description (head_of request.now)) → IsOk result }
 {
     let route = route_of(request);
     answer_route(alloc, catalogs, route, request, response)?;
     put_date(alloc, date, response);
     Ok(())
+}
+
+/// Asks for the room that an answer takes in which no order is judged, and for a date. A response that
+/// is cleared keeps it, so a connection asks once.
+pub fn make_room(response: &mut Response) -> Result<(), AllocError>
+    requires { IsBlank response.old }
+    ensures blank { IsBlank response.new }
+    ensures room { OnOk result (HasRoom 2 128 response.new) }
+{
+    response.headers.reserve(3)?;
+    response.body.reserve(128)
 }
 
 /// Judges orders. It keeps nothing from one request to the next.
@@ -141,6 +162,8 @@ impl<'a, C: Clock> Service for Orders<'a, C> {
         request: &Request<Bytes>,
         response: &mut Response,
     ) -> Result<(), AllocError> {
+        // Without that room some answers still need none.
+        let _ = make_room(response);
         answer(
             self.alloc,
             self.catalogs,

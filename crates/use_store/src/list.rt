@@ -9,6 +9,7 @@ use example_import::item::{Flaw, Item, Source};
 use example_import::row::Row;
 use garde_csv::{ListError, Next, Records};
 use std::alloc::{AllocError, Global};
+use std::cell::Cell;
 use std::io::Read;
 
 /// The columns of a list, in their order.
@@ -16,9 +17,11 @@ const COLUMNS: [&str; 5] = ["code", "name", "quantity", "price", "page"];
 
 /// A list whose header row was read.
 #[derive(Drop)]
-pub struct CsvList<R> {
+pub struct CsvList<'w, R> {
     pub records: Records<R>,
     pub alloc: Global,
+    /// Where it keeps the line in which the record begins that was read last.
+    pub line: &'w Cell<u64>,
 }
 
 /// The field of a record at a place, or an empty one where there is none.
@@ -78,22 +81,26 @@ fn item_of(alloc: Global, fields: &StringRecord) -> Result<Item, AllocError>
     Ok(Item::Row(row_of(alloc, fields)?))
 }
 
-impl<R: Read + Drop> CsvList<R> {
-    /// The list that is read from here. Its header row has to name the columns.
-    pub fn new(alloc: Global, list: R) -> Result<CsvList<R>>
+impl<'w, R: Read + Drop> CsvList<'w, R> {
+    /// The list that is read from here, and keeps its line there. Its header row has to name the columns.
+    pub fn new(alloc: Global, list: R, line: &'w Cell<u64>) -> Result<CsvList<'w, R>>
         ensures { IfOk result (λ it. Opens R.remaining list it.records) }
     {
         let mut records = Records::new(alloc, list)?;
         let mut header = StringRecord::new(alloc);
         match records.read(&mut header)? {
-            Next::Row if has_columns(&header) => Ok(CsvList { records, alloc }),
+            Next::Row if has_columns(&header) => Ok(CsvList {
+                records,
+                alloc,
+                line,
+            }),
             Next::Faulty(fault) => Err(anyhow!("the header: {fault}")),
             _ => Err(anyhow!("the columns must be code, name, quantity, price, page")),
         }
     }
 }
 
-impl<R: Read + Drop> Source for CsvList<R> {
+impl<'w, R: Read + Drop> Source for CsvList<'w, R> {
     ghost use Rattle.use_store.specs.List.{Gives};
 
     type Error = ListError;
@@ -102,7 +109,9 @@ impl<R: Read + Drop> Source for CsvList<R> {
 
     fn next(&mut self) -> Result<Option<Item>, ListError> {
         let mut fields = StringRecord::new(self.alloc);
-        match self.records.read(&mut fields)? {
+        let next = self.records.read(&mut fields)?;
+        self.line.set(self.records.line());
+        match next {
             Next::Row => Ok(Some(item_of(self.alloc, &fields)?)),
             Next::Faulty(fault) => Ok(Some(Item::Broken(Flaw::Record(fault)))),
             Next::End => Ok(None),

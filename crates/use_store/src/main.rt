@@ -1,5 +1,5 @@
-//! Stores the valid rows of a stock list, which it reads in CSV on standard input, in a SQLite file,
-//! and prints every fault of the others. Or prints the rows that such a file has.
+//! Stores the valid rows of a stock list, which it reads in CSV from a file or on standard input, in a
+//! SQLite file, and prints every fault of the others. Or prints the rows that such a file has.
 #![tactic(auto)]
 
 mod faults;
@@ -10,15 +10,17 @@ mod options;
 
 use crate::faults::Faults;
 use crate::list::CsvList;
-use crate::options::{Task, USAGE};
-use anyhow::{Error, Result, anyhow};
+use crate::options::{Options, Task, USAGE};
+use anyhow::{Error, Result, anyhow, bail};
 use example_import::run::{Batch, Cause, Progress, Stopped, import};
 use example_table::database::Stock;
 use example_table::opening::OpenError;
 use garde_csv::ListError;
-use sqlite::{File, FileStore};
+use sqlite::FileStore;
+use std::cell::Cell;
 use std::fmt::Display;
-use std::io::{BufWriter, Write};
+use std::fs::File;
+use std::io::{BufWriter, Read, Write};
 use std::process::ExitCode;
 use std::{env, io};
 
@@ -45,25 +47,37 @@ fn reason(stopped: &Stopped<ListError, sqlite::Error, io::Error>) -> Error {
     }
 }
 
-/// Prints how many rows were stored, and how many were not.
-fn summarize<W: Write>(progress: Progress, left: usize, out: &mut W) -> io::Result<()> {
-    writeln!(out, "stored {}, not stored {left}", progress.stored)?;
-    out.flush()
+/// Prints how many rows were stored, and how many were not: behind the faults, or on standard error
+/// where these have places, so that programs read nothing else.
+fn summarize<W: Write>(
+    rt: &HostRuntime,
+    progress: Progress,
+    left: usize,
+    out: &mut Faults<'_, W>,
+) -> io::Result<()> {
+    let stored = progress.stored;
+    if out.printed.is_none() {
+        writeln!(out.out, "stored {stored}, not stored {left}")?;
+        return out.out.flush();
+    }
+    out.out.flush()?;
+    eprintln!(rt; "stored {stored}, not stored {left}")
 }
 
 /// Closes the file, and prints how many rows were stored. The answer is whether all were. The rows
 /// are kept, also where that fails.
 fn end<W: Write>(
-    stock: Stock<FileStore<File>>,
+    rt: &HostRuntime,
+    stock: Stock<FileStore<sqlite::File>>,
     progress: Progress,
-    out: &mut Faults<W>,
+    out: &mut Faults<'_, W>,
 ) -> Result<bool> {
     let left = progress.items.saturating_sub(progress.stored);
     if let Err(error) = file::close(stock) {
         let _ = out.out.flush();
         return Err(ended_by(&error, progress));
     }
-    match summarize(progress, left, &mut out.out) {
+    match summarize(rt, progress, left, out) {
         Ok(()) => Ok(left == 0),
         Err(error) => Err(ended_by(&error, progress)),
     }
@@ -78,19 +92,23 @@ fn not_opened(error: OpenError) -> Error {
     }
 }
 
-/// Imports the list on standard input into the table of a file. The answer is whether all of its rows
-/// were stored.
-fn store(rt: &HostRuntime, path: &str, batch: Batch) -> Result<bool> {
+/// Imports the list of a source into the table of a file. The answer is whether all of its rows were
+/// stored.
+fn store<R: Read + Drop>(rt: &HostRuntime, source: R, options: &Options<'_>) -> Result<bool> {
+    let line = Cell::new(0);
     let mut out = Faults {
         out: BufWriter::new(rt.alloc(), io::writer(rt))?,
+        alloc: rt.alloc(),
+        printed: options.printed,
+        line: &line,
     };
-    let mut list = CsvList::new(rt.alloc(), rt.stdin())?;
-    let mut stock = match file::open(rt, path) {
+    let mut list = CsvList::new(rt.alloc(), source, &line)?;
+    let mut stock = match file::open(rt, options.path) {
         Ok(stock) => stock,
         Err(error) => return Err(not_opened(error)),
     };
-    match import(rt.alloc(), &mut stock, &mut list, &mut out, batch) {
-        Ok(progress) => end(stock, progress, &mut out),
+    match import(rt.alloc(), &mut stock, &mut list, &mut out, options.batch) {
+        Ok(progress) => end(rt, stock, progress, &mut out),
         Err(stopped) => {
             let _ = out.out.flush();
             Err(reason(&stopped))
@@ -98,15 +116,26 @@ fn store(rt: &HostRuntime, path: &str, batch: Batch) -> Result<bool> {
     }
 }
 
+/// The file of this name, which holds a list.
+fn source(rt: &HostRuntime, name: &str) -> Result<File> {
+    match File::open(rt, name) {
+        Ok(file) => Ok(file),
+        Err(error) => bail!("{name:?}: {error}"),
+    }
+}
+
 /// Does a task. The answer is whether each row was valid.
-fn run(rt: &HostRuntime, task: Task) -> Result<bool> {
+fn run(rt: &HostRuntime, task: Task<'_>) -> Result<bool> {
     match task {
         Task::Help => {
             println!(rt; "{USAGE}")?;
             Ok(true)
         }
-        Task::Store(path, batch) => store(rt, path.as_str(), batch),
-        Task::List(path) => listing::list(rt, path.as_str()),
+        Task::Store(options) => match options.list {
+            Some(name) => store(rt, source(rt, name)?, &options),
+            None => store(rt, rt.stdin(), &options),
+        },
+        Task::List(path) => listing::list(rt, path),
     }
 }
 
@@ -114,10 +143,10 @@ fn run(rt: &HostRuntime, task: Task) -> Result<bool> {
 /// `None` where the words are wrong, which is reported.
 fn obey(rt: &HostRuntime) -> Result<Option<bool>> {
     let words: Vec<String> = env::args(rt)?.skip(1).collect(rt.alloc())?;
-    match Task::of(words) {
+    match Task::of(&words) {
         Ok(task) => Ok(Some(run(rt, task)?)),
         Err(wrong) => {
-            eprintln!(rt; "use_store: {wrong}")?;
+            eprintln!(rt; "use_store: {wrong}\n{USAGE}")?;
             Ok(None)
         }
     }

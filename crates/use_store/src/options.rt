@@ -1,103 +1,144 @@
 //! What the words of the command line ask for.
 use example_import::run::Batch;
-use std::fmt;
+use garde_places::{Asked, Printed};
 
 /// The usage, which `--help` prints.
-pub const USAGE: &str = "usage: use_store FILE [--batch N] [--all-or-nothing]
+pub const USAGE: &str = "\
+usage: use_store FILE [--batch N | --all-or-nothing] [--format FORMAT] [LIST | -]
        use_store FILE --list
-Stores the valid rows of a stock list in CSV on standard input in a SQLite file, and prints every fault of the others.
+Stores the valid rows of a stock list in CSV in a SQLite file, and prints every fault of the others.
 Or prints the rows of such a file as a list in CSV.
 
   FILE              is made if it is not there
+  LIST              is the list, and without a name or with - it is read on standard input
   --batch N         keeps the rows after every N rows of the list, N from 1 (1000 where it is left out)
   --all-or-nothing  keeps the rows at the end, if no row has a fault
+  --format FORMAT   prints faults as short, json or github with their places, or as plain without;
+                    else as short where LIST or - stands, and as plain where none does
   --list            prints the rows of the file
   --help            prints this";
 
+/// How a list is to be stored.
+#[derive(Debug, Clone, Copy)]
+pub struct Options<'w> {
+    /// The SQLite file.
+    pub path: &'w str,
+    /// The name of the file with the list, and none for standard input.
+    pub list: Option<&'w str>,
+    /// When the rows are kept.
+    pub batch: Batch,
+    /// How faults are printed, and none for without their places.
+    pub printed: Option<Printed<'w>>,
+}
+
 /// What is to be done.
-#[derive(Debug, Drop)]
-pub enum Task {
+#[derive(Debug, Clone, Copy)]
+pub enum Task<'w> {
     /// The usage is printed.
     Help,
-    /// Rows are stored in this file, and kept in batches.
-    Store(String, Batch),
+    /// Rows are stored.
+    Store(Options<'w>),
     /// The rows of this file are printed.
-    List(String),
+    List(&'w str),
 }
 
-/// Why words ask for nothing.
-#[derive(Clone, Copy, Debug, PartialEq, Eq)]
-pub enum Wrong {
-    NoFile,
-    NoNumber,
-    /// A word is unknown, or stands twice, or is one too many.
-    Unknown,
-}
+const NO_FILE: &str = "the first word must be a file";
 
-/// Prints the reason, and behind it the usage. It repeats no word.
-impl fmt::Display for Wrong {
-    fn fmt<W: fmt::Write>(&self, f: &mut fmt::Formatter<W>) -> fmt::Result {
-        let reason = match self {
-            Wrong::NoFile => "the first word must be a file",
-            Wrong::NoNumber => "a number from 1 must follow --batch",
-            Wrong::Unknown => "an unknown word, or one too many",
-        };
-        write!(f, "{reason}\n{USAGE}")
-    }
-}
+const NO_NUMBER: &str = "a number from 1 must follow --batch";
+
+/// A word is unknown, or stands twice, or is one too many.
+const UNKNOWN: &str = "an unknown word, or one too many";
 
 /// How many rows are kept together where no word says it.
 const BATCH: usize = 1000;
 
-/// The batch, under the words that follow the file, each of which may stand once.
-fn batch_of(words: &[String]) -> Result<Batch, Wrong> {
-    let mut batch = None;
-    let mut is_whole = false;
-    let mut is_number = false;
-    for word in words {
-        match word.as_str() {
-            number if is_number => {
-                batch = Some(rows_each(number)?);
+/// The words that were taken. Each may be left out and stands once.
+#[derive(Clone, Copy)]
+struct Words<'w> {
+    batch: Option<usize>,
+    is_whole: bool,
+    asked: Asked<'w>,
+}
+
+impl<'w> Words<'w> {
+    fn of(words: &'w [String]) -> Result<Words<'w>, &'static str> {
+        let mut taken = Words {
+            batch: None,
+            is_whole: false,
+            asked: Asked::new(),
+        };
+        let mut is_number = false;
+        for word in words {
+            if is_number {
+                taken.batch = Some(rows_each(word)?);
                 is_number = false;
+            } else if word.as_str() == "--batch" && taken.can_be_number() {
+                is_number = true;
+            } else if !taken.asked.take(word)? {
+                taken.take(word)?;
             }
-            "--batch" if batch.is_none() => is_number = true,
-            "--all-or-nothing" if !is_whole => is_whole = true,
-            _ => return Err(Wrong::Unknown),
         }
+        if is_number {
+            return Err(NO_NUMBER);
+        }
+        Ok(taken)
     }
-    match (is_number, is_whole) {
-        (true, _) => Err(Wrong::NoNumber),
-        (false, true) => Ok(Batch::All),
-        (false, false) => Ok(Batch::Items(batch.unwrap_or(BATCH))),
+
+    // Whether `--batch` may stand here.
+    fn can_be_number(&self) -> bool {
+        self.batch.is_none() && !self.asked.is_open
+    }
+
+    // Takes a word that stands alone, and names no file.
+    fn take(&mut self, word: &str) -> Result<(), &'static str> {
+        match word {
+            "--all-or-nothing" if !self.is_whole => self.is_whole = true,
+            _ => return Err(UNKNOWN),
+        }
+        Ok(())
+    }
+
+    fn options(self, path: &'w str) -> Result<Options<'w>, &'static str> {
+        let asked = self.asked.finish()?;
+        let batch = if self.is_whole {
+            Batch::All
+        } else {
+            Batch::Items(self.batch.unwrap_or(BATCH))
+        };
+        Ok(Options {
+            path,
+            list: asked.file(),
+            batch,
+            printed: asked.printed(),
+        })
     }
 }
 
 /// How many rows are kept together.
-fn rows_each(word: &str) -> Result<usize, Wrong> {
+fn rows_each(word: &str) -> Result<usize, &'static str> {
     match word.parse() {
         Ok(number) if number > 0 => Ok(number),
-        _ => Err(Wrong::NoNumber),
+        _ => Err(NO_NUMBER),
     }
 }
 
-impl Task {
-    /// What these words ask for: `--help`, or a file, and behind it `--batch N`, `--all-or-nothing`
-    /// or `--list`. A file whose name begins with `--` is written `./--name`.
-    pub fn of(mut words: Vec<String>) -> Result<Task, Wrong> {
-        if words.is_empty() {
-            return Err(Wrong::NoFile);
-        }
-        let path = words.remove(0);
-        let rest = words.as_slice();
-        if path.as_str() == "--help" && rest.is_empty() {
+impl<'w> Task<'w> {
+    /// What these words ask for, or why they cannot be followed: `--help`, or a file, and behind it
+    /// `--list`, or the words of an import. A file whose name begins with `--` is written `./--name`.
+    pub fn of(words: &'w [String]) -> Result<Task<'w>, &'static str> {
+        let Some((first, rest)) = words.split_first() else {
+            return Err(NO_FILE);
+        };
+        let path = first.as_str();
+        if path == "--help" && rest.is_empty() {
             return Ok(Task::Help);
         }
-        if path.as_str().starts_with("--") {
-            return Err(Wrong::NoFile);
+        if path.starts_with("--") {
+            return Err(NO_FILE);
         }
         match rest {
             [only] if only.as_str() == "--list" => Ok(Task::List(path)),
-            _ => Ok(Task::Store(path, batch_of(rest)?)),
+            _ => Ok(Task::Store(Words::of(rest)?.options(path)?)),
         }
     }
 }

@@ -5,9 +5,10 @@ import pathlib
 import shutil
 import tempfile
 
+from lib import placed
 from lib.described import Case, run
 from lib.described.use_import import CODES, COLUMNS, PIECES, records, some_row, written
-from lib.faults import ALPHANUMERIC, URL, URLS, between, chars, fault, prefix
+from lib.faults import ALPHANUMERIC, ENGLISH, URL, URLS, between, chars, fault, prefix
 from lib.form import Member, Object, OrEmpty, Parsed, Text, read
 from lib.json_values import Pairs
 from lib.reports import lines
@@ -36,15 +37,24 @@ def faults_of(index, cells, codes):
     return row, walk
 
 
-def answer_to(found, whole=False, batch=None):
-    """What a list makes of an empty table, by its records: the table, the status, the output, and the tables at the ends of batches."""
+def told(form, line, walk):
+    """The faults of a row, which begins in this line, as they are printed. None has a code."""
+    if form == "plain":
+        return lines(walk)
+    return "".join(placed.line(form, "<stdin>", (line, 1), path, it.text(ENGLISH), "", {}) + "\n" for path, it in walk)
+
+
+def answer_to(found, whole=False, batch=None, form="plain"):
+    """What a list makes of an empty table, by its records: the table, the status, the faults, the last line, and the tables at the ends
+    of batches."""
     table, codes, said, kept, count = [], set(), [], [[]], 0
     for index, record in enumerate(found):
         if record.fault or len(record.cells) != len(COLUMNS):
-            said.append(f"[{index}]: {record.fault or 'not as many fields as in the header'}\n")
+            flaw = fault("own", text=str(record.fault or "not as many fields as in the header"))
+            said.append(told(form, record.line, [((index,), flaw)]))
         else:
             row, walk = faults_of(index, record.cells, codes)
-            said.append(lines(walk))
+            said.append(told(form, record.line, walk))
             if not walk:
                 table.append(tuple(row[name] for name in COLUMNS))
                 codes.add(row["code"])
@@ -52,26 +62,27 @@ def answer_to(found, whole=False, batch=None):
         if batch and count % batch == 0:
             kept.append(list(table))
     table = [] if whole and any(said) else table
-    said.append(f"stored {len(table)}, not stored {count - len(table)}\n")
-    return table, 0 if len(table) == count else 1, "".join(said), [*kept, table]
+    last = f"stored {len(table)}, not stored {count - len(table)}\n"
+    return table, 0 if len(table) == count else 1, "".join(said), last, [*kept, table]
 
 
 # ---- random lists, and the file
 
 def some(dice):
     odd, words = dice.choice((0, 0, 0.1, 0.4)), dice.choice((("--all-or-nothing",), ("--batch", "1"), ("--batch", "3"), ()))
+    form = placed.some_format(dice)
     rows = [some_row(dice, COLUMNS, odd) for _ in range(dice.randrange(8))]
     body, cuts = written(dice, rows), set()
     for _ in range(dice.choice((0, 0, 1, 2, 3))):
         body, cuts = cut(dice, body, PIECES), {"cut"}
     mark = dice.choice((b"", b"", b"\xef\xbb\xbf"))
-    return Case(("stock.db", *words), mark + ",".join(COLUMNS).encode() + dice.choice((b"\n", b"\r\n")) + body, cuts | ({"cells"} if odd else set()))
+    return Case(("stock.db", *dice.choice((words + form, form + words))), mark + ",".join(COLUMNS).encode() + dice.choice((b"\n", b"\r\n")) + body, cuts | ({"cells"} if odd else set()))
 
 
 def large():
     """A list of 2,500 rows, some of them faulty, and one with a cell of more than 64 KiB."""
     rows = "".join(f"{'X' if row % 700 == 699 else 'P'}{row},Screw,1,5,\n" for row in range(2_500))
-    for words in (), ("--batch", "999"):
+    for words in (), ("--batch", "999"), ("--format", "github"):
         yield Case(("stock.db", *words), ",".join(COLUMNS).encode() + b"\n" + rows.encode())
     yield Case(("stock.db",), ",".join(COLUMNS).encode() + b'\nP1,"' + b"x\n" * 40_000 + b'",1,5,\nP2,Screw,1,5,\n')
 
@@ -88,8 +99,10 @@ def with_body(case, body):
 def wanted(case):
     """The status, the output, standard error, and the table of the file."""
     _, *rest = records(case.given)
-    table, status, said, _ = answer_to(rest, "--all-or-nothing" in case.words)
-    return status, said.encode("utf-8"), b"", table
+    words, form = placed.asked(case.words)
+    table, status, said, last, _ = answer_to(rest, "--all-or-nothing" in words, form=form)
+    out, err = (said + last, "") if form == "plain" else (said, last)
+    return status, out.encode("utf-8"), err.encode("utf-8"), table
 
 
 def table_of(folder, program, alone=False):

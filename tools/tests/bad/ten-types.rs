@@ -86,7 +86,7 @@ pub struct Node {
 pub struct Conditional<'a> {
     #[garde(if(cond = self.kind == "x", required))]
     pub maybe: Option<u8>,
-    #[garde(if(cond = self.kind.is_empty(), ascii, url))] //~ a condition with the method `is_empty`, which the port cannot read there
+    #[garde(if(cond = self.kind.is_ascii(), ascii, url))] //~ a condition with the method `is_ascii`, which the port cannot read there
     pub kind: &'a str,
     #[garde(if(required))] //~ `if` begins with `cond = `
     pub third: Option<Arc<String>>, //~ the type `Arc`, which is not there: write `Rc`

@@ -3,6 +3,7 @@
 
 mod ample;
 mod asked;
+mod counted;
 mod errors;
 mod html;
 mod json;

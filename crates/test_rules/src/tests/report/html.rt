@@ -2,7 +2,10 @@
 
 use crate::tests::OrEnd;
 use crate::tests::report::samples::{has_text, path_of, report_of};
-use garde_html::{HtmlText, field_faults, field_of, laws, other_faults};
+use garde_html::{
+    Control, Field, Form, HtmlText, Page, Piece, field_faults, field_of, form_page, laws,
+    other_faults,
+};
 use garde_report::{Error, Kind, Path, Report};
 use std::alloc::Global;
 use std::process::Abort;
@@ -119,10 +122,154 @@ fn faults_at_no_field_are_apart(rt: HostRuntime) {
     );
 }
 
+/// A form of each kind of field.
+static FORM: Form<'static> = Form {
+    language: "cs",
+    direction: "ltr",
+    title: "Sign & up",
+    faulty_title: "Faults",
+    summary: "What is wrong",
+    send: "Send",
+    fields: &[
+        Field {
+            name: "name",
+            label: "Name",
+            control: Control::Line("text"),
+        },
+        Field {
+            name: "key",
+            label: "Key",
+            control: Control::Password,
+        },
+        Field {
+            name: "topics",
+            label: "Topics",
+            control: Control::Boxes(&[("news", "News"), ("<", "Less")]),
+        },
+    ],
+};
+
+/// What a visitor sent.
+static TYPED: [(&str, &str); 5] = [
+    ("topics", "<"),
+    ("name", "\"><img src=x>"),
+    ("key", "a secret"),
+    ("name", "Ada"),
+    ("key2", "news"),
+];
+
+/// What stands on a page behind its style, up to its end.
+const PLAIN: &str = "<h1>Sign &amp; up</h1>
+<form method=\"post\" novalidate>
+<div class=\"field\">
+<label for=\"field-name\">Name</label>
+<input id=\"field-name\" name=\"name\" dir=\"auto\" type=\"text\" value=\"&quot;&gt;&lt;img src=x&gt;\">
+</div>
+<div class=\"field\">
+<label for=\"field-key\">Key</label>
+<input id=\"field-key\" name=\"key\" dir=\"auto\" type=\"password\" value=\"\">
+</div>
+<div class=\"field\">
+<fieldset id=\"field-topics\" tabindex=\"-1\"><legend>Topics</legend>
+<label><input type=\"checkbox\" name=\"topics\" value=\"news\"> News</label>
+<label><input type=\"checkbox\" name=\"topics\" value=\"&lt;\" checked=\"\"> Less</label>
+</fieldset>
+</div>
+<button>Send</button>
+</form>
+</main>
+</body>
+</html>
+";
+
+/// The same with the faults.
+const FAULTY: &str = "<h1>Sign &amp; up</h1>
+<div class=\"summary\" role=\"alert\">
+<h2>What is wrong</h2>
+<ul>
+<li><a href=\"#field-name\">Name: short</a></li>
+<li><a href=\"#field-topics\">Topics: not known</a></li>
+<li>wrong</li>
+<li><bdi>nam</bdi>: unknown</li>
+<li><a href=\"#field-name\">Name: not ASCII</a></li>
+<li><bdi>x</bdi>: deep</li>
+</ul>
+</div>
+<form method=\"post\" novalidate>
+<div class=\"field\">
+<label for=\"field-name\">Name</label>
+<input id=\"field-name\" name=\"name\" dir=\"auto\" type=\"text\" value=\"&quot;&gt;&lt;img src=x&gt;\" aria-invalid=\"true\" aria-describedby=\"faults-name\">
+<ul class=\"faults\" id=\"faults-name\">
+<li>short</li>
+<li>not ASCII</li>
+</ul>
+</div>
+<div class=\"field\">
+<label for=\"field-key\">Key</label>
+<input id=\"field-key\" name=\"key\" dir=\"auto\" type=\"password\" value=\"\">
+</div>
+<div class=\"field\">
+<fieldset id=\"field-topics\" tabindex=\"-1\"><legend>Topics</legend>
+<label><input type=\"checkbox\" name=\"topics\" value=\"news\" aria-invalid=\"true\" aria-describedby=\"faults-topics\"> News</label>
+<label><input type=\"checkbox\" name=\"topics\" value=\"&lt;\" checked=\"\" aria-invalid=\"true\" aria-describedby=\"faults-topics\"> Less</label>
+</fieldset>
+<ul class=\"faults\" id=\"faults-topics\">
+<li>not known</li>
+</ul>
+</div>
+<button>Send</button>
+</form>
+</main>
+</body>
+</html>
+";
+
+// Whether the page of these faults has this title, and this behind its style.
+fn has_page(rt: &impl Abort, alloc: Global, report: &Report, title: &str, body: &str) -> bool {
+    let page = form_page(alloc, &FORM, &TYPED, report).or_end(rt);
+    let html = page.to_html(alloc).or_end(rt);
+    html.as_str().contains(title) && html.as_str().ends_with(body)
+}
+
+#[test]
+fn a_form_is_a_page(rt: HostRuntime) {
+    let report = report_of(&rt, rt.alloc(), &[]);
+    assert!(rt;
+        has_page(
+            &rt,
+            rt.alloc(),
+            &report,
+            "<title>Sign &amp; up</title>",
+            PLAIN
+        )
+    );
+}
+
+#[test]
+fn faults_stand_on_the_page(rt: HostRuntime) {
+    let report = report_of(&rt, rt.alloc(), FAULTS);
+    assert!(rt; has_page(&rt, rt.alloc(), &report, "<title>Faults</title>", FAULTY));
+}
+
+#[test]
+fn pieces_follow_each_other(rt: HostRuntime) {
+    let mut page = Page::new(rt.alloc());
+    page.put(&[Piece::Markup("<p>"), Piece::Text("<p>")])
+        .or_end(&rt);
+    page.put(&[Piece::Markup("</p>")]).or_end(&rt);
+    let html = page.to_html(rt.alloc()).or_end(&rt);
+    assert!(rt; html.as_str() == "<p>&lt;p&gt;</p>");
+}
+
 #[test]
 fn the_laws_of_html_are_called(_rt: HostRuntime) {
     laws::texts_end_nothing();
     laws::texts_are_read();
     laws::texts_end_at_their_ends();
     laws::faults_have_places();
+    laws::faults_stand_in_the_summary();
+    laws::faults_stand_beside_their_fields();
+    laws::texts_add_no_markup();
+    laws::typed_is_text();
+    laws::passwords_are_kept_off();
 }

@@ -3,6 +3,7 @@ use example_ported::basket::{read_basket, read_marks};
 use example_ported::bill::read_bill;
 use example_ported::folder::read_disk;
 use example_ported::parcel::read_parcel;
+use example_ported::stay::{Season, read_stay};
 use garde::DefaultI18n;
 use garde_schema::Scratch;
 use std::alloc::{AllocError, Global};
@@ -16,6 +17,7 @@ enum Of {
     Disk,
     Marks,
     Parcel,
+    Stay,
 }
 
 const ROWS: &[(Of, &str, &str)] = &[
@@ -100,6 +102,21 @@ const ROWS: &[(Of, &str, &str)] = &[
         "{\"number\":1,\"cents\":-1,\"payment\":{\"kind\":\"check\"},\"origin\":{\"web-site\":\"a\",\"shop\":{}}}",
         "number: not a text\ncents: lower than 1\npayment.kind: not one of the known values\norigin: not an object with one member\n",
     ),
+    (
+        Of::Stay,
+        "{\"from\":1,\"until\":2,\"guests\":[\"Ann\",\"Bob\"],\"beds\":[1,4],\"note\":\"\",\"percent\":20}",
+        "Valid(Stay { from: 1, until: 2, guests: Items([TextRef(\"Ann\"), TextRef(\"Bob\")]), beds: Items([1, 4]), note: TextRef(\"\"), percent: 20 })",
+    ),
+    (
+        Of::Stay,
+        "{\"from\":7,\"until\":7,\"guests\":[\"a\",\"b\",\"c\",\"d\",\"e\"],\"beds\":[5],\"note\":\"\",\"percent\":21}",
+        "from: closed on Mondays\nuntil: leave after you arrive\nguests: no room\nbeds[0]: no such room\nnote: say who shares\npercent: not in season\n",
+    ),
+    (
+        Of::Stay,
+        "{\"from\":0,\"until\":1,\"guests\":[],\"beds\":[0],\"note\":\"b\",\"percent\":0}",
+        "from: closed on Mondays\nbeds[0]: no such room\nguests: more beds than guests\n",
+    ),
 ];
 
 /// What was read: the value, or what is wrong.
@@ -112,13 +129,17 @@ fn told_of<T: Debug, E: Display>(alloc: Global, read: &Result<T, E>) -> Result<S
 
 /// What was read of a body.
 fn told(alloc: Global, of: Of, body: &[u8]) -> Result<String, AllocError> {
-    let mut scratch = Scratch::new(alloc);
+    let (mut scratch, season) = (Scratch::new(alloc), Season { most: 20 });
     match of {
         Of::Basket => told_of(alloc, &read_basket(alloc, body, &mut scratch, &DefaultI18n)),
         Of::Bill => told_of(alloc, &read_bill(alloc, body, &mut scratch, &DefaultI18n)),
         Of::Disk => told_of(alloc, &read_disk(alloc, body, &mut scratch, &DefaultI18n)),
         Of::Marks => told_of(alloc, &read_marks(alloc, body, &mut scratch, &DefaultI18n)),
         Of::Parcel => told_of(alloc, &read_parcel(alloc, body, &mut scratch, &DefaultI18n)),
+        Of::Stay => told_of(
+            alloc,
+            &read_stay(alloc, body, &mut scratch, &season, &DefaultI18n),
+        ),
     }
 }
 

@@ -1,0 +1,80 @@
+-- Each fault stands on a page.
+use Rattle.std.proofs.Common.{◌≡◌, ℕ, Bool, true, false, cond, List, [], ◌∷◌, ◌++◌, All, refl, sym, ap, ◌∙◌, arith}
+use Rattle.std.specs.Prelude.{filter, map}
+use Rattle.std.specs.List.{Contains}
+use Rattle.std.proofs.lemmas.Bool.{true≢false}
+use Rattle.std.proofs.lemmas.List.{append_assoc}
+use Rattle.std.proofs.lemmas.List.Elements.{All-cons, All-contains, All-nil, All-weaker, Contains-append_left, Contains-append_right, Contains-get_or}
+use Rattle.garde_report.specs.Report.{Entry, begins_with, messages_under}
+use Rattle.garde_html.specs.declared.form.Field.{Field}
+use Rattle.garde_html.specs.declared.controls.TheConstants as plain
+use Rattle.garde_html.specs.Controls.{control_pieces, is_faulty, is_some_text, list_pieces, messages_pieces}
+use Rattle.garde_html.specs.Page.{Written, markup, text}
+use Rattle.garde_html.specs.Summary.{entries_pieces, entry_pieces, first_text}
+use Rattle.garde_html.specs.Laws.{FaultsStandBesideTheirFields, FaultsStandInTheSummary}
+
+-- ---- in the summary
+
+pub faults_stand_in_the_summary : FaultsStandInTheSummary
+faults_stand_in_the_summary fields [] e after = refl
+faults_stand_in_the_summary fields (b ∷ before) e after =
+    let own : List Written = entry_pieces fields (first_text b.0) b.1 in
+    ap (λ (rest : List Written). own ++ rest) (faults_stand_in_the_summary fields before e after)
+    ∙ sym (append_assoc own (entries_pieces fields before) (entry_pieces fields (first_text e.0) e.1 ++ entries_pieces fields after))
+
+-- ---- beside a field
+
+-- the pieces of one message
+message_pieces : List ℕ → List Written
+message_pieces message = markup plain.MESSAGE.now ∷ text message ∷ markup plain.MESSAGE_END.now ∷ []
+
+-- the message of a fault under the name is one of these
+abbrev IsListed : List ℕ → List (List ℕ) → Entry → Type 0
+IsListed name messages e = begins_with (name ∷ []) e.0 ≡ true → Contains (messages_pieces messages) (text e.1)
+
+here : (message : List ℕ) (messages : List (List ℕ)) → Contains (messages_pieces (message ∷ messages)) (text message)
+here message messages = Contains-get_or (messages_pieces (message ∷ messages)) 1 (text message) (grind (arith))
+
+by_place : (is : Bool) (name : List ℕ) (e : Entry) (es : List Entry) → begins_with (name ∷ []) e.0 ≡ is
+    → All (IsListed name (messages_under (name ∷ []) es)) es
+    → All (IsListed name (map (λ (e : Entry). e.1) (cond is (e ∷ filter (λ (e : Entry). begins_with (name ∷ []) e.0) es)
+    (filter (λ (e : Entry). begins_with (name ∷ []) e.0) es)))) (e ∷ es)
+by_place true name e es is others =
+    let messages : List (List ℕ) = messages_under (name ∷ []) es in
+    All-cons (IsListed name (e.1 ∷ messages)) e es (λ under. here e.1 messages)
+    (All-weaker (IsListed name messages) (IsListed name (e.1 ∷ messages))
+    (λ d listed under. Contains-append_right (markup plain.MESSAGE.now ∷ text e.1 ∷ markup plain.MESSAGE_END.now ∷ []) (messages_pieces messages) (text d.1) (listed under))
+    es others)
+by_place false name e es is others =
+    All-cons (IsListed name (messages_under (name ∷ []) es)) e es (λ under. absurd (true≢false (sym under ∙ is))) others
+
+all_listed : (name : List ℕ) (es : List Entry) → All (IsListed name (messages_under (name ∷ []) es)) es
+all_listed name [] = All-nil (IsListed name [])
+all_listed name (e ∷ es) = by_place (begins_with (name ∷ []) e.0) name e es refl (all_listed name es)
+
+-- where a message is listed there is one
+is_one : (messages : List (List ℕ)) (p : Written) → Contains (messages_pieces messages) p → is_some_text messages ≡ true
+is_one [] p there = absurd (omega (arith, there.1))
+is_one (message ∷ messages) p there = refl
+
+-- so it stands in the list beside the field
+in_list : (faulty : Bool) (field : Field) (entries : List Entry) (p : Written) → is_faulty field entries ≡ faulty
+    → Contains (messages_pieces (messages_under (field.name.now ∷ []) entries)) p → Contains (list_pieces field entries faulty) p
+in_list true field entries p is there =
+    let messages : List (List ℕ) = messages_under (field.name.now ∷ []) entries in
+    Contains-append_right (markup plain.LIST.now ∷ text field.name.now ∷ markup plain.LIST_ID.now ∷ [])
+    (messages_pieces messages ++ markup plain.LIST_END.now ∷ []) p
+    (Contains-append_left (messages_pieces messages) (markup plain.LIST_END.now ∷ []) p there)
+in_list false field entries p is there =
+    absurd (true≢false (sym (is_one (messages_under (field.name.now ∷ []) entries) p there) ∙ is))
+
+pub faults_stand_beside_their_fields : FaultsStandBesideTheirFields
+faults_stand_beside_their_fields field typed entries e is_fault under =
+    let listed : IsListed field.name.now (messages_under (field.name.now ∷ []) entries) e =
+    All-contains (IsListed field.name.now (messages_under (field.name.now ∷ []) entries)) entries e (all_listed field.name.now entries) is_fault in
+    let faulty : Bool = is_faulty field entries in
+    let control : List Written = control_pieces field typed faulty in
+    let list : List Written = list_pieces field entries faulty in
+    Contains-append_right (markup plain.FIELD.now ∷ []) (control ++ (list ++ markup plain.FIELD_END.now ∷ [])) (text e.1)
+    (Contains-append_right control (list ++ markup plain.FIELD_END.now ∷ []) (text e.1)
+    (Contains-append_left list (markup plain.FIELD_END.now ∷ []) (text e.1) (in_list faulty field entries (text e.1) refl (listed under))))

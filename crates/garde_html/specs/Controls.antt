@@ -1,0 +1,102 @@
+-- The fields of a form on a page. The markup is that of the constants of `src/controls.rt`.
+use Rattle.std.specs.Prelude.{ℕ, Bool, true, false, List, [], ◌∷◌, ◌++◌, codes}
+use Rattle.garde_report.specs.Report.{Entry, messages_under}
+use Rattle.garde_html.specs.declared.form.Field.{Field}
+use Rattle.garde_html.specs.declared.form.Control.{Control}
+use Rattle.garde_html.specs.declared.form.Control.TheVariants.{Line, Password, Boxes}
+use Rattle.garde_html.specs.declared.controls.TheConstants as plain
+use Rattle.garde_html.specs.Form.{Typed, is_checked, typed_text}
+use Rattle.garde_html.specs.Page.{Written, markup, text}
+
+abbrev pub is_some_text : List (List ℕ) → Bool
+is_some_text [] = false
+is_some_text (one ∷ others) = true
+
+-- there is a fault at the field or under it
+abbrev pub is_faulty : Field → List Entry → Bool
+is_faulty field entries = is_some_text (messages_under (field.name.now ∷ []) entries)
+
+-- the end of a control, which names the faults beside it
+abbrev pub invalid_pieces : List ℕ → Bool → List Written
+invalid_pieces name true = markup plain.INVALID.now ∷ text name ∷ markup plain.CONTROL_END.now ∷ []
+invalid_pieces name false = markup plain.CONTROL_END.now ∷ []
+
+-- the label of a line
+abbrev pub label_pieces : Field → List Written
+label_pieces field = markup plain.LABEL.now ∷ text field.name.now ∷ markup plain.LABEL_TEXT.now ∷ text field.label.now ∷ []
+
+-- its name on the page and in what is sent
+abbrev pub names_pieces : List ℕ → List Written
+names_pieces name = markup plain.INPUT.now ∷ text name ∷ markup plain.NAME.now ∷ text name ∷ []
+
+-- its type and its text, and the faults beside it
+abbrev pub value_pieces : List ℕ → List ℕ → List ℕ → Bool → List Written
+value_pieces name kind typed faulty =
+    markup plain.TYPE.now ∷ text kind ∷ markup plain.VALUE.now ∷ text typed ∷ invalid_pieces name faulty
+
+-- a line with its label
+abbrev pub line_pieces : Field → List ℕ → List ℕ → Bool → List Written
+line_pieces field kind typed faulty =
+    label_pieces field ++ (names_pieces field.name.now ++ value_pieces field.name.now kind typed faulty)
+
+abbrev pub checked_mark : Bool → List ℕ
+checked_mark true = plain.CHECKED.now
+checked_mark false = plain.UNCHECKED.now
+
+-- a box with its label
+abbrev pub box_pieces : List ℕ → Typed → Bool → Bool → List Written
+box_pieces name one checked faulty =
+    markup plain.BOX.now ∷ text name ∷ markup plain.VALUE.now ∷ text one.0.now ∷ markup (checked_mark checked)
+    ∷ (invalid_pieces name faulty ++ markup plain.BOX_TEXT.now ∷ text one.1.now ∷ markup plain.BOX_END.now ∷ [])
+
+-- boxes, each of which is checked if its text was sent
+abbrev pub boxes_pieces : List ℕ → List Typed → Bool → List Typed → List Written
+boxes_pieces name typed faulty [] = []
+boxes_pieces name typed faulty (one ∷ boxes) =
+    box_pieces name one (is_checked name one.0.now typed) faulty ++ boxes_pieces name typed faulty boxes
+
+-- the label of boxes, and these pieces under it
+abbrev pub under_legend : Field → List Written → List Written
+under_legend field middle =
+    markup plain.GROUP.now ∷ text field.name.now ∷ markup plain.LEGEND.now ∷ text field.label.now ∷ markup plain.LEGEND_END.now
+    ∷ (middle ++ markup plain.GROUP_END.now ∷ [])
+
+-- boxes under the label of their field
+abbrev pub group_pieces : Field → List Typed → Bool → List Typed → List Written
+group_pieces field typed faulty boxes = under_legend field (boxes_pieces field.name.now typed faulty boxes)
+
+-- what a visitor fills in, as it was filled in; of a password nothing that was typed
+abbrev pub filled_pieces : Control → Field → List Typed → Bool → List Written
+filled_pieces (Line kind) field typed faulty = line_pieces field kind.now (typed_text field.name.now typed) faulty
+filled_pieces Password field typed faulty = line_pieces field (codes "password") [] faulty
+filled_pieces (Boxes boxes) field typed faulty = group_pieces field typed faulty boxes.now
+
+abbrev pub control_pieces : Field → List Typed → Bool → List Written
+control_pieces field typed faulty = filled_pieces field.control field typed faulty
+
+-- messages in their order
+abbrev pub messages_pieces : List (List ℕ) → List Written
+messages_pieces [] = []
+messages_pieces (message ∷ messages) = markup plain.MESSAGE.now ∷ text message ∷ markup plain.MESSAGE_END.now ∷ messages_pieces messages
+
+-- the messages beside a field
+abbrev pub list_pieces : Field → List Entry → Bool → List Written
+list_pieces field entries false = []
+list_pieces field entries true =
+    markup plain.LIST.now ∷ text field.name.now ∷ markup plain.LIST_ID.now
+    ∷ (messages_pieces (messages_under (field.name.now ∷ []) entries) ++ markup plain.LIST_END.now ∷ [])
+
+-- a control, and the messages behind it
+abbrev pub with_messages : Field → List Entry → List Written → List Written
+with_messages field entries control =
+    markup plain.FIELD.now
+    ∷ (control ++ (list_pieces field entries (is_faulty field entries) ++ markup plain.FIELD_END.now ∷ []))
+
+-- a field with its messages
+abbrev pub field_pieces : Field → List Typed → List Entry → List Written
+field_pieces field typed entries = with_messages field entries (control_pieces field typed (is_faulty field entries))
+
+-- fields in their order
+abbrev pub fields_pieces : List Typed → List Entry → List Field → List Written
+fields_pieces typed entries [] = []
+fields_pieces typed entries (f ∷ fs) = field_pieces f typed entries ++ fields_pieces typed entries fs

@@ -1,0 +1,79 @@
+//! A form as a page.
+ghost use Rattle.std.specs.Prelude.{◌≡◌, ◌++◌, IfOk, OnOk};
+ghost use Rattle.garde_html.specs.Document.{form_pieces, head_pieces, title_of};
+
+use crate::controls::put_fields;
+use crate::form::Form;
+use crate::page::Page;
+use crate::page::Piece::{Markup, Text};
+use crate::summary::put_summary;
+use garde_report::Report;
+use std::alloc::{AllocError, Global};
+
+const BEGIN: &str = "<!DOCTYPE html>\n<html lang=\"";
+
+const DIRECTION: &str = "\" dir=\"";
+
+const TITLE: &str =
+    "\">\n<head>\n<meta charset=\"utf-8\">\n<meta name=\"viewport\" content=\"width=device-width, initial-scale=1\">\n<title>";
+
+const STYLE: &str =
+    "</title>\n<style>\nbody { margin: 1em auto; padding: 0 1em; max-width: 32em; font-family: sans-serif; line-height: 1.5; overflow-wrap: anywhere }\n.field { margin: 1em 0 }\n.field > label { display: block }\n.field > input { box-sizing: border-box; width: 100%; font: inherit }\n.field > [aria-invalid] { border: 2px solid #a00 }\nfieldset { min-width: 0 }\n.summary, .faults { border-inline-start: 4px solid #a00; padding-inline-start: 1em; color: #a00 }\n.summary a { color: inherit }\n</style>\n</head>\n<body>\n<main>\n<h1>";
+
+const HEADING_END: &str = "</h1>\n";
+
+const FORM: &str = "<form method=\"post\" novalidate>\n";
+
+const SEND: &str = "<button>";
+
+const END: &str = "</button>\n</form>\n</main>\n</body>\n</html>\n";
+
+// The title of a page.
+fn title_of<'a>(form: &Form<'a>, report: &Report) -> &'a str
+    ensures { result.now ≡ title_of form.now report.now }
+{
+    if report.is_empty() {
+        form.title
+    } else {
+        form.faulty_title
+    }
+}
+
+// What stands before the faults.
+fn put_head<'a>(page: &mut Page<'a>, form: &Form<'a>, title: &'a str) -> Result<(), AllocError>
+    ensures { OnOk result (page.new ≡ page.old ++ head_pieces form.now title.now) }
+{
+    page.put(&[
+        Markup(BEGIN),
+        Text(form.language),
+        Markup(DIRECTION),
+        Text(form.direction),
+    ])?;
+    page.put(&[
+        Markup(TITLE),
+        Text(title),
+        Markup(STYLE),
+        Text(form.title),
+        Markup(HEADING_END),
+    ])
+}
+
+/// The page of a form: above it each fault of the report once, in order, with a link to its field if it
+/// has one; each field with what was typed, but for passwords, and with the faults at it and under it.
+/// The title says that there are faults, if there are any. A fault at more than 8 components allocates.
+pub fn form_page<'a>(
+    alloc: Global,
+    form: &Form<'a>,
+    typed: &'a [(&'a str, &'a str)],
+    report: &'a Report,
+) -> Result<Page<'a>, AllocError>
+    ensures { IfOk result (λ page. page ≡ form_pieces form.now typed.now report.now) }
+{
+    let mut page = Page::new(alloc);
+    put_head(&mut page, form, title_of(form, report))?;
+    put_summary(alloc, &mut page, form, report)?;
+    page.put(&[Markup(FORM)])?;
+    put_fields(&mut page, form.fields, typed, report)?;
+    page.put(&[Markup(SEND), Text(form.send), Markup(END)])?;
+    Ok(page)
+}

@@ -1,0 +1,80 @@
+//! What a page says of a form: its fields, and the words around them.
+ghost use Rattle.std.specs.Prelude.{◌≡◌};
+ghost use Rattle.std.specs.Option.{option_map};
+ghost use Rattle.garde_html.specs.Form.{field_at, is_checked, typed_text};
+
+/// What a visitor fills in.
+#[derive(Clone, Copy, Debug)]
+pub enum Control<'a> {
+    /// A line of text, with the type of its `input`, as `text` or `email`. What was typed is shown again.
+    Line(&'a str),
+    /// A password. What was typed is never shown again.
+    Password,
+    /// Boxes to check, each with the text that is sent and its label. What was checked is checked again.
+    Boxes(&'a [(&'a str, &'a str)]),
+}
+
+/// A field of a form.
+#[derive(Clone, Copy, Debug)]
+pub struct Field<'a> {
+    /// Its name, which also names it within the page. It has no white space.
+    pub name: &'a str,
+    /// What a visitor reads beside it.
+    pub label: &'a str,
+    pub control: Control<'a>,
+}
+
+/// A form and the words around it, in one language.
+#[derive(Clone, Copy, Debug)]
+pub struct Form<'a> {
+    /// The tag of the language (RFC 5646), as `en`.
+    pub language: &'a str,
+    /// Whether the language runs from the left or from the right: `ltr` or `rtl`.
+    pub direction: &'a str,
+    /// The title of the page and its heading.
+    pub title: &'a str,
+    /// The title where there are faults. It begins by saying so.
+    pub faulty_title: &'a str,
+    /// What stands above the list of all faults.
+    pub summary: &'a str,
+    /// What the button says.
+    pub send: &'a str,
+    /// The fields, in their order on the page. No two have one name.
+    pub fields: &'a [Field<'a>],
+}
+
+/// The first field of this name.
+pub(crate) fn field_at<'a>(fields: &'a [Field<'a>], name: &str) -> Option<&'a Field<'a>>
+    ensures { option_map (λ field. field.now) result ≡ field_at fields.now name.now }
+{
+    for field in fields {
+        if name == field.name {
+            return Some(field);
+        }
+    }
+    None
+}
+
+/// The first text that was sent for a name, or the empty one.
+pub(crate) fn typed_text<'a>(typed: &'a [(&'a str, &'a str)], name: &str) -> &'a str
+    ensures { result.now ≡ typed_text name.now typed.now }
+{
+    for (field, text) in typed {
+        if name == *field {
+            return text;
+        }
+    }
+    ""
+}
+
+/// Whether this text was sent for a name.
+pub(crate) fn is_checked(typed: &[(&str, &str)], name: &str, value: &str) -> bool
+    ensures { result ≡ is_checked name.now value.now typed.now }
+{
+    for (field, text) in typed {
+        if name == *field && value == *text {
+            return true;
+        }
+    }
+    false
+}
