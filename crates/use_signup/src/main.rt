@@ -1,18 +1,16 @@
-//! Handles a form to sign up with, read from standard input, and answers in the language that the
-//! first word names.
+//! Handles a form to sign up with, read from standard input, and answers in the language of a tag.
 #![tactic(auto)]
 
-mod czech;
 mod rely;
 mod sign_up;
 mod terms;
 
-use crate::czech::Czech;
 use crate::rely::age;
 use crate::sign_up::{SignUp, read_sign_up};
 use crate::terms::Words;
 use anyhow::{Context, Result};
-use garde::{DefaultI18n, I18n, ValidateError};
+use garde::{I18n, ValidateError};
+use garde_catalog::{ENGLISH, Language, Spoken, languages};
 use garde_form::form_fields;
 use garde_problem::Escaped;
 use garde_schema::FormI18n;
@@ -22,21 +20,11 @@ use std::{env, io};
 
 /// How the program is called.
 const USAGE: &str = "\
-usage: use_signup [LANGUAGE]
+usage: use_signup [--language TAG]
 Reads a web form on standard input, and welcomes who signs up or prints every fault of the form.
 
-  LANGUAGE  answers in en, which is English, or cs, which is Czech; without it in English
-  --help    prints this";
-
-const IN_ENGLISH: Words = Words {
-    welcome: "welcome",
-    terms: "the terms are not accepted",
-};
-
-const IN_CZECH: Words = Words {
-    welcome: "vítejte",
-    terms: "souhlas s podmínkami chybí",
-};
+  --language TAG  answers in this language, as de or pt-BR, and without it in English
+  --help          prints this";
 
 /// The byte order mark of UTF-8. The URL Standard has none in a form, but a file may begin with it.
 const MARK: [u8; 3] = [0xEF, 0xBB, 0xBF];
@@ -46,30 +34,32 @@ const NOT_JUDGED: u8 = 2;
 
 /// What the words of the command line ask for.
 #[derive(Clone, Copy)]
-enum Task {
+enum Task<'w> {
     /// The usage is printed.
     Help,
-    /// A form is judged in English.
-    English,
-    /// A form is judged in Czech.
-    Czech,
+    /// A form is judged, and answered in this language.
+    Judge(Spoken<'w>),
 }
 
-impl Task {
-    /// What the words after the program's name ask for. Without a word it is English. Of other words it
-    /// says what is wrong with them.
-    fn of(words: &[String]) -> Result<Task, &'static str> {
+impl<'w> Task<'w> {
+    /// What the words after the program's name ask for. Of other words it says what is wrong with them.
+    fn of(words: &'w [String]) -> Result<Task<'w>, &'static str> {
         match words {
-            [] => Ok(Task::English),
-            [word] => match word.as_str() {
-                "en" => Ok(Task::English),
-                "cs" => Ok(Task::Czech),
-                "--help" => Ok(Task::Help),
-                _ => Err("the language is en or cs"),
-            },
-            _ => Err("there must be one word at most"),
+            [word] if word.as_str() == "--help" => Ok(Task::Help),
+            _ => Ok(Task::Judge(spoken_by(words)?)),
         }
     }
+}
+
+// The language that these words ask for.
+fn spoken_by(words: &[String]) -> Result<Spoken<'_>, &'static str> {
+    let mut spoken = Spoken::new();
+    for word in words {
+        if !spoken.take(word)? {
+            return Err("the word is no option");
+        }
+    }
+    Ok(spoken)
 }
 
 /// Welcomes who signs up, and names the topics that were chosen. The name stands in quotes, with
@@ -120,6 +110,14 @@ fn judge<H: I18n + FormI18n>(rt: &HostRuntime, words: &Words, h: &H) -> Result<E
     answer(rt, body.strip_prefix(&MARK).unwrap_or(body), words, h)
 }
 
+/// Judges the form in the language that is asked for.
+fn judge_in(rt: &HostRuntime, spoken: Spoken<'_>) -> Result<ExitCode> {
+    let offered = languages();
+    let catalog = spoken.catalog(rt.alloc(), &offered, &ENGLISH)?;
+    let language = Language::named(spoken.tag.unwrap_or("en"), &offered).unwrap_or(offered[0]);
+    judge(rt, Words::of(language.tag), &catalog)
+}
+
 fn run(rt: &HostRuntime) -> Result<ExitCode> {
     let all = env::args(rt).context("the command line is not read")?;
     let words: Vec<String> = all.skip(1).collect(rt.alloc())?;
@@ -128,8 +126,7 @@ fn run(rt: &HostRuntime) -> Result<ExitCode> {
             println!(rt; "{USAGE}")?;
             Ok(ExitCode::SUCCESS)
         }
-        Ok(Task::English) => judge(rt, &IN_ENGLISH, &DefaultI18n),
-        Ok(Task::Czech) => judge(rt, &IN_CZECH, &Czech),
+        Ok(Task::Judge(spoken)) => judge_in(rt, spoken),
         Err(reason) => {
             eprintln!(rt; "use_signup: {reason}\n{USAGE}")?;
             Ok(ExitCode::from(NOT_JUDGED))
