@@ -1,17 +1,20 @@
 //! Handles a form to sign up with, read from standard input, and answers in the language of a tag.
 #![tactic(auto)]
 
+mod page;
 mod rely;
 mod sign_up;
 mod terms;
 
+use crate::page::{CZECH_PAGE, ENGLISH_PAGE, write_page};
 use crate::rely::age;
 use crate::sign_up::{SignUp, read_sign_up};
 use crate::terms::Words;
 use anyhow::{Context, Result};
-use garde::{I18n, ValidateError};
+use garde::{I18n, Report, ValidateError};
 use garde_catalog::{ENGLISH, Language, Spoken, languages};
-use garde_form::form_fields;
+use garde_form::{FormField, form_fields};
+use garde_html::Form;
 use garde_problem::Escaped;
 use garde_schema::FormI18n;
 use std::io::Read;
@@ -20,10 +23,12 @@ use std::{env, io};
 
 /// How the program is called.
 const USAGE: &str = "\
-usage: use_signup [--language TAG]
+usage: use_signup [--language TAG] [--page]
 Reads a web form on standard input, and welcomes who signs up or prints every fault of the form.
 
   --language TAG  answers in this language, as de or pt-BR, and without it in English
+  --page          prints faults on a page with the form, what was sent but for passwords, and each fault
+                  beside its field; its labels are Czech where the language is, and else English
   --help          prints this";
 
 /// The byte order mark of UTF-8. The URL Standard has none in a form, but a file may begin with it.
@@ -37,8 +42,8 @@ const NOT_JUDGED: u8 = 2;
 enum Task<'w> {
     /// The usage is printed.
     Help,
-    /// A form is judged, and answered in this language.
-    Judge(Spoken<'w>),
+    /// A form is judged, and answered in this language, by lines or as a page.
+    Judge { spoken: Spoken<'w>, page: bool },
 }
 
 impl<'w> Task<'w> {
@@ -46,20 +51,25 @@ impl<'w> Task<'w> {
     fn of(words: &'w [String]) -> Result<Task<'w>, &'static str> {
         match words {
             [word] if word.as_str() == "--help" => Ok(Task::Help),
-            _ => Ok(Task::Judge(spoken_by(words)?)),
+            _ => Task::judging(words),
         }
     }
-}
 
-// The language that these words ask for.
-fn spoken_by(words: &[String]) -> Result<Spoken<'_>, &'static str> {
-    let mut spoken = Spoken::new();
-    for word in words {
-        if !spoken.take(word)? {
-            return Err("the word is no option");
+    // How these words ask for a form to be judged.
+    fn judging(words: &'w [String]) -> Result<Task<'w>, &'static str> {
+        let mut spoken = Spoken::new();
+        let mut page = false;
+        for word in words {
+            if spoken.take(word)? {
+                continue;
+            }
+            if word.as_str() != "--page" {
+                return Err("the word is no option");
+            }
+            page = true;
         }
+        Ok(Task::Judge { spoken, page })
     }
-    Ok(spoken)
 }
 
 /// Welcomes who signs up, and names the topics that were chosen. The name stands in quotes, with
@@ -75,11 +85,26 @@ fn welcome(rt: &impl Print, who: &SignUp<'_>, age: u8, words: &Words) -> io::Res
     Ok(())
 }
 
-/// Prints the faults of a form, or welcomes who sent it.
+/// Prints these faults, on the page of the form if there is one.
+fn print_faults(
+    rt: &HostRuntime,
+    page: Option<&Form<'_>>,
+    fields: &[FormField<'_>],
+    report: &Report,
+) -> Result<()> {
+    match page {
+        Some(form) => print!(rt; "{}", write_page(rt.alloc(), form, fields, report)?)?,
+        None => print!(rt; "{}", Escaped(rt.alloc(), report))?,
+    }
+    Ok(())
+}
+
+/// Prints the faults of a form, on its page if there is one, or welcomes who sent it.
 #[tactic(auto, unfolding(garde::specs::Fields::Known))]
 fn answer<H: I18n + FormI18n>(
     rt: &HostRuntime,
     body: &[u8],
+    page: Option<&Form<'_>>,
     words: &Words,
     h: &H,
 ) -> Result<ExitCode> {
@@ -92,7 +117,7 @@ fn answer<H: I18n + FormI18n>(
             Ok(ExitCode::SUCCESS)
         }
         Err(ValidateError::Report(report)) => {
-            print!(rt; "{}", Escaped(alloc, &report))?;
+            print_faults(rt, page, fields.as_slice(), &report)?;
             Ok(ExitCode::FAILURE)
         }
         Err(error) => Err(error.into()),
@@ -101,21 +126,30 @@ fn answer<H: I18n + FormI18n>(
 
 /// Judges the form on standard input, which is read without the byte order mark at its beginning and
 /// the white space at its end, as of a file.
-fn judge<H: I18n + FormI18n>(rt: &HostRuntime, words: &Words, h: &H) -> Result<ExitCode> {
+fn judge<H: I18n + FormI18n>(
+    rt: &HostRuntime,
+    page: Option<&Form<'_>>,
+    words: &Words,
+    h: &H,
+) -> Result<ExitCode> {
     let mut body = Vec::new(rt.alloc());
     rt.stdin()
         .read_to_end(&mut body)
         .context("the form is not read")?;
     let body = body.as_slice().trim_ascii_end();
-    answer(rt, body.strip_prefix(&MARK).unwrap_or(body), words, h)
+    answer(rt, body.strip_prefix(&MARK).unwrap_or(body), page, words, h)
 }
 
-/// Judges the form in the language that is asked for.
-fn judge_in(rt: &HostRuntime, spoken: Spoken<'_>) -> Result<ExitCode> {
+/// Judges the form in the language that is asked for, and answers by lines or as a page.
+fn judge_in(rt: &HostRuntime, spoken: Spoken<'_>, page: bool) -> Result<ExitCode> {
     let offered = languages();
     let catalog = spoken.catalog(rt.alloc(), &offered, &ENGLISH)?;
     let language = Language::named(spoken.tag.unwrap_or("en"), &offered).unwrap_or(offered[0]);
-    judge(rt, Words::of(language.tag), &catalog)
+    let form = match language.tag {
+        "cs" => &CZECH_PAGE,
+        _ => &ENGLISH_PAGE,
+    };
+    judge(rt, page.then_some(form), &Words::of(language.tag), &catalog)
 }
 
 fn run(rt: &HostRuntime) -> Result<ExitCode> {
@@ -126,7 +160,7 @@ fn run(rt: &HostRuntime) -> Result<ExitCode> {
             println!(rt; "{USAGE}")?;
             Ok(ExitCode::SUCCESS)
         }
-        Ok(Task::Judge(spoken)) => judge_in(rt, spoken),
+        Ok(Task::Judge { spoken, page }) => judge_in(rt, spoken, page),
         Err(reason) => {
             eprintln!(rt; "use_signup: {reason}\n{USAGE}")?;
             Ok(ExitCode::from(NOT_JUDGED))

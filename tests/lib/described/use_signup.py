@@ -1,9 +1,10 @@
-"""The program use_signup, by crates/use_signup/README.md: a web form, in any language. Its fields are those that `urllib.parse` reads."""
+"""The program use_signup, by crates/use_signup/README.md: a web form, in any language, and its page with faults. Its fields are those that
+`urllib.parse` reads."""
 import codecs
 import re
 import urllib.parse
 
-from lib import languages, repository
+from lib import languages, pages, repository
 from lib.described import Case, pattern
 from lib.faults import ALPHANUMERIC, REQUIRED, between, chars, fault, items, length, prefix
 from lib.form import Checked, Closed, ListUnder, Member, Object, OneOf, Optional, OrEmpty, Parsed, Text, Under, read
@@ -26,7 +27,21 @@ FORM = Object(Closed(
 LISTS = ("topics",)
 # The words of the program's own, by the first subtag of their language.
 WORDS = {it[0]: it[1:] for it in re.findall(r"^\| `(\w+)` \| ([^|]+) \| ([^|]+) \|$", repository.text_of("crates/use_signup/README.md"), re.MULTILINE)}
-TEXTS = ["", "a", "on", "On", "off", "news", "sport", "36", "\0", 'q"\\\n', "a b", "a+b", "é" * 41, "漢字½", "x" * 129, "\x1b[2K"]
+NAMES = ("name", "username", "password", "password_again", "age", "phone", "topics", "terms")
+KINDS = {"password": "password", "password_again": "password", "phone": "tel"}
+PAGES = {
+    "en": (
+        "Sign up", "Please correct: Sign up", "Please correct", "Sign up",
+        ("Name", "Username", "Password", "Password, once more", "Age", "Phone, if you like", "Topics", "Terms"),
+        {"topics": (("news", "News"), ("events", "Events")), "terms": (("on", "I accept the terms"),)},
+    ),
+    "cs": (
+        "Registrace", "Opravte prosím: Registrace", "Opravte prosím", "Registrovat",
+        ("Jméno", "Uživatelské jméno", "Heslo", "Heslo ještě jednou", "Věk", "Telefon, není nutný", "Témata", "Podmínky"),
+        {"topics": (("news", "Zprávy"), ("events", "Akce")), "terms": (("on", "Souhlasím s podmínkami"),)},
+    ),
+}
+TEXTS = ["", "a", "on", "On", "off", "news", "sport", "36", "\0", 'q"\\\n', "a b", "a+b", "é" * 41, "漢字½", "x" * 129, "\x1b[2K", '"><script>alert(1)</script>', "'&amp;&#60;"]
 # Pieces of bodies as no browser sends them.
 PIECES = [b"%", b"%4", b"%zz", b"%%41", b"%00", b"%FF", b"\xff", b"%C3", b"\xc3", b"%F0%9F%98", b"+", b"&", b"&&", b"=", b";", b"#", b"\n", b"&\n"]
 PIECES += [b"\xef\xbb\xbf", b"%E2%80%AE", b"\r\n", b" \t"]
@@ -57,7 +72,7 @@ def some(dice):
     value, how = some_of(dice, FORM, lambda dice: dice.choice(TEXTS), ways)
     fields = [(name, text) for name, texts in value for text in (texts if isinstance(texts, list) else [texts])]
     body, cuts = some_bytes(dice, b"&".join(field_of(dice, *field) for field in fields), PIECES)
-    return Case(languages.some_words(dice), body, how | cuts)
+    return Case((*languages.some_words(dice), *dice.choice(((), ("--page",)))), body, how | cuts)
 
 
 def fields_of(body):
@@ -75,13 +90,27 @@ def object_of(fields):
     return Pairs((fields[at][0], listed.get(fields[at][0], fields[at][1])) for at in firsts)
 
 
+def form_of(tag):
+    """The form on the page in a language."""
+    *said, labels, boxes = PAGES[tag]
+    fields = (pages.Field(name, label, KINDS.get(name, "text"), boxes.get(name, ())) for name, label in zip(NAMES, labels))
+    return pages.Form(tag, *said, tuple(fields))
+
+
+def page_of(tag, fields, faults, language):
+    """The page with these fields that were sent and these faults, whose texts are in a language."""
+    return pages.page(form_of("cs" if tag == "cs" else "en"), fields, [(path, found.text(language)) for path, found in faults])
+
+
 def wanted(case):
     tag = languages.spoken(case.words)[1]
     if tag is None:
         return 2, b"", pattern(f"use_signup: {languages.unknown()}\n")
     welcome, terms = WORDS[tag.split("-")[0]]
-    who, faults = read(FORM, object_of(fields_of(case.given)))
+    fields, language = fields_of(case.given), {**languages.of_tag(tag), "terms": terms}
+    who, faults = read(FORM, object_of(fields))
     if faults:
-        return 1, lines(faults, {**languages.of_tag(tag), "terms": terms}).encode("utf-8"), b""
+        said = page_of(tag, fields, faults, language) if "--page" in case.words else lines(faults, language)
+        return 1, said.encode("utf-8"), b""
     said = [f"{welcome}, {quoted(who['name'])} ({who['age']})", *(f"    {topic}" for topic in who["topics"] or ())]
     return 0, "".join(f"{it}\n" for it in said).encode("utf-8"), b""
