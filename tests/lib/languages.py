@@ -14,6 +14,8 @@ ROW = re.compile(r"^\| ([\w-]+) \| (.*) \|$", re.MULTILINE)
 # Tags under which a language is offered too.
 OTHER_TAGS = {"pt": "pt-BR", "zh-CN": "zh-Hans", "zh-SG": "zh-Hans", "zh": "zh-Hans"}
 RANGE = re.compile(r"[ \t]*([A-Za-z]{1,8}(?:-[A-Za-z0-9]{1,8})*)[ \t]*(?:;[ \t]*[qQ]=(0(?:\.[0-9]{0,3})?|1(?:\.0{0,3})?)[ \t]*)?")
+# Tags that words ask for: of languages that are offered, of their countries, and of none.
+TAGS = ("en", "de", "DE-at", "cs", "zh", "zh-Hant", "pt-PT", "ar", "ja", "sv", "tlh", "")
 CODES = (
     "member_missing", "member_repeated", "member_unknown", "value_unknown", "length_lower_than", "length_greater_than",
     "range_lower_than", "range_greater_than", "prefix_missing", "suffix_missing", "pattern_no_match", "matches_field_mismatch",
@@ -72,6 +74,24 @@ def asked(field):
         if weight > most and (tag := tag_of(found.group(1))):
             best, most = tag, weight
     return best
+
+
+def some_words(dice):
+    """Words of a command line that ask for a language, or none."""
+    return ("--language", dice.choice(TAGS)) if dice.random() < 0.3 else ()
+
+
+def spoken(words):
+    """The words of a command line but for those that ask for a language, and the tag of that, or None where there is no such language."""
+    if "--language" not in words:
+        return words, "en"
+    at = words.index("--language")
+    return words[:at] + words[at + 2 :], tag_of("".join(words[at + 1 : at + 2]))
+
+
+def unknown():
+    """The pattern of why a tag cannot be followed."""
+    return f"--language must be followed by one of( [A-Za-z-]+){{{len(LANGUAGES) + len(OTHER_TAGS)}}}"
 
 
 def said_in(tag):

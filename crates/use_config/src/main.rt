@@ -12,7 +12,7 @@ use crate::judging::judge;
 use crate::options::{Options, Task, USAGE, Written};
 use crate::placed::check_placed;
 use anyhow::{Context, Error, Result, bail};
-use garde::DefaultI18n;
+use garde_catalog::{Catalog, ENGLISH, languages};
 use garde_problem::Escaped;
 use garde_schema::ReadError;
 use garde_toml::toml_to_json;
@@ -50,30 +50,36 @@ fn to_json(alloc: Global, text: &str) -> Result<String> {
 }
 
 /// Prints what a configuration in JSON asks for, or each fault with its path.
-fn check_plain(rt: &HostRuntime, json: &[u8]) -> Result<ExitCode> {
-    match judge(rt, json, &DefaultI18n)? {
+fn check_plain(rt: &HostRuntime, catalog: &Catalog<'static>, json: &[u8]) -> Result<ExitCode> {
+    match judge(rt, json, catalog)? {
         None => Ok(ExitCode::SUCCESS),
         Some(ReadError::Report(report)) => {
             print!(rt; "{}", Escaped(rt.alloc(), &report))?;
             Ok(ExitCode::FAILURE)
         }
+        Some(ReadError::Parse(error)) => bail!("{}", catalog.parse_error(rt.alloc(), &error)?),
         Some(error) => Err(error.into()),
     }
 }
 
 /// Reads a configuration, and judges it.
 fn check(rt: &HostRuntime, options: Options<'_>) -> Result<ExitCode> {
-    let Options { written, asked } = options;
+    let Options {
+        written,
+        asked,
+        spoken,
+    } = options;
+    let catalog = spoken.catalog(rt.alloc(), &languages(), &ENGLISH)?;
     let body = read(rt, asked.file())?;
     if let Some(printed) = asked.printed() {
-        return check_placed(rt, printed, written, &body);
+        return check_placed(rt, printed, &catalog, written, &body);
     }
     match written {
-        Written::Json => check_plain(rt, &body),
+        Written::Json => check_plain(rt, &catalog, &body),
         Written::Toml => {
             let text = str::from_utf8(&body).context("the configuration is not read")?;
             let json = to_json(rt.alloc(), text)?;
-            check_plain(rt, json.as_bytes())
+            check_plain(rt, &catalog, json.as_bytes())
         }
     }
 }

@@ -1,15 +1,17 @@
 //! What the words of the command line ask for.
 
+use garde_catalog::Spoken;
 use garde_places::Asked;
 
 /// How the program is called.
 pub const USAGE: &str = "\
-usage: use_config [--format FORMAT] [toml | json] [FILE | -]
+usage: use_config [--language TAG] [--format FORMAT] [toml | json] [FILE | -]
 Reads the configuration of a service, and prints what it asks for or every fault.
 
   FILE             reads this file, and without a name or with - standard input
   toml             reads TOML, as without a word
   json             reads JSON, as of a file whose name ends with .json
+  --language TAG   prints faults in this language, as de or pt-BR, and without it in English
   --format FORMAT  prints faults as short, json or github with their places, or as plain without;
                    else as short where FILE or - stands, and as plain where none does
   --help           prints this";
@@ -21,11 +23,12 @@ pub enum Written {
     Json,
 }
 
-/// Which configuration is to be read, and how its faults are printed.
+/// Which configuration is to be read, and how and in which language its faults are printed.
 #[derive(Clone, Copy, Debug)]
 pub struct Options<'w> {
     pub written: Written,
     pub asked: Asked<'w>,
+    pub spoken: Spoken<'w>,
 }
 
 /// What is to be done.
@@ -50,9 +53,12 @@ impl<'w> Task<'w> {
 impl<'w> Options<'w> {
     // The options of these words, each of which may be left out and stands once.
     fn of(words: &'w [String]) -> Result<Options<'w>, &'static str> {
+        let (mut asked, mut spoken) = (Asked::new(), Spoken::new());
         let mut written = None;
-        let mut asked = Asked::new();
         for word in words {
+            if !asked.is_open && spoken.take(word)? {
+                continue;
+            }
             match written_named(word) {
                 Some(_) if !asked.is_open && written.is_some() => {
                     return Err("there must be one of toml and json at most");
@@ -63,7 +69,11 @@ impl<'w> Options<'w> {
         }
         let asked = asked.finish()?;
         let written = written.unwrap_or(written_in(asked.file()));
-        Ok(Options { written, asked })
+        Ok(Options {
+            written,
+            asked,
+            spoken,
+        })
     }
 }
 

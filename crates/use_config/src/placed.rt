@@ -3,7 +3,8 @@
 use crate::judging::judge;
 use crate::options::Written;
 use anyhow::Result;
-use garde::{DefaultI18n, Path, Report};
+use garde::{Path, Report};
+use garde_catalog::Catalog;
 use garde_places::{Printed, Stop, faults_of, listed_faults_of, stop_of, stop_of_utf8};
 use garde_problem::{WithCodes, coded_message};
 use garde_schema::ReadError;
@@ -44,8 +45,13 @@ fn show_stop(
 }
 
 /// Judges a configuration in JSON.
-fn check_json(rt: &HostRuntime, printed: Printed<'_>, body: &[u8]) -> Result<ExitCode> {
-    match judge(rt, body, &WithCodes(DefaultI18n))? {
+fn check_json(
+    rt: &HostRuntime,
+    printed: Printed<'_>,
+    catalog: &Catalog<'static>,
+    body: &[u8],
+) -> Result<ExitCode> {
+    match judge(rt, body, &WithCodes(catalog))? {
         None => Ok(ExitCode::SUCCESS),
         Some(ReadError::Report(report)) => {
             let text = str::from_utf8(without_mark(body))?;
@@ -73,12 +79,17 @@ fn show_toml_stop(
 }
 
 /// Judges a configuration in TOML.
-fn check_toml(rt: &HostRuntime, printed: Printed<'_>, text: &str) -> Result<ExitCode> {
+fn check_toml(
+    rt: &HostRuntime,
+    printed: Printed<'_>,
+    catalog: &Catalog<'static>,
+    text: &str,
+) -> Result<ExitCode> {
     let json = match toml_to_json(rt.alloc(), text) {
         Ok(json) => json,
         Err(error) => return show_toml_stop(rt, printed, text, error),
     };
-    match judge(rt, json.as_bytes(), &WithCodes(DefaultI18n))? {
+    match judge(rt, json.as_bytes(), &WithCodes(catalog))? {
         None => Ok(ExitCode::SUCCESS),
         Some(ReadError::Report(report)) => {
             print!(rt; "{}", toml_lines(rt.alloc(), printed, text, &report)?)?;
@@ -92,13 +103,14 @@ fn check_toml(rt: &HostRuntime, printed: Printed<'_>, text: &str) -> Result<Exit
 pub fn check_placed(
     rt: &HostRuntime,
     printed: Printed<'_>,
+    catalog: &Catalog<'static>,
     written: Written,
     body: &[u8],
 ) -> Result<ExitCode> {
     match written {
-        Written::Json => check_json(rt, printed, body),
+        Written::Json => check_json(rt, printed, catalog, body),
         Written::Toml => match str::from_utf8(body) {
-            Ok(text) => check_toml(rt, printed, text),
+            Ok(text) => check_toml(rt, printed, catalog, text),
             Err(error) => match stop_of_utf8(without_mark(body)) {
                 Some(stop) => show_stop(rt, printed, "not_toml", &stop),
                 None => Err(error.into()),

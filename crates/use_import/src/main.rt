@@ -11,7 +11,8 @@ use crate::row::{COLUMNS, read_row};
 use crate::spot::{Naming, Spot, tell_header};
 use anyhow::{Result, anyhow, bail};
 use csv::StringRecord;
-use garde::{DefaultI18n, I18n, Report, ValidateError};
+use garde::{I18n, Report, ValidateError};
+use garde_catalog::{Catalog, ENGLISH, languages};
 use garde_csv::{Next, Records};
 use garde_problem::{Escaped, WithCodes};
 use garde_rows::{Columns, Names, read_columns};
@@ -165,11 +166,22 @@ fn check_source<R: Read + Drop, W: Write>(
     alloc: Global,
     source: R,
     options: &Options<'_>,
+    catalog: &Catalog<'static>,
     out: &mut W,
 ) -> Result<bool> {
     match options.naming {
-        Naming::Placed(_) => check(alloc, source, options, &WithCodes(DefaultI18n), out),
-        _ => check(alloc, source, options, &DefaultI18n, out),
+        Naming::Placed(_) => check(alloc, source, options, &WithCodes(catalog), out),
+        _ => check(alloc, source, options, catalog, out),
+    }
+}
+
+/// Checks the list that is asked for.
+fn check_list<W: Write>(rt: &HostRuntime, options: &Options<'_>, out: &mut W) -> Result<bool> {
+    let alloc = rt.alloc();
+    let catalog = options.spoken.catalog(alloc, &languages(), &ENGLISH)?;
+    match options.file {
+        Some(name) => check_source(alloc, file(rt, name)?, options, &catalog, out),
+        None => check_source(alloc, rt.stdin(), options, &catalog, out),
     }
 }
 
@@ -190,10 +202,7 @@ fn run(rt: &HostRuntime, task: Task<'_>) -> Result<bool> {
             writeln!(out, "{USAGE}")?;
             true
         }
-        Task::Import(options) => match options.file {
-            Some(name) => check_source(alloc, file(rt, name)?, &options, &mut out)?,
-            None => check_source(alloc, rt.stdin(), &options, &mut out)?,
-        },
+        Task::Import(options) => check_list(rt, &options, &mut out)?,
     };
     out.flush()?;
     Ok(valid)

@@ -1,11 +1,12 @@
 //! What the words of the command line ask for.
 
 use crate::spot::Naming;
+use garde_catalog::Spoken;
 use garde_places::Asked;
 
 /// How the program is called.
 pub const USAGE: &str = "\
-usage: use_import [--no-header] [--first-row N | --lines] [--format FORMAT] [MOST] [FILE | -]
+usage: use_import [--no-header] [--first-row N | --lines] [--language TAG] [--format FORMAT] [MOST] [FILE | -]
 Reads a stock list in CSV, and prints every fault of each row.
 
   FILE             reads this file, and without a name or with - standard input
@@ -13,6 +14,7 @@ Reads a stock list in CSV, and prints every fault of each row.
   --first-row N    numbers the rows from N, N from 0
   --lines          names each row by the line in which it begins, from 1, in a format without places
   MOST             prints at most MOST faults, MOST from 1
+  --language TAG   prints faults in this language, as de or pt-BR, and without it in English
   --format FORMAT  prints faults as short, json or github with their places, or as plain without;
                    else as short where FILE or - stands, and as plain where none does
   --help           prints this";
@@ -30,6 +32,8 @@ pub struct Options<'w> {
     pub has_header: bool,
     /// How rows are named.
     pub naming: Naming<'w>,
+    /// The language in which faults are printed.
+    pub spoken: Spoken<'w>,
 }
 
 /// What is to be done.
@@ -59,6 +63,7 @@ struct Words<'w> {
     has_header: bool,
     lines: bool,
     asked: Asked<'w>,
+    spoken: Spoken<'w>,
 }
 
 impl<'w> Words<'w> {
@@ -69,12 +74,15 @@ impl<'w> Words<'w> {
             has_header: true,
             lines: false,
             asked: Asked::new(),
+            spoken: Spoken::new(),
         };
         let mut is_first_row = false;
         for word in words {
             if is_first_row {
                 taken.first_row = Some(first_row(word)?);
                 is_first_row = false;
+            } else if !taken.asked.is_open && taken.spoken.take(word)? {
+                continue;
             } else if word.as_str() == "--first-row" && taken.can_be_first_row() {
                 is_first_row = true;
             } else if !taken.asked.take(word)? {
@@ -120,6 +128,7 @@ impl<'w> Words<'w> {
             first_row: self.first_row,
             has_header: self.has_header,
             naming,
+            spoken: self.spoken,
         })
     }
 }

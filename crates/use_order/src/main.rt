@@ -15,7 +15,8 @@ use crate::options::{Options, Task, USAGE};
 use crate::order::{Order, Page};
 use crate::rely::{cost, destination, first};
 use anyhow::{Result, bail};
-use garde::{DefaultI18n, Report, Valid};
+use garde::{Report, Valid};
+use garde_catalog::{Catalog, ENGLISH, languages};
 use garde_library::ReadBody;
 use garde_places::{Printed, stop_of};
 use garde_problem::{Escaped, WithCodes};
@@ -71,10 +72,15 @@ fn read(rt: &HostRuntime, file: Option<&str>) -> Result<Vec<u8>> {
 }
 
 /// Confirms each order of a page, or prints its faults with their paths, so many at most.
-fn judge(rt: &HostRuntime, body: &[u8], most: usize) -> Result<ExitCode> {
+fn judge(
+    rt: &HostRuntime,
+    catalog: &Catalog<'static>,
+    body: &[u8],
+    most: usize,
+) -> Result<ExitCode> {
     let alloc = rt.alloc();
     let mut scratch = Scratch::new(alloc);
-    match Page::read_body(alloc, body, &mut scratch, most, &DefaultI18n) {
+    match Page::read_body(alloc, body, &mut scratch, most, catalog) {
         Ok(page) => {
             confirm_all(rt, Valid::known(page, &()))?;
             Ok(ExitCode::SUCCESS)
@@ -87,6 +93,7 @@ fn judge(rt: &HostRuntime, body: &[u8], most: usize) -> Result<ExitCode> {
             println!(rt; "{}there are more", Escaped(alloc, &report))?;
             Ok(ExitCode::FAILURE)
         }
+        Err(FirstReadError::Parse(error)) => bail!("{}", catalog.parse_error(alloc, &error)?),
         Err(error) => Err(error.into()),
     }
 }
@@ -95,12 +102,13 @@ fn judge(rt: &HostRuntime, body: &[u8], most: usize) -> Result<ExitCode> {
 fn judge_places(
     rt: &HostRuntime,
     printed: Printed<'_>,
+    catalog: &Catalog<'static>,
     body: &[u8],
     most: usize,
 ) -> Result<ExitCode> {
     let alloc = rt.alloc();
     let mut scratch = Scratch::new(alloc);
-    match Page::read_body(alloc, body, &mut scratch, most, &WithCodes(DefaultI18n)) {
+    match Page::read_body(alloc, body, &mut scratch, most, &WithCodes(catalog)) {
         Ok(page) => {
             confirm_all(rt, Valid::known(page, &()))?;
             Ok(ExitCode::SUCCESS)
@@ -145,12 +153,17 @@ fn without_mark(body: &[u8]) -> &[u8] {
 
 /// Reads and judges a page.
 fn check(rt: &HostRuntime, options: Options<'_>) -> Result<ExitCode> {
-    let Options { asked, most } = options;
+    let Options {
+        asked,
+        spoken,
+        most,
+    } = options;
+    let catalog = spoken.catalog(rt.alloc(), &languages(), &ENGLISH)?;
     let body = read(rt, asked.file())?;
     let most = most.unwrap_or(usize::MAX);
     match asked.printed() {
-        Some(printed) => judge_places(rt, printed, &body, most),
-        None => judge(rt, &body, most),
+        Some(printed) => judge_places(rt, printed, &catalog, &body, most),
+        None => judge(rt, &catalog, &body, most),
     }
 }
 

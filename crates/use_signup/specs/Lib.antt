@@ -1,1 +1,1 @@
-pub mod CzechText
+pub mod Shown

@@ -12,7 +12,7 @@ import ipaddress
 import json
 import re
 
-from lib import placed, positions, toml_positions
+from lib import languages, placed, positions, toml_positions
 from lib.described import Case, pattern
 from lib.faults import REQUIRED, Rule, between, items, length, matches, suffix
 from lib.form import Checked, Closed, ListUnder, MapUnder, Member, Nullish, Object, OneOf, Text, Under, Whole, read
@@ -110,12 +110,12 @@ def toml_lines(dice, path, value):
 def some(dice):
     form = placed.some_format(dice)
     if tomllib is None or dice.random() < 0.3:
-        return Case(dice.choice((("json", *form), (*form, "json"))), *some_json(dice, CONFIG))
+        return Case(languages.some_words(dice) + dice.choice((("json", *form), (*form, "json"))), *some_json(dice, CONFIG))
     value, ways = some_of(dice, CONFIG, some_value, (missing, repeated, wrong_type, wrong_type, unknown, renamed, many))
     end = dice.choice(("\n", "\n", "\r\n"))
     body, cuts = some_bytes(dice, (end.join(toml_lines(dice, [], without_nulls(value))) + end).encode("utf-8"), PIECES)
     mark = codecs.BOM_UTF8 if dice.random() < 0.1 else b""
-    return Case((*form, *dice.choice(((), ("toml",)))), mark + body, ways | cuts)
+    return Case((*form, *dice.choice(((), ("toml",))), *languages.some_words(dice)), mark + body, ways | cuts)
 
 
 def large():
@@ -156,7 +156,7 @@ def of_toml(value):
 
 
 def is_json(case):
-    return "json" in placed.asked(case.words)[0]
+    return "json" in placed.asked(languages.spoken(case.words)[0])[0]
 
 
 def value_of(case):
@@ -179,8 +179,10 @@ def value_of(case):
     return value
 
 
-def stopped(form, case, why):
+def stopped(form, case, why, tag):
     """What is said of a text that is no TOML or no JSON."""
+    if form == "plain" and is_json(case):
+        return 2, b"", pattern(f"use_config: {languages.no_json(why, tag)}\n")
     if form == "plain" or why == TOO_DEEP:
         return 2, b"", pattern(f"use_config: {why}\n")
     if is_json(case):
@@ -195,17 +197,20 @@ def stopped(form, case, why):
 
 
 def wanted(case):
-    form = placed.asked(case.words)[1]
+    words, tag = languages.spoken(case.words)
+    if tag is None:
+        return 2, b"", pattern(f"use_config: {languages.unknown()}\n")
+    form, language = placed.asked(words)[1], languages.of_tag(tag)
     try:
         config, faults = read(CONFIG, value_of(case))
     except NoJson as why:
-        return stopped(form, case, str(why))
+        return stopped(form, case, str(why), tag)
     if faults and form == "plain":
-        return 1, lines(faults).encode("utf-8"), b""
+        return 1, lines(faults, language).encode("utf-8"), b""
     if faults:
         spots_of = positions.spots_of if is_json(case) else toml_positions.spots_of
         spots = spots_of(case.given.decode("utf-8").removeprefix("\ufeff"))
-        return 1, placed.lines(form, "<stdin>", spots, faults).encode("utf-8"), b""
+        return 1, placed.lines(form, "<stdin>", spots, faults, language).encode("utf-8"), b""
     it = config["server"]
     share = it["connections"] // it["workers"]
     return 0, f"{it['host']}, port {it['port']}: {it['workers']} workers, {share} connections each\n".encode("utf-8"), b""

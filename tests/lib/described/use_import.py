@@ -2,8 +2,8 @@
 import csv
 import io
 
-from lib import placed, rfc4180
-from lib.described import Case
+from lib import languages, placed, rfc4180
+from lib.described import Case, pattern
 from lib.faults import ALPHANUMERIC, URL, URLS, between, chars, prefix
 from lib.form import Closed, Member, Object, OrEmpty, Parsed, Text, Walk, read
 from lib.json_values import Pairs
@@ -57,7 +57,7 @@ def some(dice):
     body, cuts = written(dice, rows if "--no-header" in words else [columns, *rows]), set()
     for _ in range(dice.choice((0, 0, 0, 1, 2, 4))):
         body, cuts = cut(dice, body, PIECES), {"cut"}
-    return Case(dice.choice((words + form, form + words)), body, cuts | ({"columns"} if columns != COLUMNS else set()) | ({"cells"} if odd else set()))
+    return Case(languages.some_words(dice) + dice.choice((words + form, form + words)), body, cuts | ({"columns"} if columns != COLUMNS else set()) | ({"cells"} if odd else set()))
 
 
 def large():
@@ -81,25 +81,25 @@ def records(given):
         yield record
 
 
-def row_lines(place, header, record):
+def row_lines(place, header, record, tag):
     """The lines of a record, whose place is `[N]` or `line N`."""
     walk = Walk()
     if record.fault or len(record.cells) != len(header):
-        return f"{place}: {record.fault or 'not as many fields as in the header'}\n"
+        return f"{place}: {record.fault or languages.said_in(tag)['RowLength']}\n"
     ROW.read(Pairs(zip(header, record.cells)), (), walk)
     between = "." if place.startswith("[") else ", "
-    return "".join(f"{place}{between}{it}\n" for it in lines(walk).splitlines())
+    return "".join(f"{place}{between}{it}\n" for it in lines(walk, languages.of_tag(tag)).splitlines())
 
 
-def placed_lines(form, index, header, record):
+def placed_lines(form, index, header, record, tag):
     """The lines of a record with the line in which it begins."""
     place, walk = (record.line, 1), Walk()
     if record.fault:
         return placed.line(form, "<stdin>", place, (index,), record.fault, "not_csv", {}) + "\n"
     if len(record.cells) != len(header):
-        return placed.line(form, "<stdin>", place, (index,), "not as many fields as in the header", "row_length", {}) + "\n"
+        return placed.line(form, "<stdin>", place, (index,), languages.said_in(tag)["RowLength"], "row_length", {}) + "\n"
     ROW.read(Pairs(zip(header, record.cells)), (index,), walk)
-    return placed.lines_at(form, "<stdin>", place, walk)
+    return placed.lines_at(form, "<stdin>", place, walk, languages.of_tag(tag))
 
 
 def first_row(words):
@@ -112,26 +112,29 @@ def most(words, all_of_them):
     return int(numbers[0]) if numbers else all_of_them
 
 
-def lines_of(words, form, index, header, record):
+def lines_of(words, form, index, header, record, tag):
     if form != "plain":
-        return placed_lines(form, index, header, record)
-    return row_lines(f"line {record.line}" if "--lines" in words else f"[{index}]", header, record)
+        return placed_lines(form, index, header, record, tag)
+    return row_lines(f"line {record.line}" if "--lines" in words else f"[{index}]", header, record, tag)
 
 
 def wanted(case):
-    words, form = placed.asked(case.words)
-    found, header = list(records(case.given)), COLUMNS
+    rest, tag = languages.spoken(case.words)
+    if tag is None:
+        return 2, b"", pattern(f"use_import: {languages.unknown()}\n")
+    words, form = placed.asked(rest)
+    found, header, language = list(records(case.given)), COLUMNS, languages.of_tag(tag)
     if "--no-header" not in words:
         first, *found = found or [rfc4180.Record(1, [], None)]
         if first.fault:
             return 2, b"", f"use_import: the header: {first.fault}\n".encode()
         _, faults = read(HEADER, Pairs((name, "") for name in first.cells))
         if faults:
-            told = lines(faults) if form == "plain" else placed.lines_at(form, "<stdin>", (first.line, 1), faults)
+            told = lines(faults, language) if form == "plain" else placed.lines_at(form, "<stdin>", (first.line, 1), faults, language)
             return 2, told.encode("utf-8"), b"use_import: these are not the columns of a list\n"
         header = first.cells
     start = first_row(words)
     rows = enumerate(found[:GREATEST - start + 1], start)
-    said = "".join(lines_of(words, form, index, header, record) for index, record in rows).splitlines(keepends=True)
+    said = "".join(lines_of(words, form, index, header, record, tag) for index, record in rows).splitlines(keepends=True)
     out = "".join(said[:most(words, len(said))]).encode("utf-8")
     return (2, out, b"use_import: a row has no number\n") if start + len(found) > GREATEST + 1 else (1 if said else 0, out, b"")

@@ -1,9 +1,12 @@
-"""The program use_signup, by crates/use_signup/README.md: a web form, in two languages. Its fields are those that `urllib.parse` reads."""
+"""The program use_signup, by crates/use_signup/README.md: a web form, in any language, and its page with faults. Its fields are those that
+`urllib.parse` reads."""
 import codecs
+import re
 import urllib.parse
 
-from lib.described import Case
-from lib.faults import ALPHANUMERIC, ENGLISH, REQUIRED, between, chars, fault, items, length, prefix
+from lib import languages, pages, repository
+from lib.described import Case, pattern
+from lib.faults import ALPHANUMERIC, REQUIRED, between, chars, fault, items, length, prefix
 from lib.form import Checked, Closed, ListUnder, Member, Object, OneOf, Optional, OrEmpty, Parsed, Text, Under, read
 from lib.json_values import Pairs
 from lib.reports import lines, quoted
@@ -22,33 +25,33 @@ FORM = Object(Closed(
     Checked(Optional("terms", OneOf("on")), ACCEPTED),
 ))
 LISTS = ("topics",)
-CZECH = {
-    "member_missing": "pole chybí", "member_repeated": "pole se opakuje", "member_unknown": "neznámé pole", "value_unknown": "neznámá hodnota",
-    "wrong_form": lambda wanted, found: {"Whole": "hodnota není celé číslo"}[wanted], "out_of_range": lambda of: "číslo je mimo rozsah",
-    "length_lower_than": lambda min: f"délka je menší než {min} {characters(int(min))}",
-    "length_greater_than": lambda max: f"délka je větší než {max} {characters(int(max))}",
-    "range_lower_than": "hodnota je menší než {min}", "range_greater_than": "hodnota je větší než {max}",
-    "required_not_set": "hodnota chybí", "alphanumeric_invalid": "text má jiné znaky než písmena a číslice",
-    "prefix_missing": "text nezačíná na {pattern}", "matches_field_mismatch": "hodnota se liší od pole {field}",
-    "terms": "souhlas s podmínkami chybí",
+# The words of the program's own, by the first subtag of their language.
+WORDS = {it[0]: it[1:] for it in re.findall(r"^\| `(\w+)` \| ([^|]+) \| ([^|]+) \|$", repository.text_of("crates/use_signup/README.md"), re.MULTILINE)}
+NAMES = ("name", "username", "password", "password_again", "age", "phone", "topics", "terms")
+KINDS = {"password": "password", "password_again": "password", "phone": "tel"}
+PAGES = {
+    "en": (
+        "Sign up", "Please correct: Sign up", "Please correct", "Sign up",
+        ("Name", "Username", "Password", "Password, once more", "Age", "Phone, if you like", "Topics", "Terms"),
+        {"topics": (("news", "News"), ("events", "Events")), "terms": (("on", "I accept the terms"),)},
+    ),
+    "cs": (
+        "Registrace", "Opravte prosím: Registrace", "Opravte prosím", "Registrovat",
+        ("Jméno", "Uživatelské jméno", "Heslo", "Heslo ještě jednou", "Věk", "Telefon, není nutný", "Témata", "Podmínky"),
+        {"topics": (("news", "Zprávy"), ("events", "Akce")), "terms": (("on", "Souhlasím s podmínkami"),)},
+    ),
 }
-LANGUAGES = {"en": ({**ENGLISH, "terms": "the terms are not accepted"}, "welcome"), "cs": (CZECH, "vítejte")}
-TEXTS = ["", "a", "on", "On", "off", "news", "sport", "36", "\0", 'q"\\\n', "a b", "a+b", "é" * 41, "漢字½", "x" * 129, "\x1b[2K"]
+TEXTS = ["", "a", "on", "On", "off", "news", "sport", "36", "\0", 'q"\\\n', "a b", "a+b", "é" * 41, "漢字½", "x" * 129, "\x1b[2K", '"><script>alert(1)</script>', "'&amp;&#60;"]
 # Pieces of bodies as no browser sends them.
 PIECES = [b"%", b"%4", b"%zz", b"%%41", b"%00", b"%FF", b"\xff", b"%C3", b"\xc3", b"%F0%9F%98", b"+", b"&", b"&&", b"=", b";", b"#", b"\n", b"&\n"]
 PIECES += [b"\xef\xbb\xbf", b"%E2%80%AE", b"\r\n", b" \t"]
-
-
-def characters(count):
-    """Czech has a form of the word for 1, one for 2 to 4, and one for the rest."""
-    return "znak" if count == 1 else "znaky" if 2 <= count <= 4 else "znaků"
 
 
 def large():
     """Forms whose first field, which is known or not, has more than 64 KiB: what stands behind it is read too."""
     rest = b"&username=ada123&password=analytical+engine&password_again=analytical+engine&age=36&terms=on&topics=news&topics=events&city=x"
     for name in b"name", b"note":
-        yield Case(("en",), name + b"=" + b"%C3%A9+" * 20_000 + rest)
+        yield Case(("--language", "en"), name + b"=" + b"%C3%A9+" * 20_000 + rest)
 
 
 def byte_of(dice, byte):
@@ -69,7 +72,7 @@ def some(dice):
     value, how = some_of(dice, FORM, lambda dice: dice.choice(TEXTS), ways)
     fields = [(name, text) for name, texts in value for text in (texts if isinstance(texts, list) else [texts])]
     body, cuts = some_bytes(dice, b"&".join(field_of(dice, *field) for field in fields), PIECES)
-    return Case((dice.choice(("en", "cs")),), body, how | cuts)
+    return Case((*languages.some_words(dice), *dice.choice(((), ("--page",)))), body, how | cuts)
 
 
 def fields_of(body):
@@ -87,10 +90,27 @@ def object_of(fields):
     return Pairs((fields[at][0], listed.get(fields[at][0], fields[at][1])) for at in firsts)
 
 
+def form_of(tag):
+    """The form on the page in a language."""
+    *said, labels, boxes = PAGES[tag]
+    fields = (pages.Field(name, label, KINDS.get(name, "text"), boxes.get(name, ())) for name, label in zip(NAMES, labels))
+    return pages.Form(tag, *said, tuple(fields))
+
+
+def page_of(tag, fields, faults, language):
+    """The page with these fields that were sent and these faults, whose texts are in a language."""
+    return pages.page(form_of("cs" if tag == "cs" else "en"), fields, [(path, found.text(language)) for path, found in faults])
+
+
 def wanted(case):
-    language, welcome = LANGUAGES[case.words[0] if case.words else "en"]
-    who, faults = read(FORM, object_of(fields_of(case.given)))
+    tag = languages.spoken(case.words)[1]
+    if tag is None:
+        return 2, b"", pattern(f"use_signup: {languages.unknown()}\n")
+    welcome, terms = WORDS[tag.split("-")[0]]
+    fields, language = fields_of(case.given), {**languages.of_tag(tag), "terms": terms}
+    who, faults = read(FORM, object_of(fields))
     if faults:
-        return 1, lines(faults, language).encode("utf-8"), b""
+        said = page_of(tag, fields, faults, language) if "--page" in case.words else lines(faults, language)
+        return 1, said.encode("utf-8"), b""
     said = [f"{welcome}, {quoted(who['name'])} ({who['age']})", *(f"    {topic}" for topic in who["topics"] or ())]
     return 0, "".join(f"{it}\n" for it in said).encode("utf-8"), b""

@@ -1,0 +1,117 @@
+"""A headless Chromium, driven over a pipe by the DevTools protocol. It needs Python's standard library alone."""
+import json
+import os
+import select
+import shutil
+import signal
+import subprocess
+import sys
+import tempfile
+
+NAMES = ("chromium", "chromium-headless-shell", "google-chrome")
+# Chromium has no sandbox as root, and little shared memory in a container.
+WORDS = ("--headless", "--no-sandbox", "--disable-gpu", "--disable-dev-shm-usage", "--no-first-run", "--remote-debugging-pipe")
+
+
+def found():
+    """The browser of this machine, or None."""
+    return next(filter(None, map(shutil.which, NAMES)), None)
+
+
+# The browser reads its descriptor 3 and writes its descriptor 4.
+PLACED = """
+import fcntl, os, sys
+ask, answer = (fcntl.fcntl(int(it), fcntl.F_DUPFD_CLOEXEC, 10) for it in sys.argv[1:3])
+os.dup2(ask, 3)
+os.dup2(answer, 4)
+os.execv(sys.argv[3], sys.argv[3:])
+"""
+MOST_SECONDS = 30
+MOST_DIALOGS = 20
+
+
+class Refused(Exception):
+    """The browser answers with an error, or not at all."""
+
+
+class Browser:
+    """A browser with one page. `dialogs` has the texts of the dialogs that a script opened."""
+
+    def __init__(self, path):
+        self.room, self.number, self.rest, self.dialogs = tempfile.mkdtemp(prefix="browsed-"), 0, b"", []
+        (there, self.ask), (self.answer, here) = os.pipe(), os.pipe()
+        words = [path, *WORDS, f"--user-data-dir={self.room}", "about:blank"]
+        started = [sys.executable, "-c", PLACED, str(there), str(here), *words]
+        quiet = {"stdout": subprocess.DEVNULL, "stderr": subprocess.DEVNULL}
+        self.process = subprocess.Popen(started, pass_fds=(there, here), start_new_session=True, **quiet)
+        os.close(there)
+        os.close(here)
+        self.session = None
+        target = self.call("Target.createTarget", url="about:blank")["targetId"]
+        self.session = self.call("Target.attachToTarget", targetId=target, flatten=True)["sessionId"]
+        for part in "Page", "Runtime", "Accessibility":
+            self.call(f"{part}.enable")
+
+    def message(self):
+        """The next message of the browser, which NUL ends."""
+        while b"\0" not in self.rest:
+            if not select.select([self.answer], [], [], MOST_SECONDS)[0]:
+                raise Refused(f"the browser says nothing for {MOST_SECONDS} seconds")
+            read = os.read(self.answer, 1 << 16)
+            if not read:
+                raise Refused("the browser has ended")
+            self.rest += read
+        line, self.rest = self.rest.split(b"\0", 1)
+        return json.loads(line)
+
+    def send(self, method, **params):
+        self.number += 1
+        said = {"id": self.number, "method": method, "params": params, **({"sessionId": self.session} if self.session else {})}
+        os.write(self.ask, json.dumps(said).encode() + b"\0")
+        return self.number
+
+    def seen(self, message):
+        """Closes a dialog that a script opened."""
+        if message.get("method") == "Page.javascriptDialogOpening":
+            self.dialogs.append(message["params"]["message"])
+            if len(self.dialogs) > MOST_DIALOGS:
+                raise Refused("a script opens dialogs without end")
+            self.send("Page.handleJavaScriptDialog", accept=True)
+
+    def call(self, method, **params):
+        number = self.send(method, **params)
+        while True:
+            message = self.message()
+            self.seen(message)
+            if message.get("id") == number:
+                break
+        if "error" in message:
+            raise Refused(f"{method}: {message['error']['message']}")
+        return message["result"]
+
+    def loaded(self, method, **params):
+        """Calls what loads a page, and waits until it is there."""
+        self.send(method, **params)
+        while True:
+            message = self.message()
+            self.seen(message)
+            if message.get("method") == "Page.loadEventFired":
+                return
+
+    def value(self, script):
+        """The value of an expression on the page, as JSON."""
+        result = self.call("Runtime.evaluate", expression=script, returnByValue=True)
+        if "exceptionDetails" in result:
+            raise Refused(f"{script}: {result['exceptionDetails']['text']}")
+        return result["result"].get("value")
+
+    def __enter__(self):
+        return self
+
+    def __exit__(self, *_):
+        # All of its processes, so that none still writes into its folder.
+        os.killpg(self.process.pid, signal.SIGKILL)
+        self.process.wait(MOST_SECONDS)
+        os.close(self.ask)
+        os.close(self.answer)
+        shutil.rmtree(self.room, ignore_errors=True)
