@@ -115,7 +115,7 @@ fn judge_in(rt: &HostRuntime, spoken: Spoken<'_>) -> Result<ExitCode> {
     let offered = languages();
     let catalog = spoken.catalog(rt.alloc(), &offered, &ENGLISH)?;
     let language = Language::named(spoken.tag.unwrap_or("en"), &offered).unwrap_or(offered[0]);
-    judge(rt, Words::of(language.tag), &catalog)
+    judge(rt, &Words::of(language.tag), &catalog)
 }
 
 fn run(rt: &HostRuntime) -> Result<ExitCode> {

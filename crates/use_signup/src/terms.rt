@@ -10,64 +10,58 @@ use std::borrow::CowStr;
 /// What is said in a language and is no text of its catalog.
 #[derive(Clone, Copy, Debug)]
 pub struct Words {
-    /// The first subtag of the language.
-    pub language: &'static str,
     pub welcome: &'static str,
     /// The message where the terms are not accepted.
     pub terms: &'static str,
 }
 
-// A row of the table.
-const fn row(language: &'static str, welcome: &'static str, terms: &'static str) -> Words {
-    Words {
-        language,
-        welcome,
-        terms,
-    }
-}
+const IN_ENGLISH: Words = Words {
+    welcome: "welcome",
+    terms: "the terms are not accepted",
+};
 
-static WORDS: [Words; 18] = [
-    row("en", "welcome", "the terms are not accepted"),
-    row("de", "willkommen", "die Bedingungen sind nicht akzeptiert"),
-    row("fr", "bienvenue", "les conditions ne sont pas acceptées"),
-    row(
+// The words of the other languages, by their first subtag.
+static WORDS: [(&str, &str, &str); 17] = [
+    ("de", "willkommen", "die Bedingungen sind nicht akzeptiert"),
+    ("fr", "bienvenue", "les conditions ne sont pas acceptées"),
+    (
         "es",
         "le damos la bienvenida",
         "las condiciones no se han aceptado",
     ),
-    row(
+    (
         "it",
         "ti diamo il benvenuto",
         "le condizioni non sono state accettate",
     ),
-    row("pt", "boas-vindas", "os termos não foram aceitos"),
-    row("nl", "welkom", "de voorwaarden zijn niet geaccepteerd"),
-    row("sv", "välkommen", "villkoren är inte godkända"),
-    row("pl", "witamy", "regulamin nie został zaakceptowany"),
-    row("cs", "vítejte", "souhlas s podmínkami chybí"),
-    row("ru", "добро пожаловать", "условия не приняты"),
-    row("uk", "вітаємо", "умови не прийнято"),
-    row("tr", "hoş geldiniz", "koşullar kabul edilmedi"),
-    row("ja", "ようこそ", "利用規約に同意していません"),
-    row("zh", "欢迎", "未接受条款"),
-    row("ko", "환영합니다", "약관에 동의하지 않았습니다"),
-    row("ar", "مرحبًا", "لم يتم قبول الشروط"),
-    row("hi", "स्वागत है", "शर्तें स्वीकार नहीं की गई हैं"),
+    ("pt", "boas-vindas", "os termos não foram aceitos"),
+    ("nl", "welkom", "de voorwaarden zijn niet geaccepteerd"),
+    ("sv", "välkommen", "villkoren är inte godkända"),
+    ("pl", "witamy", "regulamin nie został zaakceptowany"),
+    ("cs", "vítejte", "souhlas s podmínkami chybí"),
+    ("ru", "добро пожаловать", "условия не приняты"),
+    ("uk", "вітаємо", "умови не прийнято"),
+    ("tr", "hoş geldiniz", "koşullar kabul edilmedi"),
+    ("ja", "ようこそ", "利用規約に同意していません"),
+    ("zh", "欢迎", "未接受条款"),
+    ("ko", "환영합니다", "약관에 동의하지 않았습니다"),
+    ("ar", "مرحبًا", "لم يتم قبول الشروط"),
+    ("hi", "स्वागत है", "शर्तें स्वीकार नहीं की गई हैं"),
 ];
 
 impl Words {
     /// The words of the language of a tag, and those in English where there are none.
-    pub fn of(tag: &str) -> &'static Words {
-        let language = match tag.split_once('-') {
-            Some((language, _)) => language,
+    pub fn of(tag: &str) -> Words {
+        let subtag = match tag.split_once('-') {
+            Some((subtag, _)) => subtag,
             None => tag,
         };
-        for words in &WORDS {
-            if words.language == language {
-                return words;
+        for (language, welcome, terms) in &WORDS {
+            if *language == subtag {
+                return Words { welcome, terms };
             }
         }
-        &WORDS[0]
+        IN_ENGLISH
     }
 }
 
