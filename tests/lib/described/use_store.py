@@ -38,10 +38,10 @@ def faults_of(index, cells, codes):
 
 
 def told(form, line, walk):
-    """The faults of a row, which begins in this line, as they are printed. None has a code."""
+    """The faults of a row, which begins in this line, as they are printed. None has a code of its own."""
     if form == "plain":
         return lines(walk)
-    return "".join(placed.line(form, "<stdin>", (line, 1), path, it.text(ENGLISH), "", {}) + "\n" for path, it in walk)
+    return "".join(placed.line(form, "<stdin>", (line, 1), path, it.text(ENGLISH), "custom", {}) + "\n" for path, it in walk)
 
 
 def answer_to(found, whole=False, batch=None, form="plain"):
