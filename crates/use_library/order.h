@@ -90,7 +90,7 @@ uint8_t order_check_with(order_checker *checker,
                          size_t out_len,
                          size_t *len);
 
-/* Does what `order_check_with` does, and tells what is wrong in lines, for a log or a terminal: `out`
+/* Does what `order_check_with` does, and reports what is wrong in lines, for a log or a terminal: `out`
  * gets a line `path: message` for each fault, without codes, and the line `there are more` where there
  * are. Of bytes that are no JSON text the line says why, with line and column. It takes less time than
  * problem details.

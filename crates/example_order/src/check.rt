@@ -37,7 +37,7 @@ pub fn check_order(
     }
 }
 
-/// Checks the bytes of an order, and tells what is wrong in lines: `garde_library::list_body` says
+/// Checks the bytes of an order, and reports what is wrong in lines: `garde_library::list_body` says
 /// more. Sentences are in this language.
 pub fn list_order(
     alloc: Global,

@@ -59,7 +59,7 @@ fn read<'a, F: Form<'a>, H: I18n + FormI18n>(
     }
 }
 
-/// Hands over what tells the result of reading.
+/// Hands over a text of the result of reading.
 pub(crate) fn tell(
     alloc: Global,
     telling: Telling<'_>,
@@ -108,7 +108,7 @@ pub fn check_json<'a, F: Form<'a>, H: I18n + FormI18n>(
     tell(alloc, Telling::Details(title), &read, out, len)
 }
 
-/// Checks bytes by a form, as `check_json` does, and tells what is wrong in lines: `out` gets a line
+/// Checks bytes by a form, as `check_json` does, and reports what is wrong in lines: `out` gets a line
 /// `path: message` for each fault, as a report prints itself, and `there are more` where there are. Of
 /// bytes that are no JSON text the line says why, and where.
 ///

@@ -56,7 +56,7 @@ pub fn check_body<'a, B: ReadBody<'a>, H: I18n + FormI18n>(
     tell(alloc, Telling::Details(title), &read, out, len)
 }
 
-/// Checks the bytes of a body, and tells what is wrong in lines. It answers as `list_json` does, and
+/// Checks the bytes of a body, and reports what is wrong in lines. It answers as `list_json` does, and
 /// `Status::Valid` only where the bytes spell a value of the type without a fault.
 pub fn list_body<'a, B: ReadBody<'a>, H: I18n + FormI18n>(
     alloc: Global,

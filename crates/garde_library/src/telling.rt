@@ -1,4 +1,4 @@
-//! How the result of reading is told.
+//! How the result of reading is reported.
 ghost use Rattle.std.specs.Prelude.{◌≡◌, IfOk, string_bytes};
 ghost use Rattle.garde_library.specs.Checked.{lines_of, told};
 
@@ -6,7 +6,7 @@ use crate::details::details_of;
 use garde_schema::FirstReadError;
 use std::alloc::{AllocError, Global};
 
-/// How it is told what is wrong with bytes.
+/// How it is reported what is wrong with bytes.
 #[derive(Clone, Copy)]
 pub(crate) enum Telling<'a> {
     /// By problem details (RFC 9457) under this title.

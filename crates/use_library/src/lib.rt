@@ -105,7 +105,7 @@ pub extern "C" fn order_check_with(
     status as u8
 }
 
-/// Does what `order_check_with` does, and tells what is wrong in lines, for a log or a terminal: `out`
+/// Does what `order_check_with` does, and reports what is wrong in lines, for a log or a terminal: `out`
 /// gets a line `path: message` for each fault, without codes, and the line `there are more` where there
 /// are. Of bytes that are no JSON text the line says why, with line and column. It takes less time than
 /// problem details.
