@@ -49,19 +49,23 @@ static WORDS: [(&str, &str, &str); 17] = [
     ("hi", "स्वागत है", "शर्तें स्वीकार नहीं की गई हैं"),
 ];
 
+// The words of the language of this subtag, and those in English where there are none.
+fn words_under(subtag: &str) -> Words {
+    for (language, welcome, terms) in &WORDS {
+        if *language == subtag {
+            return Words { welcome, terms };
+        }
+    }
+    IN_ENGLISH
+}
+
 impl Words {
     /// The words of the language of a tag, and those in English where there are none.
     pub fn of(tag: &str) -> Words {
-        let subtag = match tag.split_once('-') {
-            Some((subtag, _)) => subtag,
-            None => tag,
-        };
-        for (language, welcome, terms) in &WORDS {
-            if *language == subtag {
-                return Words { welcome, terms };
-            }
+        match tag.split_once('-') {
+            Some((subtag, _)) => words_under(subtag),
+            None => words_under(tag),
         }
-        IN_ENGLISH
     }
 }
 
