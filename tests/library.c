@@ -73,7 +73,7 @@ static bool same(const answer *a, const answer *b) {
 /* The same faults in lines, in a checker that has no room yet. */
 static void try_lines(void) {
   const char *all = "customer: length is lower than 1\nlines[0].code: value does not begin with \"P\"\n"
-                    "lines[0].count: lower than 1\nx: unknown\n";
+                    "lines[0].count: lower than 1\nx: not known here\n";
   order_checker checker = ORDER_CHECKER_EMPTY;
   for (size_t most = 0; most <= 5; most++) {
     char out[512] = {0};

@@ -49,7 +49,9 @@ fn faults_are_listed_in_lines() {
     assert_eq!(
         lines,
         "customer: length is lower than 1\n\
-         lines[0].code: value does not begin with \"P\"\n"
+         lines[0].code: value does not begin with \"P\"\n\
+         lines[0].count: lower than 1\n\
+         lines[1].count: greater than 99\n"
     );
     assert_eq!(Checker::new().list(GOOD), Ok(()));
 }
