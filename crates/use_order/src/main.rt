@@ -15,8 +15,7 @@ use crate::options::{Options, Task, USAGE};
 use crate::order::{Order, Page};
 use crate::rely::{cost, destination, first};
 use anyhow::{Result, bail};
-use garde::{Report, Valid};
-use garde_catalog::{Catalog, ENGLISH, languages};
+use garde::{DefaultI18n, Report, Valid};
 use garde_library::ReadBody;
 use garde_places::{Printed, stop_of};
 use garde_problem::{Escaped, WithCodes};
@@ -72,15 +71,10 @@ fn read(rt: &HostRuntime, file: Option<&str>) -> Result<Vec<u8>> {
 }
 
 /// Confirms each order of a page, or prints its faults with their paths, so many at most.
-fn judge(
-    rt: &HostRuntime,
-    catalog: &Catalog<'static>,
-    body: &[u8],
-    most: usize,
-) -> Result<ExitCode> {
+fn judge(rt: &HostRuntime, body: &[u8], most: usize) -> Result<ExitCode> {
     let alloc = rt.alloc();
     let mut scratch = Scratch::new(alloc);
-    match Page::read_body(alloc, body, &mut scratch, most, catalog) {
+    match Page::read_body(alloc, body, &mut scratch, most, &DefaultI18n) {
         Ok(page) => {
             confirm_all(rt, Valid::known(page, &()))?;
             Ok(ExitCode::SUCCESS)
@@ -93,7 +87,6 @@ fn judge(
             println!(rt; "{}there are more", Escaped(alloc, &report))?;
             Ok(ExitCode::FAILURE)
         }
-        Err(FirstReadError::Parse(error)) => bail!("{}", catalog.parse_error(alloc, &error)?),
         Err(error) => Err(error.into()),
     }
 }
@@ -102,13 +95,12 @@ fn judge(
 fn judge_places(
     rt: &HostRuntime,
     printed: Printed<'_>,
-    catalog: &Catalog<'static>,
     body: &[u8],
     most: usize,
 ) -> Result<ExitCode> {
     let alloc = rt.alloc();
     let mut scratch = Scratch::new(alloc);
-    match Page::read_body(alloc, body, &mut scratch, most, &WithCodes(catalog)) {
+    match Page::read_body(alloc, body, &mut scratch, most, &WithCodes(DefaultI18n)) {
         Ok(page) => {
             confirm_all(rt, Valid::known(page, &()))?;
             Ok(ExitCode::SUCCESS)
@@ -153,17 +145,12 @@ fn without_mark(body: &[u8]) -> &[u8] {
 
 /// Reads and judges a page.
 fn check(rt: &HostRuntime, options: Options<'_>) -> Result<ExitCode> {
-    let Options {
-        asked,
-        spoken,
-        most,
-    } = options;
-    let catalog = spoken.catalog(rt.alloc(), &languages(), &ENGLISH)?;
+    let Options { asked, most } = options;
     let body = read(rt, asked.file())?;
     let most = most.unwrap_or(usize::MAX);
     match asked.printed() {
-        Some(printed) => judge_places(rt, printed, &catalog, &body, most),
-        None => judge(rt, &catalog, &body, most),
+        Some(printed) => judge_places(rt, printed, &body, most),
+        None => judge(rt, &body, most),
     }
 }
 

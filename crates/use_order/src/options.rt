@@ -1,16 +1,14 @@
 //! What the words of the command line ask for.
 
-use garde_catalog::Spoken;
 use garde_places::Asked;
 
 /// How the program is called.
 pub const USAGE: &str = "\
-usage: use_order [--language TAG] [--format FORMAT] [N] [FILE | -]
+usage: use_order [--format FORMAT] [N] [FILE | -]
 Reads a page of orders in JSON, and confirms each of them or prints every fault.
 
   FILE             reads this file, and without a name or with - standard input
   N                prints at most N faults, N from 1
-  --language TAG   prints faults in this language, as de or pt-BR, and without it in English
   --format FORMAT  prints faults as short, json or github with their places, or as plain without;
                    else as short where FILE or - stands, and as plain where none does
   --help           prints this";
@@ -20,8 +18,6 @@ Reads a page of orders in JSON, and confirms each of them or prints every fault.
 pub struct Options<'w> {
     /// Which page is read, and how its faults are printed.
     pub asked: Asked<'w>,
-    /// The language in which its faults are printed.
-    pub spoken: Spoken<'w>,
     /// How many faults are to be printed at most.
     pub most: Option<usize>,
 }
@@ -51,22 +47,15 @@ impl<'w> Task<'w> {
 impl<'w> Options<'w> {
     // The options of these words, each of which may be left out and stands once.
     fn of(words: &'w [String]) -> Result<Options<'w>, &'static str> {
-        let (mut asked, mut spoken) = (Asked::new(), Spoken::new());
+        let mut asked = Asked::new();
         let mut most = None;
         for word in words {
-            if !asked.is_open && spoken.take(word)? {
-                continue;
-            }
             if !asked.take(word)? {
                 most = Some(next_most(most, word)?);
             }
         }
         let asked = asked.finish()?;
-        Ok(Options {
-            asked,
-            spoken,
-            most,
-        })
+        Ok(Options { asked, most })
     }
 }
 

@@ -1,7 +1,7 @@
 """The program use_order, by crates/use_order/README.md: a page of orders in JSON."""
 import json
 
-from lib import languages, placed
+from lib import placed
 from lib.described import Case, pattern
 from lib.faults import REQUIRED, between, chars, items, prefix
 from lib.form import Checked, Closed, ListUnder, Member, Nullish, Object, OneOf, Text, Under, Whole, read
@@ -33,7 +33,7 @@ PAGE = Object(Closed(
 
 def some(dice):
     most, form = dice.choice(((), (), (), ("1",), ("2",), ("7",), ("18446744073709551615",))), placed.some_format(dice)
-    return Case(languages.some_words(dice) + dice.choice((most + form, form + most)), *some_json(dice, PAGE))
+    return Case(dice.choice((most + form, form + most)), *some_json(dice, PAGE))
 
 
 def large():
@@ -53,20 +53,16 @@ def confirmed(order):
 
 
 def wanted(case):
-    words, tag = languages.spoken(case.words)
-    if tag is None:
-        return 2, b"", pattern(f"use_order: {languages.unknown()}\n")
-    rest, form = placed.asked(words)
-    language = languages.of_tag(tag)
+    rest, form = placed.asked(case.words)
     try:
         page, faults = read(PAGE, of_bytes(case.given))
     except NoJson as why:
-        return (2, b"", pattern(f"use_order: {languages.no_json(str(why), tag)}\n")) if form == "plain" else (2, placed.stops_at(form, "<stdin>", case.given, "not_json"), b"")
+        return (2, b"", pattern(f"use_order: {why}\n")) if form == "plain" else (2, placed.stops_at(form, "<stdin>", case.given, "not_json"), b"")
     if not faults:
         return 0, "".join(it for order in page["entries"] for it in confirmed(order)).encode("utf-8"), b""
     most = int(rest[0]) if rest else len(faults)
     more = "there are more\n" if len(faults) > most else ""
     if form == "plain":
-        return 1, (lines(faults[:most], language) + more).encode("utf-8"), b""
-    told = placed.lines(form, "<stdin>", spots_of(case.given.decode("utf-8-sig")), faults[:most], language)
+        return 1, (lines(faults[:most]) + more).encode("utf-8"), b""
+    told = placed.lines(form, "<stdin>", spots_of(case.given.decode("utf-8-sig")), faults[:most])
     return 1, told.encode("utf-8"), (f"use_order: {more}" if more else "").encode()
