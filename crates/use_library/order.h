@@ -90,10 +90,11 @@ uint8_t order_check_with(order_checker *checker,
                          size_t out_len,
                          size_t *len);
 
-/* Does what `order_check_with` does, and reports what is wrong in lines, for a log or a terminal: `out`
- * gets a line `path: message` for each fault, without codes, and the line `there are more` where there
- * are. Of bytes that are no JSON text the line says why, with line and column. It takes less time than
- * problem details.
+/* Does what `order_check_with` does, and reports what is wrong in lines: `out` gets a line
+ * `path: message` for each fault, without codes, and the line `there are more` where there are. Of bytes
+ * that are no JSON text the line says why, with line and column. It takes less time than problem details.
+ * The name of an unknown member stands in its line as the body has it, a line feed or a code of a
+ * terminal too: escape it before you show it.
  */
 uint8_t order_list_with(order_checker *checker,
                         const uint8_t *body,

@@ -69,9 +69,10 @@ impl Checker {
         self.list_with(body, Options::new())
     }
 
-    /// Checks a body, and reports what the options say, in lines for a log or a terminal: the text
-    /// of a problem is not its details, but a line `path: message` for each fault, and the line
-    /// `there are more` where there are. It takes less time than details.
+    /// Checks a body, and reports what the options say, in lines: the text of a problem is not its
+    /// details, but a line `path: message` for each fault, and the line `there are more` where there
+    /// are. It takes less time than details. The name of an unknown member stands there as the body
+    /// has it, a line feed too: escape it before you show it.
     // It is generic, so a library that has no such function is linked where nobody calls it.
     pub fn list_with<T: AsRef<[u8]> + ?Sized>(
         &mut self,

@@ -105,10 +105,11 @@ pub extern "C" fn order_check_with(
     status as u8
 }
 
-/// Does what `order_check_with` does, and reports what is wrong in lines, for a log or a terminal: `out`
-/// gets a line `path: message` for each fault, without codes, and the line `there are more` where there
-/// are. Of bytes that are no JSON text the line says why, with line and column. It takes less time than
-/// problem details.
+/// Does what `order_check_with` does, and reports what is wrong in lines: `out` gets a line
+/// `path: message` for each fault, without codes, and the line `there are more` where there are. Of bytes
+/// that are no JSON text the line says why, with line and column. It takes less time than problem details.
+/// The name of an unknown member stands in its line as the body has it, a line feed or a code of a
+/// terminal too: escape it before you show it.
 #[unsafe(no_mangle)]
 pub extern "C" fn order_list_with(
     alloc: Global,
