@@ -2,6 +2,7 @@
 mod asked;
 mod asked_rules;
 mod badge;
+mod below;
 mod contact;
 mod containers;
 mod counted;

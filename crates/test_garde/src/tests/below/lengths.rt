@@ -6,7 +6,8 @@ mod options;
 mod texts;
 mod urls;
 
-use super::{OrEnd, tells};
+use super::tells;
+use crate::tests::OrEnd;
 use garde_engines::OutOfBounds;
 use garde_engines::length::simple;
 use garde_i18n::DefaultI18n;
