@@ -5,6 +5,7 @@ ghost use Rattle.garde_tape.specs.Texts.{field_list};
 
 use crate::field::FieldValue;
 use crate::found::Found;
+use crate::name::is_same_name;
 use crate::source::Source;
 use crate::tape_members::TapeMembers;
 use crate::tree::Tree;
@@ -19,15 +20,15 @@ pub(crate) fn find_field<'t, 'a>(
 {
     let mut first = None;
     for field in fields {
-        if field.0 == name {
+        if is_same_name(field.0, name) {
             if first.is_some() {
                 return Found::Repeated;
             }
-            first = Some(field.1.tree());
+            first = Some(&field.1);
         }
     }
     match first {
-        Some(value) => Found::Once(value),
+        Some(value) => Found::Once(value.tree()),
         None => Found::Missing,
     }
 }

@@ -13,6 +13,7 @@ mod input;
 mod items;
 mod kind;
 mod members;
+mod name;
 mod node;
 mod number;
 mod parse_error;
