@@ -5,6 +5,7 @@
 mod answer;
 mod body;
 mod details;
+mod lines;
 mod loose;
 mod room;
 mod spelled;

@@ -3,6 +3,7 @@ ghost use Rattle.std.specs.Prelude.{◌≡◌, IfOk, string_bytes};
 ghost use Rattle.garde_library.specs.Checked.{lines_of, told};
 
 use crate::details::details_of;
+use crate::lines::{of_all, of_first, of_no_json};
 use garde_schema::FirstReadError;
 use std::alloc::{AllocError, Global};
 
@@ -21,7 +22,9 @@ fn lines_of(alloc: Global, read: &Result<(), FirstReadError>) -> Result<String, 
 {
     match read {
         Ok(()) | Err(FirstReadError::Memory) => Ok(String::new(alloc)),
-        Err(error) => error.to_string(alloc),
+        Err(FirstReadError::All(report)) => of_all(alloc, report),
+        Err(FirstReadError::First(report)) => of_first(alloc, report),
+        Err(FirstReadError::Parse(error)) => of_no_json(alloc, error),
     }
 }
 
