@@ -1,5 +1,5 @@
 -- The cells of a row beside the names of its columns.
-use Rattle.std.proofs.Common.{◌≡◌, ℕ, zero, suc, ◌+◌, List, [], ◌∷◌, ◌++◌, map, drop, Some, None, refl, sym, ap, ◌∙◌, arith, append_assoc, append-nil}
+use Rattle.std.proofs.Common.{◌≡◌, ◌<◌, ℕ, zero, suc, ◌+◌, length, List, [], ◌∷◌, ◌++◌, map, drop, Some, None, refl, sym, ap, ◌∙◌, arith, append_assoc, append-nil}
 use Rattle.std.proofs.lemmas.List.{map-append}
 use Rattle.std.specs.Prelude.{zip}
 use Rattle.std.specs.Borrow.{Bor}
@@ -19,6 +19,13 @@ unfolding field_at
 field_here [] i x is = cc
 field_here (f ∷ fs) zero x is = let same : x ≡ f = cc in ap (λ z. z ∷ fs) (sym same)
 field_here (f ∷ fs) (suc i) x is = field_here fs i x is
+
+-- and its place is one of theirs
+pub is_within : (fields : List (List ℕ)) (i : ℕ) (x : List ℕ) → Some x ≡ field_at fields i → i < length fields
+unfolding field_at
+is_within [] i x is = cc
+is_within (f ∷ fs) zero x is = omega arith
+is_within (f ∷ fs) (suc i) x is = let below = is_within fs i x is in omega arith
 
 -- where none is, none is left
 field_end : (fields : List (List ℕ)) (i : ℕ) → None ≡ field_at fields i → drop i fields ≡ []

@@ -1,5 +1,5 @@
 -- What the reading of a tree gives, where it is known which row the tree is.
-use Rattle.std.proofs.Common.{◌≡◌, ℕ, Bool, true, false, List, Option, Some, None, Result, Ok, Err, refl, ap, subst, ◌∙◌}
+use Rattle.std.proofs.Common.{◌≡◌, ℕ, Bool, true, false, List, Option, Some, None, Result, Ok, Err, refl, subst, ◌∙◌}
 use Rattle.std.specs.Prelude.{IfOk, if◌then◌else◌}
 use Rattle.json.specs.Json.{Json}
 use Rattle.garde_i18n.specs.Datum.{Datum}

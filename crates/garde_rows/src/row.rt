@@ -5,7 +5,7 @@ ghost use Rattle.garde_schema.specs.Forms.{forget};
 ghost use Rattle.garde_rows.specs.Rows.{AnswersRow, is_whole, row_json, row_visits};
 
 use crate::columns::Columns;
-use crate::fields::row_fields;
+use crate::fields::{ROOM, fill};
 use crate::row_form::RowForm;
 use csv::StringRecord;
 use garde::{I18n, ValidateError};
@@ -40,7 +40,8 @@ pub fn read_row<'a, 'c: 'a, F: Form<'a>, H: I18n + FormI18n>(
     ensures value { IfOk result (λ out. F.value form.now (row_json columns.now (fields_of cells.now)) ≡ Some out) }
     ensures keeps { IfOk result (λ out. F.keeps form.now out) }
 {
-    let Ok(fields) = row_fields(alloc, columns.header, cells) else {
+    let mut room = ROOM;
+    let Ok(filled) = fill(alloc, columns.header, cells, &mut room) else {
         return Err(ValidateError::Memory);
     };
     let is_whole = is_whole(columns, cells);
@@ -49,5 +50,5 @@ pub fn read_row<'a, 'c: 'a, F: Form<'a>, H: I18n + FormI18n>(
         is_whole,
         form,
     };
-    read(alloc, &row, &Tree::fields(fields.as_slice()), h)
+    read(alloc, &row, &Tree::fields(filled.held_in(&room)), h)
 }

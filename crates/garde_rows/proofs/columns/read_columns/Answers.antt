@@ -1,4 +1,4 @@
-use Rattle.std.proofs.Common.{◌≡◌, Ok, Err, ap, ◌∙◌}
+use Rattle.std.proofs.Common.{Ok, Err, ap, ◌∙◌}
 use Rattle.csv.specs.Records.{fields_of}
 use Rattle.json.specs.Find.{as_object}
 use Rattle.json.specs.Json.{Json, object}

@@ -16,7 +16,7 @@ returns-clause-answer g c =
     let texts = g.H.FormI18n.form_text c.args.h.now in
     let visits : Json → Visits = λ j. g.F.Form.visits c.args.form.now texts j in
     let same : fields_of c.columns.inside.header.now ≡ columns = cc in
-    let is_row = c.fields.ensures ∙ ap (λ fields. object (field_members fields)) c.as_slice.ensures.value ∙ c.in-Ok.ensures ∙ ap (λ columns. row_json columns cells) same in
+    let is_row = c.fields.ensures ∙ ap (λ fields. object (field_members fields)) c.held_in.ensures ∙ c.in-Ok.ensures.fields ∙ ap (λ columns. row_json columns cells) same in
     subst (λ whole. AnswersRow (under (index_part c.args.index) (if_whole texts whole (visits (row_json columns cells)))) (g.H.I18n.text c.args.h.now) (forget c.read.result))
     c.is_whole-is_whole.ensures
     (answers_row (λ j. under (index_part c.args.index) (if_whole texts c.is_whole-is_whole.result (visits j))) (g.H.I18n.text c.args.h.now) _ (row_json columns cells) (forget c.read.result) is_row c.read.ensures.answer)
@@ -25,7 +25,7 @@ pub returns-clause-value : goal.returns-clause-value
 returns-clause-value g c =
     let cells = fields_of c.args.cells.now in
     let same : fields_of c.columns.inside.header.now ≡ c.args.columns.now = cc in
-    let is_row = c.fields.ensures ∙ ap (λ fields. object (field_members fields)) c.as_slice.ensures.value ∙ c.in-Ok.ensures ∙ ap (λ columns. row_json columns cells) same in
+    let is_row = c.fields.ensures ∙ ap (λ fields. object (field_members fields)) c.held_in.ensures ∙ c.in-Ok.ensures.fields ∙ ap (λ columns. row_json columns cells) same in
     value_row c.read.result c.is_whole-is_whole.result (λ j. g.F.Form.value c.args.form.now j) _ (row_json c.args.columns.now cells) is_row c.read.ensures.value
 
 pub returns-clause-whole : goal.returns-clause-whole
