@@ -24,12 +24,14 @@ use Rattle.http.specs.declared.request.Parts.{Parts}
 use Rattle.http_header.specs.FieldValue.{FieldValue}
 use Rattle.http_header.specs.HeaderMap.{get}
 use Rattle.http.specs.Request.{head_of, body_of}
+use Rattle.http1.specs.Fields.{Header}
 use Rattle.http1.specs.Framing.{method_kind}
 use Rattle.http1.specs.Message as Wire
 use Rattle.http1.specs.Server.{is_head}
 use Rattle.http_server.specs.declared.state.Config.{Config}
 use Rattle.http_server.specs.declared.response.Response.{Response}
 use Rattle.http_server.specs.Exchange.{Call, Exchanges}
+use Rattle.http_server.specs.Response.{IsResponse}
 use Rattle.use_http.specs.declared.request.Route.{Route}
 use Rattle.use_http.specs.declared.request.Route.TheVariants.{Order, OtherForm, OtherOfOrders, Health, OtherOfHealth, Description, OtherOfDescription, Nowhere, Unserved, BadTarget}
 use Rattle.use_http.specs.Answered.{voice_at, IsAnswered, IsAnsweredSometime, AnswersRoute}
@@ -92,22 +94,10 @@ only_order Nowhere head is order = absurd (other_path (path_of head) (codes "/or
 only_order Unserved head is order = absurd (other_path (path_of head) (codes "/orders") order.0 is.0)
 only_order BadTarget head is order = absurd (other_path (path_of head) (codes "/orders") order.0 is.0)
 
--- the method is not one of health's
-other_method : (method : List ℕ) → Is method (codes "GET") ⊎ Is method (codes "HEAD") → IsNot method (codes "GET") → IsNot method (codes "HEAD") → ⊥
-other_method method is get head =
-    elim is [ inl asked ↦ true≢false (sym asked ∙ get) | inr asked ↦ true≢false (sym asked ∙ head) ]
-
-pub only_health : (route : Route) (head : Parts) → IsRoute route head → IsRoute Health head → route ≡ Health
-only_health Order head is health = absurd (not_both (path_of head) is.0 health.0)
-only_health OtherForm head is health = absurd (not_both (path_of head) is.0 health.0)
-only_health OtherOfOrders head is health = absurd (not_both (path_of head) is.0 health.0)
-only_health Health head is health = refl
-only_health OtherOfHealth head is health = absurd (other_method head.method health.1 is.1 is.2)
-only_health Description head is health = absurd (not_healthy (path_of head) health.0 is.0)
-only_health OtherOfDescription head is health = absurd (not_healthy (path_of head) health.0 is.0)
-only_health Nowhere head is health = absurd (other_path (path_of head) (codes "/health") health.0 is.1)
-only_health Unserved head is health = absurd (other_path (path_of head) (codes "/health") health.0 is.1)
-only_health BadTarget head is health = absurd (other_path (path_of head) (codes "/health") health.0 is.1)
+-- the status where no order is judged, with problem details or alone
+refused_status : (code : ℕ) (sent : List Header) (text : List ℕ) (alone : Type 0) (r : Response)
+    → IsResponse code sent text r ⊎ (alone × IsResponse code [] [] r) → r.status ≡ code
+refused_status code sent text alone r a = elim a [ inl whole ↦ whole.status | inr bare ↦ bare.1.status ]
 
 -- ---- a body has one result
 
@@ -209,38 +199,38 @@ module _ (catalogs : Catalogs) where
         (subst (λ (l : Option ℕ). HasReport catalogs l body report) (is_one_language catalogs other place head asks.1 order.1) has) read reads plain tells;
   }
 
-  by_route : (head : Parts) (body : List ℕ) (plain : Response) (sent : List ℕ) (route : Route) → IsRoute route head
-      → AnswersRoute catalogs route head body plain → sent ≡ (if is_head (method_kind head.method) then [] else plain.body.items)
+  by_route : (head : Parts) (body : List ℕ) (given plain : Response) (sent : List ℕ) (route : Route) → IsRoute route head
+      → AnswersRoute catalogs given route head body plain → sent ≡ (if is_head (method_kind head.method) then [] else plain.body.items)
       → Says head body plain.status sent
-  by_route head body plain sent Order is_route a is =
+  by_route head body given plain sent Order is_route a is =
       of_order a.0 head body plain sent (is_route, a.1) (body_sent head.method sent _ ((bytes_eq-Decides _ _).0 is_route.1) is) a.2.0 a.2.1 a.2.2
-  by_route head body plain sent OtherForm is_route a is =
-      other head body _ sent OtherForm is_route (λ e. cc) (λ e. omega (arith, e, a.status)) (λ e. omega (arith, e, a.status))
-  by_route head body plain sent OtherOfOrders is_route a is =
-      other head body _ sent OtherOfOrders is_route (λ e. cc) (λ e. omega (arith, e, a.status)) (λ e. omega (arith, e, a.status))
-  by_route head body plain sent Health is_route a is =
+  by_route head body given plain sent OtherForm is_route a is =
+      other head body _ sent OtherForm is_route (λ e. cc) (λ e. omega (arith, e, refused_status _ _ _ _ _ a)) (λ e. omega (arith, e, refused_status _ _ _ _ _ a))
+  by_route head body given plain sent OtherOfOrders is_route a is =
+      other head body _ sent OtherOfOrders is_route (λ e. cc) (λ e. omega (arith, e, refused_status _ _ _ _ _ a)) (λ e. omega (arith, e, refused_status _ _ _ _ _ a))
+  by_route head body given plain sent Health is_route a is =
       other head body _ sent Health is_route (λ e. cc) (λ e. omega (arith, e, a.status)) (λ e. omega (arith, e, a.status))
-  by_route head body plain sent OtherOfHealth is_route a is =
-      other head body _ sent OtherOfHealth is_route (λ e. cc) (λ e. omega (arith, e, a.status)) (λ e. omega (arith, e, a.status))
-  by_route head body plain sent Description is_route a is =
+  by_route head body given plain sent OtherOfHealth is_route a is =
+      other head body _ sent OtherOfHealth is_route (λ e. cc) (λ e. omega (arith, e, refused_status _ _ _ _ _ a)) (λ e. omega (arith, e, refused_status _ _ _ _ _ a))
+  by_route head body given plain sent Description is_route a is =
       other head body _ sent Description is_route (λ e. cc) (λ e. omega (arith, e, a.status)) (λ e. omega (arith, e, a.status))
-  by_route head body plain sent OtherOfDescription is_route a is =
-      other head body _ sent OtherOfDescription is_route (λ e. cc) (λ e. omega (arith, e, a.status)) (λ e. omega (arith, e, a.status))
-  by_route head body plain sent Nowhere is_route a is =
-      other head body _ sent Nowhere is_route (λ e. cc) (λ e. omega (arith, e, a.status)) (λ e. omega (arith, e, a.status))
-  by_route head body plain sent Unserved is_route a is =
-      other head body _ sent Unserved is_route (λ e. cc) (λ e. omega (arith, e, a.status)) (λ e. omega (arith, e, a.status))
-  by_route head body plain sent BadTarget is_route a is =
-      other head body _ sent BadTarget is_route (λ e. cc) (λ e. omega (arith, e, a.status)) (λ e. omega (arith, e, a.status))
+  by_route head body given plain sent OtherOfDescription is_route a is =
+      other head body _ sent OtherOfDescription is_route (λ e. cc) (λ e. omega (arith, e, refused_status _ _ _ _ _ a)) (λ e. omega (arith, e, refused_status _ _ _ _ _ a))
+  by_route head body given plain sent Nowhere is_route a is =
+      other head body _ sent Nowhere is_route (λ e. cc) (λ e. omega (arith, e, refused_status _ _ _ _ _ a)) (λ e. omega (arith, e, refused_status _ _ _ _ _ a))
+  by_route head body given plain sent Unserved is_route a is =
+      other head body _ sent Unserved is_route (λ e. cc) (λ e. omega (arith, e, refused_status _ _ _ _ _ a)) (λ e. omega (arith, e, refused_status _ _ _ _ _ a))
+  by_route head body given plain sent BadTarget is_route a is =
+      other head body _ sent BadTarget is_route (λ e. cc) (λ e. omega (arith, e, refused_status _ _ _ _ _ a)) (λ e. omega (arith, e, refused_status _ _ _ _ _ a))
 
   -- the response without its date says the same
   undated : (head : Parts) (body : List ℕ) (answer : Response) (sent : List ℕ) → IsAnsweredSometime catalogs head body answer
       → sent ≡ (if is_head (method_kind head.method) then [] else answer.body.items) → Says head body answer.status sent
   undated head body answer sent a is =
-      let plain = a.1.2 in
-      subst (λ (n : ℕ). Says head body n sent) (sym a.1.4.0)
-      (by_route head body plain sent a.1.0 a.1.1 a.1.3
-      (subst (λ (t : List ℕ). sent ≡ (if is_head (method_kind head.method) then [] else t)) (ap (λ b. b.items) a.1.4.1) is))
+      let plain = a.2.2 in
+      subst (λ (n : ℕ). Says head body n sent) (sym a.2.4.0)
+      (by_route head body a.1 plain sent a.2.0 a.2.1 a.2.3
+      (subst (λ (t : List ℕ). sent ≡ (if is_head (method_kind head.method) then [] else t)) (ap (λ b. b.items) a.2.4.1) is))
 
   pub exchange_fits : (config : Config) (stays : Bool) (stream text rest : List ℕ) (c : Call) → (IsServiced catalogs) c
       → Exchanges config stays stream c text rest → IsExchange catalogs config stays stream text rest
@@ -287,17 +277,18 @@ module _ (catalogs : Catalogs) where
   read_stays voice (Err (Parse error)) r tells = λ e. omega (arith, e, tells.status)
   read_stays voice (Err Memory) r tells = absurd tells
 
-  stays_http : (route : Route) (head : Parts) (body : List ℕ) (plain : Response) → AnswersRoute catalogs route head body plain → plain.status ≢ 101
-  stays_http Order head body plain a = read_stays (voice_at catalogs a.0) a.2.0 plain a.2.2
-  stays_http OtherForm head body plain a = λ e. omega (arith, e, a.status)
-  stays_http OtherOfOrders head body plain a = λ e. omega (arith, e, a.status)
-  stays_http Health head body plain a = λ e. omega (arith, e, a.status)
-  stays_http OtherOfHealth head body plain a = λ e. omega (arith, e, a.status)
-  stays_http Description head body plain a = λ e. omega (arith, e, a.status)
-  stays_http OtherOfDescription head body plain a = λ e. omega (arith, e, a.status)
-  stays_http Nowhere head body plain a = λ e. omega (arith, e, a.status)
-  stays_http Unserved head body plain a = λ e. omega (arith, e, a.status)
-  stays_http BadTarget head body plain a = λ e. omega (arith, e, a.status)
+  stays_http : (route : Route) (head : Parts) (body : List ℕ) (given plain : Response) → AnswersRoute catalogs given route head body plain
+      → plain.status ≢ 101
+  stays_http Order head body given plain a = read_stays (voice_at catalogs a.0) a.2.0 plain a.2.2
+  stays_http OtherForm head body given plain a = λ e. omega (arith, e, refused_status _ _ _ _ _ a)
+  stays_http OtherOfOrders head body given plain a = λ e. omega (arith, e, refused_status _ _ _ _ _ a)
+  stays_http Health head body given plain a = λ e. omega (arith, e, a.status)
+  stays_http OtherOfHealth head body given plain a = λ e. omega (arith, e, refused_status _ _ _ _ _ a)
+  stays_http Description head body given plain a = λ e. omega (arith, e, a.status)
+  stays_http OtherOfDescription head body given plain a = λ e. omega (arith, e, refused_status _ _ _ _ _ a)
+  stays_http Nowhere head body given plain a = λ e. omega (arith, e, refused_status _ _ _ _ _ a)
+  stays_http Unserved head body given plain a = λ e. omega (arith, e, refused_status _ _ _ _ _ a)
+  stays_http BadTarget head body given plain a = λ e. omega (arith, e, refused_status _ _ _ _ _ a)
 
   pub never_upgrades : (c : Call) → (IsServiced catalogs) c → c.1.status ≢ 101
-  never_upgrades c a = λ e. stays_http a.1.0 _ _ a.1.2 a.1.3 (sym a.1.4.0 ∙ e)
+  never_upgrades c a = λ e. stays_http a.2.0 _ _ a.1 a.2.2 a.2.3 (sym a.2.4.0 ∙ e)
