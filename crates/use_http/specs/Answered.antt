@@ -1,5 +1,5 @@
 -- What is answered to a request.
-use Rattle.std.specs.Prelude.{ℕ, List, [], ◌∷◌, ◌++◌, codes, Option}
+use Rattle.std.specs.Prelude.{ℕ, ◌⊎◌, List, [], ◌∷◌, ◌++◌, length, codes, Option}
 use Rattle.garde_catalog.specs.Catalog.{catalog_text}
 use Rattle.garde_catalog.specs.Catalogs.{catalog_at, tag_at}
 use Rattle.garde_catalog.specs.Forms.{catalog_form_text}
@@ -8,6 +8,9 @@ use Rattle.garde_catalog.specs.declared.catalog.Catalog.{Catalog}
 use Rattle.garde_catalog.specs.declared.catalogs.Catalogs.{Catalogs}
 use Rattle.garde_problem.specs.CodedText.{datum_message}
 use Rattle.garde_schema.specs.FormCode.{form_message}
+use Rattle.garde_service.specs.Asked.{IsLanguage}
+use Rattle.garde_service.specs.Dated.{IsDated}
+use Rattle.garde_service.specs.Room.{HasRoom}
 use Rattle.http.specs.declared.request.Parts.{Parts}
 use Rattle.http1.specs.Fields.{Header}
 use Rattle.http_server.specs.declared.response.Response.{Response}
@@ -18,10 +21,9 @@ use Rattle.use_http.specs.declared.request.Route.{Route}
 use Rattle.use_http.specs.declared.request.Route.TheVariants.{Order, OtherForm, OtherOfOrders, Health, OtherOfHealth, Description, OtherOfDescription, Nowhere, Unserved, BadTarget}
 use Rattle.use_http.specs.declared.refused.Refused.{Refused}
 use Rattle.use_http.specs.declared.refused.Refused.TheVariants.{BadRequest, NotFound, MethodNotAllowed, UnsupportedMediaType, NotImplemented}
-use Rattle.use_http.specs.Dated.{IsDated}
 use Rattle.use_http.specs.Judged.{Judges, Voice, problem_fields}
 use Rattle.use_http.specs.Refused.{status_of, problem_of}
-use Rattle.use_http.specs.Request.{IsLanguage, IsRoute}
+use Rattle.use_http.specs.Request.{IsRoute}
 
 -- what is said by a catalog, under this tag: codes beside its texts of faults, and its texts of what is not read as JSON
 abbrev pub voice : Catalog → List ℕ → Voice
@@ -45,30 +47,36 @@ IsJudged catalogs head body response =
 abbrev pub json_fields : List Header
 json_fields = (codes "content-type", codes "application/json") ∷ []
 
--- no order is judged, for this reason, with these fields beside the type of the body
-abbrev pub Refuses : Refused → List Header → Response → Type 0
-Refuses why fields response = IsResponse (status_of why) (problem_fields ++ fields) (problem_of why) response
+-- No order is judged, for this reason: problem details, with these fields beside the type of the body. Where the response that was given
+-- had no room for them, it may be the status alone.
+abbrev pub Refuses : Response → Refused → List Header → Response → Type 0
+Refuses given why fields response =
+    IsResponse (status_of why) (problem_fields ++ fields) (problem_of why) response
+    ⊎ (¬ (HasRoom (length (problem_fields ++ fields)) (length (problem_of why)) given) × IsResponse (status_of why) [] [] response)
 
--- the answer to a request for this, without a date
-abbrev pub AnswersRoute : Catalogs → Route → Parts → List ℕ → Response → Type 0
-AnswersRoute catalogs Order head body response = IsJudged catalogs head body response
-AnswersRoute catalogs OtherForm head body response =
-    Refuses UnsupportedMediaType ((codes "accept", codes "application/json") ∷ []) response
-AnswersRoute catalogs OtherOfOrders head body response = Refuses MethodNotAllowed ((codes "allow", codes "POST") ∷ []) response
-AnswersRoute catalogs Health head body response = IsResponse 200 [] [] response
-AnswersRoute catalogs OtherOfHealth head body response = Refuses MethodNotAllowed ((codes "allow", codes "GET, HEAD") ∷ []) response
-AnswersRoute catalogs Description head body response = IsResponse 200 json_fields OPEN_API.now response
-AnswersRoute catalogs OtherOfDescription head body response = Refuses MethodNotAllowed ((codes "allow", codes "GET, HEAD") ∷ []) response
-AnswersRoute catalogs Nowhere head body response = Refuses NotFound [] response
-AnswersRoute catalogs Unserved head body response = Refuses NotImplemented [] response
-AnswersRoute catalogs BadTarget head body response = Refuses BadRequest [] response
+-- the answer to a request for this, in the response that was given, without a date
+abbrev pub AnswersRoute : Catalogs → Response → Route → Parts → List ℕ → Response → Type 0
+AnswersRoute catalogs given Order head body response = IsJudged catalogs head body response
+AnswersRoute catalogs given OtherForm head body response =
+    Refuses given UnsupportedMediaType ((codes "accept", codes "application/json") ∷ []) response
+AnswersRoute catalogs given OtherOfOrders head body response = Refuses given MethodNotAllowed ((codes "allow", codes "POST") ∷ []) response
+AnswersRoute catalogs given Health head body response = IsResponse 200 [] [] response
+AnswersRoute catalogs given OtherOfHealth head body response =
+    Refuses given MethodNotAllowed ((codes "allow", codes "GET, HEAD") ∷ []) response
+AnswersRoute catalogs given Description head body response = IsResponse 200 json_fields OPEN_API.now response
+AnswersRoute catalogs given OtherOfDescription head body response =
+    Refuses given MethodNotAllowed ((codes "allow", codes "GET, HEAD") ∷ []) response
+AnswersRoute catalogs given Nowhere head body response = Refuses given NotFound [] response
+AnswersRoute catalogs given Unserved head body response = Refuses given NotImplemented [] response
+AnswersRoute catalogs given BadTarget head body response = Refuses given BadRequest [] response
 
--- the answer to a request with this head and this body, at this date
-abbrev pub IsAnswered : Catalogs → Option HttpDate → Parts → List ℕ → Response → Type 0
-IsAnswered catalogs date head body response =
+-- the answer to a request with this head and this body, at this date, in the response that was given
+abbrev pub IsAnswered : Catalogs → Option HttpDate → Response → Parts → List ℕ → Response → Type 0
+IsAnswered catalogs date given head body response =
     (route : Route) × IsRoute route head
-    × (plain : Response) × AnswersRoute catalogs route head body plain × IsDated date plain response
+    × (plain : Response) × AnswersRoute catalogs given route head body plain × IsDated date plain response
 
--- the answer at some date
+-- the answer at some date, in a response with some room
 abbrev pub IsAnsweredSometime : Catalogs → Parts → List ℕ → Response → Type 0
-IsAnsweredSometime catalogs head body response = (date : Option HttpDate) × IsAnswered catalogs date head body response
+IsAnsweredSometime catalogs head body response =
+    (date : Option HttpDate) × (given : Response) × IsAnswered catalogs date given head body response

@@ -1,40 +1,50 @@
 //! The service: what is answered to each request.
-ghost use Rattle.std.specs.Prelude.{◌≡◌, ◌≢◌, ◌+◌, ◌≤◌, [], ◌∷◌, ◌++◌, IsOk, IsTrue, OnOk, codes};
+ghost use Rattle.std.specs.Prelude.{◌≡◌, ◌≢◌, [], ◌∷◌, ◌++◌, IsOk, IsTrue, OnOk, codes, length};
+ghost use Rattle.garde_service.specs.Room.{HasRoom};
 ghost use Rattle.http.specs.Request.{head_of, body_of};
 ghost use Rattle.http_header.specs.FieldValue.{is_visible_text};
 ghost use Rattle.http_server.specs.Response.{IsBlank, IsResponse};
-ghost use Rattle.use_http.specs.Answered.{AnswersRoute, IsAnswered, IsAnsweredSometime, IsJudged, json_fields};
+ghost use Rattle.use_http.specs.Answered.{AnswersRoute, IsAnswered, IsJudged, Refuses, json_fields};
 ghost use Rattle.use_http.specs.Judged.{problem_fields};
-ghost use Rattle.use_http.specs.Refused.{status_of, problem_of};
+ghost use Rattle.use_http.specs.Laws.{never_upgrades};
+ghost use Rattle.use_http.specs.Promised.{IsPromised};
+ghost use Rattle.use_http.specs.Refused.{refused_of, status_of, problem_of};
 ghost use Rattle.use_http.specs.Request.{IsRoute};
-ghost use Rattle.use_http.specs.Room.{HasRoom, field_room};
 
-use crate::answer::{judge, put_field, put_problem, put_text};
-use crate::date::{date_of, put_date};
+use crate::answer::{judge, put_problem};
 use crate::description::OPEN_API;
 use crate::refused::Refused;
-use crate::request::{Route, language_of, route_of};
-use bytes::{BufMut, Bytes};
+use crate::request::{Route, route_of};
+use bytes::Bytes;
 use garde_catalog::Catalogs;
+use garde_service::{Body, Handler, Rejected, date_of, language_of, put_date, put_field, put_text};
 use http::{HeaderName, Request, StatusCode, header};
-use http_server::{Response, Service};
+use http_server::Response;
 use httpdate::HttpDate;
 use std::alloc::{AllocError, Global};
 use std::time::Clock;
 
-/// Answers that no order is judged.
-fn put_refused(response: &mut Response, why: Refused) -> Result<(), AllocError>
-    requires { IsBlank response.old }
-    ensures told { OnOk result (IsResponse (status_of why) problem_fields (problem_of why) response.new) }
-    ensures room { HasRoom 1 128 response.old → IsOk result }
-    ensures takes { field_room response.old ≤ field_room response.new + 1 }
+/// Answers with the status alone, which takes no memory.
+fn put_status(response: &mut Response, why: Refused)
+    ensures { IsResponse (status_of why) [] [] response.new }
 {
-    put_problem(response, why.status(), why.problem())
+    response.clear();
+    response.status = why.status();
 }
 
-/// Answers that no order is judged, and what there is in its place: the methods of the path, or the
-/// form of a body.
-fn put_offer(
+/// Answers that no order is judged. Where there is no memory for that, the answer is the status alone.
+fn put_refused(response: &mut Response, why: Refused)
+    requires { IsBlank response.old }
+    ensures { Refuses response.old why [] response.new }
+{
+    if put_problem(response, why.status(), why.problem()).is_err() {
+        put_status(response, why);
+    }
+}
+
+/// Puts problem details, and the field behind them. It allocates nothing where the response has room
+/// for them.
+fn put_offered(
     response: &mut Response,
     why: Refused,
     name: HeaderName,
@@ -44,10 +54,22 @@ fn put_offer(
     requires value { IsTrue (is_visible_text offer.now) }
     ensures told { OnOk result (IsResponse (status_of why)
         (problem_fields ++ (name, offer.now) ∷ []) (problem_of why) response.new) }
-    ensures room { HasRoom 2 128 response.old → IsOk result }
+    ensures room { HasRoom 2 (length (problem_of why)) response.old → IsOk result }
 {
-    put_refused(response, why)?;
+    put_problem(response, why.status(), why.problem())?;
     put_field(response, name, offer)
+}
+
+/// Answers that no order is judged, and what there is in its place: the methods of the path, or the
+/// form of a body. Where there is no memory for that, the answer is the status alone.
+fn put_offer(response: &mut Response, why: Refused, name: HeaderName, offer: &'static str)
+    requires blank { IsBlank response.old }
+    requires value { IsTrue (is_visible_text offer.now) }
+    ensures { Refuses response.old why ((name, offer.now) ∷ []) response.new }
+{
+    if put_offered(response, why, name, offer).is_err() {
+        put_status(response, why);
+    }
 }
 
 /// Answers with the description of the service.
@@ -84,34 +106,30 @@ fn answer_route(
     response: &mut Response,
 ) -> Result<(), AllocError>
     requires { IsBlank response.old }
-    ensures told { OnOk result (AnswersRoute catalogs.now route (head_of request.now) (body_of request.now)
-        response.new) }
-    ensures health { route ≡ Route.Health → IsOk result }
-    ensures room { HasRoom 2 128 response.old → route ≢ Route.Order → route ≢ Route.Description
-        → IsOk result }
+    ensures told { OnOk result (AnswersRoute catalogs.now response.old route (head_of request.now)
+        (body_of request.now) response.new) }
+    ensures given { route ≢ Route.Order → route ≢ Route.Description → IsOk result }
 {
-    let other = Refused::MethodNotAllowed;
+    let (form, method) = (Refused::UnsupportedMediaType, Refused::MethodNotAllowed);
     match route {
-        Route::Order => judge_order(alloc, catalogs, request, response),
-        Route::OtherForm => {
-            let why = Refused::UnsupportedMediaType;
-            put_offer(response, why, header::ACCEPT, "application/json")
-        }
-        Route::OtherOfOrders => put_offer(response, other, header::ALLOW, "POST"),
-        Route::Health => Ok(()),
-        Route::OtherOfHealth => put_offer(response, other, header::ALLOW, "GET, HEAD"),
-        Route::Description => put_description(response),
-        Route::OtherOfDescription => put_offer(response, other, header::ALLOW, "GET, HEAD"),
+        Route::Order => judge_order(alloc, catalogs, request, response)?,
+        Route::OtherForm => put_offer(response, form, header::ACCEPT, "application/json"),
+        Route::OtherOfOrders => put_offer(response, method, header::ALLOW, "POST"),
+        Route::Health => {}
+        Route::OtherOfHealth => put_offer(response, method, header::ALLOW, "GET, HEAD"),
+        Route::Description => put_description(response)?,
+        Route::OtherOfDescription => put_offer(response, method, header::ALLOW, "GET, HEAD"),
         Route::Nowhere => put_refused(response, Refused::NotFound),
         Route::Unserved => put_refused(response, Refused::NotImplemented),
         Route::BadTarget => put_refused(response, Refused::BadRequest),
     }
+    Ok(())
 }
 
 /// Fills a blank response with the answer to a request, at this date, in the language that the request
-/// asks for. Whether the service runs is always answered: that takes no memory. What is neither an order
-/// in JSON nor a request for the description takes none but room for two fields and a body of 128 bytes:
-/// it is always answered where the response has that.
+/// asks for. Where an order is judged or the description is asked for, it may be out of memory. Each
+/// other request is always answered: where the response has no room for problem details and there is
+/// no memory for more, by the status alone.
 pub fn answer(
     alloc: Global,
     catalogs: &Catalogs,
@@ -120,27 +138,15 @@ pub fn answer(
     response: &mut Response,
 ) -> Result<(), AllocError>
     requires { IsBlank response.old }
-    ensures told { OnOk result (IsAnswered catalogs.now date (head_of request.now) (body_of request.now)
-        response.new) }
-    ensures health { IsRoute Route.Health (head_of request.now) → IsOk result }
-    ensures room { HasRoom 2 128 response.old → ¬ (IsRoute Route.Order (head_of request.now))
+    ensures told { OnOk result (IsAnswered catalogs.now date response.old (head_of request.now)
+        (body_of request.now) response.new) }
+    ensures given { ¬ (IsRoute Route.Order (head_of request.now))
         → ¬ (IsRoute Route.Description (head_of request.now)) → IsOk result }
 {
     let route = route_of(request);
     answer_route(alloc, catalogs, route, request, response)?;
     put_date(alloc, date, response);
     Ok(())
-}
-
-/// Asks for the room that an answer takes in which no order is judged, and for a date. A response that
-/// is cleared keeps it, so a connection asks once.
-pub fn make_room(response: &mut Response) -> Result<(), AllocError>
-    requires { IsBlank response.old }
-    ensures blank { IsBlank response.new }
-    ensures room { OnOk result (HasRoom 2 128 response.new) }
-{
-    response.headers.reserve(3)?;
-    response.body.reserve(128)
 }
 
 /// Judges orders. It keeps nothing from one request to the next.
@@ -153,17 +159,13 @@ pub struct Orders<'a, C> {
     pub catalogs: &'a Catalogs,
 }
 
-impl<'a, C: Clock> Service for Orders<'a, C> {
-    ghost answers = { λ old request response new. (new.catalogs.now ≡ old.catalogs.now)
-        × IsAnsweredSometime old.catalogs.now (head_of request) (body_of request) response };
+impl<'a, C: Clock> Handler for Orders<'a, C> {
+    ghost is_answered = { λ orders head body response.
+        IsPromised orders.catalogs.now head body response };
 
-    fn call(
-        &mut self,
-        request: &Request<Bytes>,
-        response: &mut Response,
-    ) -> Result<(), AllocError> {
-        // Without that room some answers still need none.
-        let _ = make_room(response);
+    ghost rejects = { λ _ why. (codes "application/problem+json", problem_of (refused_of why)) };
+
+    fn answer(&self, request: &Request<Bytes>, response: &mut Response) -> Result<(), AllocError> {
         answer(
             self.alloc,
             self.catalogs,
@@ -172,4 +174,14 @@ impl<'a, C: Clock> Service for Orders<'a, C> {
             response,
         )
     }
+
+    fn rejected(&self, why: Rejected) -> Body {
+        Body {
+            media: "application/problem+json",
+            text: Refused::of(why).problem(),
+        }
+    }
+
+    ghost stays = { λ orders head body response promised.
+        never_upgrades orders.catalogs.now head body response promised };
 }
