@@ -58,20 +58,20 @@ TEXTS = texts()
 LANGUAGES = {tag: language(said, TEXTS["en"]) for tag, said in TEXTS.items()}
 
 
-def tag_of(given):
+def tag_of(given, tags=(*LANGUAGES, *OTHER_TAGS)):
     """The tag that is offered and that a range asks for: the longest that cutting subtags off its end comes to."""
     subtags = given.lower().split("-")
-    offered = {tag.lower(): tag for tag in (*LANGUAGES, *OTHER_TAGS)}
+    offered = {tag.lower(): tag for tag in tags}
     return next((offered["-".join(subtags[:count])] for count in range(len(subtags), 0, -1) if "-".join(subtags[:count]) in offered), None)
 
 
-def asked(field):
-    """The tag that a field asks for: of the greatest weight, the first. An element that is not of the grammar is passed over."""
+def asked(field, tags=(*LANGUAGES, *OTHER_TAGS)):
+    """The tag that a field asks for, of these: of the greatest weight, the first. An element that is not of the grammar is passed over."""
     best, most = None, 0.0
     for element in field.split(","):
         found = RANGE.fullmatch(element)
         weight = float(found.group(2) or 1) if found else 0.0
-        if weight > most and (tag := tag_of(found.group(1))):
+        if weight > most and (tag := tag_of(found.group(1), tags)):
             best, most = tag, weight
     return best
 

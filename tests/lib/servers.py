@@ -17,14 +17,14 @@ class Plain(socketserver.ThreadingTCPServer):
     daemon_threads = True
     request_queue_size = 128
 
-    def __init__(self, program):
-        self.program = program
+    def __init__(self, command):
+        self.command = command
         super().__init__(("127.0.0.1", 0), Started)
 
 
 class Started(socketserver.BaseRequestHandler):
     def handle(self):
-        subprocess.run([self.server.program], stdin=self.request.fileno(), stdout=self.request.fileno())
+        subprocess.run(self.server.command, stdin=self.request.fileno(), stdout=self.request.fileno())
 
 
 def free_port():
@@ -42,10 +42,10 @@ def listening(port):
     sys.exit(f"served: no server on port {port}")
 
 
-def words_of(name, port, program, folder):
+def words_of(name, port, program, words, folder):
     """The command of a server."""
     if name == "socat":
-        return ["socat", f"TCP-LISTEN:{port},bind=127.0.0.1,fork,reuseaddr,backlog=128", f"EXEC:{program}"]
+        return ["socat", f"TCP-LISTEN:{port},bind=127.0.0.1,fork,reuseaddr,backlog=128", "EXEC:" + " ".join([str(program), *words])]
     if name == "systemd-socket-activate":
         return [name, "--inetd", "--accept", f"--listen=127.0.0.1:{port}", str(program)]
     config = pathlib.Path(folder, "inetd.conf")
@@ -54,24 +54,25 @@ def words_of(name, port, program, folder):
 
 
 @contextlib.contextmanager
-def plain(program):
+def plain(program, words):
     print("served: socat is not there: a server in Python runs the program for each connection")
-    with Plain(program) as server:
+    with Plain([program, *words]) as server:
         threading.Thread(target=server.serve_forever, daemon=True).start()
         yield server.server_address[1]
         server.shutdown()
 
 
 @contextlib.contextmanager
-def started_by(name, program):
-    """The port of a server of this name, while it runs; none where it is not there. In place of `socat` stands another server."""
+def started_by(name, program, words=()):
+    """The port of a server of this name, while it runs; none where it is not there. In place of `socat` stands another server. `socat`
+    alone gives the program words."""
     if not shutil.which(name):
-        with plain(program) if name == "socat" else contextlib.nullcontext() as port:
+        with plain(program, words) if name == "socat" else contextlib.nullcontext() as port:
             yield port
         return
     with tempfile.TemporaryDirectory() as folder:
         port = free_port()
-        server = subprocess.Popen(words_of(name, port, program, folder), stderr=subprocess.DEVNULL)
+        server = subprocess.Popen(words_of(name, port, program, words, folder), stderr=subprocess.DEVNULL)
         try:
             yield listening(port)
         finally:

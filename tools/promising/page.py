@@ -10,8 +10,8 @@ COLUMNS = "| function | what it promises | clauses | tests | mutants |\n|---|---
 OTHERS = "| other function | mutants |\n|---|---|\n"
 # crates that tests reach through C alone
 THROUGH_C = ("garde_library", "example_order", "use_library")
-# a program that is no program to copy, and a crate that tests reach through the runs of such a program
-THROUGH_RUNS = ("garde_check", "example_table")
+# a program that is no program to copy, and crates that tests reach through the runs of programs
+THROUGH_RUNS = ("garde_check", "garde_service", "example_table")
 REASONS = ("C", "law", "run", "safe")
 
 

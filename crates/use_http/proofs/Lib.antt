@@ -1,4 +1,2 @@
-pub mod Chunk
-pub mod Picked
 pub mod Fitting
-pub mod Talk
+pub mod Theorems

@@ -8,6 +8,9 @@ use Rattle.garde_catalog.specs.declared.catalog.Catalog.{Catalog}
 use Rattle.garde_catalog.specs.declared.catalogs.Catalogs.{Catalogs}
 use Rattle.garde_problem.specs.CodedText.{datum_message}
 use Rattle.garde_schema.specs.FormCode.{form_message}
+use Rattle.garde_service.specs.Asked.{IsLanguage}
+use Rattle.garde_service.specs.Dated.{IsDated}
+use Rattle.garde_service.specs.Room.{HasRoom}
 use Rattle.http.specs.declared.request.Parts.{Parts}
 use Rattle.http1.specs.Fields.{Header}
 use Rattle.http_server.specs.declared.response.Response.{Response}
@@ -18,11 +21,9 @@ use Rattle.use_http.specs.declared.request.Route.{Route}
 use Rattle.use_http.specs.declared.request.Route.TheVariants.{Order, OtherForm, OtherOfOrders, Health, OtherOfHealth, Description, OtherOfDescription, Nowhere, Unserved, BadTarget}
 use Rattle.use_http.specs.declared.refused.Refused.{Refused}
 use Rattle.use_http.specs.declared.refused.Refused.TheVariants.{BadRequest, NotFound, MethodNotAllowed, UnsupportedMediaType, NotImplemented}
-use Rattle.use_http.specs.Dated.{IsDated}
 use Rattle.use_http.specs.Judged.{Judges, Voice, problem_fields}
 use Rattle.use_http.specs.Refused.{status_of, problem_of}
-use Rattle.use_http.specs.Request.{IsLanguage, IsRoute}
-use Rattle.use_http.specs.Room.{HasRoom}
+use Rattle.use_http.specs.Request.{IsRoute}
 
 -- what is said by a catalog, under this tag: codes beside its texts of faults, and its texts of what is not read as JSON
 abbrev pub voice : Catalog → List ℕ → Voice

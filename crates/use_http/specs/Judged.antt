@@ -11,6 +11,7 @@ use Rattle.garde_schema.specs.Bytes.{AnswersBytes}
 use Rattle.garde_schema.specs.declared.read_error.ReadError.{ReadError}
 use Rattle.garde_schema.specs.declared.read_error.ReadError.TheVariants.{Parse, Report, Memory}
 use Rattle.garde_schema.specs.Forms.{FormTexts}
+use Rattle.garde_service.specs.Said.{language_fields}
 use Rattle.http1.specs.Fields.{Header}
 use Rattle.http_server.specs.declared.response.Response.{Response}
 use Rattle.http_server.specs.Response.{IsResponse}
@@ -19,10 +20,6 @@ use Rattle.use_http.specs.Order.{order_visits}
 -- the field that says that a body is problem details
 abbrev pub problem_fields : List Header
 problem_fields = (codes "content-type", codes "application/problem+json") ∷ []
-
--- the fields of an answer in the language of this tag: which it is, and that it depends on what the request asks for
-abbrev pub language_fields : List ℕ → List Header
-language_fields tag = (codes "content-language", tag) ∷ (codes "vary", codes "accept-language") ∷ []
 
 -- the problem details of an order with these faults
 abbrev pub faults_text : List Entry → List ℕ

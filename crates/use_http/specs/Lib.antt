@@ -1,11 +1,7 @@
 pub mod Answered
-pub mod Dated
-pub mod Ending
-pub mod Fits
 pub mod Judged
+pub mod Laws
 pub mod Order
-pub mod Reasons
+pub mod Promised
 pub mod Refused
 pub mod Request
-pub mod Room
-pub mod Wire

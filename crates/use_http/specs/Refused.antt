@@ -1,9 +1,7 @@
 -- The answers in which no order is judged.
-use Rattle.std.specs.Prelude.{ℕ, List, ◌++◌, length, codes, Option, Some, None}
-use Rattle.std.specs.Fmt.{decimal}
-use Rattle.httpdate.specs.Date.{date_text}
-use Rattle.httpdate.specs.declared.date.HttpDate.{HttpDate}
-use Rattle.use_http.specs.declared.refusal.TheConstants as plain
+use Rattle.std.specs.Prelude.{ℕ, List, codes}
+use Rattle.garde_service.specs.declared.rejected.Rejected.{Rejected}
+use Rattle.garde_service.specs.declared.rejected.Rejected.TheVariants as rejected
 use Rattle.use_http.specs.declared.refused.Refused.{Refused}
 use Rattle.use_http.specs.declared.refused.Refused.TheVariants.{BadRequest, NotFound, MethodNotAllowed, ContentTooLarge, UriTooLong, UnsupportedMediaType, FieldsTooLarge, InternalServerError, NotImplemented, VersionNotSupported}
 
@@ -19,18 +17,15 @@ status_of InternalServerError = 500
 status_of NotImplemented = 501
 status_of VersionNotSupported = 505
 
--- the status and its phrase
-abbrev pub title_of : Refused → List ℕ
-title_of BadRequest = codes "400 Bad Request"
-title_of NotFound = codes "404 Not Found"
-title_of MethodNotAllowed = codes "405 Method Not Allowed"
-title_of ContentTooLarge = codes "413 Content Too Large"
-title_of UriTooLong = codes "414 URI Too Long"
-title_of UnsupportedMediaType = codes "415 Unsupported Media Type"
-title_of FieldsTooLarge = codes "431 Request Header Fields Too Large"
-title_of InternalServerError = codes "500 Internal Server Error"
-title_of NotImplemented = codes "501 Not Implemented"
-title_of VersionNotSupported = codes "505 HTTP Version Not Supported"
+-- the reason for a request that is rejected before the service sees it
+abbrev pub refused_of : Rejected → Refused
+refused_of rejected.BadRequest = BadRequest
+refused_of rejected.ContentTooLarge = ContentTooLarge
+refused_of rejected.UriTooLong = UriTooLong
+refused_of rejected.FieldsTooLarge = FieldsTooLarge
+refused_of rejected.InternalServerError = InternalServerError
+refused_of rejected.NotImplemented = NotImplemented
+refused_of rejected.VersionNotSupported = VersionNotSupported
 
 -- the problem details
 abbrev pub problem_of : Refused → List ℕ

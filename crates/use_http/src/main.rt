@@ -4,19 +4,17 @@
 
 mod answer;
 mod command;
-mod date;
 mod description;
 mod order;
-mod refusal;
 mod refused;
 mod request;
 mod service;
-mod wire;
 
 use crate::command::{Command, USAGE, command_of};
-use crate::wire::answer_all;
+use crate::service::Orders;
 use anyhow::{Context, Result, bail};
 use garde_catalog::{Catalogs, languages};
+use garde_service::answer_all;
 use http_server::{Config, Reason, State};
 use std::hash::RandomState;
 use std::io::BufWriter;
@@ -35,18 +33,15 @@ fn run(rt: &HostRuntime, most: usize, dates: bool) -> Result<ExitCode> {
     let clock = dates.then_some(rt);
     let offered = languages();
     let catalogs = Catalogs::new(alloc, &offered, offered[0])?;
+    let orders = Orders {
+        alloc,
+        clock,
+        catalogs: &catalogs,
+    };
     let keys = RandomState::new(rt)?;
     let mut output = BufWriter::new(alloc, io::writer(rt))?;
     let mut input = rt.stdin();
-    match answer_all(
-        alloc,
-        keys,
-        config,
-        clock,
-        &catalogs,
-        &mut input,
-        &mut output,
-    )? {
+    match answer_all(alloc, keys, config, clock, &orders, &mut input, &mut output)? {
         State::Closing(Reason::Asked | Reason::EndOfInput) => Ok(ExitCode::SUCCESS),
         State::Closing(Reason::Refused(_)) => Ok(ExitCode::FAILURE),
         _ => bail!("out of memory"),

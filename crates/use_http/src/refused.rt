@@ -1,6 +1,7 @@
 //! The answers in which no order is judged: problem details (RFC 9457) that say no more than the status.
 ghost use Rattle.std.specs.Prelude.{◌≡◌, ◌≤◌, length};
 
+use garde_service::Rejected;
 use http::StatusCode;
 
 /// Why no order is judged.
@@ -29,7 +30,7 @@ pub enum Refused {
 }
 
 impl Refused {
-    ghost use Rattle.use_http.specs.Refused.{status_of, title_of, problem_of};
+    ghost use Rattle.use_http.specs.Refused.{status_of, problem_of, refused_of};
 
     /// The status (RFC 9110, section 15).
     pub fn status(self) -> StatusCode
@@ -49,21 +50,18 @@ impl Refused {
         }
     }
 
-    /// The status and its phrase, as a status line has them (RFC 9110, section 15).
-    pub fn title(self) -> &'static str
-        ensures { result.now ≡ title_of self }
+    /// The reason for a request that is rejected before the service sees it.
+    pub fn of(why: Rejected) -> Refused
+        ensures { result ≡ refused_of why }
     {
-        match self {
-            Refused::BadRequest => "400 Bad Request",
-            Refused::NotFound => "404 Not Found",
-            Refused::MethodNotAllowed => "405 Method Not Allowed",
-            Refused::ContentTooLarge => "413 Content Too Large",
-            Refused::UriTooLong => "414 URI Too Long",
-            Refused::UnsupportedMediaType => "415 Unsupported Media Type",
-            Refused::FieldsTooLarge => "431 Request Header Fields Too Large",
-            Refused::InternalServerError => "500 Internal Server Error",
-            Refused::NotImplemented => "501 Not Implemented",
-            Refused::VersionNotSupported => "505 HTTP Version Not Supported",
+        match why {
+            Rejected::BadRequest => Refused::BadRequest,
+            Rejected::ContentTooLarge => Refused::ContentTooLarge,
+            Rejected::UriTooLong => Refused::UriTooLong,
+            Rejected::FieldsTooLarge => Refused::FieldsTooLarge,
+            Rejected::InternalServerError => Refused::InternalServerError,
+            Rejected::NotImplemented => Refused::NotImplemented,
+            Rejected::VersionNotSupported => Refused::VersionNotSupported,
         }
     }
 

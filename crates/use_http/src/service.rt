@@ -1,23 +1,25 @@
 //! The service: what is answered to each request.
-ghost use Rattle.std.specs.Prelude.{◌≡◌, ◌≢◌, [], ◌∷◌, ◌++◌, IsOk, IsTrue, OnOk, length};
+ghost use Rattle.std.specs.Prelude.{◌≡◌, ◌≢◌, [], ◌∷◌, ◌++◌, IsOk, IsTrue, OnOk, codes, length};
+ghost use Rattle.garde_service.specs.Room.{HasRoom};
 ghost use Rattle.http.specs.Request.{head_of, body_of};
 ghost use Rattle.http_header.specs.FieldValue.{is_visible_text};
 ghost use Rattle.http_server.specs.Response.{IsBlank, IsResponse};
-ghost use Rattle.use_http.specs.Answered.{AnswersRoute, IsAnswered, IsAnsweredSometime, IsJudged, Refuses, json_fields};
+ghost use Rattle.use_http.specs.Answered.{AnswersRoute, IsAnswered, IsJudged, Refuses, json_fields};
 ghost use Rattle.use_http.specs.Judged.{problem_fields};
-ghost use Rattle.use_http.specs.Refused.{status_of, problem_of};
+ghost use Rattle.use_http.specs.Laws.{never_upgrades};
+ghost use Rattle.use_http.specs.Promised.{IsPromised};
+ghost use Rattle.use_http.specs.Refused.{refused_of, status_of, problem_of};
 ghost use Rattle.use_http.specs.Request.{IsRoute};
-ghost use Rattle.use_http.specs.Room.{HasRoom};
 
-use crate::answer::{judge, put_field, put_problem, put_text};
-use crate::date::{date_of, put_date};
+use crate::answer::{judge, put_problem};
 use crate::description::OPEN_API;
 use crate::refused::Refused;
-use crate::request::{Route, language_of, route_of};
+use crate::request::{Route, route_of};
 use bytes::Bytes;
 use garde_catalog::Catalogs;
+use garde_service::{Body, Handler, Rejected, date_of, language_of, put_date, put_field, put_text};
 use http::{HeaderName, Request, StatusCode, header};
-use http_server::{Response, Service};
+use http_server::Response;
 use httpdate::HttpDate;
 use std::alloc::{AllocError, Global};
 use std::time::Clock;
@@ -157,15 +159,13 @@ pub struct Orders<'a, C> {
     pub catalogs: &'a Catalogs,
 }
 
-impl<'a, C: Clock> Service for Orders<'a, C> {
-    ghost answers = { λ old request response new. (new.catalogs.now ≡ old.catalogs.now)
-        × IsAnsweredSometime old.catalogs.now (head_of request) (body_of request) response };
+impl<'a, C: Clock> Handler for Orders<'a, C> {
+    ghost is_answered = { λ orders head body response.
+        IsPromised orders.catalogs.now head body response };
 
-    fn call(
-        &mut self,
-        request: &Request<Bytes>,
-        response: &mut Response,
-    ) -> Result<(), AllocError> {
+    ghost rejects = { λ _ why. (codes "application/problem+json", problem_of (refused_of why)) };
+
+    fn answer(&self, request: &Request<Bytes>, response: &mut Response) -> Result<(), AllocError> {
         answer(
             self.alloc,
             self.catalogs,
@@ -174,4 +174,14 @@ impl<'a, C: Clock> Service for Orders<'a, C> {
             response,
         )
     }
+
+    fn rejected(&self, why: Rejected) -> Body {
+        Body {
+            media: "application/problem+json",
+            text: Refused::of(why).problem(),
+        }
+    }
+
+    ghost stays = { λ orders head body response promised.
+        never_upgrades orders.catalogs.now head body response promised };
 }

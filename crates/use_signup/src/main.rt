@@ -1,76 +1,42 @@
 //! Handles a form to sign up with, read from standard input, and answers in the language of a tag.
 #![tactic(auto)]
 
+mod command;
 mod page;
+mod refused;
 mod rely;
+mod request;
+mod service;
 mod sign_up;
 mod terms;
+mod texts;
 
-use crate::page::{CZECH_PAGE, ENGLISH_PAGE, write_page};
+use crate::command::{Task, USAGE};
+use crate::page::write_page;
 use crate::rely::age;
+use crate::service::SignUps;
 use crate::sign_up::{SignUp, read_sign_up};
 use crate::terms::Words;
-use anyhow::{Context, Result};
+use crate::texts::{IN_ARABIC, IN_CZECH, IN_ENGLISH, Speech, texts_in};
+use anyhow::{Context, Result, bail};
 use garde::{I18n, Report, ValidateError};
-use garde_catalog::{ENGLISH, Language, Spoken, languages};
+use garde_catalog::{ARABIC, CZECH, Catalogs, ENGLISH, Language, Spoken, languages};
 use garde_form::{FormField, form_fields};
 use garde_html::Form;
 use garde_problem::Escaped;
 use garde_schema::FormI18n;
-use std::io::Read;
+use garde_service::answer_all;
+use http_server::{Config, Reason, State};
+use std::hash::RandomState;
+use std::io::{BufWriter, Read};
 use std::process::ExitCode;
 use std::{env, io};
-
-/// How the program is called.
-const USAGE: &str = "\
-usage: use_signup [--language TAG] [--page]
-Reads a web form on standard input, and welcomes who signs up or prints every fault of the form.
-
-  --language TAG  answers in this language, as de or pt-BR, and without it in English
-  --page          prints faults on a page with the form, what was sent but for passwords, and each fault
-                  beside its field; its labels are Czech where the language is, and else English
-  --help          prints this";
 
 /// The byte order mark of UTF-8. The URL Standard has none in a form, but a file may begin with it.
 const MARK: [u8; 3] = [0xEF, 0xBB, 0xBF];
 
 /// The status of a run that judged no form.
 const NOT_JUDGED: u8 = 2;
-
-/// What the words of the command line ask for.
-#[derive(Clone, Copy)]
-enum Task<'w> {
-    /// The usage is printed.
-    Help,
-    /// A form is judged, and answered in this language, by lines or as a page.
-    Judge { spoken: Spoken<'w>, page: bool },
-}
-
-impl<'w> Task<'w> {
-    /// What the words after the program's name ask for. Of other words it says what is wrong with them.
-    fn of(words: &'w [String]) -> Result<Task<'w>, &'static str> {
-        match words {
-            [word] if word.as_str() == "--help" => Ok(Task::Help),
-            _ => Task::judging(words),
-        }
-    }
-
-    // How these words ask for a form to be judged.
-    fn judging(words: &'w [String]) -> Result<Task<'w>, &'static str> {
-        let mut spoken = Spoken::new();
-        let mut page = false;
-        for word in words {
-            if spoken.take(word)? {
-                continue;
-            }
-            if word.as_str() != "--page" {
-                return Err("the word is no option");
-            }
-            page = true;
-        }
-        Ok(Task::Judge { spoken, page })
-    }
-}
 
 /// Welcomes who signs up, and names the topics that were chosen. The name stands in quotes, with
 /// what is not shown escaped.
@@ -145,11 +111,61 @@ fn judge_in(rt: &HostRuntime, spoken: Spoken<'_>, page: bool) -> Result<ExitCode
     let offered = languages();
     let catalog = spoken.catalog(rt.alloc(), &offered, &ENGLISH)?;
     let language = Language::named(spoken.tag.unwrap_or("en"), &offered).unwrap_or(offered[0]);
-    let form = match language.tag {
-        "cs" => &CZECH_PAGE,
-        _ => &ENGLISH_PAGE,
-    };
+    let form = &texts_in(language.tag).form;
     judge(rt, page.then_some(form), &Words::of(language.tag), &catalog)
+}
+
+/// Answers all requests of standard input, in the languages that the pages have.
+fn serve(rt: &HostRuntime, most: usize, dates: bool) -> Result<ExitCode> {
+    let alloc = rt.alloc();
+    // No request is read while an answer is pending, so a refusal of `http_server` is pending alone.
+    let config = Config {
+        max_body_len: most,
+        max_pending: 0,
+        ..Config::default()
+    };
+    let clock = dates.then_some(rt);
+    let offered = [
+        Language {
+            tag: "en",
+            table: &ENGLISH,
+        },
+        Language {
+            tag: "cs",
+            table: &CZECH,
+        },
+        Language {
+            tag: "ar",
+            table: &ARABIC,
+        },
+    ];
+    let texts = [IN_ENGLISH, IN_CZECH, IN_ARABIC];
+    let catalogs = Catalogs::new(alloc, &offered, offered[0])?;
+    let handler = SignUps {
+        alloc,
+        clock,
+        speech: Speech {
+            catalogs: &catalogs,
+            texts: &texts,
+            otherwise: &texts[0],
+        },
+    };
+    let keys = RandomState::new(rt)?;
+    let mut output = BufWriter::new(alloc, io::writer(rt))?;
+    let mut input = rt.stdin();
+    match answer_all(
+        alloc,
+        keys,
+        config,
+        clock,
+        &handler,
+        &mut input,
+        &mut output,
+    )? {
+        State::Closing(Reason::Asked | Reason::EndOfInput) => Ok(ExitCode::SUCCESS),
+        State::Closing(Reason::Refused(_)) => Ok(ExitCode::FAILURE),
+        _ => bail!("out of memory"),
+    }
 }
 
 fn run(rt: &HostRuntime) -> Result<ExitCode> {
@@ -161,6 +177,7 @@ fn run(rt: &HostRuntime) -> Result<ExitCode> {
             Ok(ExitCode::SUCCESS)
         }
         Ok(Task::Judge { spoken, page }) => judge_in(rt, spoken, page),
+        Ok(Task::Serve { most, dates }) => serve(rt, most, dates),
         Err(reason) => {
             eprintln!(rt; "use_signup: {reason}\n{USAGE}")?;
             Ok(ExitCode::from(NOT_JUDGED))

@@ -1,4 +1,4 @@
-//! The form as a page, in two languages.
+//! The form as a page, in three languages.
 ghost use Rattle.std.specs.Prelude.{◌≡◌, IfOk, map, string_bytes};
 ghost use Rattle.garde_form.specs.WebForm.{field_texts};
 ghost use Rattle.use_signup.specs.Shown.{IsShown};
@@ -94,6 +94,49 @@ const CZECH_FIELDS: &[Field<'static>] = &[
     },
 ];
 
+const ARABIC_FIELDS: &[Field<'static>] = &[
+    Field {
+        name: "name",
+        label: "الاسم",
+        control: Control::Line("text"),
+    },
+    Field {
+        name: "username",
+        label: "اسم المستخدم",
+        control: Control::Line("text"),
+    },
+    Field {
+        name: "password",
+        label: "كلمة المرور",
+        control: Control::Password,
+    },
+    Field {
+        name: "password_again",
+        label: "كلمة المرور مرة أخرى",
+        control: Control::Password,
+    },
+    Field {
+        name: "age",
+        label: "العمر",
+        control: Control::Line("text"),
+    },
+    Field {
+        name: "phone",
+        label: "الهاتف (اختياري)",
+        control: Control::Line("tel"),
+    },
+    Field {
+        name: "topics",
+        label: "المواضيع",
+        control: Control::Boxes(&[("news", "الأخبار"), ("events", "الفعاليات")]),
+    },
+    Field {
+        name: "terms",
+        label: "الشروط",
+        control: Control::Boxes(&[("on", "أوافق على الشروط")]),
+    },
+];
+
 /// The form in English.
 pub const ENGLISH_PAGE: Form<'static> = Form {
     language: "en",
@@ -114,6 +157,17 @@ pub const CZECH_PAGE: Form<'static> = Form {
     summary: "Opravte prosím",
     send: "Registrovat",
     fields: CZECH_FIELDS,
+};
+
+/// The form in Arabic.
+pub const ARABIC_PAGE: Form<'static> = Form {
+    language: "ar",
+    direction: "rtl",
+    title: "التسجيل",
+    faulty_title: "يُرجى التصحيح: التسجيل",
+    summary: "يُرجى التصحيح",
+    send: "تسجيل",
+    fields: ARABIC_FIELDS,
 };
 
 /// Each name that was sent, with its text.

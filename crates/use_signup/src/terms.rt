@@ -15,48 +15,143 @@ pub struct Words {
     pub terms: &'static str,
 }
 
-const IN_ENGLISH: Words = Words {
+/// The words in English.
+pub const ENGLISH_WORDS: Words = Words {
     welcome: "welcome",
     terms: "the terms are not accepted",
 };
 
+/// The words in Czech.
+pub const CZECH_WORDS: Words = Words {
+    welcome: "vítejte",
+    terms: "souhlas s podmínkami chybí",
+};
+
+/// The words in Arabic.
+pub const ARABIC_WORDS: Words = Words {
+    welcome: "مرحبًا",
+    terms: "لم يتم قبول الشروط",
+};
+
 // The words of the other languages, by their first subtag.
-static WORDS: [(&str, &str, &str); 17] = [
-    ("de", "willkommen", "die Bedingungen sind nicht akzeptiert"),
-    ("fr", "bienvenue", "les conditions ne sont pas acceptées"),
+static WORDS: [(&str, Words); 17] = [
+    (
+        "de",
+        Words {
+            welcome: "willkommen",
+            terms: "die Bedingungen sind nicht akzeptiert",
+        },
+    ),
+    (
+        "fr",
+        Words {
+            welcome: "bienvenue",
+            terms: "les conditions ne sont pas acceptées",
+        },
+    ),
     (
         "es",
-        "le damos la bienvenida",
-        "las condiciones no se han aceptado",
+        Words {
+            welcome: "le damos la bienvenida",
+            terms: "las condiciones no se han aceptado",
+        },
     ),
     (
         "it",
-        "ti diamo il benvenuto",
-        "le condizioni non sono state accettate",
+        Words {
+            welcome: "ti diamo il benvenuto",
+            terms: "le condizioni non sono state accettate",
+        },
     ),
-    ("pt", "boas-vindas", "os termos não foram aceitos"),
-    ("nl", "welkom", "de voorwaarden zijn niet geaccepteerd"),
-    ("sv", "välkommen", "villkoren är inte godkända"),
-    ("pl", "witamy", "regulamin nie został zaakceptowany"),
-    ("cs", "vítejte", "souhlas s podmínkami chybí"),
-    ("ru", "добро пожаловать", "условия не приняты"),
-    ("uk", "вітаємо", "умови не прийнято"),
-    ("tr", "hoş geldiniz", "koşullar kabul edilmedi"),
-    ("ja", "ようこそ", "利用規約に同意していません"),
-    ("zh", "欢迎", "未接受条款"),
-    ("ko", "환영합니다", "약관에 동의하지 않았습니다"),
-    ("ar", "مرحبًا", "لم يتم قبول الشروط"),
-    ("hi", "स्वागत है", "शर्तें स्वीकार नहीं की गई हैं"),
+    (
+        "pt",
+        Words {
+            welcome: "boas-vindas",
+            terms: "os termos não foram aceitos",
+        },
+    ),
+    (
+        "nl",
+        Words {
+            welcome: "welkom",
+            terms: "de voorwaarden zijn niet geaccepteerd",
+        },
+    ),
+    (
+        "sv",
+        Words {
+            welcome: "välkommen",
+            terms: "villkoren är inte godkända",
+        },
+    ),
+    (
+        "pl",
+        Words {
+            welcome: "witamy",
+            terms: "regulamin nie został zaakceptowany",
+        },
+    ),
+    ("cs", CZECH_WORDS),
+    (
+        "ru",
+        Words {
+            welcome: "добро пожаловать",
+            terms: "условия не приняты",
+        },
+    ),
+    (
+        "uk",
+        Words {
+            welcome: "вітаємо",
+            terms: "умови не прийнято",
+        },
+    ),
+    (
+        "tr",
+        Words {
+            welcome: "hoş geldiniz",
+            terms: "koşullar kabul edilmedi",
+        },
+    ),
+    (
+        "ja",
+        Words {
+            welcome: "ようこそ",
+            terms: "利用規約に同意していません",
+        },
+    ),
+    (
+        "zh",
+        Words {
+            welcome: "欢迎",
+            terms: "未接受条款",
+        },
+    ),
+    (
+        "ko",
+        Words {
+            welcome: "환영합니다",
+            terms: "약관에 동의하지 않았습니다",
+        },
+    ),
+    ("ar", ARABIC_WORDS),
+    (
+        "hi",
+        Words {
+            welcome: "स्वागत है",
+            terms: "शर्तें स्वीकार नहीं की गई हैं",
+        },
+    ),
 ];
 
 // The words of the language of this subtag, and those in English where there are none.
 fn words_under(subtag: &str) -> Words {
-    for (language, welcome, terms) in &WORDS {
+    for (language, words) in &WORDS {
         if *language == subtag {
-            return Words { welcome, terms };
+            return *words;
         }
     }
-    IN_ENGLISH
+    ENGLISH_WORDS
 }
 
 impl Words {

@@ -2,7 +2,8 @@
 
 A module of a program has `some(dice)`, which makes a case, `wanted(case)`, the answer, and may have `met(program, case)`, which runs
 the program on a case; else it is run once. It may have `large()`, cases of more bytes, rows or faults than fit in a buffer or in a
-batch, which are tried before the first random one. An answer is a tuple of values. A pattern stands for each text that it matches.
+batch, which are tried before the first random one, and `knows(case)`, which says whether it describes a stored case. An answer is a
+tuple of values. A pattern stands for each text that it matches.
 """
 import re
 import subprocess

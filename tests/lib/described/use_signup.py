@@ -1,10 +1,10 @@
-"""The program use_signup, by crates/use_signup/README.md: a web form, in any language, and its page with faults. Its fields are those that
-`urllib.parse` reads."""
+"""The program use_signup, by crates/use_signup/README.md: a web form, in any language, its page with faults, and its service. Its fields are
+those that `urllib.parse` reads."""
 import codecs
 import re
 import urllib.parse
 
-from lib import languages, pages, repository
+from lib import languages, pages, repository, sign_up_service
 from lib.described import Case, pattern
 from lib.faults import ALPHANUMERIC, REQUIRED, between, chars, fault, items, length, prefix
 from lib.form import Checked, Closed, ListUnder, Member, Object, OneOf, Optional, OrEmpty, Parsed, Text, Under, read
@@ -40,7 +40,13 @@ PAGES = {
         ("Jméno", "Uživatelské jméno", "Heslo", "Heslo ještě jednou", "Věk", "Telefon, není nutný", "Témata", "Podmínky"),
         {"topics": (("news", "Zprávy"), ("events", "Akce")), "terms": (("on", "Souhlasím s podmínkami"),)},
     ),
+    "ar": (
+        "التسجيل", "يُرجى التصحيح: التسجيل", "يُرجى التصحيح", "تسجيل",
+        ("الاسم", "اسم المستخدم", "كلمة المرور", "كلمة المرور مرة أخرى", "العمر", "الهاتف (اختياري)", "المواضيع", "الشروط"),
+        {"topics": (("news", "الأخبار"), ("events", "الفعاليات")), "terms": (("on", "أوافق على الشروط"),)},
+    ),
 }
+SERVE = ("--serve", "--no-date")
 TEXTS = ["", "a", "on", "On", "off", "news", "sport", "36", "\0", 'q"\\\n', "a b", "a+b", "é" * 41, "漢字½", "x" * 129, "\x1b[2K", '"><script>alert(1)</script>', "'&amp;&#60;"]
 # Pieces of bodies as no browser sends them.
 PIECES = [b"%", b"%4", b"%zz", b"%%41", b"%00", b"%FF", b"\xff", b"%C3", b"\xc3", b"%F0%9F%98", b"+", b"&", b"&&", b"=", b";", b"#", b"\n", b"&\n"]
@@ -67,19 +73,27 @@ def field_of(dice, name, text):
     return name + equals + b"".join(byte_of(dice, it) for it in text.encode("utf-8"))
 
 
-def some(dice):
+def some_body(dice):
+    """A body, and how it was spoiled."""
     ways = (missing, repeated, wrong_type, unknown, renamed, many)
     value, how = some_of(dice, FORM, lambda dice: dice.choice(TEXTS), ways)
     fields = [(name, text) for name, texts in value for text in (texts if isinstance(texts, list) else [texts])]
     body, cuts = some_bytes(dice, b"&".join(field_of(dice, *field) for field in fields), PIECES)
-    return Case((*languages.some_words(dice), *dice.choice(((), ("--page",)))), body, how | cuts)
+    return body, how | cuts
+
+
+def some(dice):
+    """A form, or one to three requests of one connection."""
+    body, ways = some_body(dice)
+    if dice.random() < 0.6:
+        return Case((*languages.some_words(dice), *dice.choice(((), ("--page",)))), body, ways)
+    requests = [sign_up_service.some_request(dice, it) for it in (body, *(some_body(dice)[0] for _ in range(dice.choice((0, 0, 1, 2)))))]
+    return Case(SERVE, b"".join(map(sign_up_service.bytes_of, requests)), ways)
 
 
 def fields_of(body):
-    """The names and texts of a body. Each byte is read as a character of Latin 1, so what is no UTF-8 is decoded at the end. As of a
-    file, a byte order mark at the beginning and white space at the end are left out."""
-    body = body.rstrip(b" \t\n\x0c\r").removeprefix(codecs.BOM_UTF8).decode("latin-1")
-    pairs = urllib.parse.parse_qsl(body, keep_blank_values=True, encoding="latin-1", separator="&")
+    """The names and texts of a body. Each byte is read as a character of Latin 1, so what is no UTF-8 is decoded at the end."""
+    pairs = urllib.parse.parse_qsl(body.decode("latin-1"), keep_blank_values=True, encoding="latin-1", separator="&")
     return [tuple(part.encode("latin-1").decode("utf-8", "replace") for part in pair) for pair in pairs]
 
 
@@ -94,20 +108,51 @@ def form_of(tag):
     """The form on the page in a language."""
     *said, labels, boxes = PAGES[tag]
     fields = (pages.Field(name, label, KINDS.get(name, "text"), boxes.get(name, ())) for name, label in zip(NAMES, labels))
-    return pages.Form(tag, *said, tuple(fields))
+    return pages.Form(tag, *said, tuple(fields), "rtl" if tag == "ar" else "ltr")
 
 
 def page_of(tag, fields, faults, language):
     """The page with these fields that were sent and these faults, whose texts are in a language."""
-    return pages.page(form_of("cs" if tag == "cs" else "en"), fields, [(path, found.text(language)) for path, found in faults])
+    return pages.page(form_of(tag if tag in PAGES else "en"), fields, [(path, found.text(language)) for path, found in faults])
+
+
+def language_of(tag):
+    """The texts of faults in a language."""
+    return {**languages.of_tag(tag), "terms": WORDS[tag.split("-")[0]][1]}
+
+
+def served(body, tag):
+    """The page with which a body is answered, or nothing where it has no fault; of no body the page of the form."""
+    fields = fields_of(body or b"")
+    faults = read(FORM, object_of(fields))[1] if body is not None else []
+    return page_of(tag, fields, faults, language_of(tag)) if faults or body is None else None
+
+
+def knows(case):
+    """Whether the answer to a stored case is described: of the service alone what its requests in the form of the random ones are answered."""
+    return "--serve" not in case.words or case.words == SERVE and sign_up_service.are_requests(case.given)
+
+
+def body_of(case):
+    return [*sign_up_service.requests_of(case.given)][-1].body if "--serve" in case.words else case.given
+
+
+def with_body(case, body):
+    if "--serve" not in case.words:
+        return case._replace(given=body)
+    *first, last = sign_up_service.requests_of(case.given)
+    return case._replace(given=b"".join(map(sign_up_service.bytes_of, (*first, last._replace(body=body)))))
 
 
 def wanted(case):
+    if "--serve" in case.words:
+        return 0, b"".join(sign_up_service.answered(it, served) for it in sign_up_service.requests_of(case.given)), b""
     tag = languages.spoken(case.words)[1]
     if tag is None:
         return 2, b"", pattern(f"use_signup: {languages.unknown()}\n")
-    welcome, terms = WORDS[tag.split("-")[0]]
-    fields, language = fields_of(case.given), {**languages.of_tag(tag), "terms": terms}
+    # As of a file, a byte order mark at the beginning and white space at the end are left out.
+    given = case.given.rstrip(b" \t\n\x0c\r").removeprefix(codecs.BOM_UTF8)
+    welcome, fields, language = WORDS[tag.split("-")[0]][0], fields_of(given), language_of(tag)
     who, faults = read(FORM, object_of(fields))
     if faults:
         said = page_of(tag, fields, faults, language) if "--page" in case.words else lines(faults, language)

@@ -1,0 +1,5 @@
+pub mod Author
+pub mod Chunk
+pub mod Fitting
+pub mod Picked
+pub mod Talk

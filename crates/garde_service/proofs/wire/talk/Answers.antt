@@ -1,0 +1,90 @@
+use Rattle.std.proofs.Common.{◌≡◌, ℕ, Bool, false, Ok, IsTrue, IsFalse, List, ◌++◌, take, ap, sym, subst, ◌∙◌, append_assoc}
+use Rattle.http_server.specs.Connection.{history}
+use Rattle.http_server.specs.History.{History}
+use Rattle.http_server.proofs.KnownLemmas.{Appends-then, Appends-kept, Consumes-then}
+use Rattle.http_server.proofs.StreamLemmas.{Calls-then}
+use Rattle.garde_service.proofs.wire.talk.Goals.{in-Open, in_default, then-not-wants_write+in_ok-flush+in_ok-read_from, else-not-wants_write+in_ok-write_to+else-branch-eq0}
+use Rattle.garde_service.proofs.Talk.{end_after, none_pending}
+use Rattle.std.proofs.lemmas.Bool.{true≢false}
+use Rattle.garde_service.proofs.wire.talk.Goals as goal
+
+pub returns-then-not-matches-clause-calls : goal.returns-then-not-matches-clause-calls
+returns-then-not-matches-clause-calls g c = Calls-then g.S.Service.answers _ _ _ _ _ _ c.loop.invariant.2 c.advance.ensures.calls
+
+pub returns-in_err-flush-clause-calls : goal.returns-in_err-flush-clause-calls
+returns-in_err-flush-clause-calls g c = Calls-then g.S.Service.answers _ _ _ _ _ _ c.loop.invariant.2 c.advance.ensures.calls
+
+pub returns-in_err-read_from-clause-calls : goal.returns-in_err-read_from-clause-calls
+returns-in_err-read_from-clause-calls g c =
+    let all = Calls-then g.S.Service.answers _ _ _ _ _ _ c.loop.invariant.2 c.advance.ensures.calls in
+    (all.0, ap (λ (h : History). h.calls) c.in_err-read_from.ensures.err.0 ∙ all.1, all.2)
+
+pub returns-in_err-write_to-clause-calls : goal.returns-in_err-write_to-clause-calls
+returns-in_err-write_to-clause-calls g c =
+    let all = Calls-then g.S.Service.answers _ _ _ _ _ _ c.loop.invariant.2 c.advance.ensures.calls in
+    (all.0, ap (λ k. (history k).calls) c.in_err-write_to.ensures.err.0 ∙ all.1, all.2)
+
+pub returns-then-branch-eq0-clause-calls : goal.returns-then-branch-eq0-clause-calls
+returns-then-branch-eq0-clause-calls g c =
+    let all = Calls-then g.S.Service.answers _ _ _ _ _ _ c.loop.invariant.2 c.advance.ensures.calls in
+    (all.0, ap (λ (h : History). h.calls) c.in_ok-write_to.ensures.ok.0 ∙ all.1, all.2)
+
+pub loop-preserved : goal.loop-preserved
+loop-preserved g c =
+    let read = c.loop.invariant.0 in
+    let written = c.loop.invariant.1 in
+    let quiet = c.advance.ensures.quiet in
+    let config = c.advance.ensures.config ∙ c.loop.invariant.3 in
+    let going : c.wants_write.result ≡ false → IsFalse (history c.advance.new.self).ended =
+    λ idle. elim c.match-matches.branch [
+      | in-Open m ↦ (c.advance.ensures.rests (sym c.state.ensures ∙ m.in-Open.is) (none_pending _ _ _ c.wants_write.ensures idle)).0
+      | in_default m ↦ absurd (true≢false (sym c.if-not-matches.false ∙ m.matches-is))
+    ] in
+    let all = Calls-then g.S.Service.answers _ _ _ _ _ _ c.loop.invariant.2 c.advance.ensures.calls in
+    elim c.if-not-wants_write.branch [
+      | then-not-wants_write+in_ok-flush+in_ok-read_from w ↦
+          let came = w.in_ok-read_from.ensures.ok in
+          rw (w.connection-is, w.reader-is, w.writer-is) (
+            (
+              read.0 ++ came.0,
+              Consumes-then _ _ _ read.0 came.0 read.1 came.2,
+              ap (λ (h : History). h.received) came.3 ∙ ap (λ (t : List ℕ). t ++ came.0) (quiet.0 ∙ read.2) ∙ append_assoc _ read.0 came.0,
+            ),
+            (written.0, Appends-kept _ _ _ written.0 written.1 w.flush.ensures.bytes, ap (λ (h : History). h.sent) came.3 ∙ quiet.2 ∙ written.2),
+            (all.0, ap (λ (h : History). h.calls) came.3 ∙ all.1, all.2),
+            w.read_from.ensures.config ∙ config,
+            λ first found. end_after (history c.advance.new.self).ended came.0 _ (going w.if-not-wants_write.true)
+                (λ none. w.read_from.ensures.end (w.in_ok-read_from.was ∙ ap (λ (n : ℕ). Ok n) (sym came.1 ∙ none)) (going w.if-not-wants_write.true))
+                (subst (λ (b : Bool). IsTrue b) (ap (λ (h : History). h.ended) came.3) found),
+          )
+      | else-not-wants_write+in_ok-write_to+else-branch-eq0 w ↦
+          let went = w.in_ok-write_to.ensures.ok in
+          let text = take w.in_ok-write_to.field-0 (history c.advance.new.self).pending in
+          rw (w.connection-is, w.reader-is, w.writer-is) (
+            (read.0, read.1, ap (λ (h : History). h.received) went.0 ∙ quiet.0 ∙ read.2),
+            (
+              written.0 ++ text,
+              Appends-then _ _ _ written.0 text written.1 went.1,
+              ap (λ (h : History). h.sent) went.0 ∙ ap (λ (t : List ℕ). t ++ text) (quiet.2 ∙ written.2) ∙ append_assoc _ written.0 text,
+            ),
+            (all.0, ap (λ (h : History). h.calls) went.0 ∙ all.1, all.2),
+            w.write_to.ensures.config ∙ config,
+            λ first found. c.loop.invariant.4 first (subst (λ (b : Bool). IsTrue b) (ap (λ (h : History). h.ended) went.0 ∙ quiet.1) found),
+          )
+    ]
+
+pub returns-then-not-matches-clause-end : goal.returns-then-not-matches-clause-end
+returns-then-not-matches-clause-end g c first found = c.loop.invariant.4 first (subst (λ (b : Bool). IsTrue b) c.advance.ensures.quiet.1 found)
+
+pub returns-in_err-write_to-clause-end : goal.returns-in_err-write_to-clause-end
+returns-in_err-write_to-clause-end g c first found =
+    c.loop.invariant.4 first
+    (subst (λ (b : Bool). IsTrue b) (ap (λ k. (history k).ended) c.in_err-write_to.ensures.err.0 ∙ c.advance.ensures.quiet.1) found)
+
+pub returns-then-branch-eq0-clause-end : goal.returns-then-branch-eq0-clause-end
+returns-then-branch-eq0-clause-end g c first found =
+    c.loop.invariant.4 first
+    (subst (λ (b : Bool). IsTrue b) (ap (λ (h : History). h.ended) c.in_ok-write_to.ensures.ok.0 ∙ c.advance.ensures.quiet.1) found)
+
+pub returns-clause-end : goal.returns-clause-end
+returns-clause-end g c first found = c.loop.invariant.4 first found

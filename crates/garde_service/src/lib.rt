@@ -1,0 +1,17 @@
+//! A service on one connection: the requests that a reader gives, and the answers to them on a writer.
+#![tactic(auto)]
+
+mod asked;
+mod date;
+mod handler;
+mod put;
+mod rejected;
+mod rejection;
+mod wire;
+
+pub use asked::{has_type, language_of};
+pub use date::{date_of, put_date};
+pub use handler::{Body, Handler};
+pub use put::{put_field, put_language, put_text};
+pub use rejected::Rejected;
+pub use wire::answer_all;

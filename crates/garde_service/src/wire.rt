@@ -1,0 +1,181 @@
+//! The requests of a connection, and the answers to them.
+ghost use Rattle.std.specs.Prelude.{◌≡◌, ◌≢◌, ℕ, List, Bool, [], ◌++◌, length, OnOk, IsTrue};
+ghost use Rattle.std.specs.Io.KnownBytes.{Appends, Consumes, IsAtEnd};
+ghost use Rattle.http_server.specs.Connection.{config_of, history};
+ghost use Rattle.http.specs.Request.{head_of, body_of};
+ghost use Rattle.http_server.specs.Exchange.{Calls};
+ghost use Rattle.garde_service.specs.Ending.{Ends};
+ghost use Rattle.garde_service.specs.Wire.{IsTalk};
+
+use crate::date::date_of;
+use crate::handler::Handler;
+use crate::rejection::{is_plain, rejected_of, rejection};
+use bytes::{Buf, Bytes};
+use http::Request;
+use http_server::{Config, Connection, Reason, Refusal, Response, Service, State};
+use std::alloc::{AllocError, Global};
+use std::hash::RandomState;
+use std::io;
+use std::io::{ErrorKind, Read, Write};
+use std::time::Clock;
+
+/// A handler as a service of `http_server`.
+#[derive(Drop)]
+struct Served<'a, H> {
+    handler: &'a H,
+}
+
+impl<'a, H: Handler> Service for Served<'a, H> {
+    ghost answers = { λ old request response new. (new.handler.now ≡ old.handler.now)
+        × H.is_answered old.handler.now (head_of request) (body_of request) response };
+
+    fn call(
+        &mut self,
+        request: &Request<Bytes>,
+        response: &mut Response,
+    ) -> Result<(), AllocError> {
+        self.handler.answer(request, response)
+    }
+}
+
+/// Answers requests while the connection is open. What is pending then is not yet written.
+fn talk<S: Service, R: Read, W: Write>(
+    connection: &mut Connection,
+    service: &mut S,
+    reader: &mut R,
+    writer: &mut W,
+) -> io::Result<()>
+    ensures closed { OnOk result ((history connection.new).state ≢ State.Open) }
+    ensures read { (more : List ℕ)
+        × Consumes (R.remaining reader.old) (R.remaining reader.new) more
+        × ((history connection.new).received ≡ (history connection.old).received ++ more) }
+    ensures end { (IsTrue (history connection.old).ended → IsAtEnd (R.remaining reader.old))
+        → IsTrue (history connection.new).ended → IsAtEnd (R.remaining reader.new) }
+    ensures written { (more : List ℕ)
+        × Appends (W.contents writer.old) (W.contents writer.new) more
+        × ((history connection.new).sent ≡ (history connection.old).sent ++ more) }
+    ensures calls { Calls S.answers service.old service.new
+        (history connection.old).calls (history connection.new).calls }
+    ensures config { config_of connection.new ≡ config_of connection.old }
+{
+    // A loop is proved to end, so this one counts its turns.
+    for _ in 0..u64::MAX {
+        connection.advance(service);
+        if !matches!(connection.state(), State::Open) {
+            return Ok(());
+        }
+        if !connection.wants_write() {
+            // The client may wait for what the writer holds.
+            writer.flush()?;
+            connection.read_from(reader)?;
+        } else if connection.write_to(writer)? == 0 {
+            return Err(ErrorKind::WriteZero.into());
+        }
+    }
+    Err(ErrorKind::TimedOut.into())
+}
+
+/// Writes bytes, and flushes the writer.
+fn write_out<B: Buf, W: Write>(bytes: &mut B, writer: &mut W) -> io::Result<()>
+    ensures written { (written : List ℕ)
+        × Appends (W.contents writer.old) (W.contents writer.new) written
+        × (B.unread bytes.old ≡ written ++ B.unread bytes.new) }
+    ensures all { OnOk result (B.unread bytes.new ≡ []) }
+{
+    while bytes.has_remaining() {
+        match writer.write(bytes.chunk())? {
+            0 => return Err(ErrorKind::WriteZero.into()),
+            count => bytes.advance(count),
+        }
+    }
+    writer.flush()
+}
+
+/// Writes what is pending on a connection.
+fn finish<W: Write>(connection: Connection, writer: &mut W) -> io::Result<()>
+    ensures { (written : List ℕ) × (unwritten : List ℕ)
+        × Appends (W.contents writer.old) (W.contents writer.new) written
+        × ((history connection).pending ≡ written ++ unwritten)
+        × OnOk result (unwritten ≡ []) }
+{
+    let (_, mut pending) = connection.into_buffers();
+    write_out(&mut pending, writer)
+}
+
+/// Writes the last answer of a connection whose next request is rejected: where `http_server` has its
+/// own answer to it, that of the handler stands in its place.
+fn refuse<H: Handler, C: Clock, W: Write>(
+    alloc: Global,
+    clock: Option<&C>,
+    handler: &H,
+    why: Refusal,
+    connection: Connection,
+    writer: &mut W,
+) -> io::Result<()>
+    requires { (history connection).state ≡ State.Closing (Reason.Refused why) }
+    ensures { (written : List ℕ) × (unwritten : List ℕ)
+        × Appends (W.contents writer.old) (W.contents writer.new) written
+        × Ends (H.rejects handler.now) (history connection).state (history connection).pending
+        (written ++ unwritten)
+        × OnOk result (unwritten ≡ []) }
+{
+    let (unread, mut pending) = connection.into_buffers();
+    let kind = rejected_of(why, unread.as_slice());
+    let body = handler.rejected(kind);
+    match rejection(alloc, kind, body, date_of(clock)) {
+        Ok(text) if is_plain(kind, &pending) => {
+            let mut rest = text.as_str().as_bytes();
+            write_out(&mut rest, writer)
+        }
+        _ => write_out(&mut pending, writer),
+    }
+}
+
+/// Writes what is pending on a connection that is done, or what stands in its place.
+fn close<H: Handler, C: Clock, W: Write>(
+    alloc: Global,
+    clock: Option<&C>,
+    handler: &H,
+    connection: Connection,
+    writer: &mut W,
+) -> io::Result<()>
+    ensures { (written : List ℕ) × (unwritten : List ℕ)
+        × Appends (W.contents writer.old) (W.contents writer.new) written
+        × Ends (H.rejects handler.now) (history connection).state (history connection).pending
+        (written ++ unwritten)
+        × OnOk result (unwritten ≡ []) }
+{
+    match connection.state() {
+        State::Closing(Reason::Refused(why)) => {
+            refuse(alloc, clock, handler, why, connection, writer)
+        }
+        _ => finish(connection, writer),
+    }
+}
+
+/// Answers the requests that the reader gives, as the handler answers them, until the connection is
+/// done, and says how it stands. The clock dates the answers to requests that are rejected.
+/// What was read and written before an error is a conversation too.
+pub fn answer_all<H: Handler, C: Clock, R: Read, W: Write>(
+    alloc: Global,
+    keys: RandomState,
+    config: Config,
+    clock: Option<&C>,
+    handler: &H,
+    reader: &mut R,
+    writer: &mut W,
+) -> io::Result<State>
+    ensures { (read : List ℕ) × (written : List ℕ) × (ended : Bool)
+        × Consumes (R.remaining reader.old) (R.remaining reader.new) read
+        × Appends (W.contents writer.old) (W.contents writer.new) written
+        × (IsTrue ended → IsAtEnd (R.remaining reader.new))
+        × ∥ IsTalk (H.is_answered handler.now) (H.rejects handler.now) config ended read written
+        result ∥₁ }
+{
+    let mut connection = Connection::new(alloc, keys, config);
+    let mut service = Served { handler };
+    talk(&mut connection, &mut service, reader, writer)?;
+    let stands = connection.state();
+    close(alloc, clock, handler, connection, writer)?;
+    Ok(stands)
+}

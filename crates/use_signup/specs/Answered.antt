@@ -1,0 +1,126 @@
+-- What is answered to a request.
+use Rattle.std.specs.Prelude.{◌≡◌, ℕ, List, [], ◌∷◌, ◌++◌, codes, Option, Result, Ok, Err}
+use Rattle.json.specs.Json.{Json}
+use Rattle.garde.specs.Answers.{Answers}
+use Rattle.garde.specs.Handlers.{Datum}
+use Rattle.garde.specs.Visits.{Visits}
+use Rattle.garde.specs.declared.validate_error.ValidateError.{ValidateError}
+use Rattle.garde.specs.declared.validate_error.ValidateError.TheVariants.{Report, Memory}
+use Rattle.garde_catalog.specs.Catalog.{catalog_text}
+use Rattle.garde_catalog.specs.Catalogs.{catalog_at, tag_at}
+use Rattle.garde_catalog.specs.Forms.{catalog_form_text}
+use Rattle.garde_catalog.specs.declared.catalog.Catalog.{Catalog}
+use Rattle.garde_form.specs.Spelling.{OfForm}
+use Rattle.garde_form.specs.WebForm.{fields_in}
+use Rattle.garde_html.specs.declared.form.Form.{Form}
+use Rattle.garde_report.specs.Report.{Entry}
+use Rattle.garde_schema.specs.Forms.{FormTexts}
+use Rattle.garde_service.specs.Asked.{IsLanguage}
+use Rattle.garde_service.specs.Dated.{IsDated}
+use Rattle.garde_service.specs.Said.{language_fields}
+use Rattle.http.specs.declared.request.Parts.{Parts}
+use Rattle.http1.specs.Fields.{Header}
+use Rattle.http_server.specs.declared.response.Response.{Response}
+use Rattle.http_server.specs.Response.{IsResponse}
+use Rattle.httpdate.specs.declared.date.HttpDate.{HttpDate}
+use Rattle.use_signup.specs.declared.refused.Refused.{Refused}
+use Rattle.use_signup.specs.declared.refused.Refused.TheVariants.{NotFound, MethodNotAllowed, UnsupportedMediaType}
+use Rattle.use_signup.specs.declared.request.Route.{Route}
+use Rattle.use_signup.specs.declared.request.Route.TheVariants as route
+use Rattle.use_signup.specs.declared.request.TheConstants.{FORM_TYPE}
+use Rattle.use_signup.specs.declared.terms.Words.{Words}
+use Rattle.use_signup.specs.declared.texts.Speech.{Speech}
+use Rattle.use_signup.specs.declared.texts.Texts.{Texts}
+use Rattle.use_signup.specs.Refused.{status_of, page_of}
+use Rattle.use_signup.specs.Request.{IsRoute}
+use Rattle.use_signup.specs.Shown.{IsShown}
+use Rattle.use_signup.specs.Texts.{texts_at}
+
+-- What is said in a language: the texts of faults of form and of rules, what the program says besides, and the tag.
+pub record Voice : Type 0 where
+  pub form_text : FormTexts
+  pub text : Datum → List ℕ
+  pub texts : Texts
+  pub tag : List ℕ
+
+-- what is said by a catalog, under this tag, with these texts besides
+abbrev pub voice : Catalog → List ℕ → Texts → Voice
+voice catalog tag texts = record {
+  form_text = λ fault. catalog_form_text catalog fault;
+  text = λ datum. catalog_text catalog datum;
+  texts = texts;
+  tag = tag;
+}
+
+-- the same in the language of this place, or in the one for where none is asked for
+abbrev pub voice_at : Speech → Option ℕ → Voice
+voice_at speech place =
+    voice (catalog_at speech.catalogs.now place) (tag_at speech.catalogs.now place) (texts_at speech.texts.now speech.otherwise.now place)
+
+-- what a visit of the object of a form finds, with these words
+abbrev pub FormVisits : Type 1
+FormVisits = Words → FormTexts → Json → Visits
+
+-- the name and the text of each field of a form
+abbrev pub FieldTexts : Type 0
+FieldTexts = List (List ℕ × List ℕ)
+
+-- this is the result of reading these fields, with these words and these texts of faults of form and of rules
+abbrev pub ReadsFields : FormVisits → Words → FormTexts → (Datum → List ℕ) → FieldTexts → Result (Unit {0}) ValidateError → Type 0
+ReadsFields visits words form_text text fields read =
+    OfForm (codes "topics" ∷ []) fields (λ j. Answers (visits words form_text j) text read)
+
+-- this is the result of reading the fields of this body
+abbrev pub Reads : FormVisits → Voice → List ℕ → Result (Unit {0}) ValidateError → Type 0
+Reads visits voice body read = ReadsFields visits voice.texts.words voice.form_text voice.text (fields_in body) read
+
+-- the fields of a page in the language of this tag
+abbrev pub page_fields : List ℕ → List Header
+page_fields tag = (codes "content-type", codes "text/html; charset=utf-8") ∷ language_fields tag
+
+-- the response is a page of the form, with these fields and these faults
+abbrev pub ShowsForm : Form → List ℕ → ℕ → FieldTexts → List Entry → Response → Type 0
+ShowsForm form tag status fields entries response =
+    (html : List ℕ) × IsShown form fields entries html × IsResponse status (page_fields tag) html response
+
+-- How the result of reading these fields is answered, by this form, in the language of this tag: 303 where there is no fault, or 422 with
+-- the page of the fields and of the report.
+abbrev pub Tells : Form → List ℕ → FieldTexts → Result (Unit {0}) ValidateError → Response → Type 0
+Tells form tag fields (Ok done) response = IsResponse 303 ((codes "location", codes "/thanks") ∷ []) [] response
+Tells form tag fields (Err (Report report)) response = ShowsForm form tag 422 fields report response
+Tells form tag fields (Err Memory) response = ⊥
+
+-- the response tells the result of reading this body
+abbrev pub Judges : FormVisits → Voice → List ℕ → Response → Type 0
+Judges visits voice body response =
+    (read : Result (Unit {0}) ValidateError) × Reads visits voice body read × Tells voice.texts.form voice.tag (fields_in body) read response
+
+-- no form is judged, for this reason, with these fields beside the type of the page
+abbrev pub Refuses : Refused → List Header → Response → Type 0
+Refuses why fields response =
+    IsResponse (status_of why) ((codes "content-type", codes "text/html; charset=utf-8") ∷ fields) (page_of why) response
+
+-- this holds in the language that the request asks for
+abbrev pub InLanguage : Speech → Parts → (Voice → Type 0) → Type 0
+InLanguage speech head holds = (place : Option ℕ) × IsLanguage speech.catalogs.now place head × holds (voice_at speech place)
+
+-- the answer to a request for this, without a date
+abbrev pub AnswersRoute : FormVisits → Speech → Route → Parts → List ℕ → Response → Type 0
+AnswersRoute visits speech route.Form head body response =
+    InLanguage speech head (λ said. ShowsForm said.texts.form said.tag 200 [] [] response)
+AnswersRoute visits speech route.SignUp head body response = InLanguage speech head (λ said. Judges visits said body response)
+AnswersRoute visits speech route.OtherType head body response =
+    Refuses UnsupportedMediaType ((codes "accept", FORM_TYPE.now) ∷ []) response
+AnswersRoute visits speech route.OtherOfForm head body response =
+    Refuses MethodNotAllowed ((codes "allow", codes "GET, HEAD, POST") ∷ []) response
+AnswersRoute visits speech route.Thanks head body response =
+    InLanguage speech head (λ said. IsResponse 200 (page_fields said.tag) said.texts.thanks.now response)
+AnswersRoute visits speech route.OtherOfThanks head body response =
+    Refuses MethodNotAllowed ((codes "allow", codes "GET, HEAD") ∷ []) response
+AnswersRoute visits speech route.Nowhere head body response = Refuses NotFound [] response
+
+-- the answer to a request with this head and this body, at this date
+abbrev pub IsAnswered : FormVisits → Speech → Option HttpDate → Parts → List ℕ → Response → Type 0
+IsAnswered visits speech date head body response =
+    (route : Route) × IsRoute route head
+    × (plain : Response) × AnswersRoute visits speech route head body plain × IsDated date plain response

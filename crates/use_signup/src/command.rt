@@ -1,0 +1,78 @@
+//! What the command line asks for.
+
+use garde_catalog::Spoken;
+
+/// A longer body is rejected, where the command line names no other length.
+const MOST: usize = 64 * 1024;
+
+/// How the program is called.
+pub const USAGE: &str = "\
+usage: use_signup [--language TAG] [--page]
+       use_signup --serve [BYTES] [--no-date]
+Reads a web form on standard input, and welcomes who signs up or prints every fault of the form.
+
+  --language TAG  answers in this language, as de or pt-BR, and without it in English
+  --page          prints faults on a page with the form, what was sent but for passwords, and each fault
+                  beside its field; its labels are Czech or Arabic where the language is, and else English
+  --serve         answers the HTTP requests of standard input on standard output: the form, and what is sent
+  BYTES           reads bodies of so many bytes at most, 65536 without it
+  --no-date       leaves out the dates of answers
+  --help          prints this";
+
+/// What the words of the command line ask for.
+#[derive(Clone, Copy)]
+pub enum Task<'w> {
+    /// The usage is printed.
+    Help,
+    /// A form is judged, and answered in this language, by lines or as a page.
+    Judge { spoken: Spoken<'w>, page: bool },
+    /// Requests are answered whose body has so many bytes at most, with dates or not.
+    Serve { most: usize, dates: bool },
+}
+
+impl<'w> Task<'w> {
+    /// What the words after the program's name ask for. Of other words it says what is wrong with them.
+    pub fn of(words: &'w [String]) -> Result<Task<'w>, &'static str> {
+        match words {
+            [word] if word.as_str() == "--help" => Ok(Task::Help),
+            [word, rest @ ..] if word.as_str() == "--serve" => Task::serving(rest),
+            _ => Task::judging(words),
+        }
+    }
+
+    // How these words ask for a form to be judged.
+    fn judging(words: &'w [String]) -> Result<Task<'w>, &'static str> {
+        let mut spoken = Spoken::new();
+        let mut page = false;
+        for word in words {
+            if spoken.take(word)? {
+                continue;
+            }
+            if word.as_str() != "--page" {
+                return Err("the word is no option");
+            }
+            page = true;
+        }
+        Ok(Task::Judge { spoken, page })
+    }
+
+    // How the words behind `--serve` ask for requests to be answered.
+    fn serving(words: &[String]) -> Result<Task<'w>, &'static str> {
+        let (mut most, mut dates) = (None, true);
+        for word in words {
+            match word.as_str() {
+                "--no-date" if dates => dates = false,
+                "--no-date" => return Err("there must be one --no-date at most"),
+                text => match text.parse() {
+                    Ok(number) if most.is_none() => most = Some(number),
+                    Ok(_) => return Err("there must be one number at most"),
+                    Err(_) => return Err("the longest body is no number of bytes"),
+                },
+            }
+        }
+        Ok(Task::Serve {
+            most: most.unwrap_or(MOST),
+            dates,
+        })
+    }
+}

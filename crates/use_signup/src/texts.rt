@@ -1,0 +1,124 @@
+//! What the service says in a language besides the texts of its catalog.
+ghost use Rattle.std.specs.Prelude.{◌≡◌};
+
+use crate::page::{ARABIC_PAGE, CZECH_PAGE, ENGLISH_PAGE};
+use crate::terms::{ARABIC_WORDS, CZECH_WORDS, ENGLISH_WORDS, Words};
+use garde_catalog::Catalogs;
+use garde_html::Form;
+
+/// The form, the words of its rules, and the page of thanks, in one language.
+#[derive(Clone, Copy, Debug)]
+pub struct Texts {
+    pub form: Form<'static>,
+    pub words: Words,
+    /// The page that who signed up is led to.
+    pub thanks: &'static str,
+}
+
+/// What is said in English.
+pub const IN_ENGLISH: Texts = Texts {
+    form: ENGLISH_PAGE,
+    words: ENGLISH_WORDS,
+    thanks: ENGLISH_THANKS,
+};
+
+/// What is said in Czech.
+pub const IN_CZECH: Texts = Texts {
+    form: CZECH_PAGE,
+    words: CZECH_WORDS,
+    thanks: CZECH_THANKS,
+};
+
+/// What is said in Arabic.
+pub const IN_ARABIC: Texts = Texts {
+    form: ARABIC_PAGE,
+    words: ARABIC_WORDS,
+    thanks: ARABIC_THANKS,
+};
+
+/// What is said in the language of this tag, and in English where there is nothing in it.
+pub fn texts_in(tag: &str) -> Texts {
+    if tag == "cs" {
+        IN_CZECH
+    } else if tag == "ar" {
+        IN_ARABIC
+    } else {
+        IN_ENGLISH
+    }
+}
+
+/// The languages of the service.
+#[derive(Clone, Copy, Debug)]
+pub struct Speech<'a> {
+    /// The texts of faults.
+    pub catalogs: &'a Catalogs,
+    /// What is said besides, in the order of the catalogs.
+    pub texts: &'a [Texts],
+    /// What is said where none of the languages is asked for.
+    pub otherwise: &'a Texts,
+}
+
+impl<'a> Speech<'a> {
+    ghost use Rattle.use_signup.specs.Texts.{texts_at};
+
+    /// What is said in the language of this place, or where none is asked for.
+    pub fn texts(&self, place: Option<usize>) -> &'a Texts
+        ensures { result.now ≡ texts_at self.now.texts.now self.now.otherwise.now place }
+    {
+        match place {
+            Some(place) => self.texts.get(place).unwrap_or(self.otherwise),
+            None => self.otherwise,
+        }
+    }
+}
+
+const ENGLISH_THANKS: &str = "\
+<!DOCTYPE html>
+<html lang=\"en\" dir=\"ltr\">
+<head>
+<meta charset=\"utf-8\">
+<meta name=\"viewport\" content=\"width=device-width, initial-scale=1\">
+<title>Thank you</title>
+</head>
+<body>
+<main>
+<h1>Thank you</h1>
+<p>You are signed up.</p>
+</main>
+</body>
+</html>
+";
+
+const CZECH_THANKS: &str = "\
+<!DOCTYPE html>
+<html lang=\"cs\" dir=\"ltr\">
+<head>
+<meta charset=\"utf-8\">
+<meta name=\"viewport\" content=\"width=device-width, initial-scale=1\">
+<title>Děkujeme</title>
+</head>
+<body>
+<main>
+<h1>Děkujeme</h1>
+<p>Jste zaregistrováni.</p>
+</main>
+</body>
+</html>
+";
+
+const ARABIC_THANKS: &str = "\
+<!DOCTYPE html>
+<html lang=\"ar\" dir=\"rtl\">
+<head>
+<meta charset=\"utf-8\">
+<meta name=\"viewport\" content=\"width=device-width, initial-scale=1\">
+<title>شكرًا لك</title>
+</head>
+<body>
+<main>
+<h1>شكرًا لك</h1>
+<p>تم تسجيلك.</p>
+</main>
+</body>
+</html>
+";

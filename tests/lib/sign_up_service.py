@@ -1,0 +1,116 @@
+"""The service of use_signup, by crates/use_signup/README.md: which answer a request has, as bytes, where no date is added."""
+import re
+import typing
+
+from lib import languages
+
+TAGS = ("en", "cs", "ar")
+FORM = "application/x-www-form-urlencoded"
+PAGE = "text/html; charset=utf-8"
+PHRASES = {
+    200: "OK", 303: "See Other", 404: "Not Found", 405: "Method Not Allowed", 413: "Content Too Large", 415: "Unsupported Media Type",
+    422: "Unprocessable Entity",
+}
+THANKS = {
+    "en": ("ltr", "Thank you", "You are signed up."),
+    "cs": ("ltr", "Děkujeme", "Jste zaregistrováni."),
+    "ar": ("rtl", "شكرًا لك", "تم تسجيلك."),
+}
+REFUSED = {
+    404: ("Not found", "There is no such page."),
+    405: ("Method not allowed", "This page has other methods."),
+    413: ("Content too large", "The form is too long."),
+    415: ("Unsupported media type", "The body is no web form."),
+}
+METHODS = {"/": "GET, HEAD, POST", "/thanks": "GET, HEAD"}
+VIEWPORT = '<meta charset="utf-8">\n<meta name="viewport" content="width=device-width, initial-scale=1">\n'
+MEDIA = (FORM, FORM, FORM, FORM.upper(), f"{FORM}; charset=utf-8", f"{FORM}x", "multipart/form-data; boundary=x", "text/plain", "")
+PATHS = ("/", "/", "/", "/?x=1", "/thanks", "/thanks?", "/thank", "/thanks/", "//", "/form")
+FIELDS = ("", "cs", "ar", "ar-EG", "cs-CZ,cs;q=0.9,en;q=0.8", "de", "en;q=0.5, ar", "cs;q=0", "de, *", "AR;q=0.2,CS;q=0.3", "cs,,ar", "x;q=2")
+
+
+class Request(typing.NamedTuple):
+    body: bytes = b""
+    method: str = "POST"
+    target: str = "/"
+    media: str = FORM
+    language: str = ""
+
+
+def tag_of(request):
+    """The tag of the language in which a request is answered."""
+    return languages.asked(request.language, TAGS) or "en"
+
+
+def thanks(tag):
+    direction, title, said = THANKS[tag]
+    head = f'<!DOCTYPE html>\n<html lang="{tag}" dir="{direction}">\n<head>\n{VIEWPORT}<title>{title}</title>\n</head>\n'
+    return f"{head}<body>\n<main>\n<h1>{title}</h1>\n<p>{said}</p>\n</main>\n</body>\n</html>\n"
+
+
+def refused(status):
+    title, said = REFUSED[status]
+    return f'<!DOCTYPE html>\n<html lang="en">\n{VIEWPORT}<title>{title}</title>\n<h1>{title}</h1>\n<p>{said}</p>\n'
+
+
+def spoken(tag):
+    """The fields of a page in a language."""
+    return ("content-type", PAGE), ("content-language", tag), ("vary", "accept-language")
+
+
+def answer(request, page):
+    """The status, the fields and the text of an answer. `page` makes the page of a body in a language, or gives nothing where the body has
+    no fault; of no body it makes the page of the form alone."""
+    path, tag, plain = request.target.partition("?")[0], tag_of(request), ("content-type", PAGE)
+    if path not in METHODS:
+        return 404, (plain,), refused(404)
+    if request.method in ("GET", "HEAD"):
+        return 200, spoken(tag), page(None, tag) if path == "/" else thanks(tag)
+    if path != "/" or request.method != "POST":
+        return 405, (plain, ("allow", METHODS[path])), refused(405)
+    if not re.fullmatch(f"{re.escape(FORM)}([; \t].*)?", request.media, re.IGNORECASE):
+        return 415, (plain, ("accept", FORM)), refused(415)
+    found = page(request.body, tag)
+    return (303, (("location", "/thanks"),), "") if found is None else (422, spoken(tag), found)
+
+
+def answered(request, page):
+    """The bytes of an answer."""
+    status, fields, text = answer(request, page)
+    body = text.encode("utf-8")
+    head = "".join(f"{name}: {value}\r\n" for name, value in (*fields, ("content-length", len(body))))
+    return f"HTTP/1.1 {status} {PHRASES[status]}\r\n{head}\r\n".encode() + (b"" if request.method == "HEAD" else body)
+
+
+def bytes_of(request):
+    fields = {"Host": "x", "Content-Length": len(request.body), "Content-Type": request.media, "Accept-Language": request.language}
+    head = "".join(f"{name}: {value}\r\n" for name, value in fields.items() if value != "")
+    return f"{request.method} {request.target} HTTP/1.1\r\n{head}\r\n".encode() + request.body
+
+
+def some_request(dice, body):
+    """A request, most often with a form."""
+    if dice.random() < 0.7:
+        return Request(body, language=dice.choice(FIELDS))
+    method = dice.choice(("POST", "GET", "GET", "HEAD", "PUT", "DELETE", "OPTIONS"))
+    return Request(body if method != "HEAD" else b"", method, dice.choice(PATHS), dice.choice(MEDIA), dice.choice(FIELDS))
+
+
+def are_requests(given):
+    """Whether these bytes are requests that `bytes_of` wrote."""
+    try:
+        return b"".join(map(bytes_of, requests_of(given))) == given
+    except (KeyError, ValueError):
+        return False
+
+
+def requests_of(given):
+    """The requests of these bytes, which `bytes_of` wrote one behind the other."""
+    while given:
+        head, _, rest = given.partition(b"\r\n\r\n")
+        first, *lines = head.decode().split("\r\n")
+        fields = dict(line.split(": ", 1) for line in lines)
+        method, target, _ = first.split(" ")
+        length = int(fields["Content-Length"])
+        yield Request(rest[:length], method, target, fields.get("Content-Type", ""), fields.get("Accept-Language", ""))
+        given = rest[length:]
