@@ -9,6 +9,7 @@ CRATE = "crates/garde_catalog/src/"
 ENTRY = re.compile(r'\(\s*Key::(\w+),\s*"((?:[^"\\]|\\.)*)",?\s*\)')
 KEY = re.compile(r"^    /// (.*)\n    (\w+),$", re.MULTILINE)
 PARAM = re.compile(r'Key::(\w+) => "(\w+)"')
+NAMES = CRATE + "key_name.rt"
 OFFERED = re.compile(r'tagged\("([\w-]+)", &(\w+)\)')
 TABLE = re.compile(r"pub static (\w+):")
 
@@ -25,6 +26,11 @@ def params():
     for key, name in PARAM.findall(repository.text_of(CRATE + "key.rt")):
         found.setdefault(key, set()).add(name)
     return found
+
+
+def names():
+    """The name of each key in a file."""
+    return dict(PARAM.findall(repository.text_of(NAMES)))
 
 
 def offered():
@@ -63,8 +69,8 @@ def rows(key, every):
 
 def text():
     """The page."""
-    every, parts = tables(), [repository.text_of(HEAD).rstrip()]
+    every, written, parts = tables(), names(), [repository.text_of(HEAD).rstrip()]
     for name, said in keys():
-        parts.append(f"## {words(name).capitalize()}\n\n`Key::{name}`. {said}")
+        parts.append(f"## {words(name).capitalize()}\n\n`Key::{name}`, in a file `{written.get(name)}`. {said}")
         parts.append("\n".join(["| language | text |", "|---|---|", *rows(name, every)]))
     return "\n\n".join(parts) + "\n"

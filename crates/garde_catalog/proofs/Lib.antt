@@ -1,6 +1,11 @@
 pub mod KeysByNumber
 pub mod Cutting
 pub mod Reading
+pub mod Judged
+pub mod KeysOnce
 pub mod Made
+pub mod GoodLines
+pub mod LinesRead
+pub mod LinesSoFar
 pub mod Picked
 pub mod SoFar

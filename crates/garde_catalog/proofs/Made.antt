@@ -22,7 +22,7 @@ pub next : (entries others : List Entry) (keys : List Key) (i : ℕ) (d : Key) �
 next entries others keys i d low good h =
     rw (take_more keys i d low) (All-push (IsGood entries others) (take i keys) (get_or keys i d) h good)
 
-in_place : (P : Key → Type 0) (keys : List Key) (i : ℕ) (key : Key) → All P keys → slice_get keys i ≡ Some key → P key
+pub in_place : (P : Key → Type 0) (keys : List Key) (i : ℕ) (key : Key) → All P keys → slice_get keys i ≡ Some key → P key
 in_place P keys i key h at =
     subst P (get_or_from_slice_get keys i key key at) (All-get_or P keys i key (slice_get_within keys i key at) h)
 

@@ -1,6 +1,8 @@
 pub mod Keys
+pub mod Names
 pub mod Template
 pub mod Catalog
+pub mod Lines
 pub mod Catalogs
 pub mod Field
 pub mod Forms

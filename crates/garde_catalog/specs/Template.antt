@@ -1,9 +1,11 @@
 -- Templates: texts with places for what was found, as `length is lower than {min}`.
-use Rattle.std.specs.Prelude.{◌≡◌, ◌≢◌, ◌==◌, ℕ, List, [], ◌∷◌, ◌++◌, Bool, true, false, not, ◌&&◌, ◌||◌, IsTrue, All, Option, Some, None, cond, bytes_eq}
+use Rattle.std.specs.Prelude.{◌≡◌, ◌≢◌, ◌==◌, ℕ, List, [], ◌∷◌, ◌++◌, Bool, true, false, not, ◌&&◌, ◌||◌, IsTrue, All, Option, Some, None, cond, bytes_eq, codes}
 use Rattle.std.specs.List.{flat_map, list_any, list_all}
 use Rattle.garde_i18n.specs.DatumOf.{value_text}
 use Rattle.garde_catalog.specs.declared.template.Seen.{Seen}
 use Rattle.garde_catalog.specs.declared.template.Put.{Put}
+use Rattle.garde_catalog.specs.declared.template.TemplateFault.{TemplateFault}
+use Rattle.garde_catalog.specs.declared.template.TemplateFault.TheVariants as faults
 use Rattle.garde_catalog.specs.declared.template.Put.TheVariants as puts
 
 -- a piece of a template: a byte, or the place of the parameter of this name
@@ -85,6 +87,30 @@ pub record IsTemplate (text first second : List ℕ) (pieces : List Piece) : Typ
 -- each brace of the text is one of a place, whatever names its parameters have
 abbrev pub HasPlaces : List ℕ → Type 0
 HasPlaces text = (written (pieces_of text) ≡ text) × All IsPlainPiece (pieces_of text)
+
+-- the same, as a test
+abbrev pub is_plain_byte : ℕ → Bool
+is_plain_byte b = not (b == 123) && not (b == 125)
+
+abbrev pub is_plain_piece : Piece → Bool
+is_plain_piece (byte b) = is_plain_byte b
+is_plain_piece (place name) = list_all is_plain_byte name
+
+abbrev pub has_places : List ℕ → Bool
+has_places text = bytes_eq (written (pieces_of text)) text && list_all is_plain_piece (pieces_of text)
+
+-- why a text is no template of parameters of these names, if it is none
+abbrev pub template_fault : List ℕ → List ℕ → List ℕ → Option TemplateFault
+template_fault first second text =
+    cond (not (has_places text)) (Some faults.StrayBrace)
+    (cond (not (list_all (is_known first second) (pieces_of text))) (Some faults.UnknownPlace)
+    (cond (has_place first (pieces_of text) && has_place second (pieces_of text)) None (Some faults.MissingPlace)))
+
+-- the same in words
+abbrev pub fault_words : TemplateFault → List ℕ
+fault_words faults.UnknownPlace = codes "has a name in braces that is no parameter of this text"
+fault_words faults.MissingPlace = codes "lacks a parameter in braces"
+fault_words faults.StrayBrace = codes "has a brace that does not close or does not open"
 
 -- the text is no template of parameters of these names
 abbrev pub IsRefused : List ℕ → List ℕ → List ℕ → Type 0

@@ -8,11 +8,14 @@ mod fault;
 mod field;
 mod forms;
 mod key;
+mod key_name;
 mod language;
 mod lookup;
 mod parse;
 mod rules;
 mod spoken;
+mod table;
+mod table_texts;
 mod tables;
 mod template;
 
@@ -24,6 +27,8 @@ pub use key::{KEYS, Key};
 pub use language::{Language, languages};
 pub use lookup::Range;
 pub use spoken::{Spoken, SpokenError};
+pub use table::Table;
+pub use table_texts::{IsTextOf, TableTexts};
 pub use tables::{
     ARABIC, CHINESE, CZECH, DUTCH, ENGLISH, FRENCH, GERMAN, HINDI, ITALIAN, JAPANESE, KOREAN,
     POLISH, PORTUGUESE, RUSSIAN, SPANISH, SWEDISH, TURKISH, UKRAINIAN,

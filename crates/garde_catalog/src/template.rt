@@ -2,7 +2,7 @@
 ghost use Rattle.std.specs.Prelude.{◌≡◌, ◌++◌, ◌&&◌, ◌||◌, [], true, bytes_eq, IfOk, IsErr, OnOk, MatchOption, string_bytes};
 ghost use Rattle.std.specs.Cow.{cow_str_bytes};
 ghost use Rattle.garde_i18n.specs.DatumOf.{value_text};
-ghost use Rattle.garde_catalog.specs.Template.{filled, is_param, pieces_of, value_at, HasPlaces, IsAllSeen, IsCut, IsPlain, IsRefused, IsTemplate};
+ghost use Rattle.garde_catalog.specs.Template.{fault_words, filled, is_param, pieces_of, template_fault, value_at, HasPlaces, IsAllSeen, IsCut, IsPlain, IsRefused, IsTemplate};
 
 use garde_i18n::Value;
 use std::alloc::{AllocError, Global};
@@ -17,6 +17,19 @@ pub enum TemplateFault {
     MissingPlace,
     /// A brace opens and does not close, or closes and does not open.
     StrayBrace,
+}
+
+impl TemplateFault {
+    // The fault in words.
+    pub(crate) fn words(self) -> &'static str
+        ensures { result.now ≡ fault_words self }
+    {
+        match self {
+            TemplateFault::UnknownPlace => "has a name in braces that is no parameter of this text",
+            TemplateFault::MissingPlace => "lacks a parameter in braces",
+            TemplateFault::StrayBrace => "has a brace that does not close or does not open",
+        }
+    }
 }
 
 // The first place of a text: the words before it, its name, and the text behind it.
@@ -100,20 +113,33 @@ fn see(text: &str, first: &str, second: &str) -> Result<Seen, TemplateFault>
     Ok(seen)
 }
 
-// Whether a text is a template. The names are those of the parameters that the text has: an empty one
-// is none. A text that has other braces, an unknown place or a parameter without one is a fault.
+// Why a text is no template, if it is none. The names are those of the parameters that the text has:
+// an empty one is none. A text that has other braces, an unknown place or a parameter without one is a
+// fault.
+pub(crate) fn template_fault(text: &str, first: &str, second: &str) -> Option<TemplateFault>
+    ensures { result ≡ template_fault first.now second.now text.now }
+{
+    let Ok(seen) = see(text, first, second) else {
+        return Some(TemplateFault::StrayBrace);
+    };
+    if !seen.all_known {
+        return Some(TemplateFault::UnknownPlace);
+    }
+    if !seen.has_first || !seen.has_second {
+        return Some(TemplateFault::MissingPlace);
+    }
+    None
+}
+
+// Whether a text is a template.
 pub(crate) fn check_template(text: &str, first: &str, second: &str) -> Result<(), TemplateFault>
     ensures ok { OnOk result (IsTemplate text.now first.now second.now (pieces_of text.now)) }
     ensures err { IsErr result → IsRefused text.now first.now second.now }
 {
-    let seen = see(text, first, second)?;
-    if !seen.all_known {
-        return Err(TemplateFault::UnknownPlace);
+    match template_fault(text, first, second) {
+        None => Ok(()),
+        Some(fault) => Err(fault),
     }
-    if !seen.has_first || !seen.has_second {
-        return Err(TemplateFault::MissingPlace);
-    }
-    Ok(())
 }
 
 // Appends a value.

@@ -3,3 +3,4 @@
 mod asked;
 mod faulty;
 mod told;
+mod written;

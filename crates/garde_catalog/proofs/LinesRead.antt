@@ -1,0 +1,176 @@
+-- The lines of a table that is read from a file: what is told of them, and what is known.
+use Rattle.std.proofs.Common.{◌≡◌, ◌≢◌, ◌∙◌, ◌+◌, ◌<◌, ◌≤◌, ◌∷◌, ℕ, List, [], Bool, true, false, All, Option, Some, None, Result, Ok, Err, IsOk, IsErr, inl, length, drop, get_or, refl, sym, ap, subst, append-nil, arith}
+use Rattle.std.specs.Prelude.{OnOk, option_map}
+use Rattle.std.proofs.lemmas.Bool.{false≢true}
+use Rattle.std.proofs.lemmas.List.{at_drop_more, drop_all}
+use Rattle.std.proofs.lemmas.List.Elements.{All-cons, All-nil}
+use Rattle.std.proofs.lemmas.Option.{none-some}
+use Rattle.json.specs.Json.{Json}
+use Rattle.json.specs.Find.{as_str}
+use Rattle.garde_i18n.specs.Datum.{Datum}
+use Rattle.garde_report.specs.Part.{Part, key_part}
+use Rattle.garde_report.specs.Report.{Entry}
+use Rattle.garde_report.specs.Trace.{Trace}
+use Rattle.garde.specs.Tree.{Tree, nothing, fault, under as node, ◌then◌}
+use Rattle.garde_report.specs.Fault.{IfFault}
+use Rattle.garde_report.specs.declared.error.rule_error.RuleError.{RuleError}
+use Rattle.garde_report.specs.declared.error.rule_error.RuleError.TheVariants as errors
+use Rattle.garde_rules.specs.{Applies, Fault, own}
+use Rattle.garde.specs.Visits.{Visits, Visited, Known, none, only, found, under, may_allocate, ◌and◌}
+use Rattle.garde.proofs.Author.{visited_as, visited_none, visited_then, visited_stop}
+use Rattle.garde_tape.specs.Look.{find_answer}
+use Rattle.garde_tape.specs.declared.found.Found.{Found}
+use Rattle.garde_tape.specs.declared.found.Found.TheVariants.{Missing, Once, Repeated}
+use Rattle.garde_schema.specs.Forms.{FormTexts, Sound, forget, formed, refused}
+use Rattle.garde_schema.specs.Members.{member_visits, optional_visits}
+use Rattle.garde_catalog.specs.Keys.{first_of, number_of, second_of}
+use Rattle.garde_catalog.specs.Lines.{AreGoodLines, Line, found_text, in_turn, line_visits, lines_of, text_found, text_of, text_visits}
+use Rattle.garde_catalog.specs.Names.{name_of}
+use Rattle.garde_catalog.specs.Template.{fault_words, template_fault}
+use Rattle.garde_catalog.specs.declared.key.Key.{Key}
+use Rattle.garde_catalog.specs.declared.key.TheConstants.{KEYS}
+use Rattle.garde_catalog.specs.declared.template.TemplateFault.{TemplateFault}
+use Rattle.garde_catalog.proofs.GoodLines.{Fits, good_lines, has_lines}
+use Rattle.garde_catalog.proofs.Judged.{good}
+use Rattle.garde_catalog.proofs.KeysByNumber.{keys_by_number}
+use Rattle.garde_catalog.proofs.Made.{in_place}
+
+-- ---- what is told
+
+then_nothing : (t : Tree) → (t then nothing) ≡ t
+then_nothing nothing = refl
+then_nothing (fault f t) = ap (λ s. fault f s) (then_nothing t)
+then_nothing (node k s t) = ap (λ u. node k s u) (then_nothing t)
+
+module _ {text : Datum → List ℕ} {E : Type 0} where
+  module _ (each : Key → Visits) (keys : List Key) (i : ℕ) where
+    -- no key is left
+    pub turn_end : length keys ≤ i → {walk : Trace} {old : List Entry} → Visited {E = E} (in_turn each (drop i keys)) text walk walk old old (Ok tt)
+    unfolding in_turn
+    turn_end past {walk} {old} = subst (λ z. Visited {E = E} (in_turn each z) text walk walk old old (Ok tt)) (sym (drop_all i keys past)) visited_none
+
+    -- this one is the next
+    pub turn_then : (d : Key) → i < length keys → {before mid after : Trace} {old between new : List Entry} {first result : Result Unit E} → Visited (each (get_or keys i d)) text before mid old between first → IsOk first → Visited (in_turn each (drop (i + 1) keys)) text mid after between new result → Visited (in_turn each (drop i keys)) text before after old new result
+    unfolding in_turn
+    turn_then d within {before} {after = after} {old} {new = new} {result = result} told done rest = subst (λ z. Visited (in_turn each z) text before after old new result) (sym (at_drop_more (λ l. l) keys i d within)) (visited_then _ _ told done rest)
+
+    pub turn_stop : (d : Key) → i < length keys → {before after : Trace} {old new : List Entry} {first result : Result Unit E} → Visited (each (get_or keys i d)) text before after old new first → IsErr first → IsErr result → Visited (in_turn each (drop i keys)) text before after old new result
+    unfolding in_turn
+    turn_stop d within {before} {after} {old} {new} {result = result} told was stops = subst (λ z. Visited (in_turn each z) text before after old new result) (sym (at_drop_more (λ l. l) keys i d within)) (visited_stop _ _ told was stops)
+
+  -- memory ran out, and nothing was told
+  silent : {walk : Trace} {old : List Entry} (e : E) → Visited {E = E} (may_allocate none) text walk walk old old (Err e)
+  unfolding may_allocate none only
+  silent {old = old} e = record {
+    ok = tt;
+    err = record {
+      tree = nothing;
+      visited = refl;
+      said = [];
+      unsaid = [];
+      cut = refl;
+      report = sym (append-nil old);
+      fits = omega arith;
+      components = refl;
+      limit = refl;
+      front = omega arith;
+      nodes = omega arith;
+      most = omega arith;
+    };
+    why = inl tt;
+  }
+
+  memory_after : (a : Visits) {before after : Trace} {old new : List Entry} {result : Result Unit E} → Visited (a and may_allocate none) text before after old new result → Visited (may_allocate a) text before after old new result
+  unfolding may_allocate none only ◌and◌
+  memory_after a told = visited_as (λ t (x, y, vx, vy, is). subst (λ s. a.trees s) (sym (is ∙ ap (λ z. x then z) vy ∙ then_nothing x)) vx) (λ h. tt) told
+
+  more : (a : Visits) {before after : Trace} {old new : List Entry} {result : Result Unit E} → Visited a text before after old new result → Visited (may_allocate a) text before after old new result
+  unfolding may_allocate
+  more a told = visited_as {a = a} (λ t v. v) (λ h. tt) told
+
+  -- the faults were told, and the value is there, or memory runs out
+  pub then_made : {A : Type 0} (a : Visits) (first : Result Unit E) (result : Result A E) {before after : Trace} {old new : List Entry} → Visited a text before after old new first → IsOk first → Visited (may_allocate a) text before after old new (forget result)
+  then_made a (Err e) result told is = absurd (false≢true is)
+  then_made a (Ok done) (Ok x) told is = more a told
+  then_made a (Ok done) (Err e) told is = memory_after a (visited_then a (may_allocate none) told refl (silent e))
+
+  -- the faults were not told to their end
+  pub not_made : {A : Type 0} (a : Visits) (first : Result Unit E) (result : Result A E) {before after : Trace} {old new : List Entry} → Visited a text before after old new first → IsErr first → IsErr result → Visited (may_allocate a) text before after old new (forget result)
+  not_made a (Ok done) result told was is = absurd (false≢true was)
+  not_made a (Err e) (Ok x) told was is = absurd (false≢true is)
+  not_made a (Err e) (Err f) told was is = more a (record { ok = tt; err = told.err; why = told.why })
+
+-- ---- what a rule finds
+
+-- what is wrong with the text of a key, where its parameters have these names
+pub its_fault : (key : Key) (text : List ℕ) {first second body : List ℕ} {o : Option TemplateFault} → first ≡ first_of key → second ≡ second_of key → body ≡ text → o ≡ template_fault first second body → text_found key text ≡ option_map (λ found. own (fault_words found)) o
+its_fault key text {first} {second} {body} f s b is =
+    ap (option_map (λ found. own (fault_words found)))
+    (ap (λ x. template_fault x (second_of key) text) (sym f) ∙ ap (λ x. template_fault first x text) (sym s) ∙ ap (λ x. template_fault first second x) (sym b) ∙ sym is)
+
+-- the answer of a rule whose fault has a text of its own
+own_applies : (message body : List ℕ) (text : Datum → List ℕ) (e : RuleError) → IfFault e (λ m. m ≡ body) → body ≡ message → Applies (Some (own message)) text (Err e)
+own_applies message body text (errors.Fault m) says is = says ∙ is
+own_applies message body text errors.Memory says is = refl
+
+pub fault_applies : {found : Option Fault} (message body : List ℕ) (text : Datum → List ℕ) (e : RuleError) → found ≡ Some (own message) → IfFault e (λ m. m ≡ body) → body ≡ message → Applies found text (Err e)
+fault_applies message body text e which says is = subst (λ x. Applies x text (Err e)) (sym which) (own_applies message body text e says is)
+
+-- ---- what is known
+
+refused_is_fault : (message : List ℕ) → Known (refused message) → ⊥
+unfolding Known found
+refused_is_fault message is = cc
+
+no_fault : (o : Option TemplateFault) {A : Type 0} (f : TemplateFault → A) → option_map f o ≡ None → o ≡ None
+no_fault None f e = refl
+no_fault (Some x) f e = absurd (none-some (f x) (sym e))
+
+-- a text of which nothing is wrong is a template
+text_fits : (may_lack : Bool) (key : Key) (message : List ℕ) (o : Option (List ℕ)) → Known (formed message (λ text. found (text_found key text)) o) → Fits may_lack key (option_map (λ text. Some text) o)
+unfolding Known found
+text_fits may_lack key message (Some text) known = good text (first_of key) (second_of key) (no_fault (template_fault (first_of key) (second_of key) text) _ known)
+text_fits may_lack key message None known = refused_is_fault message known
+
+found_fits : (texts : FormTexts) (key : Key) (f : Found) → Known (member_visits texts (λ v. text_visits texts key v) f) → Fits false key (found_text false f)
+found_fits texts key Missing known = refused_is_fault _ known
+found_fits texts key (Once v) known = text_fits false key _ (as_str v) known
+found_fits texts key Repeated known = refused_is_fault _ known
+
+some_found_fits : (name : Part) (texts : FormTexts) (key : Key) (f : Found) → Known (optional_visits name texts (λ v. text_visits texts key v) f) → Fits true key (found_text true f)
+unfolding Known under
+some_found_fits name texts key Missing known = refl
+some_found_fits name texts key (Once v) known = text_fits true key _ (as_str v) known
+some_found_fits name texts key Repeated known = refused_is_fault _ known
+
+line_fits : (may_lack : Bool) (texts : FormTexts) (j : Json) (key : Key) → Known (line_visits may_lack texts j key) → Fits may_lack key (text_of may_lack j key)
+unfolding Known under
+line_fits true texts j key known = some_found_fits (key_part (name_of key)) texts key (find_answer (name_of key) j) known
+line_fits false texts j key known = found_fits texts key (find_answer (name_of key) j) known
+
+known_each : (each : Key → Visits) (keys : List Key) → Known (in_turn each keys) → All (λ key. Known (each key)) keys
+unfolding Known ◌and◌ in_turn
+known_each each [] known = All-nil (λ key. Known (each key))
+known_each each (key ∷ keys) known = All-cons (λ k. Known (each k)) key keys known.0 (known_each each keys known.1)
+
+known_all : (a : Visits) → Known (may_allocate a) → Known a
+unfolding Known may_allocate
+known_all a known = known
+
+all_fit : (may_lack : Bool) (texts : FormTexts) (j : Json) → Known (may_allocate (in_turn (λ key. line_visits may_lack texts j key) KEYS)) → (key : Key) → Fits may_lack key (text_of may_lack j key)
+all_fit may_lack texts j known key =
+    line_fits may_lack texts j key (in_place (λ k. Known (line_visits may_lack texts j k)) KEYS (number_of key) key
+    (known_each (λ k. line_visits may_lack texts j k) KEYS (known_all _ known)) (keys_by_number key))
+
+pub on_ok : {A E : Type 0} (r : Result A E) {P : Type 0} → P → OnOk r P
+on_ok (Ok x) p = p
+on_ok (Err e) p = tt
+
+sound_of : (may_lack : Bool) (texts : FormTexts) (j : Json) (o : Option (List Line)) → lines_of (λ key. text_of may_lack j key) KEYS ≡ o → Sound (may_allocate (in_turn (λ key. line_visits may_lack texts j key) KEYS)) (λ lines. AreGoodLines may_lack lines) o
+sound_of may_lack texts j (Some lines) is = λ known. good_lines may_lack (λ key. text_of may_lack j key) lines (all_fit may_lack texts j known) is
+sound_of may_lack texts j None is = λ known.
+    let some = has_lines may_lack (λ key. text_of may_lack j key) KEYS (all_fit may_lack texts j known) in none-some some.0 (sym is ∙ some.1)
+
+-- lines of which nothing is wrong make a good table
+pub sound_lines : (may_lack : Bool) (texts : FormTexts) (j : Json) → Sound (may_allocate (in_turn (λ key. line_visits may_lack texts j key) KEYS)) (λ lines. AreGoodLines may_lack lines) (lines_of (λ key. text_of may_lack j key) KEYS)
+sound_lines may_lack texts j = sound_of may_lack texts j _ refl
