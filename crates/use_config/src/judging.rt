@@ -16,21 +16,38 @@ fn show(rt: &HostRuntime, config: Valid<Config<'_>>) -> Result<()> {
     Ok(())
 }
 
-/// Prints what a configuration in JSON asks for. Of one that is not valid it prints nothing, and the
-/// answer is why.
-pub fn judge<H: I18n + FormI18n>(
-    rt: &HostRuntime,
-    json: &[u8],
-    h: &H,
-) -> Result<Option<ReadError>> {
-    let alloc = rt.alloc();
-    let names = Regex::new(alloc, NAME)?;
-    let mut scratch = Scratch::new(alloc);
-    match read_config(alloc, json, &mut scratch, &names, h) {
-        Ok(config) => {
-            show(rt, config)?;
-            Ok(None)
+/// What an input is read as.
+pub trait Input {
+    /// Reads an input in JSON. Of one that is valid it does what is asked, and else the answer is why it
+    /// is not.
+    fn judge<H: I18n + FormI18n>(
+        &mut self,
+        rt: &HostRuntime,
+        json: &[u8],
+        h: &H,
+    ) -> Result<Option<ReadError>>;
+}
+
+/// The configuration. What a valid one asks for is printed.
+#[derive(Clone, Copy, Drop)]
+pub struct Configuration;
+
+impl Input for Configuration {
+    fn judge<H: I18n + FormI18n>(
+        &mut self,
+        rt: &HostRuntime,
+        json: &[u8],
+        h: &H,
+    ) -> Result<Option<ReadError>> {
+        let alloc = rt.alloc();
+        let names = Regex::new(alloc, NAME)?;
+        let mut scratch = Scratch::new(alloc);
+        match read_config(alloc, json, &mut scratch, &names, h) {
+            Ok(config) => {
+                show(rt, config)?;
+                Ok(None)
+            }
+            Err(error) => Ok(Some(error)),
         }
-        Err(error) => Ok(Some(error)),
     }
 }

@@ -7,10 +7,12 @@ mod judging;
 mod options;
 mod placed;
 mod rely;
+mod texts;
 
-use crate::judging::judge;
+use crate::judging::{Configuration, Input};
 use crate::options::{Options, Task, USAGE, Written};
 use crate::placed::check_placed;
+use crate::texts::{fallback, read_texts};
 use anyhow::{Context, Error, Result, bail};
 use garde_catalog::{Catalog, ENGLISH, languages};
 use garde_problem::Escaped;
@@ -50,8 +52,8 @@ fn to_json(alloc: Global, text: &str) -> Result<String> {
 }
 
 /// Prints what a configuration in JSON asks for, or each fault with its path.
-fn check_plain(rt: &HostRuntime, catalog: &Catalog<'static>, json: &[u8]) -> Result<ExitCode> {
-    match judge(rt, json, catalog)? {
+fn check_plain(rt: &HostRuntime, catalog: &Catalog<'_>, json: &[u8]) -> Result<ExitCode> {
+    match Configuration.judge(rt, json, catalog)? {
         None => Ok(ExitCode::SUCCESS),
         Some(ReadError::Report(report)) => {
             print!(rt; "{}", Escaped(rt.alloc(), &report))?;
@@ -63,25 +65,35 @@ fn check_plain(rt: &HostRuntime, catalog: &Catalog<'static>, json: &[u8]) -> Res
 }
 
 /// Reads a configuration, and judges it.
-fn check(rt: &HostRuntime, options: Options<'_>) -> Result<ExitCode> {
-    let Options {
-        written,
-        asked,
-        spoken,
-    } = options;
-    let catalog = spoken.catalog(rt.alloc(), &languages(), &ENGLISH)?;
-    let body = read(rt, asked.file())?;
-    if let Some(printed) = asked.printed() {
-        return check_placed(rt, printed, &catalog, written, &body);
+fn check(rt: &HostRuntime, options: &Options<'_>, catalog: &Catalog<'_>) -> Result<ExitCode> {
+    let body = read(rt, options.asked.file())?;
+    let written = options.written;
+    if let Some(printed) = options.asked.printed() {
+        return check_placed(rt, printed, catalog, written, &body, &mut Configuration);
     }
     match written {
-        Written::Json => check_plain(rt, &catalog, &body),
+        Written::Json => check_plain(rt, catalog, &body),
         Written::Toml => {
             let text = str::from_utf8(&body).context("the configuration is not read")?;
             let json = to_json(rt.alloc(), text)?;
-            check_plain(rt, &catalog, json.as_bytes())
+            check_plain(rt, catalog, json.as_bytes())
         }
     }
+}
+
+/// Reads a configuration, and judges it by the texts of a file, if there is one.
+fn check_in(rt: &HostRuntime, options: &Options<'_>) -> Result<ExitCode> {
+    let alloc = rt.alloc();
+    let catalog = options.spoken.catalog(alloc, &languages(), &ENGLISH)?;
+    let Some(file) = options.texts else {
+        return check(rt, options, &catalog);
+    };
+    let Some(table) = read_texts(rt, options, &catalog, file)? else {
+        return Ok(ExitCode::from(NOT_JUDGED));
+    };
+    let lines = table.lines(alloc)?;
+    let others = fallback(&options.spoken).unwrap_or(&[]);
+    check(rt, options, &Catalog::lent(alloc, &lines, others)?)
 }
 
 /// Does what the words of the command line ask for.
@@ -89,7 +101,7 @@ fn run(rt: &HostRuntime) -> Result<ExitCode> {
     let words = env::args(rt).context("the command line is not read")?;
     let words: Vec<String> = words.skip(1).collect(rt.alloc())?;
     match Task::of(&words) {
-        Ok(Task::Read(options)) => check(rt, options),
+        Ok(Task::Read(options)) => check_in(rt, &options),
         Ok(Task::Help) => {
             println!(rt; "{USAGE}")?;
             Ok(ExitCode::SUCCESS)

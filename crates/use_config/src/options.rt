@@ -1,17 +1,20 @@
 //! What the words of the command line ask for.
 
+use crate::texts::TextsFile;
 use garde_catalog::Spoken;
 use garde_places::Asked;
 
 /// How the program is called.
 pub const USAGE: &str = "\
-usage: use_config [--language TAG] [--format FORMAT] [toml | json] [FILE | -]
+usage: use_config [--language TAG] [--catalog TEXTS] [--format FORMAT] [toml | json] [FILE | -]
 Reads the configuration of a service, and prints what it asks for or every fault.
 
   FILE             reads this file, and without a name or with - standard input
   toml             reads TOML, as without a word
   json             reads JSON, as of a file whose name ends with .json
   --language TAG   prints faults in this language, as de or pt-BR, and without it in English
+  --catalog TEXTS  prints faults by the texts of this file, which is written as a configuration is;
+                   texts that it lacks are taken from the language, if --language stands
   --format FORMAT  prints faults as short, json or github with their places, or as plain without;
                    else as short where FILE or - stands, and as plain where none does
   --help           prints this";
@@ -23,12 +26,14 @@ pub enum Written {
     Json,
 }
 
-/// Which configuration is to be read, and how and in which language its faults are printed.
+/// Which configuration is to be read, and how, in which language and by which texts its faults are
+/// printed.
 #[derive(Clone, Copy, Debug)]
 pub struct Options<'w> {
     pub written: Written,
     pub asked: Asked<'w>,
     pub spoken: Spoken<'w>,
+    pub texts: Option<&'w str>,
 }
 
 /// What is to be done.
@@ -53,10 +58,11 @@ impl<'w> Task<'w> {
 impl<'w> Options<'w> {
     // The options of these words, each of which may be left out and stands once.
     fn of(words: &'w [String]) -> Result<Options<'w>, &'static str> {
-        let (mut asked, mut spoken) = (Asked::new(), Spoken::new());
+        let mut asked = Asked::new();
+        let (mut spoken, mut texts) = (Spoken::new(), TextsFile::new());
         let mut written = None;
         for word in words {
-            if !asked.is_open && spoken.take(word)? {
+            if !asked.is_open && take_texts(&mut texts, &mut spoken, word)? {
                 continue;
             }
             match written_named(word) {
@@ -68,13 +74,25 @@ impl<'w> Options<'w> {
             }
         }
         let asked = asked.finish()?;
-        let written = written.unwrap_or(written_in(asked.file()));
         Ok(Options {
-            written,
+            written: written.unwrap_or(written_in(asked.file())),
             asked,
             spoken,
+            texts: texts.finish()?,
         })
     }
+}
+
+// Takes a word about the texts, and returns whether it took the word.
+fn take_texts<'w>(
+    texts: &mut TextsFile<'w>,
+    spoken: &mut Spoken<'w>,
+    word: &'w str,
+) -> Result<bool, &'static str> {
+    if !spoken.is_open && texts.take(word)? {
+        return Ok(true);
+    }
+    spoken.take(word)
 }
 
 // Takes a word about the file or the format.
@@ -95,8 +113,8 @@ fn written_named(word: &str) -> Option<Written> {
     }
 }
 
-// How a file of this name is written.
-fn written_in(file: Option<&str>) -> Written {
+/// How a file of this name is written.
+pub fn written_in(file: Option<&str>) -> Written {
     match file {
         Some(name) if name.ends_with(".json") => Written::Json,
         _ => Written::Toml,

@@ -1,6 +1,6 @@
-//! The faults of a configuration in lines, each with its place in the text.
+//! The faults of an input in lines, each with its place in the text.
 
-use crate::judging::judge;
+use crate::judging::Input;
 use crate::options::Written;
 use anyhow::Result;
 use garde::{Path, Report};
@@ -12,7 +12,7 @@ use garde_toml::{Placed, TomlError, toml_to_json, toml_to_json_with_places};
 use std::alloc::Global;
 use std::process::ExitCode;
 
-/// The bytes behind a byte order mark, which is no part of a configuration.
+/// The bytes behind a byte order mark, which is no part of an input.
 fn without_mark(body: &[u8]) -> &[u8] {
     body.strip_prefix(b"\xef\xbb\xbf").unwrap_or(body)
 }
@@ -44,14 +44,15 @@ fn show_stop(
     Ok(ExitCode::from(crate::NOT_JUDGED))
 }
 
-/// Judges a configuration in JSON.
-fn check_json(
+/// Judges an input in JSON.
+fn check_json<I: Input>(
     rt: &HostRuntime,
     printed: Printed<'_>,
-    catalog: &Catalog<'static>,
+    catalog: &Catalog<'_>,
     body: &[u8],
+    input: &mut I,
 ) -> Result<ExitCode> {
-    match judge(rt, body, &WithCodes(catalog))? {
+    match input.judge(rt, body, &WithCodes(catalog))? {
         None => Ok(ExitCode::SUCCESS),
         Some(ReadError::Report(report)) => {
             let text = str::from_utf8(without_mark(body))?;
@@ -78,18 +79,19 @@ fn show_toml_stop(
     Err(error.into())
 }
 
-/// Judges a configuration in TOML.
-fn check_toml(
+/// Judges an input in TOML.
+fn check_toml<I: Input>(
     rt: &HostRuntime,
     printed: Printed<'_>,
-    catalog: &Catalog<'static>,
+    catalog: &Catalog<'_>,
     text: &str,
+    input: &mut I,
 ) -> Result<ExitCode> {
     let json = match toml_to_json(rt.alloc(), text) {
         Ok(json) => json,
         Err(error) => return show_toml_stop(rt, printed, text, error),
     };
-    match judge(rt, json.as_bytes(), &WithCodes(catalog))? {
+    match input.judge(rt, json.as_bytes(), &WithCodes(catalog))? {
         None => Ok(ExitCode::SUCCESS),
         Some(ReadError::Report(report)) => {
             print!(rt; "{}", toml_lines(rt.alloc(), printed, text, &report)?)?;
@@ -99,18 +101,19 @@ fn check_toml(
     }
 }
 
-/// Prints what a configuration asks for, or each fault with its place.
-pub fn check_placed(
+/// Reads an input, and prints each fault with its place.
+pub fn check_placed<I: Input>(
     rt: &HostRuntime,
     printed: Printed<'_>,
-    catalog: &Catalog<'static>,
+    catalog: &Catalog<'_>,
     written: Written,
     body: &[u8],
+    input: &mut I,
 ) -> Result<ExitCode> {
     match written {
-        Written::Json => check_json(rt, printed, catalog, body),
+        Written::Json => check_json(rt, printed, catalog, body, input),
         Written::Toml => match str::from_utf8(body) {
-            Ok(text) => check_toml(rt, printed, catalog, text),
+            Ok(text) => check_toml(rt, printed, catalog, text, input),
             Err(error) => match stop_of_utf8(without_mark(body)) {
                 Some(stop) => show_stop(rt, printed, "not_toml", &stop),
                 None => Err(error.into()),
