@@ -3,7 +3,8 @@ use Rattle.std.specs.Prelude.{◌≡◌, ℕ, ◌+◌, Bool, true, false, List, 
 use Rattle.std.specs.String.{string_bytes}
 use Rattle.garde.specs.Tree.{Tree, flat}
 use Rattle.garde.specs.Visits.{Known}
-use Rattle.garde.specs.Words.{default_text, index_part, key_part, Entry}
+use Rattle.garde.specs.Handlers.{Datum}
+use Rattle.garde.specs.Words.{index_part, key_part, Entry}
 use Rattle.garde_csv.specs.Texts.{fault_text}
 use Rattle.example_import.specs.Row.{row_visits}
 use Rattle.example_import.specs.Line.{Line, line_of, HasCode}
@@ -26,9 +27,9 @@ abbrev pub code_faults : ℕ → Bool → List Entry
 code_faults index true = stored_before index ∷ []
 code_faults index false = []
 
--- the report is every fault of the row, each under its index: those of its rules, and then that of its code, if it is stored
-unfoldable pub IsReport : ℕ → Row → Bool → List Entry → Type 0
-IsReport index row is_stored report = (t : Tree) × (row_visits row).trees t × (report ≡ flat default_text (index_part index ∷ []) t ++ code_faults index is_stored)
+-- the report is every fault of the row, each under its index: those of its rules, with these texts, and then that of its code, if it is stored
+unfoldable pub IsReport : (Datum → List ℕ) → ℕ → Row → Bool → List Entry → Type 0
+IsReport text index row is_stored report = (t : Tree) × (row_visits row).trees t × (report ≡ flat text (index_part index ∷ []) t ++ code_faults index is_stored)
 
 -- whether the table has the code
 abbrev pub Tells : List ℕ → List Line → Bool → Type 0
@@ -41,16 +42,16 @@ Stores old row [] new = Known (row_visits row) × (new ≡ old ++ line_of row �
 Stores old row (fault ∷ more) new = new ≡ old
 
 -- what is reported of an item of the list, and what the table has afterwards
-abbrev pub Takes : ℕ → List Line → Item → List Entry → List Line → Type 0
-Takes index old (item.Row row) report new =
-    (is_stored : Bool) × Tells (string_bytes row.code) old is_stored × IsReport index row is_stored report × Stores old row report new
-Takes index old (item.Broken broken) report new = (report ≡ (index_part index ∷ [], flaw_text broken) ∷ []) × (new ≡ old)
+abbrev pub Takes : (Datum → List ℕ) → ℕ → List Line → Item → List Entry → List Line → Type 0
+Takes text index old (item.Row row) report new =
+    (is_stored : Bool) × Tells (string_bytes row.code) old is_stored × IsReport text index row is_stored report × Stores old row report new
+Takes text index old (item.Broken broken) report new = (report ≡ (index_part index ∷ [], flaw_text broken) ∷ []) × (new ≡ old)
 
 -- an item of the list, and what was reported of it
 abbrev pub Turn : Type 0
 Turn = Item × List Entry
 
 -- the items are taken one after the other, the first under this index
-abbrev pub Imports : ℕ → List Line → List Turn → List Line → Type 0
-Imports index old [] new = new ≡ old
-Imports index old (turn ∷ more) new = (mid : List Line) × Takes index old turn.0 turn.1 mid × Imports (index + 1) mid more new
+abbrev pub Imports : (Datum → List ℕ) → ℕ → List Line → List Turn → List Line → Type 0
+Imports text index old [] new = new ≡ old
+Imports text index old (turn ∷ more) new = (mid : List Line) × Takes text index old turn.0 turn.1 mid × Imports text (index + 1) mid more new

@@ -1,6 +1,7 @@
 -- How far an import came.
 use Rattle.std.specs.Prelude.{◌≡◌, ◌==◌, ℕ, ◌+◌, ◌-◌, ◌^◌, ◌%◌, ◌⊎◌, ◌&&◌, Bool, true, false, not, List, [], ◌∷◌, length, map, Option, Some, None, if◌then◌else◌}
 use Rattle.std.specs.List.{list_any}
+use Rattle.garde.specs.Handlers.{Datum}
 use Rattle.garde.specs.Words.{Entry}
 use Rattle.example_import.specs.Line.{Line}
 use Rattle.example_import.specs.Import.{Turn, Imports, Takes}
@@ -42,13 +43,13 @@ Chain R s [] t = t ≡ s
 Chain {S = S} R s (a ∷ more) t = (mid : S) × R s a mid × Chain R mid more t
 
 module _ {L O : Type 0} (gives : L → Option Item → L → Type 0) (tells : O → List Entry → O → Type 0) where
-  -- one item is read and taken under this index, and its report is told
-  pub record Goes (index : ℕ) (list end : L) (out last : O) (old new : List Line) (faulty : Bool) : Type 0 where
+  -- one item is read and taken under this index, and its report, with these texts, is told
+  pub record Goes (text : Datum → List ℕ) (index : ℕ) (list end : L) (out last : O) (old new : List Line) (faulty : Bool) : Type 0 where
     pub item : Item
     pub report : List Entry
     pub given : gives list (Some item) end
     pub told : tells out report last
-    pub takes : Takes index old item report new
+    pub takes : Takes text index old item report new
     pub is_faulty : faulty ≡ has_fault (item, report)
 
   -- the items are read one after the other from the first on, and their reports are told one after the other
@@ -58,12 +59,12 @@ module _ {L O : Type 0} (gives : L → Option Item → L → Type 0) (tells : O 
 
   -- what is kept is what the first items of the list made of the table: so many items, and so many rows more. Where all or nothing
   -- is to be kept, they are none.
-  pub record KeepsFront (batch : Batch) (before : List Line) (list : L) (out : O) (kept : List Line) (progress : Progress) : Type 0 where
+  pub record KeepsFront (text : Datum → List ℕ) (batch : Batch) (before : List Line) (list : L) (out : O) (kept : List Line) (progress : Progress) : Type 0 where
     pub turns : List Turn
     pub end : L
     pub last : O
     pub read : Reads list end out last turns
-    pub made : Imports 0 before turns kept
+    pub made : Imports text 0 before turns kept
     pub items : progress.items ≡ length turns
     pub stored : length kept ≡ length before + progress.stored
     pub whole : is_all batch ≡ true → turns ≡ []
@@ -84,34 +85,34 @@ module _ {L O : Type 0} (gives : L → Option Item → L → Type 0) (tells : O 
 
   -- An import that stopped for this reason: these items were read and taken from the first on, and the report of each was told before
   -- the next one was read. So where the list fails, the reports of all its items were told.
-  pub record Halts {A B C : Type 0} (cause : Cause A B C) (before : List Line) (list end : L) (out last : O) : Type 0 where
+  pub record Halts {A B C : Type 0} (text : Datum → List ℕ) (cause : Cause A B C) (before : List Line) (list end : L) (out last : O) : Type 0 where
     pub turns : List Turn
     pub left : L
     pub said : O
     pub lines : List Line
     pub read : Reads list left out said turns
-    pub made : Imports 0 before turns lines
+    pub made : Imports text 0 before turns lines
     pub stops : StopsAt cause (length turns) left end said last
 
   -- an import between two items
-  pub record Ran (batch : Batch) (before : List Line) (list end : L) (out last : O) (lines kept : List Line) (index : ℕ) (run : Run) : Type 0 where
+  pub record Ran (text : Datum → List ℕ) (batch : Batch) (before : List Line) (list end : L) (out last : O) (lines kept : List Line) (index : ℕ) (run : Run) : Type 0 where
     pub turns : List Turn
     pub read : Reads list end out last turns
-    pub made : Imports 0 before turns lines
+    pub made : Imports text 0 before turns lines
     pub items : index ≡ length turns
     pub stored : length lines ≡ length before + run.stored
     pub faulty : run.faulty ≡ list_any has_fault turns
-    pub keeps : KeepsFront batch before list out kept run.kept
+    pub keeps : KeepsFront text batch before list out kept run.kept
 
   -- An import that ended: each item of the list was taken, from the first to the last, and each report told. The table keeps what
   -- they made of it; where all or nothing is to be kept, and one has a fault, it is as before.
-  pub record Ended (batch : Batch) (before : List Line) (list end : L) (out last : O) (kept : List Line) (progress : Progress) : Type 0 where
+  pub record Ended (text : Datum → List ℕ) (batch : Batch) (before : List Line) (list end : L) (out last : O) (kept : List Line) (progress : Progress) : Type 0 where
     pub turns : List Turn
     pub left : L
     pub after : List Line
     pub read : Reads list left out last turns
     pub over : gives left None end
-    pub made : Imports 0 before turns after
+    pub made : Imports text 0 before turns after
     pub keeps : kept ≡ (if is_all batch && list_any has_fault turns then before else after)
     pub items : progress.items ≡ length turns
     pub stored : length kept ≡ length before + progress.stored

@@ -6,6 +6,7 @@ ghost use Rattle.example_import.specs.Run.{Ran, Goes, Ended, Halts, KeepsFront, 
 use crate::item::{Sink, Source};
 use crate::store::Store;
 use crate::taking::{TakeError, take};
+use garde::I18n;
 use std::alloc::Global;
 
 /// When an import keeps what it stored.
@@ -138,18 +139,19 @@ fn keep<S: Store>(store: &mut S, run: &mut Run, items: usize) -> Result<(), S::E
 
 /// Takes the next item of the list and hands on its report. The answer is whether it has a fault, or
 /// `None` at the end of the list.
-fn turn<S: Store, L: Source, R: Sink>(
+fn turn<S: Store, L: Source, R: Sink, H: I18n>(
     alloc: Global,
     store: &mut S,
     list: &mut L,
     out: &mut R,
     index: usize,
+    h: &H,
 ) -> Result<Option<bool>, Cause<L::Error, S::Error, R::Error>>
     requires begun { S.is_sound store.old → IsTrue (S.has_begun store.old) }
     ensures sound { S.is_sound store.new → S.is_sound store.old }
     ensures ok { S.is_sound store.new → IfOk result (λ next. MatchOption next
         (L.gives list.old None list.new × (S.lines store.new ≡ S.lines store.old) × (out.new ≡ out.old))
-        (Goes L.gives R.tells index list.old list.new out.old out.new (S.lines store.old) (S.lines store.new))) }
+        (Goes L.gives R.tells (H.text h.now) index list.old list.new out.old out.new (S.lines store.old) (S.lines store.new))) }
     ensures begun { S.is_sound store.new → OnOk result (IsTrue (S.has_begun store.new)) }
     ensures kept { S.is_sound store.new → S.kept store.new ≡ S.kept store.old }
     ensures err { IfErr result (λ cause. (items : ℕ)
@@ -160,7 +162,7 @@ fn turn<S: Store, L: Source, R: Sink>(
         Ok(None) => return Ok(None),
         Err(error) => return Err(Cause::List(error)),
     };
-    let report = match take(alloc, store, index, item) {
+    let report = match take(alloc, store, index, item, h) {
         Ok(report) => report,
         Err(TakeError::Memory) => return Err(Cause::Memory),
         Err(TakeError::Store(error)) => return Err(Cause::Store(error)),
@@ -173,7 +175,7 @@ fn turn<S: Store, L: Source, R: Sink>(
 
 /// Takes the next item of the list, and keeps what was stored where so many items are full. The
 /// answer is false at the end of the list.
-fn step<S: Store, L: Source, R: Sink>(
+fn step<S: Store, L: Source, R: Sink, H: I18n>(
     alloc: Global,
     store: &mut S,
     list: &mut L,
@@ -181,6 +183,7 @@ fn step<S: Store, L: Source, R: Sink>(
     batch: Batch,
     index: usize,
     run: &mut Run,
+    h: &H,
 ) -> Result<bool, Cause<L::Error, S::Error, R::Error>>
     requires begun { S.is_sound store.old → IsTrue (S.has_begun store.old) }
     requires index { index < 2 ^ 64 - 1 }
@@ -189,21 +192,21 @@ fn step<S: Store, L: Source, R: Sink>(
     ensures stored { run.new.stored ≤ index + 1 }
     ensures on { S.is_sound store.new → IfOk result (λ more. MatchBool more
         ((before : List Line) (first : _) (start : _)
-        → Ran L.gives R.tells batch before first list.old start out.old (S.lines store.old) (S.kept store.old) index run.old
-        → Ran L.gives R.tells batch before first list.new start out.new (S.lines store.new) (S.kept store.new) (index + 1) run.new)
+        → Ran L.gives R.tells (H.text h.now) batch before first list.old start out.old (S.lines store.old) (S.kept store.old) index run.old
+        → Ran L.gives R.tells (H.text h.now) batch before first list.new start out.new (S.lines store.new) (S.kept store.new) (index + 1) run.new)
         (L.gives list.old None list.new × (S.lines store.new ≡ S.lines store.old) × (out.new ≡ out.old) × (run.new ≡ run.old))) }
     ensures begun { S.is_sound store.new → OnOk result (IsTrue (S.has_begun store.new)) }
     ensures end { S.is_sound store.new → IfOk result (λ more. MatchBool more ⊤ (S.kept store.new ≡ S.kept store.old)) }
     ensures err { S.is_sound store.new → OnErr result
         ((before : List Line) (first : _) (start : _)
-        → Ran L.gives R.tells batch before first list.old start out.old (S.lines store.old) (S.kept store.old) index run.old
-        → KeepsFront L.gives R.tells batch before first start (S.kept store.new) run.new.kept) }
+        → Ran L.gives R.tells (H.text h.now) batch before first list.old start out.old (S.lines store.old) (S.kept store.old) index run.old
+        → KeepsFront L.gives R.tells (H.text h.now) batch before first start (S.kept store.new) run.new.kept) }
     ensures halts { S.is_sound store.new → IfErr result (λ cause.
         (before : List Line) (first : _) (start : _)
-        → Ran L.gives R.tells batch before first list.old start out.old (S.lines store.old) (S.kept store.old) index run.old
-        → Halts L.gives R.tells cause before first list.new start out.new) }
+        → Ran L.gives R.tells (H.text h.now) batch before first list.old start out.old (S.lines store.old) (S.kept store.old) index run.old
+        → Halts L.gives R.tells (H.text h.now) cause before first list.new start out.new) }
 {
-    match turn(alloc, store, list, out, index) {
+    match turn(alloc, store, list, out, index, h) {
         Ok(Some(faulty)) => run.count(faulty),
         Ok(None) => return Ok(false),
         Err(cause) => return Err(cause),
@@ -218,13 +221,14 @@ fn step<S: Store, L: Source, R: Sink>(
 }
 
 /// Takes one item of the list after the other, and returns how many they were.
-fn take_all<S: Store, L: Source, R: Sink>(
+fn take_all<S: Store, L: Source, R: Sink, H: I18n>(
     alloc: Global,
     store: &mut S,
     list: &mut L,
     out: &mut R,
     batch: Batch,
     run: &mut Run,
+    h: &H,
 ) -> Result<usize, Cause<L::Error, S::Error, R::Error>>
     requires begun { S.is_sound store.old → IsTrue (S.has_begun store.old) }
     requires settled { S.is_sound store.old → S.kept store.old ≡ S.lines store.old }
@@ -232,14 +236,14 @@ fn take_all<S: Store, L: Source, R: Sink>(
     ensures sound { S.is_sound store.new → S.is_sound store.old }
     ensures ok { S.is_sound store.new → IfOk result (λ items.
         (end : _) × L.gives end None list.new
-        × Ran L.gives R.tells batch (S.lines store.old) list.old end out.old out.new (S.lines store.new) (S.kept store.new) items run.new) }
+        × Ran L.gives R.tells (H.text h.now) batch (S.lines store.old) list.old end out.old out.new (S.lines store.new) (S.kept store.new) items run.new) }
     ensures err { S.is_sound store.new → OnErr result
-        (KeepsFront L.gives R.tells batch (S.lines store.old) list.old out.old (S.kept store.new) run.new.kept) }
+        (KeepsFront L.gives R.tells (H.text h.now) batch (S.lines store.old) list.old out.old (S.kept store.new) run.new.kept) }
     ensures halts { S.is_sound store.new → IfErr result (λ cause.
-        Halts L.gives R.tells cause (S.lines store.old) list.old list.new out.old out.new) }
+        Halts L.gives R.tells (H.text h.now) cause (S.lines store.old) list.old list.new out.old out.new) }
 {
     'items: for index in 0..usize::MAX {
-        match step(alloc, store, list, out, batch, index, run) {
+        match step(alloc, store, list, out, batch, index, run, h) {
             Ok(true) => {}
             Ok(false) => return Ok(index),
             Err(cause) => return Err(cause),
@@ -249,34 +253,35 @@ fn take_all<S: Store, L: Source, R: Sink>(
 }
 
 /// Imports a list into a table: stores each row that has no fault and whose code the table has not,
-/// in the order of the list, and hands on the report of each item. It returns how many items there
-/// were, and how many rows were stored.
+/// in the order of the list, and hands on the report of each item, with the texts of this handler. It
+/// returns how many items there were, and how many rows were stored.
 ///
 /// Where it ends before the list does, the table keeps what the first items of the list made of it,
 /// so many as it returns. A caller that goes on with the table calls `rollback` first.
-pub fn import<S: Store, L: Source, R: Sink>(
+pub fn import<S: Store, L: Source, R: Sink, H: I18n>(
     alloc: Global,
     store: &mut S,
     list: &mut L,
     out: &mut R,
     batch: Batch,
+    h: &H,
 ) -> Result<Progress, Stopped<L::Error, S::Error, R::Error>>
     requires settled { S.is_sound store.old → S.kept store.old ≡ S.lines store.old }
     ensures sound { S.is_sound store.new → S.is_sound store.old }
     ensures ok { S.is_sound store.new → IfOk result
-        (Ended L.gives R.tells batch (S.lines store.old) list.old list.new out.old out.new (S.kept store.new)) }
+        (Ended L.gives R.tells (H.text h.now) batch (S.lines store.old) list.old list.new out.old out.new (S.kept store.new)) }
     ensures err { S.is_sound store.new → IfErr result (λ stopped.
-        KeepsFront L.gives R.tells batch (S.lines store.old) list.old out.old (S.kept store.new) stopped.kept) }
+        KeepsFront L.gives R.tells (H.text h.now) batch (S.lines store.old) list.old out.old (S.kept store.new) stopped.kept) }
     ensures settled { S.is_sound store.new → OnOk result (S.kept store.new ≡ S.lines store.new) }
     ensures halts { S.is_sound store.new → IfErr result (λ stopped.
-        Halts L.gives R.tells stopped.cause (S.lines store.old) list.old list.new out.old out.new) }
+        Halts L.gives R.tells (H.text h.now) stopped.cause (S.lines store.old) list.old list.new out.old out.new) }
 {
     let mut run = Run::new();
     match store.begin() {
         Ok(()) => {}
         Err(error) => return Err(run.stopped(Cause::Store(error))),
     }
-    let items = match take_all(alloc, store, list, out, batch, &mut run) {
+    let items = match take_all(alloc, store, list, out, batch, &mut run, h) {
         Ok(items) => items,
         Err(cause) => return Err(run.stopped(cause)),
     };

@@ -8,7 +8,7 @@ ghost use Rattle.example_import.specs.Import.{flaw_text, stored_before, IsReport
 use crate::item::{Flaw, Item};
 use crate::row::Row;
 use crate::store::Store;
-use garde::{Component, DefaultI18n, Error, Path, Report, Trail, Valid, Validate, ValidateError};
+use garde::{Component, Error, I18n, Path, Report, Trail, Valid, Validate, ValidateError};
 use std::alloc::{AllocError, Global};
 
 /// Why an item was not taken.
@@ -28,12 +28,12 @@ fn trail_to<'a>(alloc: Global, index: usize) -> Result<Trail<'a>, AllocError>
 }
 
 /// What the rules find in a row, under its index.
-fn faults_of(alloc: Global, index: usize, row: &Row) -> Result<Report, AllocError>
-    ensures report { IfOk result (λ report. IsReport index row.now false report) }
+fn faults_of<H: I18n>(alloc: Global, index: usize, row: &Row, h: &H) -> Result<Report, AllocError>
+    ensures report { IfOk result (λ report. IsReport (H.text h.now) index row.now false report) }
     ensures known { IfOk result (λ report. report ≡ [] → Known (row_visits row.now)) }
 {
     let mut trail = trail_to(alloc, index)?;
-    match row.validate_on(alloc, &(), &mut trail, &DefaultI18n) {
+    match row.validate_on(alloc, &(), &mut trail, h) {
         Ok(()) => Ok(Report::new(alloc)),
         Err(ValidateError::Report(report)) => Ok(report),
         Err(ValidateError::Memory) => Err(AllocError),
@@ -53,11 +53,17 @@ fn add_code_fault(alloc: Global, index: usize, report: &mut Report) -> Result<()
 
 /// Every fault of a row, under its index: those of its rules, and then that of its code, if the
 /// table has it.
-fn report_of(alloc: Global, index: usize, row: &Row, is_stored: bool) -> Result<Report, AllocError>
-    ensures report { IfOk result (λ report. IsReport index row.now is_stored report) }
+fn report_of<H: I18n>(
+    alloc: Global,
+    index: usize,
+    row: &Row,
+    is_stored: bool,
+    h: &H,
+) -> Result<Report, AllocError>
+    ensures report { IfOk result (λ report. IsReport (H.text h.now) index row.now is_stored report) }
     ensures known { IfOk result (λ report. report ≡ [] → Known (row_visits row.now)) }
 {
-    let mut report = faults_of(alloc, index, row)?;
+    let mut report = faults_of(alloc, index, row, h)?;
     if is_stored {
         add_code_fault(alloc, index, &mut report)?;
     }
@@ -75,16 +81,17 @@ fn report_of_flaw(alloc: Global, index: usize, flaw: Flaw) -> Result<Report, All
 }
 
 /// Puts a row into the table if it has no fault, and returns its report.
-fn take_row<S: Store>(
+fn take_row<S: Store, H: I18n>(
     alloc: Global,
     store: &mut S,
     index: usize,
     row: Row,
+    h: &H,
 ) -> Result<Report, TakeError<S::Error>>
     requires begun { S.is_sound store.old → IsTrue (S.has_begun store.old) }
     ensures sound { S.is_sound store.new → S.is_sound store.old }
     ensures ok { S.is_sound store.new → IfOk result (λ report.
-        Takes index (S.lines store.old) (Item.Row row) report (S.lines store.new)) }
+        Takes (H.text h.now) index (S.lines store.old) (Item.Row row) report (S.lines store.new)) }
     ensures begun { S.is_sound store.new → OnOk result (IsTrue (S.has_begun store.new)) }
     ensures kept { S.is_sound store.new → S.kept store.new ≡ S.kept store.old }
 {
@@ -92,7 +99,7 @@ fn take_row<S: Store>(
         Ok(is_stored) => is_stored,
         Err(error) => return Err(TakeError::Store(error)),
     };
-    let report = match report_of(alloc, index, &row, is_stored) {
+    let report = match report_of(alloc, index, &row, is_stored, h) {
         Ok(report) => report,
         Err(_) => return Err(TakeError::Memory),
     };
@@ -106,21 +113,22 @@ fn take_row<S: Store>(
 }
 
 /// Puts the row of an item into the table if it has no fault, and returns the report of the item.
-pub fn take<S: Store>(
+pub fn take<S: Store, H: I18n>(
     alloc: Global,
     store: &mut S,
     index: usize,
     item: Item,
+    h: &H,
 ) -> Result<Report, TakeError<S::Error>>
     requires begun { S.is_sound store.old → IsTrue (S.has_begun store.old) }
     ensures sound { S.is_sound store.new → S.is_sound store.old }
     ensures ok { S.is_sound store.new → IfOk result (λ report.
-        Takes index (S.lines store.old) item report (S.lines store.new)) }
+        Takes (H.text h.now) index (S.lines store.old) item report (S.lines store.new)) }
     ensures begun { S.is_sound store.new → OnOk result (IsTrue (S.has_begun store.new)) }
     ensures kept { S.is_sound store.new → S.kept store.new ≡ S.kept store.old }
 {
     match item {
-        Item::Row(row) => take_row(alloc, store, index, row),
+        Item::Row(row) => take_row(alloc, store, index, row, h),
         Item::Broken(flaw) => match report_of_flaw(alloc, index, flaw) {
             Ok(report) => Ok(report),
             Err(_) => Err(TakeError::Memory),

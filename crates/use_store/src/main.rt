@@ -15,7 +15,10 @@ use anyhow::{Error, Result, anyhow, bail};
 use example_import::run::{Batch, Cause, Progress, Stopped, import};
 use example_table::database::Stock;
 use example_table::opening::OpenError;
+use garde::I18n;
+use garde_catalog::{ENGLISH, languages};
 use garde_csv::ListError;
+use garde_problem::WithCodes;
 use sqlite::FileStore;
 use std::cell::Cell;
 use std::fmt::Display;
@@ -92,27 +95,44 @@ fn not_opened(error: OpenError) -> Error {
     }
 }
 
-/// Imports the list of a source into the table of a file. The answer is whether all of its rows were
-/// stored.
-fn store<R: Read + Drop>(rt: &HostRuntime, source: R, options: &Options<'_>) -> Result<bool> {
-    let line = Cell::new(0);
-    let mut out = Faults {
-        out: BufWriter::new(rt.alloc(), io::writer(rt))?,
-        alloc: rt.alloc(),
-        printed: options.printed,
-        line: &line,
-    };
-    let mut list = CsvList::new(rt.alloc(), source, &line)?;
+/// Imports a list into the table of a file, with the texts of a handler. The answer is whether all of
+/// its rows were stored.
+fn store_list<R: Read + Drop, W: Write + Drop, H: I18n>(
+    rt: &HostRuntime,
+    mut list: CsvList<'_, R>,
+    mut out: Faults<'_, W>,
+    options: &Options<'_>,
+    h: &H,
+) -> Result<bool> {
+    let alloc = rt.alloc();
     let mut stock = match file::open(rt, options.path) {
         Ok(stock) => stock,
         Err(error) => return Err(not_opened(error)),
     };
-    match import(rt.alloc(), &mut stock, &mut list, &mut out, options.batch) {
+    match import(alloc, &mut stock, &mut list, &mut out, options.batch, h) {
         Ok(progress) => end(rt, stock, progress, &mut out),
         Err(stopped) => {
             let _ = out.out.flush();
             Err(reason(&stopped))
         }
+    }
+}
+
+/// Imports the list of a source into the table of a file, and prints faults in the language that is
+/// asked for. A fault that has a place has a code, too. The answer is whether all rows were stored.
+fn store<R: Read + Drop>(rt: &HostRuntime, source: R, options: &Options<'_>) -> Result<bool> {
+    let catalog = options.spoken.catalog(rt.alloc(), &languages(), &ENGLISH)?;
+    let line = Cell::new(0);
+    let out = Faults {
+        out: BufWriter::new(rt.alloc(), io::writer(rt))?,
+        alloc: rt.alloc(),
+        printed: options.printed,
+        line: &line,
+    };
+    let list = CsvList::new(rt.alloc(), source, &line)?;
+    match options.printed {
+        Some(_) => store_list(rt, list, out, options, &WithCodes(&catalog)),
+        None => store_list(rt, list, out, options, &catalog),
     }
 }
 

@@ -1,10 +1,11 @@
 //! What the words of the command line ask for.
 use example_import::run::Batch;
+use garde_catalog::Spoken;
 use garde_places::{Asked, Printed};
 
 /// The usage, which `--help` prints.
 pub const USAGE: &str = "\
-usage: use_store FILE [--batch N | --all-or-nothing] [--format FORMAT] [LIST | -]
+usage: use_store FILE [--batch N | --all-or-nothing] [--language TAG] [--format FORMAT] [LIST | -]
        use_store FILE --list
 Stores the valid rows of a stock list in CSV in a SQLite file, and prints every fault of the others.
 Or prints the rows of such a file as a list in CSV.
@@ -13,6 +14,7 @@ Or prints the rows of such a file as a list in CSV.
   LIST              is the list, and without a name or with - it is read on standard input
   --batch N         keeps the rows after every N rows of the list, N from 1 (1000 where it is left out)
   --all-or-nothing  keeps the rows at the end, if no row has a fault
+  --language TAG    prints faults in this language, as de or pt-BR, and without it in English
   --format FORMAT   prints faults as short, json or github with their places, or as plain without;
                     else as short where LIST or - stands, and as plain where none does
   --list            prints the rows of the file
@@ -29,6 +31,8 @@ pub struct Options<'w> {
     pub batch: Batch,
     /// How faults are printed, and none for without their places.
     pub printed: Option<Printed<'w>>,
+    /// The language in which faults are printed.
+    pub spoken: Spoken<'w>,
 }
 
 /// What is to be done.
@@ -58,6 +62,7 @@ struct Words<'w> {
     batch: Option<usize>,
     is_whole: bool,
     asked: Asked<'w>,
+    spoken: Spoken<'w>,
 }
 
 impl<'w> Words<'w> {
@@ -66,12 +71,15 @@ impl<'w> Words<'w> {
             batch: None,
             is_whole: false,
             asked: Asked::new(),
+            spoken: Spoken::new(),
         };
         let mut is_number = false;
         for word in words {
             if is_number {
                 taken.batch = Some(rows_each(word)?);
                 is_number = false;
+            } else if !taken.asked.is_open && taken.spoken.take(word)? {
+                continue;
             } else if word.as_str() == "--batch" && taken.can_be_number() {
                 is_number = true;
             } else if !taken.asked.take(word)? {
@@ -110,6 +118,7 @@ impl<'w> Words<'w> {
             list: asked.file(),
             batch,
             printed: asked.printed(),
+            spoken: self.spoken,
         })
     }
 }

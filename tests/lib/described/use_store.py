@@ -5,10 +5,10 @@ import pathlib
 import shutil
 import tempfile
 
-from lib import placed
-from lib.described import Case, run
+from lib import languages, placed
+from lib.described import Case, pattern, run
 from lib.described.use_import import CODES, COLUMNS, PIECES, records, some_row, written
-from lib.faults import ALPHANUMERIC, ENGLISH, URL, URLS, between, chars, fault, prefix
+from lib.faults import ALPHANUMERIC, URL, URLS, between, chars, fault, prefix
 from lib.form import Member, Object, OrEmpty, Parsed, Text, read
 from lib.json_values import Pairs
 from lib.reports import lines
@@ -37,24 +37,26 @@ def faults_of(index, cells, codes):
     return row, walk
 
 
-def told(form, line, walk):
-    """The faults of a row, which begins in this line, as they are printed. None has a code of its own."""
+def told(form, line, walk, tag):
+    """The faults of a row, which begins in this line, as they are printed in a language. Messages of the program have no code."""
+    language = languages.of_tag(tag)
     if form == "plain":
-        return lines(walk)
-    return "".join(placed.line(form, "<stdin>", (line, 1), path, it.text(ENGLISH), "custom", {}) + "\n" for path, it in walk)
+        return lines(walk, language)
+    coded = [(path, it, ("custom", {}) if it.code == "own" else (it.code, it.told())) for path, it in walk]
+    return "".join(placed.line(form, "<stdin>", (line, 1), path, it.text(language), *code) + "\n" for path, it, code in coded)
 
 
-def answer_to(found, whole=False, batch=None, form="plain"):
-    """What a list makes of an empty table, by its records: the table, the status, the faults, the last line, and the tables at the ends
-    of batches."""
+def answer_to(found, whole=False, batch=None, form="plain", tag="en"):
+    """What a list makes of an empty table, by its records: the table, the status, the faults in a language, the last line, and the tables
+    at the ends of batches."""
     table, codes, said, kept, count = [], set(), [], [[]], 0
     for index, record in enumerate(found):
         if record.fault or len(record.cells) != len(COLUMNS):
             flaw = fault("own", text=str(record.fault or "not as many fields as in the header"))
-            said.append(told(form, record.line, [((index,), flaw)]))
+            said.append(told(form, record.line, [((index,), flaw)], tag))
         else:
             row, walk = faults_of(index, record.cells, codes)
-            said.append(told(form, record.line, walk))
+            said.append(told(form, record.line, walk, tag))
             if not walk:
                 table.append(tuple(row[name] for name in COLUMNS))
                 codes.add(row["code"])
@@ -70,7 +72,7 @@ def answer_to(found, whole=False, batch=None, form="plain"):
 
 def some(dice):
     odd, words = dice.choice((0, 0, 0.1, 0.4)), dice.choice((("--all-or-nothing",), ("--batch", "1"), ("--batch", "3"), ()))
-    form = placed.some_format(dice)
+    form = placed.some_format(dice) + languages.some_words(dice)
     rows = [some_row(dice, COLUMNS, odd) for _ in range(dice.randrange(8))]
     body, cuts = written(dice, rows), set()
     for _ in range(dice.choice((0, 0, 1, 2, 3))):
@@ -97,10 +99,13 @@ def with_body(case, body):
 
 
 def wanted(case):
-    """The status, the output, standard error, and the table of the file."""
-    _, *rest = records(case.given)
-    words, form = placed.asked(case.words)
-    table, status, said, last, _ = answer_to(rest, "--all-or-nothing" in words, form=form)
+    """The status, the output, standard error, and the table of the file, where there is one."""
+    rest, tag = languages.spoken(case.words)
+    if tag is None:
+        return 2, b"", pattern(f"use_store: {languages.unknown()}\n"), []
+    words, form = placed.asked(rest)
+    _, *found = records(case.given)
+    table, status, said, last, _ = answer_to(found, "--all-or-nothing" in words, form=form, tag=tag)
     out, err = (said + last, "") if form == "plain" else (said, last)
     return status, out.encode("utf-8"), err.encode("utf-8"), table
 

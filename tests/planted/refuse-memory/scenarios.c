@@ -12,6 +12,8 @@ static int answer(const char *word, int refused)
 {
     if (!refused)
         return write(1, "right\n", 6) != 6;
+    if (strstr(word, "answers_less") && refused > 1)
+        return write(1, "less\n", 5) != 5;
     const char *said = strstr(word, "says_why") ? "use_planted: out of memory\n" : "use_planted: something\n";
     return write(2, said, strlen(said)) < 0 || strstr(word, "with_status_0") ? 0 : 2;
 }
@@ -29,7 +31,7 @@ int main(int count, char **words)
         return 0;
     void *volatile one = malloc(10), *volatile other = malloc(10);
     if (count > 1 && strstr(words[1], "program"))
-        return answer(words[1], !one || !other);
+        return answer(words[1], !one ? 2 : !other);
     if (one && other)
         return 0;
     return say(strstr(words[1], "ends_well") ? "error: \"memory was refused\"\n" : "panicked\n");

@@ -4,7 +4,7 @@ use example_import::item::{Flaw, Item, Sink, Source};
 use example_import::memory::MemoryTable;
 use example_import::row::Row;
 use example_import::run::{Batch, import};
-use garde::Report;
+use garde::{DefaultI18n, Report};
 use garde_csv::Fault;
 use std::alloc::{AllocError, Global};
 use std::fmt::Write;
@@ -107,7 +107,7 @@ fn imports(alloc: Global, batch: Batch, stored: usize, kept: &[&str]) -> Result<
     let mut out = Lines {
         text: String::new(alloc),
     };
-    let counted = match import(alloc, &mut table, &mut list, &mut out, batch) {
+    let counted = match import(alloc, &mut table, &mut list, &mut out, batch, &DefaultI18n) {
         Ok(done) => done.items == 7 && done.stored == stored,
         Err(_) => false,
     };
