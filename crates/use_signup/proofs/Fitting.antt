@@ -1,5 +1,5 @@
 -- What an answer says of the form that was sent.
-use Rattle.std.proofs.Common.{◌≡◌, ◌≢◌, ℕ, Bool, true, false, List, [], ◌∷◌, ◌⊎◌, codes, map, length, Option, Result, Ok, Err, IsTrue, refl, sym, ap, subst, ◌∙◌, arith, cond, ◌||◌, bytes_eq, inl, inr}
+use Rattle.std.proofs.Common.{◌≡◌, ◌≢◌, ℕ, Bool, List, [], ◌∷◌, codes, map, length, Option, Result, Ok, Err, refl, sym, ap, subst, ◌∙◌, arith, cond, ◌||◌, bytes_eq, inl, inr}
 use Rattle.std.specs.Borrow.{Bor}
 use Rattle.std.proofs.lemmas.Bool.{true≢false}
 use Rattle.std.proofs.lemmas.Slice.Eq.{bytes_eq-Decides}
@@ -19,7 +19,7 @@ use Rattle.use_signup.specs.declared.request.Route.TheVariants as routes
 use Rattle.use_signup.specs.declared.texts.Speech.{Speech}
 use Rattle.use_signup.specs.Answered.{AnswersRoute, FormVisits, IsAnswered, Reads, Tells, Voice, voice_at}
 use Rattle.use_signup.specs.Promised.{HasReport, IsFaultless, IsPageOf, IsPromised, IsSignUpIn}
-use Rattle.use_signup.specs.Request.{IsGet, IsNoGet, IsRoute}
+use Rattle.use_signup.specs.Request.{IsGet, IsRoute}
 
 -- ---- the fields of a body are one object, whatever holds the names of the lists
 

@@ -1,5 +1,5 @@
 -- What is answered to a request.
-use Rattle.std.specs.Prelude.{◌≡◌, ℕ, List, [], ◌∷◌, ◌++◌, codes, Option, Result, Ok, Err}
+use Rattle.std.specs.Prelude.{ℕ, List, [], ◌∷◌, codes, Option, Result, Ok, Err}
 use Rattle.json.specs.Json.{Json}
 use Rattle.garde.specs.Answers.{Answers}
 use Rattle.garde.specs.Handlers.{Datum}

@@ -1,5 +1,5 @@
 -- What an answer says of the form that was sent.
-use Rattle.std.specs.Prelude.{◌≡◌, ℕ, List, Option, Result, Ok, Err}
+use Rattle.std.specs.Prelude.{◌≡◌, ℕ, List, Option, Ok, Err}
 use Rattle.garde.specs.declared.validate_error.ValidateError.TheVariants.{Report}
 use Rattle.garde_form.specs.WebForm.{fields_in}
 use Rattle.garde_report.specs.Report.{Entry}
