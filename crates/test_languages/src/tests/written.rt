@@ -200,7 +200,7 @@ fn reports_each_fault_of_a_table(rt: HostRuntime) {
 
 // What is read as a table that may lack keys, and what is reported.
 static OTHERS: [(&str, &str); 4] = [
-    ("[]", ": not an object\n"),
+    ("[]", "not an object\n"),
     ("{\"not_url\":\"a\"}", "a table"),
     (
         "{\"x\":1,\"not_url\":\"{\",\"ascii_invalid\":2}",
