@@ -2,7 +2,6 @@
 mod asked;
 mod asked_rules;
 mod badge;
-mod below;
 mod contact;
 mod containers;
 mod counted;

@@ -1,7 +1,7 @@
 //! Paths, errors and reports.
 
 use crate::tests::OrEnd;
-use crate::tests::below::report::samples::{
+use crate::tests::report::samples::{
     compared, four_faults, has_text, hash_of, path_of, path_of_one, path_to, printed, report_of,
     shows,
 };

@@ -1,7 +1,7 @@
 //! Whole numbers as components.
 
 use crate::tests::OrEnd;
-use crate::tests::below::report::samples::path_of;
+use crate::tests::report::samples::path_of;
 use garde_report::{Kind, Path, PathComponentKind};
 use std::alloc::Global;
 use std::process::Abort;

@@ -1,8 +1,8 @@
 //! Ample memory: what is long, deep or many gets the answers of what is small.
 
 use crate::tests::OrEnd;
-use crate::tests::below::report::samples::{append, path_of, path_to};
-use crate::tests::below::report::written::is_read_back;
+use crate::tests::report::samples::{append, path_of, path_to};
+use crate::tests::report::written::is_read_back;
 use garde_report::rc_list::List;
 use garde_report::{Component, Error, Kind, Path, Report, RuleError, Trail};
 use std::alloc::Global;

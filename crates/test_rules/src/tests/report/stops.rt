@@ -1,7 +1,7 @@
 //! Where texts stop being JSON, beside places that were counted by hand, and the places of listed tokens.
 
 use crate::tests::OrEnd;
-use crate::tests::below::report::samples::report_of;
+use crate::tests::report::samples::report_of;
 use garde_places::{ListedPlaces, Place, place_of_byte, stop_of};
 use garde_report::{Kind, Report};
 use garde_tape::{Scratch, parse};

@@ -3,7 +3,7 @@ ghost use Rattle.std.specs.Prelude.{◌≡◌, ℕ, List, ◌++◌, ◌==◌, �
 ghost use Rattle.std.specs.Fmt.{decimal};
 ghost use Rattle.garde_i18n.specs.Datum as datum;
 ghost use Rattle.garde_i18n.specs.Reasons.{ip_kind_text};
-ghost use Rattle.test_garde.specs.declared.tests.below.lengths.handlers.czech.TheConstants as words;
+ghost use Rattle.test_rules.specs.declared.tests.lengths.handlers.czech.TheConstants as words;
 
 use super::{ODD, assert_answers};
 use garde_i18n::{Datum, I18n, InvalidCreditCard, InvalidPhoneNumber, InvalidUrl, IpKind, Named};

@@ -1,7 +1,7 @@
 //! Places of faults in a JSON text, beside lines and columns that were counted by hand.
 
 use crate::tests::OrEnd;
-use crate::tests::below::report::samples::{path_of, report_of};
+use crate::tests::report::samples::{path_of, report_of};
 use garde_places::{Fault, Format, GitHub, Places, Short, sort_by_place};
 use garde_report::{Kind, Report};
 use garde_tape::{Scratch, parse};

@@ -1,7 +1,7 @@
 //! Lists of letters, and a long list.
 
 use crate::tests::OrEnd;
-use crate::tests::below::report::samples::{compared, hash_of, list_of, shown, shows};
+use crate::tests::report::samples::{compared, hash_of, list_of, shown, shows};
 use garde_report::rc_list::List;
 use std::alloc::Global;
 use std::cmp::Ordering;

@@ -1,8 +1,8 @@
 //! Reports that are read from a text with no tree of `serde_json`.
 
 use crate::tests::OrEnd;
-use crate::tests::below::report::samples::{append, keys, path_to};
-use crate::tests::below::report::written::{has_lines, is_form, is_read_back};
+use crate::tests::report::samples::{append, keys, path_to};
+use crate::tests::report::written::{has_lines, is_form, is_read_back};
 use garde_json::{report_from_json_text, report_from_tree};
 use garde_report::Report;
 use garde_tape::{Scratch, Tree, parse};

@@ -1,8 +1,8 @@
 //! Reports as text, beside the text of their trees.
 
 use crate::tests::OrEnd;
-use crate::tests::below::report::samples::report_of;
-use crate::tests::below::report::written::{is_form, is_there_and_back};
+use crate::tests::report::samples::report_of;
+use crate::tests::report::written::{is_form, is_there_and_back};
 use garde_json::{first_to_json_text, report_from_json};
 use garde_report::{Kind, Report};
 use serde_json::Value;

@@ -1,8 +1,8 @@
 //! Written forms, and trees that are none.
 
 use crate::tests::OrEnd;
-use crate::tests::below::report::samples::{path_of, report_of};
-use crate::tests::below::report::written::{has_lines, is_form, is_there_and_back};
+use crate::tests::report::samples::{path_of, report_of};
+use crate::tests::report::written::{has_lines, is_form, is_there_and_back};
 use garde_json::{
     JsonRefused, path_from_json, path_to_json, report_from_json, report_from_json_text,
 };

@@ -1,7 +1,7 @@
 //! Pointers, escaped reports and problem details, beside texts written by hand.
 
 use crate::tests::OrEnd;
-use crate::tests::below::report::samples::{has_text, path_of, printed, report_of};
+use crate::tests::report::samples::{has_text, path_of, printed, report_of};
 use garde_problem::{
     Coded, Escaped, JsonPointer, Params, Problem, coded_message, laws, problem_to_json_text,
 };

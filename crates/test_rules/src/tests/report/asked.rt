@@ -1,7 +1,7 @@
 //! What words of a command line ask for, and the lines of faults under the name of their file.
 
 use crate::tests::OrEnd;
-use crate::tests::below::report::samples::report_of;
+use crate::tests::report::samples::report_of;
 use garde_places::{
     Asked, Fault, Format, Place, Printed, faults_of, listed_faults_of, stop_of_utf8,
 };

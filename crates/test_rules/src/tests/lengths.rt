@@ -6,8 +6,7 @@ mod options;
 mod texts;
 mod urls;
 
-use super::tells;
-use crate::tests::OrEnd;
+use super::{OrEnd, tells};
 use garde_engines::OutOfBounds;
 use garde_engines::length::simple;
 use garde_i18n::DefaultI18n;
