@@ -34,11 +34,22 @@ class Refused(Exception):
     """The browser answers with an error, or not at all."""
 
 
+class Exchange:
+    """A request of the page, and the status and the fields of its answer."""
+
+    def __init__(self, request, number):
+        self.number, self.method, self.address, self.body = number, request["method"], request["url"], request.get("postData", "").encode()
+        self.status, self.fields = None, {}
+
+    def answered(self, response):
+        self.status, self.fields = response["status"], {name.lower(): value for name, value in response["headers"].items()}
+
+
 class Browser:
-    """A browser with one page. `dialogs` has the texts of the dialogs that a script opened."""
+    """A browser with one page. `dialogs` has the texts of the dialogs that a script opened, and `exchanges` what went over the network."""
 
     def __init__(self, path):
-        self.room, self.number, self.rest, self.dialogs = tempfile.mkdtemp(prefix="browsed-"), 0, b"", []
+        self.room, self.number, self.rest, self.dialogs, self.exchanges = tempfile.mkdtemp(prefix="browsed-"), 0, b"", [], []
         (there, self.ask), (self.answer, here) = os.pipe(), os.pipe()
         words = [path, *WORDS, f"--user-data-dir={self.room}", "about:blank"]
         started = [sys.executable, "-c", PLACED, str(there), str(here), *words]
@@ -49,7 +60,7 @@ class Browser:
         self.session = None
         target = self.call("Target.createTarget", url="about:blank")["targetId"]
         self.session = self.call("Target.attachToTarget", targetId=target, flatten=True)["sessionId"]
-        for part in "Page", "Runtime", "Accessibility":
+        for part in "Page", "Runtime", "Accessibility", "Network":
             self.call(f"{part}.enable")
 
     def message(self):
@@ -70,8 +81,19 @@ class Browser:
         os.write(self.ask, json.dumps(said).encode() + b"\0")
         return self.number
 
+    def exchanged(self, method, params):
+        """Takes down a request or an answer, unless its request is not among the exchanges any more."""
+        asked = [it for it in self.exchanges if it.number == params["requestId"]]
+        answer = params.get("redirectResponse" if method == "Network.requestWillBeSent" else "response")
+        if asked and answer:
+            asked[-1].answered(answer)
+        if method == "Network.requestWillBeSent":
+            self.exchanges.append(Exchange(params["request"], params["requestId"]))
+
     def seen(self, message):
-        """Closes a dialog that a script opened."""
+        """Takes down what goes over the network, and closes a dialog that a script opened."""
+        if message.get("method") in ("Network.requestWillBeSent", "Network.responseReceived"):
+            self.exchanged(message["method"], message["params"])
         if message.get("method") == "Page.javascriptDialogOpening":
             self.dialogs.append(message["params"]["message"])
             if len(self.dialogs) > MOST_DIALOGS:
