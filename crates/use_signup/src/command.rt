@@ -7,10 +7,11 @@ const MOST: usize = 64 * 1024;
 
 /// How the program is called.
 pub const USAGE: &str = "\
-usage: use_signup [--language TAG] [--page]
+usage: use_signup [--language TAG] [--page] [FILE | -]
        use_signup --serve [BYTES] [--no-date]
-Reads a web form on standard input, and welcomes who signs up or prints every fault of the form.
+Reads a web form, and welcomes who signs up or prints every fault of the form.
 
+  FILE            reads this file, and without a name or with - standard input
   --language TAG  answers in this language, as de or pt-BR, and without it in English
   --page          prints faults on a page with the form, what was sent but for passwords, and each fault
                   beside its field; its labels are Czech or Arabic where the language is, and else English
@@ -24,10 +25,18 @@ Reads a web form on standard input, and welcomes who signs up or prints every fa
 pub enum Task<'w> {
     /// The usage is printed.
     Help,
-    /// A form is judged, and answered in this language, by lines or as a page.
-    Judge { spoken: Spoken<'w>, page: bool },
+    /// The form of this file, or of standard input, is judged, and answered in this language, by lines
+    /// or as a page.
+    Judge {
+        spoken: Spoken<'w>,
+        page: bool,
+        file: Option<&'w str>,
+    },
     /// Requests are answered whose body has so many bytes at most, with dates or not.
-    Serve { most: usize, dates: bool },
+    Serve {
+        most: usize,
+        dates: bool,
+    },
 }
 
 impl<'w> Task<'w> {
@@ -43,17 +52,20 @@ impl<'w> Task<'w> {
     // How these words ask for a form to be judged.
     fn judging(words: &'w [String]) -> Result<Task<'w>, &'static str> {
         let mut spoken = Spoken::new();
-        let mut page = false;
+        let (mut page, mut named) = (false, None);
         for word in words {
             if spoken.take(word)? {
                 continue;
             }
-            if word.as_str() != "--page" {
-                return Err("the word is no option");
+            match word.as_str() {
+                "--page" => page = true,
+                text if text != "-" && text.starts_with("-") => return Err("the word is no option"),
+                _ if named.is_some() => return Err("there must be one file at most"),
+                text => named = Some(text),
             }
-            page = true;
         }
-        Ok(Task::Judge { spoken, page })
+        let file = named.filter(|name| *name != "-");
+        Ok(Task::Judge { spoken, page, file })
     }
 
     // How the words behind `--serve` ask for requests to be answered.

@@ -1,4 +1,5 @@
-//! Handles a form to sign up with, read from standard input, and answers in the language of a tag.
+//! Handles a form to sign up with, read from a file or from standard input, and answers in the language
+//! of a tag.
 #![tactic(auto)]
 
 mod command;
@@ -30,7 +31,7 @@ use http_server::{Config, Reason, State};
 use std::hash::RandomState;
 use std::io::{BufWriter, Read};
 use std::process::ExitCode;
-use std::{env, io};
+use std::{env, fs, io};
 
 /// The byte order mark of UTF-8. The URL Standard has none in a form, but a file may begin with it.
 const MARK: [u8; 3] = [0xEF, 0xBB, 0xBF];
@@ -90,29 +91,48 @@ fn answer<H: I18n + FormI18n>(
     }
 }
 
-/// Judges the form on standard input, which is read without the byte order mark at its beginning and
-/// the white space at its end, as of a file.
+/// The bytes of a file, or of standard input.
+fn read(rt: &HostRuntime, file: Option<&str>) -> Result<Vec<u8>> {
+    let Some(name) = file else {
+        let mut bytes = Vec::new(rt.alloc());
+        rt.stdin()
+            .read_to_end(&mut bytes)
+            .context("the form is not read")?;
+        return Ok(bytes);
+    };
+    match fs::read(rt, name) {
+        Ok(bytes) => Ok(bytes),
+        Err(error) => bail!("{name:?}: {error}"),
+    }
+}
+
+/// Judges a form, which is read without the byte order mark at its beginning and the white space at its
+/// end, as of a file.
 fn judge<H: I18n + FormI18n>(
     rt: &HostRuntime,
+    body: &[u8],
     page: Option<&Form<'_>>,
     words: &Words,
     h: &H,
 ) -> Result<ExitCode> {
-    let mut body = Vec::new(rt.alloc());
-    rt.stdin()
-        .read_to_end(&mut body)
-        .context("the form is not read")?;
-    let body = body.as_slice().trim_ascii_end();
+    let body = body.trim_ascii_end();
     answer(rt, body.strip_prefix(&MARK).unwrap_or(body), page, words, h)
 }
 
 /// Judges the form in the language that is asked for, and answers by lines or as a page.
-fn judge_in(rt: &HostRuntime, spoken: Spoken<'_>, page: bool) -> Result<ExitCode> {
+fn judge_in(
+    rt: &HostRuntime,
+    spoken: Spoken<'_>,
+    page: bool,
+    file: Option<&str>,
+) -> Result<ExitCode> {
     let offered = languages();
     let catalog = spoken.catalog(rt.alloc(), &offered, &ENGLISH)?;
     let language = Language::named(spoken.tag.unwrap_or("en"), &offered).unwrap_or(offered[0]);
     let form = &texts_in(language.tag).form;
-    judge(rt, page.then_some(form), &Words::of(language.tag), &catalog)
+    let (page, words) = (page.then_some(form), Words::of(language.tag));
+    let body = read(rt, file)?;
+    judge(rt, &body, page, &words, &catalog)
 }
 
 /// Answers all requests of standard input, in the languages that the pages have.
@@ -176,7 +196,7 @@ fn run(rt: &HostRuntime) -> Result<ExitCode> {
             println!(rt; "{USAGE}")?;
             Ok(ExitCode::SUCCESS)
         }
-        Ok(Task::Judge { spoken, page }) => judge_in(rt, spoken, page),
+        Ok(Task::Judge { spoken, page, file }) => judge_in(rt, spoken, page, file),
         Ok(Task::Serve { most, dates }) => serve(rt, most, dates),
         Err(reason) => {
             eprintln!(rt; "use_signup: {reason}\n{USAGE}")?;

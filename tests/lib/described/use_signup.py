@@ -129,8 +129,11 @@ def served(body, tag):
 
 
 def knows(case):
-    """Whether the answer to a stored case is described: of the service alone what its requests in the form of the random ones are answered."""
-    return "--serve" not in case.words or case.words == SERVE and sign_up_service.are_requests(case.given)
+    """Whether the answer to a stored case is described: of the service alone what its requests in the form of the random ones are
+    answered, and no form in a file."""
+    if "--serve" in case.words:
+        return case.words == SERVE and sign_up_service.are_requests(case.given)
+    return all(word.startswith("-") or before == "--language" for before, word in zip(("", *case.words), case.words))
 
 
 def body_of(case):
