@@ -8,5 +8,6 @@ pub mod IpText
 pub mod Octets
 pub mod Ipv6Reader
 pub mod Patterns
+pub mod PlainUrls
 pub mod Refusals
 pub mod Urls

@@ -1,8 +1,12 @@
 //! Texts that may be URLs.
-ghost use Rattle.std.specs.Prelude.{◌≡◌, IfOk, MatchResult, Some};
+ghost use Rattle.std.specs.Prelude.{◌≡◌, true, IfOk, MatchResult, Ok, Some};
+ghost use Rattle.garde_engines.specs.PlainUrls.{is_plain_url};
 ghost use Rattle.garde_engines.specs.Urls.{reason_of, url_answer, IsUrl, IsNoUrl};
 
+mod plain;
+
 use garde_i18n::InvalidUrl;
+pub use plain::is_plain_url;
 use std::alloc::{AllocError, Global};
 pub use url::ParseError;
 use url::Url;
@@ -31,14 +35,19 @@ pub fn reason(error: &ParseError) -> Option<InvalidUrl>
 
 /// Parses the text as an absolute URL: Ok where it is one, and else the reason why it is none.
 ///
-/// `AllocError` is returned where there is no memory for the parts of the URL, or they come to 4
-/// GB; it says nothing of the text.
+/// A plain URL ([`is_plain_url`]) is not parsed: it takes no memory, and no `AllocError` comes of it.
+/// Of any other text `AllocError` is returned where there is no memory for the parts of the URL, or
+/// they come to 4 GB; it says nothing of the text.
 pub fn check_url(alloc: Global, text: &str) -> Result<Result<(), InvalidUrl>, AllocError>
     ensures value { IfOk result (λ answer. url_answer text.now ≡ Some answer) }
     ensures parsed { IfOk result (λ answer. MatchResult answer
         (λ _. IsUrl text.now)
         (λ reason. IsNoUrl text.now reason)) }
+    ensures plain { is_plain_url text.now ≡ true → result ≡ Ok (Ok tt) }
 {
+    if is_plain_url(text) {
+        return Ok(Ok(()));
+    }
     match Url::parse(alloc, text) {
         Ok(_) => Ok(Ok(())),
         Err(error) => match reason(&error) {

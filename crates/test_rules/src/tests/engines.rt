@@ -1,7 +1,7 @@
 //! Tests of the engines, on tables of patterns and of texts.
 use crate::tests::OrEnd;
 use garde_engines::patterns::{PatternRefused, Regex, Searcher};
-use garde_engines::urls::{ParseError, check_url, reason};
+use garde_engines::urls::{ParseError, check_url, is_plain_url, reason};
 use garde_i18n::InvalidUrl;
 use std::alloc::Global;
 use std::process::Abort;
@@ -123,8 +123,10 @@ fn is_checked(rt: &impl Abort, alloc: Global, text: &str, wanted: Result<(), Inv
 }
 
 /// A text, and what is said of it as a URL.
-static LINKS: [(&str, Result<(), InvalidUrl>); 13] = [
+static LINKS: [(&str, Result<(), InvalidUrl>); 15] = [
     ("https://example.com/", Ok(())),
+    ("https://example.com", Ok(())),
+    ("https://example.com?q", Ok(())),
     ("https://example.com:443/a?b#c", Ok(())),
     ("mailto:a@example.com", Ok(())),
     ("abc", Err(InvalidUrl::RelativeUrlWithoutBase)),
@@ -143,6 +145,60 @@ static LINKS: [(&str, Result<(), InvalidUrl>); 13] = [
 fn says_why_a_text_is_no_url(rt: HostRuntime) {
     for (text, answer) in &LINKS {
         assert!(rt; is_checked(&rt, rt.alloc(), text, *answer), "{text}");
+    }
+}
+
+/// Texts at the border of what is plainly a URL, and what is said of them.
+static PLAIN: [(&str, Result<(), InvalidUrl>); 24] = [
+    ("http://a", Ok(())),
+    ("http://a/", Ok(())),
+    ("http://a/ b\t", Ok(())),
+    ("http://a/é?b#c", Ok(())),
+    ("http://a/:@[", Ok(())),
+    ("http://1.b2-/", Ok(())),
+    ("http://a..b/", Ok(())),
+    ("http://-a-/", Ok(())),
+    ("http://a.b./", Ok(())),
+    ("http://A/", Ok(())),
+    ("http://1.2.3.4/", Ok(())),
+    ("http://a.1x/", Ok(())),
+    ("https:///a", Ok(())),
+    ("https://xn--a/", Ok(())),
+    ("http://a.1/", Err(InvalidUrl::InvalidIpv4Address)),
+    ("http://a.0x/", Err(InvalidUrl::InvalidIpv4Address)),
+    ("http://a.1./", Err(InvalidUrl::InvalidIpv4Address)),
+    ("http://1.2.3.400/", Err(InvalidUrl::InvalidIpv4Address)),
+    ("http://a b/", Err(InvalidUrl::IdnaError)),
+    ("http://a%/", Err(InvalidUrl::IdnaError)),
+    ("http://a[/", Err(InvalidUrl::IdnaError)),
+    ("http://a:b/", Err(InvalidUrl::InvalidPort)),
+    ("https:///", Err(InvalidUrl::EmptyHost)),
+    ("http:/a b", Err(InvalidUrl::IdnaError)),
+];
+
+#[test]
+fn answers_at_the_border_of_plain_urls(rt: HostRuntime) {
+    for (text, answer) in &PLAIN {
+        assert!(rt; is_checked(&rt, rt.alloc(), text, *answer), "{text}");
+    }
+}
+
+/// Texts, and whether each is plainly a URL.
+static PLAINLY: [(&str, bool); 8] = [
+    ("https://example.com", true),
+    ("http://example.com/a b", true),
+    ("https://1.b2-/", true),
+    ("https://example.com?q", false),
+    ("https://Example.com/", false),
+    ("https://example.1/", false),
+    ("ftp://example.com/", false),
+    ("", false),
+];
+
+#[test]
+fn knows_a_plain_url(rt: HostRuntime) {
+    for (text, plain) in &PLAINLY {
+        assert!(rt; is_plain_url(text) == *plain, "{text}");
     }
 }
 

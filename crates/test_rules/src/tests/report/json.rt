@@ -139,7 +139,7 @@ fn any_text_stands_with_any_kind(rt: HostRuntime) {
 }
 
 /// The text of a report with escapes or blanks, and its lines.
-static ESCAPED: [(&str, &str); 3] = [
+static ESCAPED: [(&str, &str); 4] = [
     (
         r#"{"errors":[[[["key","a\"b\/\\"],["index","\u0037"]],{"message":"not ASCII: \u00e9\t."}]]}"#,
         "a\"b/\\[7]: not ASCII: \u{e9}\t.\n",
@@ -151,6 +151,10 @@ static ESCAPED: [(&str, &str); 3] = [
     (
         " {\n\t\"errors\" : [ [ [ ] , { \"message\" : \" x \" } ] ] }\r\n",
         " x \n",
+    ),
+    (
+        r#"{"errors":[[[["key","list"],["index","\u0031\u0030"],["key","a key of more bytes than lie in a node: \ud83d\udd11"],["index","18446744073709551616"],["key","e"],["key","f"],["key","\u0067"],["key","h"],["key","i"],["key","j\/k"],["index","11"],["key",""]],{"message":"a message of more bytes than lie in an error, \u0022\u005c\b\f\n\r\t\u0022 and \u00E9"}],[[["key","list"],["index","12"]],{"message":"as long as the one before it, \ud83d\ude00 and a \\ in it"}]]}"#,
+        "list[10].a key of more bytes than lie in a node: \u{1f511}[18446744073709551616].e.f.g.h.i.j/k[11].: a message of more bytes than lie in an error, \"\\\u{8}\u{c}\n\r\t\" and \u{e9}\nlist[12]: as long as the one before it, \u{1f600} and a \\ in it\n",
     ),
 ];
 

@@ -3,7 +3,7 @@
 use crate::tests::OrEnd;
 use crate::tests::report::samples::{append, keys, path_to};
 use crate::tests::report::written::{has_lines, is_form, is_read_back};
-use garde_json::{report_from_json_text, report_from_tree};
+use garde_json::{report_from_json_text, report_from_tree, report_to_json_text};
 use garde_report::Report;
 use garde_tape::{Scratch, Tree, parse};
 use std::alloc::Global;
@@ -35,6 +35,14 @@ fn add_faults(rt: &impl Abort, alloc: Global, report: &mut Report, index: usize)
     let list = keys(rt, alloc, &["list", LONG_KEY]);
     append(rt, alloc, report, list.join(alloc, index).or_end(rt), LONG);
     append(rt, alloc, report, path_to(rt, alloc, index % 40), "short");
+}
+
+// Whether the text of a report is rejected without its last brace, and with a value behind it.
+fn is_refused_at_its_end(rt: &impl Abort, alloc: Global, report: &Report) -> bool {
+    let text = report_to_json_text(alloc, report).or_end(rt);
+    let cut = text.as_str().strip_suffix("}").unwrap_or("{\"errors\":[]}");
+    let longer = format!(in alloc; "{text}[]").or_end(rt);
+    is_refused(alloc, cut) && is_refused(alloc, longer.as_str())
 }
 
 /// Texts that are no JSON.
@@ -84,6 +92,7 @@ fn ten_thousand_faults_are_read_back(rt: HostRuntime) {
     }
     assert!(rt; report.len() == 10_000);
     assert!(rt; is_read_back(&rt, rt.alloc(), &report));
+    assert!(rt; is_refused_at_its_end(&rt, rt.alloc(), &report));
 }
 
 /// The text of a report, and its lines.
