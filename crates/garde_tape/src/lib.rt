@@ -13,7 +13,6 @@ mod input;
 mod items;
 mod kind;
 mod members;
-mod name;
 mod node;
 mod number;
 mod parse_error;

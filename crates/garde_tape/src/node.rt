@@ -157,14 +157,41 @@ fn spot_in<'n, 'a>(nodes: &[Node<'a>], from: usize, from_there: &'n [Node<'a>], 
     }
 }
 
-// Where a name stands among the members at `from`. A read asks for each member this way, so the loop
-// asks nothing of a member but its name and where the next one is.
-#[inline(never)]
-pub(crate) fn spot_from(nodes: &[Node<'_>], from: usize, name: &str) -> Spot
+// The same, by a loop of its own in each caller.
+#[inline(always)]
+fn spot_of(nodes: &[Node<'_>], from: usize, name: &str) -> Spot
     requires { AreMembersAt nodes.now from }
     ensures { let members = member_list (members_of (tokens_at nodes.now from)) in
         IsSpot nodes.now members name.now result }
 {
     let from_there = nodes_from(nodes, from);
     spot_in(nodes, from, from_there, name)
+}
+
+// Where a name stands among the members at `from`. A read asks for each member this way, so the loop
+// asks nothing of a member but its name and where the next one is. Names of fewer than 8 bytes and of
+// at most 16 have a loop each, in which LLVM compares them with few instructions and registers.
+#[inline(never)]
+pub(crate) fn spot_from(nodes: &[Node<'_>], from: usize, name: &str) -> Spot
+    requires { AreMembersAt nodes.now from }
+    ensures { let members = member_list (members_of (tokens_at nodes.now from)) in
+        IsSpot nodes.now members name.now result }
+{
+    if name.len() < 8 {
+        spot_of(nodes, from, name)
+    } else if name.len() <= 16 {
+        spot_of(nodes, from, name)
+    } else {
+        spot_of_long(nodes, from, name)
+    }
+}
+
+// The same out of line, so that what the comparison of long names takes is not paid for short ones.
+#[inline(never)]
+fn spot_of_long(nodes: &[Node<'_>], from: usize, name: &str) -> Spot
+    requires { AreMembersAt nodes.now from }
+    ensures { let members = member_list (members_of (tokens_at nodes.now from)) in
+        IsSpot nodes.now members name.now result }
+{
+    spot_of(nodes, from, name)
 }

@@ -1,5 +1,5 @@
 use Rattle.garde_tape.proofs.Nodes.{members_within}
-use Rattle.garde_tape.proofs.node.spot_from.Goals as goal
+use Rattle.garde_tape.proofs.node.spot_of.Goals as goal
 
 pub nodes_from-from_there-requires : goal.nodes_from-from_there-requires
 nodes_from-from_there-requires c =
