@@ -1,4 +1,5 @@
 pub mod Tokens
+pub mod Next
 pub mod First
 pub mod Form
 pub mod Json

@@ -9,9 +9,11 @@
 
 mod form;
 mod kind;
+mod next;
 mod path;
 mod read;
 mod refused;
+mod stream;
 mod text;
 mod value;
 

@@ -1,5 +1,5 @@
 //! Components and paths that are read from a text.
-ghost use Rattle.std.specs.Prelude.{◌≡◌, ◌≢◌, ◌<◌, ◌∷◌, [], ◌++◌, List, length, IfOk, IsOkAnd, MatchOption};
+ghost use Rattle.std.specs.Prelude.{◌≡◌, ◌≢◌, ◌∷◌, [], ◌++◌, List, IfOk, IsOkAnd, MatchOption};
 ghost use Rattle.serde_json.specs.Written.{outline};
 ghost use Rattle.garde_json.specs.Json.{part_json, path_json};
 ghost use Rattle.garde_report.specs.Part.{Part, part};
@@ -67,9 +67,8 @@ fn component_in<'a>(tree: &Tree<'_, 'a>) -> Option<(Kind, &'a str)>
     Some((kind, text_in(&text)?))
 }
 
-// The path with one component more at the end.
+// The path with one component more at the end. For one of `usize::MAX` there is no memory.
 pub(crate) fn join(alloc: Global, path: &Path, kind: Kind, text: &str) -> Result<Path, AllocError>
-    requires { length path.now < usize.MAX }
     ensures { IfOk result (λ longer. longer ≡ path.now ++ part kind text.now ∷ []) }
 {
     let longer = match kind {
@@ -80,18 +79,17 @@ pub(crate) fn join(alloc: Global, path: &Path, kind: Kind, text: &str) -> Result
     match longer {
         Ok(longer) => Ok(longer),
         Err(JoinError::Memory) => Err(AllocError),
-        Err(JoinError::TooLong) => unreachable!(),
+        Err(JoinError::TooLong) => Err(AllocError),
     }
 }
 
 // The same of a path where there was memory for it.
-fn join_made(
+pub(crate) fn joined(
     alloc: Global,
     path: Result<Path, AllocError>,
     kind: Kind,
     text: &str,
 ) -> Result<Path, AllocError>
-    requires { IfOk path (λ made. length made < usize.MAX) }
     ensures { IfOk result (λ longer. IsOkAnd path (λ made. longer ≡ made ++ part kind text.now ∷ [])) }
 {
     let path = path?;
@@ -107,7 +105,7 @@ pub(crate) fn path_in(alloc: Global, tree: &Tree<'_, '_>) -> Option<Result<Path,
     let mut path = Ok(Path::empty());
     while let Some(item) = items.next() {
         let (kind, text) = component_in(&item)?;
-        path = join_made(alloc, path, kind, text);
+        path = joined(alloc, path, kind, text);
     }
     Some(path)
 }

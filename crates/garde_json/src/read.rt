@@ -11,8 +11,10 @@ ghost use Rattle.garde_json.specs.declared.refused.JsonRefused.{JsonRefused as R
 use crate::JsonRefused;
 use crate::form::{pair, sole_member, text_in};
 use crate::path::path_in;
+use crate::stream::whole_report;
 use garde_report::{Error, Path, Report};
-use garde_tape::{ParseError, Scratch, Tree, parse};
+use garde_tape::Tree;
+use json::{Reader, Scratch};
 use std::alloc::{AllocError, Global};
 
 fn error_in(alloc: Global, tree: &Tree<'_, '_>) -> Option<Result<Error, AllocError>>
@@ -23,7 +25,7 @@ fn error_in(alloc: Global, tree: &Tree<'_, '_>) -> Option<Result<Error, AllocErr
 }
 
 // Both, where there was memory for both.
-fn both(
+pub(crate) fn both(
     path: Result<Path, AllocError>,
     error: Result<Error, AllocError>,
 ) -> Result<(Path, Error), AllocError>
@@ -43,7 +45,7 @@ fn entry_in(alloc: Global, tree: &Tree<'_, '_>) -> Option<Result<(Path, Error), 
 }
 
 // The report with one fault more, where there was memory for both.
-fn with_fault(
+pub(crate) fn with_fault(
     report: Result<Report, AllocError>,
     fault: Result<(Path, Error), AllocError>,
 ) -> Result<Report, AllocError>
@@ -100,9 +102,9 @@ pub fn report_from_tree(alloc: Global, tree: &Tree<'_, '_>) -> Result<Report, Js
 /// The report whose written form a text is: that of the tree which the text spells, as
 /// `report_from_tree` reads it. A text that is no JSON, nested no deeper than 128, is `Form` too.
 ///
-/// The text is read once, as a flat list of tokens; the messages and the texts of the components
-/// are copied into the report, and nowhere else. A text of more than 4,294,967,040 bytes is
-/// `Memory`.
+/// The text is read once, token by token, and no tree is made; the messages and the texts of the
+/// components are copied into the report, and nowhere else.
+#[tactic(auto, using(crate::proofs::Whole::text_is, crate::proofs::Whole::text_is_none))]
 pub fn report_from_json_text(alloc: Global, text: &str) -> Result<Report, JsonRefused>
     ensures ok { IfOk result (λ report. document text.now ≡ Some (report_tree report)) }
     ensures form { result ≡ Err Refused.Form
@@ -113,13 +115,12 @@ pub fn report_from_json_text(alloc: Global, text: &str) -> Result<Report, JsonRe
         return Err(JsonRefused::Form);
     }
     let mut scratch = Scratch::new(alloc);
-    match parse(alloc, text, &mut scratch) {
-        Ok(tape) => report_from_tree(alloc, &Tree::root(&tape)),
-        Err(ParseError::NotJson(_)) => Err(JsonRefused::Form),
-        Err(ParseError::TooDeep(_)) => Err(JsonRefused::Form),
-        Err(ParseError::LoneSurrogate(_)) => Err(JsonRefused::Form),
-        Err(ParseError::NotUtf8(_)) => unreachable!(),
-        Err(ParseError::TooLong) => Err(JsonRefused::Memory),
-        Err(ParseError::Memory) => Err(JsonRefused::Memory),
+    let Ok(mut reader) = Reader::new(text, &mut scratch) else {
+        return Err(JsonRefused::Memory);
+    };
+    match whole_report(alloc, &mut reader) {
+        Some(Ok(report)) => Ok(report),
+        Some(Err(_)) => Err(JsonRefused::Memory),
+        None => Err(JsonRefused::Form),
     }
 }

@@ -18,7 +18,7 @@ loop-item-preserved c =
     let next = part c.in_ok-kind.kind c.in_ok-kind.text.now in (
       parts.0 ++ (next ∷ []),
       more_is part_json _ c.in-Some.item parts.0 next c.loop-item.items _ c.in-Some.ensures.steps (c.in_ok-kind.ensures {u = tt}) parts.1,
-      grown c.join_made-path.result c.loop-item.path parts.0 next c.join_made-path.ensures parts.2,
+      grown c.joined-path.result c.loop-item.path parts.0 next c.joined-path.ensures parts.2,
     )
 
 -- no item is left
