@@ -21,6 +21,11 @@ CODES = (
     "range_lower_than", "range_greater_than", "prefix_missing", "suffix_missing", "pattern_no_match", "matches_field_mismatch",
     "ascii_invalid", "alphanumeric_invalid", "required_not_set",
 )
+# What is wrong with a text of a file has no key, so its sentence is that of the library in each language.
+TEMPLATE_FAULTS = {
+    "template_place_unknown": "has a name in braces that is no parameter of this text", "template_place_missing": "lacks a parameter in braces",
+    "template_brace_stray": "has a brace that does not close or does not open",
+}
 NO_JSON = {"not UTF-8": "NotUtf8", "not JSON": "NotJson", "nested deeper than 128": "NestedTooDeep", "a lone surrogate": "LoneSurrogate"}
 
 
@@ -50,7 +55,7 @@ def language(said, english):
         **{code: said[camel(code)] for code in CODES},
         "wrong_form": lambda wanted, found: said[f"Not{wanted}"],
         "out_of_range": lambda of: said["OutOfRange"].format(least=INTEGERS[of][0], greatest=INTEGERS[of][1]),
-        "url_invalid": url_text(said, english), "own": "{text}",
+        "url_invalid": url_text(said, english), "own": "{text}", **TEMPLATE_FAULTS,
     }
 
 
@@ -109,9 +114,8 @@ def placed(text):
     return re.sub(r"\\{(line|column)\\}", "[0-9]+", re.escape(text))
 
 
-def no_json(why, tag):
-    """The pattern of why bytes are no JSON, in a language, by that in English."""
-    said = said_in(tag)
+def no_json(why, said):
+    """The pattern of why bytes are no JSON, by the texts of a language, by that in English."""
     if exact := re.fullmatch(r"not UTF-8 at line (\d+) column (\d+)", why):
         return re.escape(said["NotUtf8"].format(line=exact.group(1), column=exact.group(2)))
     reasons = re.match(r"\((.*?)\)", why).group(1).split("|")

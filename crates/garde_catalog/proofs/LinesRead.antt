@@ -1,6 +1,6 @@
 -- The lines of a table that is read from a file: what is told of them, and what is known.
 use Rattle.std.proofs.Common.{◌≡◌, ◌≢◌, ◌∙◌, ◌+◌, ◌<◌, ◌≤◌, ◌∷◌, ℕ, List, [], Bool, true, false, All, Option, Some, None, Result, Ok, Err, IsOk, IsErr, inl, length, drop, get_or, refl, sym, ap, subst, append-nil, arith}
-use Rattle.std.specs.Prelude.{OnOk, option_map}
+use Rattle.std.specs.Prelude.{IfOk, IsOkAnd, OnOk, option_map}
 use Rattle.std.proofs.lemmas.Bool.{false≢true}
 use Rattle.std.proofs.lemmas.List.{at_drop_more, drop_all}
 use Rattle.std.proofs.lemmas.List.Elements.{All-cons, All-nil}
@@ -15,7 +15,7 @@ use Rattle.garde.specs.Tree.{Tree, nothing, fault, under as node, ◌then◌}
 use Rattle.garde_report.specs.Fault.{IfFault}
 use Rattle.garde_report.specs.declared.error.rule_error.RuleError.{RuleError}
 use Rattle.garde_report.specs.declared.error.rule_error.RuleError.TheVariants as errors
-use Rattle.garde_rules.specs.{Applies, Fault, own}
+use Rattle.garde_rules.specs.{Applies, Fault, rule}
 use Rattle.garde.specs.Visits.{Visits, Visited, Known, none, only, found, under, may_allocate, ◌and◌}
 use Rattle.garde.proofs.Author.{visited_as, visited_none, visited_then, visited_stop}
 use Rattle.garde_tape.specs.Look.{find_answer}
@@ -26,7 +26,7 @@ use Rattle.garde_schema.specs.Members.{member_visits, optional_visits}
 use Rattle.garde_catalog.specs.Keys.{first_of, number_of, second_of}
 use Rattle.garde_catalog.specs.Lines.{AreGoodLines, Line, found_text, in_turn, line_visits, lines_of, text_found, text_of, text_visits}
 use Rattle.garde_catalog.specs.Names.{name_of}
-use Rattle.garde_catalog.specs.Template.{fault_words, template_fault}
+use Rattle.garde_catalog.specs.Template.{fault_datum, template_fault}
 use Rattle.garde_catalog.specs.declared.key.Key.{Key}
 use Rattle.garde_catalog.specs.declared.key.TheConstants.{KEYS}
 use Rattle.garde_catalog.specs.declared.template.TemplateFault.{TemplateFault}
@@ -103,18 +103,20 @@ module _ {text : Datum → List ℕ} {E : Type 0} where
 -- ---- what a rule finds
 
 -- what is wrong with the text of a key, where its parameters have these names
-pub its_fault : (key : Key) (text : List ℕ) {first second body : List ℕ} {o : Option TemplateFault} → first ≡ first_of key → second ≡ second_of key → body ≡ text → o ≡ template_fault first second body → text_found key text ≡ option_map (λ found. own (fault_words found)) o
+pub its_fault : (key : Key) (text : List ℕ) {first second body : List ℕ} {o : Option TemplateFault} → first ≡ first_of key → second ≡ second_of key → body ≡ text → o ≡ template_fault first second body → text_found key text ≡ option_map (λ found. rule (fault_datum found)) o
 its_fault key text {first} {second} {body} f s b is =
-    ap (option_map (λ found. own (fault_words found)))
+    ap (option_map (λ found. rule (fault_datum found)))
     (ap (λ x. template_fault x (second_of key) text) (sym f) ∙ ap (λ x. template_fault first x text) (sym s) ∙ ap (λ x. template_fault first second x) (sym b) ∙ sym is)
 
--- the answer of a rule whose fault has a text of its own
-own_applies : (message body : List ℕ) (text : Datum → List ℕ) (e : RuleError) → IfFault e (λ m. m ≡ body) → body ≡ message → Applies (Some (own message)) text (Err e)
-own_applies message body text (errors.Fault m) says is = says ∙ is
-own_applies message body text errors.Memory says is = refl
+-- the answer of a rule that asks a handler for the text of what it found
+datum_applies : {C E : Type 0} (bytes : C → List ℕ) (datum : Datum) (text : Datum → List ℕ) (r : Result C E) (e : RuleError) → IfFault e (λ m. IsOkAnd r (λ t. m ≡ bytes t)) → IfOk r (λ s. bytes s ≡ text datum) → Applies (Some (rule datum)) text (Err e)
+datum_applies bytes datum text (Ok t) (errors.Fault m) says is = says ∙ is
+datum_applies bytes datum text (Err x) (errors.Fault m) says is = absurd says
+datum_applies bytes datum text r errors.Memory says is = refl
 
-pub fault_applies : {found : Option Fault} (message body : List ℕ) (text : Datum → List ℕ) (e : RuleError) → found ≡ Some (own message) → IfFault e (λ m. m ≡ body) → body ≡ message → Applies found text (Err e)
-fault_applies message body text e which says is = subst (λ x. Applies x text (Err e)) (sym which) (own_applies message body text e says is)
+pub fault_applies : {found : Option Fault} {C E : Type 0} (bytes : C → List ℕ) (datum asked : Datum) (text : Datum → List ℕ) (r : Result C E) (e : RuleError) → found ≡ Some (rule datum) → asked ≡ datum → IfFault e (λ m. IsOkAnd r (λ t. m ≡ bytes t)) → IfOk r (λ s. bytes s ≡ text asked) → Applies found text (Err e)
+fault_applies bytes datum asked text r e which same says is =
+    subst (λ x. Applies x text (Err e)) (ap (λ d. Some (rule d)) same ∙ sym which) (datum_applies bytes asked text r e says is)
 
 -- ---- what is known
 

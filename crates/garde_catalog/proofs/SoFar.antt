@@ -1,13 +1,15 @@
 -- What the two loops know of what they have seen.
-use Rattle.std.proofs.Common.{◌≡◌, ◌≤◌, ◌<◌, ◌+◌, ◌∷◌, ◌++◌, ℕ, List, [], All, Option, Some, None, length, map, take, get_or, slice_get, refl, sym, ap, ◌∙◌, subst, append_assoc, arith, rules, Bool, false, IsTrue, IfSome, IfNone, MatchOption, ◌↔◌}
+use Rattle.std.proofs.Common.{◌≡◌, ◌≤◌, ◌<◌, ◌+◌, ◌∷◌, ◌++◌, ℕ, List, [], All, Option, Some, None, length, map, take, get_or, slice_get, refl, sym, ap, ◌∙◌, subst, append_assoc, append-nil, arith, rules, Bool, false, IsTrue, IfSome, IfNone, MatchOption, ◌↔◌}
 use Rattle.std.proofs.lemmas.Option.{slice_get-get_or}
 use Rattle.std.specs.Borrow.{Bor}
 use Rattle.std.proofs.lemmas.List.{take_more, take_all, map-append}
 use Rattle.std.proofs.lemmas.List.Elements.{All-append, All-cons, All-nil}
-use Rattle.garde_catalog.specs.Field.{Want, want_of}
-use Rattle.garde_catalog.specs.Lookup.{Fits, HasNone, IsLookup, IsAsked, IsBest, IsPicked}
+use Rattle.garde_catalog.specs.Field.{Want, split_once, want_from, want_in, want_of, wants_in, wants_left}
+use Rattle.garde_catalog.specs.Lookup.{Fits, HasNone, IsLookup, IsAsked, IsAskedBy, IsBest, IsBestOf, IsBestWith, IsPicked, Weighs}
+use Rattle.garde_catalog.specs.declared.lookup.Best.{Best}
 use Rattle.garde_catalog.specs.declared.lookup.Range.{Range}
 use Rattle.garde_catalog.specs.declared.language.Language.{Language}
+use Rattle.garde_catalog.proofs.Cutting.{one_more, wants_first}
 
 -- of the first tags: the longest that fits, and its length
 pub record Longest (offered : List Language) (range : List ℕ) (i place longest : ℕ) : Type 0 where
@@ -22,13 +24,9 @@ abbrev pub LongestSoFar : List Language → List ℕ → ℕ → Option ℕ → 
 LongestSoFar offered range i None longest = All (λ language. ¬ (Fits range language.tag.now)) (take i offered)
 LongestSoFar offered range i (Some place) longest = Longest offered range i place longest
 
--- of the ranges that were seen: the place of the language that they ask for, and the weight of the one that asks for it
-abbrev pub Weighs : List Want → List Language → Option ℕ → ℕ → Type 0
-Weighs seen offered None weight = (weight ≡ 0) × IsPicked seen offered None
-Weighs seen offered (Some place) weight = (best : IsBest seen offered place) × (best.want.1 ≡ weight)
-
-abbrev pub BestSoFar : List Range → List Language → ℕ → Option ℕ → ℕ → Type 0
-BestSoFar ranges offered i best weight = Weighs (map want_of (take i ranges)) offered best weight
+-- of the first ranges: the best
+abbrev pub BestSoFar : List Range → List Language → ℕ → Best → Type 0
+BestSoFar ranges offered i best = IsBestOf (map want_of (take i ranges)) offered best
 
 -- what stands past the end of a list
 abbrev pub no_tag : Bor (List ℕ)
@@ -143,9 +141,9 @@ seen_more : (ranges : List Range) (i : ℕ) (d : Range) → i < length ranges
     → map want_of (take (i + 1) ranges) ≡ map want_of (take i ranges) ++ want_of (get_or ranges i d) ∷ []
 seen_more ranges i d low = ap (λ l. map want_of l) (take_more ranges i d low) ∙ map-append want_of (take i ranges) (get_or ranges i d ∷ [])
 
-on_seen : (ranges : List Range) (offered : List Language) (i : ℕ) (best : Option ℕ) (weight : ℕ) (d : Range) → i < length ranges
-    → Weighs (map want_of (take i ranges) ++ want_of (get_or ranges i d) ∷ []) offered best weight → BestSoFar ranges offered (i + 1) best weight
-on_seen ranges offered i best weight d low h = subst (λ (seen : List Want). Weighs seen offered best weight) (sym (seen_more ranges i d low)) h
+pub on_seen : (ranges : List Range) (offered : List Language) (i : ℕ) (old new : Best) (d : Range) → i < length ranges
+    → IsBestWith offered (want_of (get_or ranges i d) ∷ []) old new → BestSoFar ranges offered i old → BestSoFar ranges offered (i + 1) new
+on_seen ranges offered i old new d low more h = subst (λ (seen : List Want). IsBestOf seen offered new) (sym (seen_more ranges i d low)) (more _ h)
 
 -- what was best stays so, behind one more that is no better
 stays : (seen : List Want) (offered : List Language) (place : ℕ) (x : Want) (best : IsBest seen offered place)
@@ -161,7 +159,7 @@ stays seen offered place x best no_better = record {
   greatest = all_and (λ other. IsAsked offered other → other.1 ≤ best.want.1) best.after x best.greatest no_better;
 }
 
-no_heavier : (seen : List Want) (offered : List Language) (best : Option ℕ) (weight : ℕ) (x : Want) → x.1 ≤ weight
+pub no_heavier : (seen : List Want) (offered : List Language) (best : Option ℕ) (weight : ℕ) (x : Want) → x.1 ≤ weight
     → Weighs seen offered best weight → Weighs (seen ++ x ∷ []) offered best weight
 unfolding stays
 no_heavier seen offered None weight x light h = (
@@ -173,7 +171,7 @@ no_heavier seen offered (Some place) weight x light h =
     let is : h.0.want.1 ≡ weight = h.1 in
     (stays seen offered place x h.0 (λ _. omega arith), h.1)
 
-in_vain : (seen : List Want) (offered : List Language) (best : Option ℕ) (weight : ℕ) (x : Want) → HasNone offered x.0
+pub in_vain : (seen : List Want) (offered : List Language) (best : Option ℕ) (weight : ℕ) (x : Want) → HasNone offered x.0
     → Weighs seen offered best weight → Weighs (seen ++ x ∷ []) offered best weight
 unfolding stays
 in_vain seen offered None weight x unmet h = (h.0, all_and (λ want. ¬ (IsAsked offered want)) seen x h.1 (λ asked. asked.1 unmet))
@@ -191,7 +189,7 @@ all_less seen offered place weight best low =
     (all_weaken (λ other. IsAsked offered other → other.1 ≤ best.want.1) (λ other. IsAsked offered other → other.1 < weight) best.after
     (λ x le asked. let below : x.1 ≤ best.want.1 = le asked in omega arith) best.greatest)))
 
-is_heavier : (seen : List Want) (offered : List Language) (best : Option ℕ) (weight : ℕ) (x : Want) (place : ℕ) → weight < x.1
+pub is_heavier : (seen : List Want) (offered : List Language) (best : Option ℕ) (weight : ℕ) (x : Want) (place : ℕ) → weight < x.1
     → IsLookup offered x.0 place → Weighs seen offered best weight → Weighs (seen ++ x ∷ []) offered (Some place) x.1
 is_heavier seen offered None weight x place heavy lookup h = (
   record {
@@ -221,34 +219,49 @@ is_heavier seen offered (Some before) weight x place heavy lookup h =
       refl,
     )
 
--- the next range weighs no more than the one so far
-pub lighter : (ranges : List Range) (offered : List Language) (i : ℕ) (best : Option ℕ) (weight : ℕ) (d : Range)
-    → i < length ranges → (get_or ranges i d).weight ≤ weight
-    → BestSoFar ranges offered i best weight → BestSoFar ranges offered (i + 1) best weight
-lighter ranges offered i best weight d low light h =
-    on_seen ranges offered i best weight d low (no_heavier _ offered best weight (want_of (get_or ranges i d)) light h)
-
--- nothing that is offered fits the next range
-pub vain : (ranges : List Range) (offered : List Language) (i : ℕ) (best : Option ℕ) (weight : ℕ) (d : Range)
-    → i < length ranges → HasNone offered (get_or ranges i d).tag.now
-    → BestSoFar ranges offered i best weight → BestSoFar ranges offered (i + 1) best weight
-vain ranges offered i best weight d low unmet h =
-    on_seen ranges offered i best weight d low (in_vain _ offered best weight (want_of (get_or ranges i d)) unmet h)
-
--- the next range weighs more, and asks for what is in this place
-pub heavier : (ranges : List Range) (offered : List Language) (i : ℕ) (best : Option ℕ) (weight : ℕ) (d : Range) (place : ℕ)
-    → i < length ranges → weight < (get_or ranges i d).weight → IsLookup offered (get_or ranges i d).tag.now place
-    → BestSoFar ranges offered i best weight → BestSoFar ranges offered (i + 1) (Some place) (get_or ranges i d).weight
-heavier ranges offered i best weight d place low heavy lookup h =
-    on_seen ranges offered i (Some place) (get_or ranges i d).weight d low
-    (is_heavier _ offered best weight (want_of (get_or ranges i d)) place heavy lookup h)
-
 -- after the last range
 of_weighed : (seen : List Want) (offered : List Language) (best : Option ℕ) (weight : ℕ) → Weighs seen offered best weight → IsPicked seen offered best
 of_weighed seen offered None weight h = h.1
 of_weighed seen offered (Some place) weight h = h.0
 
-pub picked : (ranges : List Range) (offered : List Language) (i : ℕ) (best : Option ℕ) (weight : ℕ)
-    → length ranges ≤ i → BestSoFar ranges offered i best weight → IsPicked (map want_of ranges) offered best
-picked ranges offered i best weight low h =
-    subst (λ (l : List Range). IsPicked (map want_of l) offered best) (take_all i ranges low) (of_weighed _ offered best weight h)
+pub picked : (ranges : List Range) (offered : List Language) (i : ℕ) (best : Best)
+    → length ranges ≤ i → BestSoFar ranges offered i best → IsPicked (map want_of ranges) offered best.place
+picked ranges offered i best low h =
+    subst (λ (l : List Range). IsPicked (map want_of l) offered best.place) (take_all i ranges low) (of_weighed _ offered best.place best.weight h)
+
+-- of a field, of which this is left: the best of the ranges that were read
+abbrev pub BestBefore : List ℕ → List Language → Option (List ℕ) → Best → Type 0
+BestBefore field offered rest best = (seen : List Want) × (seen ++ wants_left rest ≡ wants_in field) × IsBestOf seen offered best
+
+-- nothing was read
+pub before_all : (field : List ℕ) (offered : List Language) → BestBefore field offered (Some field) (record { place = None; weight = 0 })
+before_all field offered = ([], refl, (refl, All-nil (λ want. ¬ (IsAsked offered want))))
+
+-- an element is of the grammar, or is not
+pub with_range : (offered : List Language) (element : List ℕ) (r : Option Range) (range : Range) (old new : Best) → want_from r ≡ want_in element → r ≡ Some range
+    → IsBestWith offered (want_of range ∷ []) old new → IsBestWith offered (want_in element) old new
+with_range offered element r range old new told is more =
+    subst (λ (wants : List Want). IsBestWith offered wants old new) (sym (ap (λ o. want_from o) is) ∙ told) more
+
+pub with_none : (offered : List Language) (element : List ℕ) (r : Option Range) (best : Best) → want_from r ≡ want_in element → r ≡ None
+    → IsBestWith offered (want_in element) best best
+with_none offered element r best told is = λ seen h.
+    subst (λ (l : List Want). IsBestOf l offered best) (sym (append-nil seen) ∙ ap (λ wants. seen ++ wants) (sym (ap (λ o. want_from o) is) ∙ told)) h
+
+-- one more element was read, the first of what was left before
+pub element_more : (field : List ℕ) (offered : List Language) (text element : List ℕ) (left after : Option (List ℕ)) (old new : Best)
+    → left ≡ Some text → element ≡ (split_once 44 text).0 → after ≡ (split_once 44 text).1
+    → IsBestWith offered (want_in element) old new → BestBefore field offered left old → BestBefore field offered after new
+element_more field offered text element left after old new is first rest more (seen, whole, h) = (
+  seen ++ want_in element,
+  one_more seen (want_in element) (wants_in text) (wants_in field) (wants_left after) (ap (λ some. seen ++ wants_left some) (sym is) ∙ whole)
+      (wants_first text ∙ ap (λ piece. want_in piece ++ wants_left (split_once 44 text).1) (sym first) ∙ ap (λ some. want_in element ++ wants_left some) (sym rest)),
+  more seen h,
+)
+
+-- nothing is left
+pub asked : (field : List ℕ) (offered : List Language) (rest : Option (List ℕ)) (best : Best) → rest ≡ None → BestBefore field offered rest best
+    → IsAskedBy field offered best.place
+asked field offered rest best is (seen, whole, h) =
+    subst (λ (l : List Want). IsPicked l offered best.place) (sym (append-nil seen) ∙ ap (λ left. seen ++ wants_left left) (sym is) ∙ whole)
+    (of_weighed seen offered best.place best.weight h)

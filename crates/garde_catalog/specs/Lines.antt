@@ -3,7 +3,7 @@ use Rattle.std.specs.Prelude.{◌≡◌, ◌++◌, ℕ, List, [], ◌∷◌, Boo
 use Rattle.json.specs.Json.{Json}
 use Rattle.json.specs.Find.{as_str}
 use Rattle.garde_report.specs.Part.{key_part}
-use Rattle.garde_rules.specs.{Fault, own}
+use Rattle.garde_rules.specs.{Fault, rule}
 use Rattle.garde.specs.Visits.{Visits, none, found, under, ◌and◌}
 use Rattle.garde_tape.specs.Look.{find_answer, kind_of}
 use Rattle.garde_tape.specs.declared.found.Found.{Found}
@@ -15,7 +15,7 @@ use Rattle.garde_schema.specs.Members.{member_visits, optional_visits}
 use Rattle.garde_catalog.specs.Catalog.{AreGood, Entry}
 use Rattle.garde_catalog.specs.Keys.{first_of, second_of}
 use Rattle.garde_catalog.specs.Names.{name_of}
-use Rattle.garde_catalog.specs.Template.{fault_words, template_fault}
+use Rattle.garde_catalog.specs.Template.{fault_datum, template_fault}
 use Rattle.garde_catalog.specs.declared.key.Key.{Key}
 
 -- a key and its text
@@ -34,9 +34,9 @@ abbrev pub AreGoodLines : Bool → List Line → Type 0
 AreGoodLines may_lack lines =
     (entries others : List Entry) → map line_of entries ≡ lines → (may_lack ≡ true → AreGood [] others) → AreGood entries others
 
--- what is wrong with the text of a key, if anything is
+-- what is wrong with the text of a key, if anything is: a handler gives it its text
 abbrev pub text_found : Key → List ℕ → Option Fault
-text_found key text = option_map (λ fault. own (fault_words fault)) (template_fault (first_of key) (second_of key) text)
+text_found key text = option_map (λ fault. rule (fault_datum fault)) (template_fault (first_of key) (second_of key) text)
 
 -- what is asked of the value under the name of a key: that it is a text, and then that the text is a template of the key's parameters
 abbrev pub text_visits : FormTexts → Key → Json → Visits

@@ -5,6 +5,7 @@ use Rattle.garde_catalog.specs.Catalog.{Entry, IsCatalog}
 use Rattle.garde_catalog.specs.Field.{Want, wants_in}
 use Rattle.garde_catalog.specs.declared.catalog.Catalog.{Catalog}
 use Rattle.garde_catalog.specs.declared.language.Language.{Language}
+use Rattle.garde_catalog.specs.declared.lookup.Best.{Best}
 
 -- the tag is the range, or what is left of it after cutting subtags off its end, in small or capital letters
 abbrev pub Fits : List ℕ → List ℕ → Type 0
@@ -50,6 +51,18 @@ IsPicked wants offered (Some place) = IsBest wants offered place
 -- the same of a field `Accept-Language`
 abbrev pub IsAskedBy : List ℕ → List Language → Option ℕ → Type 0
 IsAskedBy field offered place = IsPicked (wants_in field) offered place
+
+-- the place of the language that the ranges that were seen ask for, and the weight of the one that asks for it
+abbrev pub Weighs : List Want → List Language → Option ℕ → ℕ → Type 0
+Weighs seen offered None weight = (weight ≡ 0) × IsPicked seen offered None
+Weighs seen offered (Some place) weight = (best : IsBest seen offered place) × (best.want.1 ≡ weight)
+
+abbrev pub IsBestOf : List Want → List Language → Best → Type 0
+IsBestOf seen offered best = Weighs seen offered best.place best.weight
+
+-- the best of the ranges that were seen, and that of them and these behind them
+abbrev pub IsBestWith : List Language → List Want → Best → Best → Type 0
+IsBestWith offered more old new = (seen : List Want) → IsBestOf seen offered old → IsBestOf (seen ++ more) offered new
 
 -- a language that is offered is in the place that is picked, and none where none is
 abbrev pub IsThere : List Language → (Option ℕ → Type 0) → Option Language → Type 0

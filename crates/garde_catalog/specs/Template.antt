@@ -1,6 +1,7 @@
 -- Templates: texts with places for what was found, as `length is lower than {min}`.
 use Rattle.std.specs.Prelude.{◌≡◌, ◌≢◌, ◌==◌, ℕ, List, [], ◌∷◌, ◌++◌, Bool, true, false, not, ◌&&◌, ◌||◌, IsTrue, All, Option, Some, None, cond, bytes_eq, codes}
 use Rattle.std.specs.List.{flat_map, list_any, list_all}
+use Rattle.garde_i18n.specs.Datum.{Datum, named}
 use Rattle.garde_i18n.specs.DatumOf.{value_text}
 use Rattle.garde_catalog.specs.declared.template.Seen.{Seen}
 use Rattle.garde_catalog.specs.declared.template.Put.{Put}
@@ -106,11 +107,21 @@ template_fault first second text =
     (cond (not (list_all (is_known first second) (pieces_of text))) (Some faults.UnknownPlace)
     (cond (has_place first (pieces_of text) && has_place second (pieces_of text)) None (Some faults.MissingPlace)))
 
+-- its code
+abbrev pub fault_code : TemplateFault → List ℕ
+fault_code faults.UnknownPlace = codes "template_place_unknown"
+fault_code faults.MissingPlace = codes "template_place_missing"
+fault_code faults.StrayBrace = codes "template_brace_stray"
+
 -- the same in words
 abbrev pub fault_words : TemplateFault → List ℕ
 fault_words faults.UnknownPlace = codes "has a name in braces that is no parameter of this text"
 fault_words faults.MissingPlace = codes "lacks a parameter in braces"
 fault_words faults.StrayBrace = codes "has a brace that does not close or does not open"
+
+-- what a handler gives its text: the code, which has no parameter, with the words in English
+abbrev pub fault_datum : TemplateFault → Datum
+fault_datum fault = named (fault_code fault, []) (fault_words fault)
 
 -- the text is no template of parameters of these names
 abbrev pub IsRefused : List ℕ → List ℕ → List ℕ → Type 0

@@ -90,11 +90,11 @@ impl Catalogs {
     }
 
     /// The place of the language that the field `Accept-Language` of a request asks for, among those
-    /// that are offered, as `Language::asked` finds it.
-    pub fn asked(&self, alloc: Global, field: &[u8]) -> Result<Option<usize>, AllocError>
-        ensures { IfOk result (λ place. IsAskedBy field.now (offered_by self.now) place) }
+    /// that are offered, as `Language::asked` finds it. It allocates nothing.
+    pub fn asked(&self, field: &[u8]) -> Option<usize>
+        ensures { IsAskedBy field.now (offered_by self.now) result }
     {
-        Language::place_asked(alloc, field, self.languages.as_slice())
+        Language::place_asked(field, self.languages.as_slice())
     }
 
     /// The catalog of the language in a place, or the one that is used where none is asked for.

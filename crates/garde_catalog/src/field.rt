@@ -1,11 +1,11 @@
 //! The field `Accept-Language` of a request (RFC 9110, section 12.5.4).
 ghost use Rattle.std.specs.Prelude.{◌≡◌, ◌++◌, IfOk, OnOk, map, option_copied};
 ghost use Rattle.garde_catalog.specs.Field.{want_of, wants_in, want_in, want_from, is_space, skip_space, trim, split_once, digit, thousandths, behind_point, weight_of, named_weight, parameter_weight, is_of_subtag, is_range};
-ghost use Rattle.garde_catalog.specs.Lookup.{IsAskedBy, IsThere};
+ghost use Rattle.garde_catalog.specs.Lookup.{IsAskedBy, IsBestWith, IsThere};
 ghost use Rattle.std.specs.Prelude.{reverse};
 
 use crate::language::Language;
-use crate::lookup::{Range, pick};
+use crate::lookup::{Best, Range};
 use std::alloc::{AllocError, Global};
 
 /// The weight of a range that names none, in thousandths.
@@ -210,35 +210,46 @@ pub fn ranges_of(alloc: Global, field: &[u8]) -> Result<Vec<Range<'_>>, AllocErr
     Ok(ranges)
 }
 
+// The best of some ranges and that of an element of the field, if the element is of the grammar.
+fn with_element(best: Best, element: &[u8], offered: &[Language]) -> Best
+    ensures { IsBestWith offered.now (want_in element.now) best result }
+{
+    match range_of(element) {
+        Some(range) => best.with_range(&range, offered),
+        None => best,
+    }
+}
+
 impl Language {
     // The place of the language that the field asks for.
-    pub(crate) fn place_asked(
-        alloc: Global,
-        field: &[u8],
-        offered: &[Language],
-    ) -> Result<Option<usize>, AllocError>
-        ensures { IfOk result (λ place. IsAskedBy field.now offered.now place) }
+    pub(crate) fn place_asked(field: &[u8], offered: &[Language]) -> Option<usize>
+        ensures { IsAskedBy field.now offered.now result }
     {
-        let ranges = ranges_of(alloc, field)?;
-        Ok(pick(ranges.as_slice(), offered))
+        let mut best = Best {
+            place: None,
+            weight: 0,
+        };
+        let mut rest = Some(field);
+        while let Some(text) = rest {
+            let (element, after) = split_once(text, b',');
+            best = with_element(best, element, offered);
+            rest = after;
+        }
+        best.place
     }
 
     /// The language that the field `Accept-Language` of a request asks for: of the range of the
     /// greatest weight that fits an offered tag, by the look-up of RFC 4647, section 3.4. `None`
-    /// means that it asks for none that is offered.
-    pub fn asked(
-        alloc: Global,
-        field: &[u8],
-        offered: &[Language],
-    ) -> Result<Option<Language>, AllocError>
-        ensures { IfOk result (IsThere offered.now (IsAskedBy field.now offered.now)) }
+    /// means that it asks for none that is offered. It allocates nothing, however long the field is.
+    pub fn asked(field: &[u8], offered: &[Language]) -> Option<Language>
+        ensures { IsThere offered.now (IsAskedBy field.now offered.now) result }
     {
-        match Language::place_asked(alloc, field, offered)? {
+        match Language::place_asked(field, offered) {
             Some(place) => match offered.get(place) {
-                Some(language) => Ok(Some(*language)),
-                None => Ok(None),
+                Some(language) => Some(*language),
+                None => None,
             },
-            None => Ok(None),
+            None => None,
         }
     }
 }

@@ -1,8 +1,8 @@
 //! Which of the languages that are offered some ranges ask for, by the look-up of RFC 4647, section
 //! 3.4.
-ghost use Rattle.std.specs.Prelude.{◌≡◌, ◌<◌, ◌↔◌, IfSome, IfNone, IsTrue, MatchOption, map};
+ghost use Rattle.std.specs.Prelude.{◌≡◌, ◌<◌, ◌↔◌, ◌∷◌, [], IfSome, IfNone, IsTrue, MatchOption, map};
 ghost use Rattle.garde_catalog.specs.Field.{want_of};
-ghost use Rattle.garde_catalog.specs.Lookup.{Fits, HasNone, IsFound, IsLookup, IsPicked, IsThere};
+ghost use Rattle.garde_catalog.specs.Lookup.{Fits, HasNone, IsBestWith, IsFound, IsLookup, IsPicked, IsThere};
 
 use crate::language::Language;
 
@@ -57,24 +57,46 @@ fn look_up(range: &[u8], offered: &[Language]) -> Option<usize>
     best
 }
 
+/// The best of the ranges that were seen.
+#[derive(Clone, Copy, Debug)]
+pub(crate) struct Best {
+    /// The place of the language that it asks for, or `None` where no range asks for one.
+    pub place: Option<usize>,
+    /// Its weight, or 0.
+    pub weight: u16,
+}
+
+impl Best {
+    // The best of these ranges and one more: that one where it weighs more and fits an offered tag.
+    pub(crate) fn with_range(self, range: &Range<'_>, offered: &[Language]) -> Best
+        ensures { IsBestWith offered.now (want_of range.now ∷ []) self result }
+    {
+        if range.weight <= self.weight {
+            return self;
+        }
+        match look_up(range.tag, offered) {
+            Some(place) => Best {
+                place: Some(place),
+                weight: range.weight,
+            },
+            None => self,
+        }
+    }
+}
+
 // The place of the language to answer in: the one that the range of the greatest weight asks for,
 // the first of several. `None` means that no range that is wanted fits the tag of any language.
-pub(crate) fn pick(ranges: &[Range<'_>], offered: &[Language]) -> Option<usize>
+fn pick(ranges: &[Range<'_>], offered: &[Language]) -> Option<usize>
     ensures { IsPicked (map want_of ranges.now) offered.now result }
 {
-    let mut best: Option<usize> = None;
-    let mut weight: u16 = 0;
+    let mut best = Best {
+        place: None,
+        weight: 0,
+    };
     for range in ranges {
-        if range.weight <= weight {
-            continue;
-        }
-        let Some(place) = look_up(range.tag, offered) else {
-            continue;
-        };
-        best = Some(place);
-        weight = range.weight;
+        best = best.with_range(range, offered);
     }
-    best
+    best.place
 }
 
 impl Language {

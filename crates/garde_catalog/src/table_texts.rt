@@ -14,20 +14,22 @@ use garde::fields::{Is, Rule};
 use garde::{I18n, Report, RuleError, Trail};
 use garde_schema::{FormI18n, Found, Member, Members, Optional, Text, TextRef, Tree};
 use std::alloc::{AllocError, Global};
-use std::borrow::CowStr;
 
 /// The rule that a text is a template of the parameters of this key: it names each of them in braces,
 /// names no other, and has no other brace.
+///
+/// The handler is asked for the text of what is wrong, by a code without a parameter:
+/// `template_place_unknown`, `template_place_missing` or `template_brace_stray`.
 #[derive(Clone, Copy, Debug)]
 pub struct IsTextOf(pub Key);
 
 impl<'a> Rule<TextRef<'a>> for IsTextOf {
     ghost finds = { λ rule text. text_found rule.0 text };
 
-    fn find<H: I18n>(&self, alloc: Global, value: &TextRef<'a>, _h: &H) -> Result<(), RuleError> {
+    fn find<H: I18n>(&self, alloc: Global, value: &TextRef<'a>, h: &H) -> Result<(), RuleError> {
         match template_fault(value.text(), self.0.first(), self.0.second()) {
             None => Ok(()),
-            Some(fault) => Err(RuleError::of(alloc, Ok(CowStr::Borrowed(fault.words())))),
+            Some(fault) => Err(RuleError::of(alloc, h.named(alloc, fault.as_named()))),
         }
     }
 }

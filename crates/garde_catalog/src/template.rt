@@ -1,10 +1,10 @@
 //! Templates: texts with places for what was found.
 ghost use Rattle.std.specs.Prelude.{◌≡◌, ◌++◌, ◌&&◌, ◌||◌, [], true, bytes_eq, IfOk, IsErr, OnOk, MatchOption, string_bytes};
 ghost use Rattle.std.specs.Cow.{cow_str_bytes};
-ghost use Rattle.garde_i18n.specs.DatumOf.{value_text};
-ghost use Rattle.garde_catalog.specs.Template.{fault_words, filled, is_param, pieces_of, template_fault, value_at, HasPlaces, IsAllSeen, IsCut, IsPlain, IsRefused, IsTemplate};
+ghost use Rattle.garde_i18n.specs.DatumOf.{named_of, value_text};
+ghost use Rattle.garde_catalog.specs.Template.{fault_code, fault_datum, fault_words, filled, is_param, pieces_of, template_fault, value_at, HasPlaces, IsAllSeen, IsCut, IsPlain, IsRefused, IsTemplate};
 
-use garde_i18n::Value;
+use garde_i18n::{Code, Named, Value};
 use std::alloc::{AllocError, Global};
 use std::borrow::CowStr;
 
@@ -20,14 +20,39 @@ pub enum TemplateFault {
 }
 
 impl TemplateFault {
-    // The fault in words.
-    pub(crate) fn words(self) -> &'static str
+    // The code of the fault.
+    fn code(self) -> &'static str
+        ensures { result.now ≡ fault_code self }
+    {
+        match self {
+            TemplateFault::UnknownPlace => "template_place_unknown",
+            TemplateFault::MissingPlace => "template_place_missing",
+            TemplateFault::StrayBrace => "template_brace_stray",
+        }
+    }
+
+    // The fault in English.
+    fn words(self) -> &'static str
         ensures { result.now ≡ fault_words self }
     {
         match self {
             TemplateFault::UnknownPlace => "has a name in braces that is no parameter of this text",
             TemplateFault::MissingPlace => "lacks a parameter in braces",
             TemplateFault::StrayBrace => "has a brace that does not close or does not open",
+        }
+    }
+
+    // What a handler is asked for the text of: the code of the fault, and its words in English.
+    pub(crate) fn as_named(self) -> Named<'static>
+        ensures { named_of result ≡ fault_datum self }
+    {
+        let code = Code {
+            name: self.code(),
+            param: None,
+        };
+        Named {
+            code,
+            english: self.words(),
         }
     }
 }

@@ -1,12 +1,11 @@
 //! What the fields of a request ask for.
-ghost use Rattle.std.specs.Prelude.{◌≡◌, ◌≤◌, ◌↔◌, IfOk, IsTrue, length};
+ghost use Rattle.std.specs.Prelude.{◌≡◌, ◌≤◌, ◌↔◌, IsTrue, length};
 ghost use Rattle.http.specs.Request.{head_of};
 ghost use Rattle.garde_service.specs.Asked.{BeginsWith, FieldBeginsWith, HasType, IsLanguage, ends_at};
 
 use bytes::Bytes;
 use garde_catalog::Catalogs;
 use http::{HeaderName, Request, header};
-use std::alloc::{AllocError, Global};
 
 /// The bytes that may stand behind a media type.
 const TYPE_ENDS: &[u8] = b"; \t";
@@ -50,16 +49,12 @@ pub fn has_type(request: &Request<Bytes>, media: &[u8]) -> bool
 }
 
 /// The place of the language that a request asks for, among those that the catalogs have, or `None`:
-/// by its first field `Accept-Language`.
-pub fn language_of(
-    alloc: Global,
-    catalogs: &Catalogs,
-    request: &Request<Bytes>,
-) -> Result<Option<usize>, AllocError>
-    ensures { IfOk result (λ place. IsLanguage catalogs.now place (head_of request.now)) }
+/// by its first field `Accept-Language`. It allocates nothing.
+pub fn language_of(catalogs: &Catalogs, request: &Request<Bytes>) -> Option<usize>
+    ensures { IsLanguage catalogs.now result (head_of request.now) }
 {
     match request.headers().get(header::ACCEPT_LANGUAGE) {
-        Some(value) => catalogs.asked(alloc, value.as_bytes()),
-        None => Ok(None),
+        Some(value) => catalogs.asked(value.as_bytes()),
+        None => None,
     }
 }

@@ -3,4 +3,5 @@
 mod asked;
 mod faulty;
 mod told;
+mod worded;
 mod written;

@@ -91,7 +91,7 @@ fn judge_order(
     ensures { OnOk result (IsJudged catalogs.now (head_of request.now) (body_of request.now)
         response.new) }
 {
-    let place = language_of(alloc, catalogs, request)?;
+    let place = language_of(catalogs, request);
     let (catalog, tag) = (catalogs.catalog(place), catalogs.tag(place));
     judge(alloc, request.body().as_slice(), catalog, tag, response)?;
     Ok(())

@@ -154,7 +154,7 @@ fn judge_form(
         Judges (λ words. (⟦<SignUp<'static> as SpelledUnder>⟧.spelled words).visits) voice
         (body_of request.now) response.new)) }
 {
-    let place = language_of(alloc, speech.catalogs, request)?;
+    let place = language_of(speech.catalogs, request);
     let catalog = speech.catalogs.catalog(place);
     let (tag, texts) = (speech.catalogs.tag(place), speech.texts(place));
     judge(
@@ -179,7 +179,7 @@ fn put_empty_form(
     ensures { OnOk result (InLanguage speech.now (head_of request.now) (λ voice.
         ShowsForm voice.texts.form voice.tag 200 [] [] response.new)) }
 {
-    let place = language_of(alloc, speech.catalogs, request)?;
+    let place = language_of(speech.catalogs, request);
     let (tag, texts) = (speech.catalogs.tag(place), speech.texts(place));
     let report = Report::new(alloc);
     put_form(
@@ -205,7 +205,7 @@ fn put_thanks(
     ensures { OnOk result (InLanguage speech.now (head_of request.now) (λ voice.
         IsResponse 200 (page_fields voice.tag) voice.texts.thanks.now response.new)) }
 {
-    let place = language_of(alloc, speech.catalogs, request)?;
+    let place = language_of(speech.catalogs, request);
     let (tag, texts) = (speech.catalogs.tag(place), speech.texts(place));
     put_page(alloc, tag, StatusCode::OK, texts.thanks, response)?;
     Ok(())

@@ -5,22 +5,35 @@ the program on a case; else it is run once. It may have `large()`, cases of more
 batch, which are tried before the first random one, and `knows(case)`, which says whether it describes a stored case. An answer is a
 tuple of values. A pattern stands for each text that it matches.
 """
+import pathlib
 import re
 import subprocess
+import tempfile
 import typing
 
 
 class Case(typing.NamedTuple):
-    """A run: the words of the command line, the bytes of the input, and how they were spoiled."""
+    """A run: the words of the command line, the bytes of the input, how they were spoiled, and the files that the words name, each with
+    its bytes."""
     words: tuple
     given: bytes
     ways: frozenset = frozenset()
+    files: tuple = ()
 
 
 def run(program, case, **where):
-    """What one run of a program answers."""
-    ran = subprocess.run([program, *case.words], input=case.given, capture_output=True, timeout=60, **where)
-    return ran.returncode, ran.stdout, ran.stderr
+    """What one run of a program answers. Files stand in a folder of their own."""
+    if not case.files:
+        return ran(program, case, **where)
+    with tempfile.TemporaryDirectory() as folder:
+        for name, body in case.files:
+            pathlib.Path(folder, name).write_bytes(body)
+        return ran(program, case, cwd=folder)
+
+
+def ran(program, case, **where):
+    told = subprocess.run([program, *case.words], input=case.given, capture_output=True, timeout=60, **where)
+    return told.returncode, told.stdout, told.stderr
 
 
 def fits(wanted, met):

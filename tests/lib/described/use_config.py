@@ -1,4 +1,5 @@
-"""The program use_config, by crates/use_config/README.md: settings in TOML, which Python's `tomllib` reads, or in JSON.
+"""The program use_config, by crates/use_config/README.md: settings in TOML, which Python's `tomllib` reads, or in JSON, and files of
+texts, which are read likewise.
 
 The places of faults are found in TOML by `lib.toml_positions`, and in JSON by `lib.positions`.
 Of a text that is no TOML the line and the column are not compared: two readers may stop at different places. `tomllib` reads TOML 1.0
@@ -11,8 +12,10 @@ import datetime
 import ipaddress
 import json
 import re
+import typing
+import unicodedata
 
-from lib import languages, placed, positions, toml_positions
+from lib import languages, placed, positions, text_files, toml_positions
 from lib.described import Case, pattern
 from lib.faults import REQUIRED, Rule, between, items, length, matches, suffix
 from lib.form import Checked, Closed, ListUnder, MapUnder, Member, Nullish, Object, OneOf, Text, Under, Whole, read
@@ -108,6 +111,22 @@ def toml_lines(dice, path, value):
 
 
 def some(dice):
+    """Settings, and at times a file of texts."""
+    case = some_settings(dice)
+    if dice.random() < 0.85:
+        return case
+    name, body = some_texts(dice)
+    return case._replace(words=dice.choice((("--catalog", name, *case.words), (*case.words, "--catalog", name))), files=((name, body),))
+
+
+def some_texts(dice):
+    table = text_files.some(dice)
+    if tomllib is None or dice.random() < 0.5:
+        return "texts.json", json_text(dice, table).encode("utf-8")
+    return "texts.toml", ("\n".join(toml_lines(dice, [], table)) + "\n").encode("utf-8")
+
+
+def some_settings(dice):
     form = placed.some_format(dice)
     if tomllib is None or dice.random() < 0.3:
         return Case(languages.some_words(dice) + dice.choice((("json", *form), (*form, "json"))), *some_json(dice, CONFIG))
@@ -155,16 +174,19 @@ def of_toml(value):
     return Number(repr(value))
 
 
-def is_json(case):
-    return "json" in placed.asked(languages.spoken(case.words)[0])[0]
+class Source(typing.NamedTuple):
+    """What is read: its name, its bytes, and whether they are JSON and not TOML."""
+    name: str
+    given: bytes
+    is_json: bool
 
 
-def value_of(case):
+def value_of(source):
     """The value that is read, or what standard error says, as a pattern."""
-    if is_json(case):
-        return of_bytes(case.given)
+    if source.is_json:
+        return of_bytes(source.given)
     try:
-        text = case.given.decode("utf-8").removeprefix("\ufeff")
+        text = source.given.decode("utf-8").removeprefix("\ufeff")
     except UnicodeDecodeError:
         raise NoJson("the configuration is not read: .*") from None
     if re.search(r"(?<![-+\d:])\d\d:\d\d(?!:)", text):
@@ -179,38 +201,66 @@ def value_of(case):
     return value
 
 
-def stopped(form, case, why, tag):
+def with_marks_escaped(text):
+    """The pattern with the marks escaped that stand on the letter before, as those of Hindi: `char::escape_debug` shows them so."""
+    return "".join(re.escape(f"\\u{{{ord(c):x}}}") if unicodedata.category(c) == "Mn" else c for c in text)
+
+
+def stopped(form, source, why, said):
     """What is said of a text that is no TOML or no JSON."""
-    if form == "plain" and is_json(case):
-        return 2, b"", pattern(f"use_config: {languages.no_json(why, tag)}\n")
+    if form == "plain" and source.is_json:
+        return 2, b"", pattern(f"use_config: {with_marks_escaped(languages.no_json(why, said))}\n")
     if form == "plain" or why == TOO_DEEP:
         return 2, b"", pattern(f"use_config: {why}\n")
-    if is_json(case):
-        return 2, placed.stops_at(form, "<stdin>", case.given, "not_json"), b""
+    if source.is_json:
+        return 2, placed.stops_at(form, source.name, source.given, "not_json"), b""
     if TOO_DEEP in why:
         raise Unsaid("either no TOML or too deep")
     try:
-        case.given.decode("utf-8")
+        source.given.decode("utf-8")
     except UnicodeDecodeError:
-        return 2, placed.stops_at(form, "<stdin>", case.given, "not_toml"), b""
-    return 2, placed.stop_anywhere(form, "<stdin>", "not_toml"), b""
+        return 2, placed.stops_at(form, source.name, source.given, "not_toml"), b""
+    return 2, placed.stop_anywhere(form, source.name, "not_toml"), b""
+
+
+def judged(form, source, of, said, status):
+    """What is read by a form, or None; and the answer where there is a fault, which is printed as `form` says and ends with this status."""
+    try:
+        value, faults = read(of, value_of(source))
+    except NoJson as why:
+        return None, stopped(form, source, str(why), said)
+    if not faults:
+        return value, None
+    language = languages.language(said, languages.TEXTS["en"])
+    if form == "plain":
+        return None, (status, lines(faults, language).encode("utf-8"), b"")
+    spots_of = positions.spots_of if source.is_json else toml_positions.spots_of
+    spots = spots_of(source.given.decode("utf-8").removeprefix("\ufeff"))
+    return None, (status, placed.lines(form, source.name, spots, faults, language).encode("utf-8"), b"")
+
+
+def texts_of(case, form, said):
+    """The texts by which faults are printed, or None; and the answer where the file behind `--catalog` has a fault. Beside `--language` it
+    may lack keys."""
+    if not case.files:
+        return said, None
+    (name, body), = case.files
+    source = Source(name, body, name.endswith(".json"))
+    table, answer = judged("short" if form == "plain" else form, source, text_files.FORMS["--language" in case.words], said, 2)
+    return (None, answer) if answer else (text_files.said_by(table, said), None)
 
 
 def wanted(case):
     words, tag = languages.spoken(case.words)
     if tag is None:
         return 2, b"", pattern(f"use_config: {languages.unknown()}\n")
-    form, language = placed.asked(words)[1], languages.of_tag(tag)
-    try:
-        config, faults = read(CONFIG, value_of(case))
-    except NoJson as why:
-        return stopped(form, case, str(why), tag)
-    if faults and form == "plain":
-        return 1, lines(faults, language).encode("utf-8"), b""
-    if faults:
-        spots_of = positions.spots_of if is_json(case) else toml_positions.spots_of
-        spots = spots_of(case.given.decode("utf-8").removeprefix("\ufeff"))
-        return 1, placed.lines(form, "<stdin>", spots, faults, language).encode("utf-8"), b""
+    asked, form = placed.asked(words)
+    said, answer = texts_of(case, form, languages.said_in(tag))
+    if answer:
+        return answer
+    config, answer = judged(form, Source("<stdin>", case.given, "json" in asked), CONFIG, said, 1)
+    if answer:
+        return answer
     it = config["server"]
     share = it["connections"] // it["workers"]
     return 0, f"{it['host']}, port {it['port']}: {it['workers']} workers, {share} connections each\n".encode("utf-8"), b""

@@ -57,7 +57,7 @@ def judged(body, tag):
     try:
         _, faults = read(ORDER, of_bytes(body))
     except NoJson as why:
-        return 400, no_json("the body is not read as JSON", languages.no_json(str(why), tag))
+        return 400, no_json("the body is not read as JSON", languages.no_json(str(why), languages.said_in(tag)))
     if not faults:
         return 204, b""
     return 422, printed({"title": "the order has faults", "status": 422, "errors": details(faults, languages.of_tag(tag))})

@@ -40,17 +40,17 @@ static ASKED: [(&str, &str); 33] = [
 ];
 
 // The tag of the language that a field asks for, or nothing.
-fn tag_of(alloc: Global, field: &str) -> &'static str {
-    match Language::asked(alloc, field.as_bytes(), &languages()) {
-        Ok(Some(language)) => language.tag,
-        _ => "",
+fn tag_of(field: &str) -> &'static str {
+    match Language::asked(field.as_bytes(), &languages()) {
+        Some(language) => language.tag,
+        None => "",
     }
 }
 
 #[test]
 fn finds_the_language_that_is_asked_for(rt: HostRuntime) {
     for (field, tag) in &ASKED {
-        assert_eq!(rt; tag_of(rt.alloc(), field), *tag);
+        assert_eq!(rt; tag_of(field), *tag);
     }
 }
 
@@ -70,9 +70,9 @@ fn reads_a_field_of_64_kib(rt: HostRuntime) {
     let alloc = rt.alloc();
     let many = repeated(alloc, "xx-yy;q=0.9,", 5461);
     assert_eq!(rt; many.len(), 65532);
-    assert_eq!(rt; tag_of(alloc, many.as_str()), "");
+    assert_eq!(rt; tag_of(many.as_str()), "");
     let long = repeated(alloc, "l", 200);
-    assert_eq!(rt; tag_of(alloc, long.as_str()), "");
+    assert_eq!(rt; tag_of(long.as_str()), "");
 }
 
 // The tag of the language that the ranges of a field ask for, or nothing.
@@ -134,13 +134,9 @@ fn makes_the_catalog_of_a_tag(rt: HostRuntime) {
 }
 
 // Whether the catalogs answer a field by this tag and this text.
-fn is_answered(catalogs: &Catalogs, alloc: Global, field: &[u8], tag: &str, text: &str) -> bool {
-    match catalogs.asked(alloc, field) {
-        Ok(place) => {
-            catalogs.tag(place) == tag && catalogs.catalog(place).word(Key::MemberMissing) == text
-        }
-        Err(_) => false,
-    }
+fn is_answered(catalogs: &Catalogs, field: &[u8], tag: &str, text: &str) -> bool {
+    let place = catalogs.asked(field);
+    catalogs.tag(place) == tag && catalogs.catalog(place).word(Key::MemberMissing) == text
 }
 
 #[test]
@@ -148,10 +144,10 @@ fn has_the_catalogs_of_all_languages(rt: HostRuntime) {
     let (alloc, offered) = (rt.alloc(), languages());
     let is_right = match Catalogs::new(alloc, &offered, offered[0]) {
         Ok(all) => {
-            is_answered(&all, alloc, b"en;q=0.5, cs", "cs", "chybí")
-                && is_answered(&all, alloc, b"hi-IN", "hi", "मौजूद नहीं है")
-                && is_answered(&all, alloc, b"cs;q=0", "en", "missing")
-                && is_answered(&all, alloc, b"\xff", "en", "missing")
+            is_answered(&all, b"en;q=0.5, cs", "cs", "chybí")
+                && is_answered(&all, b"hi-IN", "hi", "मौजूद नहीं है")
+                && is_answered(&all, b"cs;q=0", "en", "missing")
+                && is_answered(&all, b"\xff", "en", "missing")
         }
         Err(_) => false,
     };
