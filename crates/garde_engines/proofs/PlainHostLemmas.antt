@@ -1,20 +1,25 @@
 -- A plain host is a domain.
-use Rattle.std.proofs.Common.{◌≡◌, ℕ, ◌<◌, true, false, cond, not, ◌&&◌, ◌||◌, ◌==◌, List, [], ◌∷◌, ◌++◌, length, Some, None, All, sym, refl, ap, ◌∙◌, ⊎_elim, arith}
+use Rattle.std.proofs.Common.{◌≡◌, ℕ, ◌<◌, true, false, cond, not, ◌&&◌, ◌||◌, ◌==◌, ltb, Bool, List, [], ◌∷◌, ◌++◌, length, Some, None, All, sym, refl, ap, ◌∙◌, ⊎_elim, arith}
 use Rattle.std.specs.Prelude.{Option}
 use Rattle.std.specs.List.{list_all}
 use Rattle.std.specs.Char.{is_digit, is_ascii_digit, to_ascii_lowercase}
-use Rattle.std.proofs.lemmas.Bool.{cases_eq, and_parts, eq-eqb, ne_eqb}
+use Rattle.std.proofs.lemmas.Bool.{cases_eq, cond-false, and_parts, eq-eqb, ne_eqb}
 use Rattle.std.proofs.lemmas.Bool.Decides.{nat_tests}
 use Rattle.std.proofs.lemmas.List.Elements.{All-nil, All-cons, All-weaker}
 use Rattle.url.specs.declared.sets.TheConstants.{FORBIDDEN_DOMAIN}
-use Rattle.url.specs.Input.{is_empty, rsplit_once, rsplit_step}
+use Rattle.url.specs.Input.{is_empty, split_once, rsplit_once, rsplit_step}
 use Rattle.url.specs.Ipv4.{ends_in_a_number, parse_number, is_number, last_label_of}
 use Rattle.url.specs.Host.{IsDomain}
 use Rattle.url.proofs.InputLemmas.{Passes, map_fixed, is_empty_nonempty}
 use Rattle.url.proofs.SetLemmas.{kept_from_passes}
-use Rattle.garde_engines.specs.PlainUrls.{is_plain_byte, label_first, has_plain_host}
+use Rattle.garde_engines.specs.PlainUrls.{slash, is_plain_byte, host_of, begins_with_letter, has_plain_host}
 
 -- ---- the label that a text ends in
+
+-- the first byte of the label that the byte stands in, where the byte before stands in a label with
+-- this first byte; `.` before the first byte of a label
+abbrev pub label_first : ℕ → ℕ → ℕ
+label_first first byte = cond (first == 46 || byte == 46) byte first
 
 -- the first byte of the last label
 abbrev pub last_first : ℕ → List ℕ → ℕ
@@ -44,6 +49,44 @@ unfolding rsplit_once
 last_first_split first [] = grind (arith, nat_tests)
 last_first_split first (b ∷ xs) =
     last_first_split (label_first first b) xs ∙ sym (last_first_step first b (rsplit_once 46 xs).0 (rsplit_once 46 xs).1)
+
+-- ---- a host byte by byte
+
+-- whether the bytes are plain up to their end or to a `/`, and the last label before it begins with a letter, where the label that they begin in has this first byte
+abbrev pub scan : ℕ → List ℕ → Bool
+scan first [] = ltb 96 first
+scan first (b ∷ bytes) = cond (b == slash) (ltb 96 first) (is_plain_byte b && scan (label_first first b) bytes)
+
+and_grouped : (a b c : Bool) → (a && (b && c)) ≡ ((a && b) && c)
+and_grouped true b c = refl
+and_grouped false b c = refl
+
+host_next : (b : ℕ) (bytes : List ℕ) → (b == slash) ≡ false → host_of (b ∷ bytes) ≡ b ∷ host_of bytes
+unfolding split_once
+host_next b bytes other = ap (λ (cut : List ℕ × Option (List ℕ)). cut.0) (cond-false _ _ _ other)
+
+scan_host : (first : ℕ) (bytes : List ℕ) → scan first bytes ≡ (list_all is_plain_byte (host_of bytes) && ltb 96 (last_first first (host_of bytes)))
+unfolding split_once
+scan_host first [] = refl
+scan_host first (b ∷ bytes) =
+    ⊎_elim
+    (λ same. rw same refl)
+    (λ differs.
+    let other = ne_eqb b slash differs in
+    rw (host_next b bytes other, other) (ap (λ t. is_plain_byte b && t) (scan_host (label_first first b) bytes) ∙ and_grouped (is_plain_byte b) (list_all is_plain_byte (host_of bytes)) _))
+    (cases_eq b slash)
+
+begins_split : (front : Option (List ℕ)) (back : List ℕ) → ltb 96 (split_first 46 front back) ≡ begins_with_letter back
+begins_split (Some front) [] = refl
+begins_split (Some front) (b ∷ back) = refl
+begins_split None [] = refl
+begins_split None (b ∷ back) = refl
+
+pub scan_is : (bytes : List ℕ) → scan 46 bytes ≡ has_plain_host bytes
+scan_is bytes =
+    let host = host_of bytes in
+    scan_host 46 bytes ∙ ap (λ t. list_all is_plain_byte host && t)
+    (ap (λ n. ltb 96 n) (last_first_split 46 host) ∙ begins_split (rsplit_once 46 host).0 (rsplit_once 46 host).1)
 
 -- ---- no number
 
@@ -84,7 +127,7 @@ pub record HostCut (first : ℕ) (bytes : List ℕ) : Type 0 where
   pub ends : EndsHost tail
   pub letter : 96 < last_first first host
 
-pub host_cut : (first : ℕ) (bytes : List ℕ) → has_plain_host first bytes ≡ true → HostCut first bytes
+pub host_cut : (first : ℕ) (bytes : List ℕ) → scan first bytes ≡ true → HostCut first bytes
 host_cut first [] h =
     record { host = []; tail = []; cut = refl; plain = All-nil (Passes is_plain_byte); ends = tt; letter = grind (arith, nat_tests) }
 host_cut first (b ∷ bytes) h =

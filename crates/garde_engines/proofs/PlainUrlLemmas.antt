@@ -24,7 +24,7 @@ use Rattle.url.proofs.HostRoundTrip.{parse_special_host-host_text, host_len-host
 use Rattle.url.proofs.RoundTrip.{split_own_scheme}
 use Rattle.garde_engines.specs.PlainUrls.{is_plain_byte, has_plain_host, after_scheme, is_plain_rest, is_plain_url}
 use Rattle.garde_engines.specs.Urls.{IsUrl}
-use Rattle.garde_engines.proofs.PlainHostLemmas.{EndsHost, host_cut, is_domain, is_some_host}
+use Rattle.garde_engines.proofs.PlainHostLemmas.{EndsHost, host_cut, scan_is, is_domain, is_some_host}
 
 -- the parser gives parts
 abbrev IsRead : Parsed Parts → Type 0
@@ -165,10 +165,10 @@ front_bytes scheme host first plain =
     let rest = All-weaker (Passes is_plain_byte) P (λ b passes. grind (arith, nat_tests)) host plain in
     All-append P scheme (58 ∷ 47 ∷ 47 ∷ host) first (All-cons P 58 (47 ∷ 47 ∷ host) refl (All-cons P 47 (47 ∷ host) refl (All-cons P 47 host refl rest)))
 
-by_front : (c : ℕ) (letters text rest : List ℕ) → IsScheme (c ∷ letters) → scheme_type (c ∷ letters) ≡ SpecialNotFile → All (Passes is_front_byte) (c ∷ letters) → text ≡ c ∷ letters ++ 58 ∷ 47 ∷ 47 ∷ rest → has_plain_host 46 rest ≡ true → IsUrl text
+by_front : (c : ℕ) (letters text rest : List ℕ) → IsScheme (c ∷ letters) → scheme_type (c ∷ letters) ≡ SpecialNotFile → All (Passes is_front_byte) (c ∷ letters) → text ≡ c ∷ letters ++ 58 ∷ 47 ∷ 47 ∷ rest → has_plain_host rest ≡ true → IsUrl text
 unfolding parse_url
 by_front c letters text rest is kind first spelled found =
-    let cut = host_cut 46 rest found in
+    let cut = host_cut 46 rest (scan_is rest ∙ found) in
     let host = cut.host in
     let valid : IsHostOf SpecialNotFile (Domain host) = (is_domain host cut.plain cut.letter, is_some_host host cut.letter) in
     let front = front_of (c ∷ letters) host in
@@ -180,11 +180,11 @@ by_front c letters text rest is kind first spelled found =
     let question = split 63 front _ (mark 63 (λ b passes e. grind (arith, nat_tests))) hash in
     by_scheme (c ∷ letters) host _ _ _ is kind cut.plain valid question
 
-http : (text rest : List ℕ) → text ≡ codes "http://" ++ rest → has_plain_host 46 rest ≡ true → IsUrl text
+http : (text rest : List ℕ) → text ≡ codes "http://" ++ rest → has_plain_host rest ≡ true → IsUrl text
 unfolding scheme_len scheme_type default_port
 http text rest = by_front 104 (116 ∷ 116 ∷ 112 ∷ []) text rest (record { nonempty = lit< tt; whole = refl; lower = refl }) refl (All_from_list_all is_front_byte (codes "http") refl)
 
-https : (text rest : List ℕ) → text ≡ codes "https://" ++ rest → has_plain_host 46 rest ≡ true → IsUrl text
+https : (text rest : List ℕ) → text ≡ codes "https://" ++ rest → has_plain_host rest ≡ true → IsUrl text
 unfolding scheme_len scheme_type default_port
 https text rest = by_front 104 (116 ∷ 116 ∷ 112 ∷ 115 ∷ []) text rest (record { nonempty = lit< tt; whole = refl; lower = refl }) refl (All_from_list_all is_front_byte (codes "https") refl)
 

@@ -1,6 +1,7 @@
 //! Plain URLs, which are found without the parser.
-ghost use Rattle.std.specs.Prelude.{◌≡◌, Some, None, IsTrue, MatchOption};
-ghost use Rattle.garde_engines.specs.PlainUrls.{after_scheme, has_plain_host, is_plain_byte, is_plain_url, label_first};
+ghost use Rattle.std.specs.Prelude.{◌≡◌, ◌==◌, ◌||◌, Some, None, IsTrue, MatchOption, if◌then◌else◌};
+ghost use Rattle.garde_engines.specs.Ip.{dot};
+ghost use Rattle.garde_engines.specs.PlainUrls.{after_scheme, has_plain_host, is_plain_byte, is_plain_url};
 ghost use Rattle.garde_engines.specs.Urls.{IsUrl};
 
 // What follows `http://` or `https://`.
@@ -29,7 +30,7 @@ fn is_plain_byte(byte: u8) -> bool
 // The first byte of the label that the byte stands in, `.` before the first byte of a label.
 #[inline(always)]
 fn label_first(first: u8, byte: u8) -> u8
-    ensures { result ≡ label_first first byte }
+    ensures { result ≡ (if first == dot || byte == dot then byte else first) }
 {
     if first == b'.' || byte == b'.' {
         byte
@@ -41,8 +42,9 @@ fn label_first(first: u8, byte: u8) -> u8
 // Whether the bytes are plain up to their end or to a `/`, and the last label before it begins with
 // a letter.
 #[inline]
+#[tactic(auto, using(crate::proofs::PlainHostLemmas::scan_is))]
 fn has_plain_host(bytes: &[u8]) -> bool
-    ensures { result ≡ has_plain_host 46 bytes.now }
+    ensures { result ≡ has_plain_host bytes.now }
 {
     let mut first = b'.';
     for byte in bytes {
