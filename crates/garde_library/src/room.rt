@@ -1,6 +1,6 @@
 //! The room for reading, in a form that C can hold.
 use crate::loose::Loose;
-use json::Scratch;
+use garde_tape::Scratch;
 use std::alloc::{AllocError, Global};
 use std::marker::Model;
 use std::{mem, ptr};

@@ -11,7 +11,8 @@ use crate::source::Source;
 use crate::tape_items::TapeItems;
 use crate::tape_members::TapeMembers;
 use crate::tree::Tree;
-use json::{Node, Tape};
+use crate::scratch::Tape;
+use json::Node;
 use std::marker::Model;
 
 // The whole value of a JSON text, or one inside it.

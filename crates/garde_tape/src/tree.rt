@@ -17,7 +17,7 @@ use crate::members::TreeMembers;
 use crate::number;
 use crate::source::{ItemSource, MemberSource, Source};
 use crate::tape_tree::TapeTree;
-use json::Tape;
+use crate::scratch::Tape;
 use std::marker::Model;
 
 /// A JSON value that borrows what it is read from: a JSON text, or texts that stand by themselves. A

@@ -1,0 +1,46 @@
+//! The room for reading a JSON text.
+ghost use Rattle.std.specs.Prelude.{◌≡◌, ◌+◌, ◌<◌, ◌≤◌, OnErr, OnOk};
+ghost use Rattle.json.specs.Scratch.{tape_room};
+
+use bumpalo::Bump;
+use std::alloc::{AllocError, Global};
+
+/// The room that reading a JSON text takes, kept from one read to the next: a text that is no longer
+/// than one before it, and of no more tokens, is read without an allocation.
+#[derive(Drop)]
+pub struct Scratch {
+    pub(crate) texts: json::Scratch,
+    pub(crate) nodes: Bump,
+}
+
+impl Scratch {
+    /// No room yet. It allocates nothing.
+    pub fn new(alloc: Global) -> Scratch {
+        Scratch {
+            texts: json::Scratch::new(alloc),
+            nodes: Bump::new(alloc),
+        }
+    }
+
+    // The room for tokens, none of which is in use. An arena gives back the room of its last block where
+    // it has one chunk, and else by `reset`, which fails where a tape was forgotten and not dropped.
+    pub(crate) fn clear(&mut self, alloc: Global)
+        ensures { self.new.texts ≡ self.old.texts }
+    {
+        if self.nodes.chunk_capacity() < self.nodes.allocated_bytes() && self.nodes.reset().is_err()
+        {
+            self.nodes = Bump::new(alloc);
+        }
+    }
+
+    /// Makes room for texts of so many bytes, but for the tokens of their tapes.
+    pub fn reserve_tape(&mut self, len: u32) -> Result<(), AllocError>
+        ensures ok { OnOk result (len + 64 ≤ tape_room self.new.texts) }
+        ensures full { OnErr result (tape_room self.old.texts < len + 64) }
+    {
+        self.texts.reserve_tape(len)
+    }
+}
+
+/// The tokens of a JSON text, in the room of a scratch.
+pub type Tape<'a> = json::Tape<'a, &'a Bump>;
