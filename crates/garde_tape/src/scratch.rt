@@ -27,7 +27,8 @@ impl Scratch {
     pub(crate) fn clear(&mut self, alloc: Global)
         ensures { self.new.texts ≡ self.old.texts }
     {
-        if self.nodes.chunk_capacity() < self.nodes.allocated_bytes() && self.nodes.reset().is_err()
+        if self.nodes.chunk_capacity() < self.nodes.allocated_bytes()
+            && self.nodes.reset().is_err()
         {
             self.nodes = Bump::new(alloc);
         }

@@ -7,11 +7,11 @@ ghost use Rattle.garde_tape.specs.Reading.{json_of, item_list, member_list};
 
 use crate::found::Found;
 use crate::node::{Spot, node_at, spot_from};
+use crate::scratch::Tape;
 use crate::source::Source;
 use crate::tape_items::TapeItems;
 use crate::tape_members::TapeMembers;
 use crate::tree::Tree;
-use crate::scratch::Tape;
 use json::Node;
 use std::marker::Model;
 

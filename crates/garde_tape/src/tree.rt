@@ -15,9 +15,9 @@ use crate::items::TreeItems;
 use crate::kind::Kind;
 use crate::members::TreeMembers;
 use crate::number;
+use crate::scratch::Tape;
 use crate::source::{ItemSource, MemberSource, Source};
 use crate::tape_tree::TapeTree;
-use crate::scratch::Tape;
 use std::marker::Model;
 
 /// A JSON value that borrows what it is read from: a JSON text, or texts that stand by themselves. A
