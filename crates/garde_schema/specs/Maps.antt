@@ -1,7 +1,8 @@
 -- The members of an object under any names, and their values.
-use Rattle.std.specs.Prelude.{ℕ, List, [], ◌∷◌, map, Bool, true, false, cond, Option, Some, None, option_map, option_and_then}
+use Rattle.std.specs.Prelude.{ℕ, List, [], ◌∷◌, map, Bool, true, false, cond, ◌||◌, Option, Some, None, option_map, option_and_then}
 use Rattle.std.specs.BTreeSet.{BTreeSet, contains_by}
 use Rattle.std.specs.Borrow.{Bor}
+use Rattle.std.specs.List.{list_any}
 use Rattle.std.specs.Cmp.Lexicographic.{slice_cmp}
 use Rattle.std.specs.Ordering.{nat_cmp}
 use Rattle.std.specs.Str.{bytes_eq}
@@ -11,11 +12,20 @@ use Rattle.garde_report.specs.Part.{key_part}
 use Rattle.garde_tape.specs.Reading.{member_list}
 use Rattle.garde.specs.Visits.{Visits, entries, may_allocate}
 use Rattle.garde_schema.specs.declared.fault.FormFault.TheVariants as faults
+use Rattle.garde_schema.specs.declared.names.Names.{Names}
 use Rattle.garde_schema.specs.Forms.{FormTexts, formed}
 
+-- whether a list of names has this one
+abbrev pub is_among : List (Bor (List ℕ)) → List ℕ → Bool
+is_among names name = list_any (λ n. bytes_eq n.now name) names
+
 -- whether a set of names has this one
-abbrev pub has_name : BTreeSet (Bor (List ℕ)) → List ℕ → Bool
-has_name names name = contains_by (λ k. slice_cmp nat_cmp name k.now) names
+abbrev pub is_in_set : BTreeSet (Bor (List ℕ)) → List ℕ → Bool
+is_in_set names name = contains_by (λ k. slice_cmp nat_cmp name k.now) names
+
+-- whether a name came before
+abbrev pub has_name : Names → List ℕ → Bool
+has_name names name = is_among names.few.items name || is_in_set names.others name
 
 -- the names before, and this one
 abbrev pub with_name : List ℕ → (List ℕ → Bool) → List ℕ → Bool

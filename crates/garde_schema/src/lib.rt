@@ -25,6 +25,7 @@ mod map_under;
 mod marks;
 mod member;
 mod name_rules;
+mod names;
 mod nested;
 mod nullable;
 mod nullish;

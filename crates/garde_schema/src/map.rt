@@ -1,5 +1,5 @@
 //! Objects whose members have any names.
-ghost use Rattle.std.specs.Prelude.{◌≡◌, ℕ, List, option_map, option_and_then, IfOk, OnOk};
+ghost use Rattle.std.specs.Prelude.{◌≡◌, option_map, option_and_then, IfOk, OnOk};
 ghost use Rattle.std.specs.List.{All};
 ghost use Rattle.garde_report.specs.Part.{key_part};
 ghost use Rattle.garde.specs.Visits.{Visited, under, may_allocate};
@@ -8,32 +8,22 @@ ghost use Rattle.garde_schema.specs.declared.fault.FormFault.TheVariants as faul
 ghost use Rattle.garde_schema.specs.declared.fault.Wanted.TheVariants as wanted;
 ghost use Rattle.garde_schema.specs.Forms.{forget, formed, Sound};
 ghost use Rattle.garde_schema.specs.Lists.{all_values, with_last};
-ghost use Rattle.garde_schema.specs.Maps.{each_entry, entry_value, has_name, map_of, members_first, when_new, with_name};
+ghost use Rattle.garde_schema.specs.Maps.{each_entry, entry_value, map_of, members_first, when_new};
 
 use crate::fault::{FormFault, Wanted};
 use crate::form::Form;
 use crate::handler::FormI18n;
 use crate::items::{Items, add};
 use crate::list::read_in;
+use crate::names::Names;
 use crate::put::{put, put_under, with};
 use crate::text_ref::TextRef;
 use garde::{Component, I18n, Report, Trail};
 use garde_tape::{Tree, TreeMembers};
 use std::alloc::{AllocError, Global};
-use std::collections::BTreeSet;
 
 /// Names with their values, in the order of the text.
 pub type Entries<'a, T> = Items<(TextRef<'a>, T)>;
-
-// Adds a name, and returns whether it was there before.
-fn add_name<'a>(names: &mut BTreeSet<&'a str>, name: &'a str) -> Result<bool, AllocError>
-    ensures came { IfOk result (λ came. came ≡ has_name names.old name.now) }
-    ensures names { OnOk result ((other : List ℕ)
-        → has_name names.new other ≡ with_name name.now (λ other. has_name names.old other) other) }
-{
-    let is_new = names.insert(name)?;
-    Ok(!is_new)
-}
 
 // The name with its value, if there is one.
 #[inline(always)]
@@ -121,10 +111,10 @@ pub(crate) fn read_entries<'t, 'a, F: Form<'a>, H: I18n + FormI18n>(
         (all_values (entry_value (λ v. F.value form.now v)) (members_first members.entry))) }
 {
     let mut left = members;
-    let mut names = BTreeSet::new(alloc);
+    let mut names = Names::new(alloc);
     let mut values = Some(Items::new(alloc));
     while let Some((name, value)) = left.next() {
-        let came = add_name(&mut names, name)?;
+        let came = names.add(name)?;
         values = read_entry(alloc, form, came, name, &value, values, trail, report, h)?;
     }
     Ok(values)

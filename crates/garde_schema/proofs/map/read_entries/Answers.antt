@@ -1,4 +1,4 @@
-use Rattle.std.proofs.Common.{rules, ap, subst, ◌∙◌, Some, [], List, ℕ, Option}
+use Rattle.std.proofs.Common.{rules, ap, subst, ◌∙◌, Some}
 use Rattle.std.specs.List.{All}
 use Rattle.garde_schema.specs.Maps.{entry_value, has_name, members_first}
 use Rattle.garde_schema.proofs.Lists.{values_from, values_begin, values_next, values_end, all_next, all_end}
@@ -7,7 +7,7 @@ use Rattle.garde_schema.proofs.map.read_entries.Goals as goal
 
 pub loop-name-init : goal.loop-name-init
 loop-name-init g c =
-    let same = names_first c.new-names.result c.args.members c.new-names.ensures.empty in (
+    let same = names_first (λ n. has_name c.new-names.result n) c.args.members c.new-names.ensures in (
       λ after new answer told. members_as (g.H.FormI18n.form_text c.args.h.now) (λ v. g.F.Form.visits c.args.form.now (g.H.FormI18n.form_text c.args.h.now) v) _ _ same told,
       ap (λ es. values_from (entry_value (λ v. g.F.Form.value c.args.form.now v)) (Some c.new.result) es) same ∙ values_begin (entry_value (λ v. g.F.Form.value c.args.form.now v)) c.new.result (members_first c.args.members) c.new.ensures,
       λ all. subst (λ es. All (SoundEntry (g.H.FormI18n.form_text c.args.h.now) (λ v. g.F.Form.visits c.args.form.now (g.H.FormI18n.form_text c.args.h.now) v) (λ x. g.F.Form.keeps c.args.form.now x) (λ v. g.F.Form.value c.args.form.now v)) es) same all,
@@ -15,7 +15,7 @@ loop-name-init g c =
 
 pub loop-name-preserved : goal.loop-name-preserved
 loop-name-preserved g c =
-    let next = names_next (λ n. has_name c.loop-name.names n) (λ n. has_name c.add_name.new.names n) c.in_ok-came.came c.loop-name.left _ _ c.in-Some.ensures.steps c.in_ok-came.ensures.came c.in_ok-came.ensures.names in (
+    let next = names_next (λ n. has_name c.loop-name.names n) (λ n. has_name c.add.new.self n) c.in_ok-came.came c.loop-name.left _ _ c.in-Some.ensures.steps c.in_ok-came.ensures.came c.in_ok-came.ensures.names in (
       λ after new answer rest. c.loop-name.invariant.0 after new answer (member_then (g.H.FormI18n.form_text c.args.h.now) (λ v. g.F.Form.visits c.args.form.now (g.H.FormI18n.form_text c.args.h.now) v) _ _ _ c.read_entry.result next c.read_entry.ensures.answer (search rules) rest),
       values_next (entry_value (λ v. g.F.Form.value c.args.form.now v)) c.loop-name.values _ _ _ _ next c.in_ok-values.ensures.value ∙ c.loop-name.invariant.1,
       λ all. c.loop-name.invariant.2 (all_next (SoundEntry (g.H.FormI18n.form_text c.args.h.now) (λ v. g.F.Form.visits c.args.form.now (g.H.FormI18n.form_text c.args.h.now) v) (λ x. g.F.Form.keeps c.args.form.now x) (λ v. g.F.Form.value c.args.form.now v)) _ _ _ next c.in_ok-values.ensures.sound all),
@@ -26,7 +26,7 @@ returns-in_err-came-clause-answer g c = c.loop-name.invariant.0 _ _ _ (member_no
 
 pub returns-in_err-values-clause-answer : goal.returns-in_err-values-clause-answer
 returns-in_err-values-clause-answer g c =
-    let next = names_next (λ n. has_name c.loop-name.names n) (λ n. has_name c.add_name.new.names n) c.in_ok-came.came c.loop-name.left _ _ c.in-Some.ensures.steps c.in_ok-came.ensures.came c.in_ok-came.ensures.names in
+    let next = names_next (λ n. has_name c.loop-name.names n) (λ n. has_name c.add.new.self n) c.in_ok-came.came c.loop-name.left _ _ c.in-Some.ensures.steps c.in_ok-came.ensures.came c.in_ok-came.ensures.names in
     c.loop-name.invariant.0 _ _ _ (member_stop (g.H.FormI18n.form_text c.args.h.now) (λ v. g.F.Form.visits c.args.form.now (g.H.FormI18n.form_text c.args.h.now) v) _ _ _ c.read_entry.result c.from_residual-in_err-values.result next c.read_entry.ensures.answer (search rules) c.from_residual-in_err-values.ensures.0)
 
 pub returns-clause-answer : goal.returns-clause-answer

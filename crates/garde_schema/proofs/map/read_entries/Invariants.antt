@@ -1,4 +1,4 @@
-use Rattle.std.proofs.Common.{◌≡◌, ℕ, List, Result, length}
+use Rattle.std.proofs.Common.{◌≡◌, List, Result, length}
 use Rattle.std.specs.List.{All}
 use Rattle.std.specs.declared.alloc.AllocError.{AllocError}
 use Rattle.garde_report.specs.Report.{Entry}
