@@ -1,18 +1,16 @@
 -- What a handle owns.
 use Rattle.std.specs.Prelude.{Bool, true, false}
-use mir.Syntax.{Ty}
 use base.Fml.{Fml, ftrue, fex}
 use denote.RattleType.{RattleType}
 use denote.RawPtr.{Ptr}
 use Rattle.std.specs.Box.Ownership.{box_owns}
-use Rattle.std.specs.contracts.alloc.Global as global
 use Rattle.std.specs.declared.alloc.Global.{Global}
 use Rattle.std.specs.contracts.impls.GlobalAllocator.TheImpl.{ghosts}
-use Rattle.json.specs.contracts.scratch.Scratch as scratch
+use Rattle.garde_tape.specs.contracts.scratch.Scratch as scratch
 
 -- the scratch as the logic holds it
 abbrev pub scratch_row : RattleType
-scratch_row = scratch.the_row global.the_row ghosts
+scratch_row = scratch.the_row
 
 -- nothing, or a box with some value. The right to free it does not depend on the handle of the allocator.
 abbrev pub room_owns : Ptr → Bool → Fml

@@ -1,6 +1,6 @@
 -- What JSON spells of a type: its values, and the faults of what spells none or breaks a rule. Each word is that of a form.
 use Prim.Native.String.{String as Literal}
-use Rattle.std.specs.Prelude.{◌≡◌, ℕ, ℤ, pos, negsuc, ◌-◌, ◌^◌, ◌||◌, List, [], ◌∷◌, length, codes, Bool, false, Option, Some, None, option_map, option_and_then, cond, if◌then◌else◌}
+use Rattle.std.specs.Prelude.{◌≡◌, ℕ, ℤ, pos, negsuc, ◌-◌, ◌^◌, ◌||◌, List, [], ◌∷◌, length, codes, Bool, Option, Some, None, option_map, option_and_then, cond, if◌then◌else◌}
 use Rattle.std.specs.Str.{bytes_eq}
 use Rattle.json.specs.Json.{Json}
 use Rattle.json.specs.Find.{as_bool, as_number, as_object, as_str, is_null}
@@ -16,7 +16,7 @@ use Rattle.garde_schema.specs.declared.fault.Integer.TheVariants as integers
 use Rattle.garde_schema.specs.declared.fault.Wanted.TheVariants as wanted
 use Rattle.garde_schema.specs.Bound.{bound_in, first_bound}
 use Rattle.garde_schema.specs.Bytes.{OfDocument}
-use Rattle.garde_schema.specs.Flat.{all1, all3, all4, all5, all6}
+use Rattle.garde_schema.specs.Flat.{all3, all4, all5, all6}
 use Rattle.garde_schema.specs.Forms.{FormTexts, formed, both}
 use Rattle.garde_schema.specs.Lists.{list_of, each_item, all_values}
 use Rattle.garde_schema.specs.Maps.{map_of, members_first, each_entry, entry_value, names_of}

@@ -1,13 +1,12 @@
 -- `none` owns nothing. A walk of its MIR.
-use Rattle.std.proofs.Common.{◌≡◌, List, [], ◌∷◌, refl}
-use mathlib.Core.Bool.{Bool, true, false}
+use Rattle.std.proofs.Common.{List, [], ◌∷◌, refl}
+use mathlib.Core.Bool.{false}
 use mir.Val.{Val, vbool, vint, vstruct, vcons, vnil}
 use mir.Syntax.{w64}
 use lib.Dec.{lit<}
 use base.Logic.{SProp}
 use base.Fml.{ftrue}
-use prog.Wp.{WpFn}
-use types.Kit.{‵, raw, ◌⊛◌, ◌$◌, ◌∵◌, !, qed, by, move, keep, fjoin, fpack, suffices, frame, feq_i, split, join, done}
+use types.Kit.{‵, raw, ◌⊛◌, ◌$◌, ◌∵◌, !, qed, by, move, fjoin, fpack, feq_i, split}
 use types.Part.{agg}
 use types.Run.{lit, false_lit, and_then, no_more, returns, enter}
 use types.ByLocal.{alloc_all, pass_all, free_all, look_at, sets}
@@ -19,7 +18,7 @@ use denote.RawPtr.{null_ptr}
 use denote.Steps.{nothing}
 use denote.Struct.Struct.{within}
 use denote.Struct.Owning.{shape}
-use denote.Triple.Walked.{walk_of, says}
+use denote.Triple.Walked.{walk_of}
 use Rattle.std.proofs.raw_atomic.Walks.{proved_at, leaves}
 use Rattle.garde_library.specs.contracts.room.Room as room
 use Rattle.garde_library.specs.contracts.room.Room.none as f

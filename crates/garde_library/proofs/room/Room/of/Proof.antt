@@ -1,6 +1,6 @@
 -- `of` takes the pointer out of a `Loose`. A walk of its MIR.
-use Rattle.std.proofs.Common.{◌≡◌, List, [], ◌∷◌, ◌++◌, refl, sym, subst}
-use mathlib.Core.Bool.{Bool, true, false}
+use Rattle.std.proofs.Common.{List, [], ◌∷◌, ◌++◌, refl, sym, subst}
+use mathlib.Core.Bool.{true}
 use mir.Val.{Val, vbool, vptr, vstruct, vcons, vnil}
 use base.Logic.{SProp, ent, id⊢}
 use base.Fml.{ftrue}
@@ -11,7 +11,7 @@ use types.Run.{stop, fld, of_opd, true_lit, and_then, no_more, returns, enter}
 use types.ByLocal.{alloc_all, pass_all, free_all, look_at, get, get_in, sets}
 use contract.Running.{tables}
 use denote.Exit.{yes}
-use denote.RattleType.{RattleType, Valss, owns}
+use denote.RattleType.{Valss, owns}
 use denote.Signature.{types_at, plain}
 use denote.Builtin.{RawPtr}
 use denote.Plain.{Boolean}
@@ -19,7 +19,7 @@ use denote.RawPtr.{block_ptr}
 use denote.Steps.{nothing}
 use denote.Struct.Struct.{within}
 use denote.Struct.Owning.{shape}
-use denote.Triple.Walked.{Stays, stay_dropped, walk_of, Goes-dropped}
+use denote.Triple.Walked.{Stays, stay_dropped, walk_of}
 use Rattle.core.proofs.alloc.Calls.{Goes-blank}
 use Rattle.std.proofs.raw_atomic.Walks.{proved_at, leaves}
 use Rattle.std.specs.Box.Ownership.{box_owns}
