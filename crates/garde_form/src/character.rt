@@ -11,7 +11,7 @@ use std::alloc::{AllocError, Global};
 use std::borrow::CowStr;
 
 /// A text of one character, as `str::parse` reads a `char`: `Parsed(Character, ())`.
-#[derive(Clone, Copy, Debug)]
+#[derive(Clone, Copy)]
 pub struct Character;
 
 impl Parse for Character {

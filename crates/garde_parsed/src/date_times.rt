@@ -13,7 +13,7 @@ use std::borrow::CowStr;
 /// A text that writes a date and a time of day, as `jiff::civil::DateTime` reads it:
 /// `2026-11-25T22:15:30`. Without a time it is midnight. An offset other than `Z` and a time
 /// zone in brackets are read and left out.
-#[derive(Clone, Copy, Debug)]
+#[derive(Clone, Copy)]
 pub struct DateTime;
 
 impl Parse for DateTime {

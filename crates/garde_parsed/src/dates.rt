@@ -13,7 +13,7 @@ use std::borrow::CowStr;
 /// A text that writes a date, as `jiff::civil::Date` reads it: `2026-11-25`. A time of day may
 /// follow, with an offset other than `Z` and a time zone in brackets: they are read and left
 /// out.
-#[derive(Clone, Copy, Debug)]
+#[derive(Clone, Copy)]
 pub struct Date;
 
 impl Parse for Date {

@@ -13,7 +13,7 @@ use std::net::Ipv4Addr;
 
 /// A text that writes an IPv4 address, as `std::net::Ipv4Addr` reads it: four decimal numbers
 /// below 256 without leading zeros, and dots between them.
-#[derive(Clone, Copy, Debug)]
+#[derive(Clone, Copy)]
 pub struct Ipv4;
 
 impl Parse for Ipv4 {

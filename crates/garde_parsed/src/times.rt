@@ -13,7 +13,7 @@ use std::borrow::CowStr;
 /// A text that writes a time of day, as `jiff::civil::Time` reads it: `22:15` or `22:15:30.5`.
 /// A date may stand before it, and an offset other than `Z` and a time zone in brackets behind
 /// it: they are read and left out.
-#[derive(Clone, Copy, Debug)]
+#[derive(Clone, Copy)]
 pub struct Time;
 
 impl Parse for Time {

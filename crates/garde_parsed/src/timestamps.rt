@@ -12,7 +12,7 @@ use std::borrow::CowStr;
 
 /// A text that writes a moment, as `jiff::Timestamp` reads it: a date, a time of day and an
 /// offset from UTC, as `2026-11-25T22:15:30Z` (RFC 3339).
-#[derive(Clone, Copy, Debug)]
+#[derive(Clone, Copy)]
 pub struct Timestamp;
 
 impl Parse for Timestamp {

@@ -12,7 +12,7 @@ use std::borrow::CowStr;
 
 /// A text that writes a UUID, as the crate `uuid` reads it: 32 hexadecimal digits, alone or
 /// with hyphens (RFC 9562, section 4); these with hyphens in braces, or behind `urn:uuid:`.
-#[derive(Clone, Copy, Debug)]
+#[derive(Clone, Copy)]
 pub struct Uuid;
 
 impl Parse for Uuid {

@@ -11,7 +11,7 @@ use garde_schema::{Any, FormI18n, Member, Members, Tree};
 use std::alloc::{AllocError, Global};
 
 /// Members of these names, each of which has to be there once. Their values are not read.
-#[derive(Clone, Copy, Debug)]
+#[derive(Clone, Copy)]
 pub struct Names(pub &'static [&'static str]);
 
 // Puts a fault under the name of a column that is missing or repeated.

@@ -33,7 +33,7 @@ pub trait FromParts: Drop {
 /// a type of yours that implements `FromParts`. Where the compiler does not find it from the use, name it
 /// by `PhantomData::<&Line<'_>>`. No fault is added. What the rules ask is known of the parts of the
 /// value.
-#[derive(Clone, Copy, Debug)]
+#[derive(Clone, Copy)]
 pub struct Built<'a, F, T>(pub F, pub PhantomData<&'a T>);
 
 impl<'a, T: FromParts, F: Form<'a, Out = T::Parts>> Form<'a> for Built<'a, F, T> {

@@ -81,7 +81,7 @@ fn read_ruled<'t, 'a, R: ListRules<F::Out>, F: Form<'a>, H: I18n + FormI18n>(
 /// The rules of how many items there are (`Is` of a rule on a `Count`) are asked before the items are
 /// read, also where an item has another form. The rules of the values (`Unique`, `Each`) are asked
 /// after all items, and only where each has its form.
-#[derive(Clone, Copy, Debug)]
+#[derive(Clone, Copy)]
 pub struct ListUnder<R, F>(pub R, pub F);
 
 impl<'a, F: Form<'a>, R: ListRules<F::Out>> Form<'a> for ListUnder<R, F> {

@@ -109,7 +109,7 @@ fn read_ruled<'t, 'a, R: NameRules<'a>, F: Form<'a>, H: I18n + FormI18n>(
 /// The rules of how many members there are (`Is` of a rule on a `Count`) are asked before the values
 /// are read, also where a value has another form or a name is repeated. The rules of the names
 /// (`Keys`) are asked after all values, and only where each has its form and no name is repeated.
-#[derive(Clone, Copy, Debug)]
+#[derive(Clone, Copy)]
 pub struct MapUnder<R, F>(pub R, pub F);
 
 impl<'a, R: NameRules<'a>, F: Form<'a>> Form<'a> for MapUnder<R, F> {

@@ -39,7 +39,7 @@ pub(crate) fn read_found<'t, 'a, F: Form<'a>, H: I18n + FormI18n>(
 }
 
 /// A member that must be there: its name and its form.
-#[derive(Clone, Copy, Debug)]
+#[derive(Clone, Copy)]
 pub struct Member<'a, F>(pub &'a str, pub F);
 
 #[tactic(auto, unfolding(garde::specs::Visits::Known))]

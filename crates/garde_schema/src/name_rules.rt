@@ -48,7 +48,7 @@ pub trait NameRules<'a>: CountRules {
 
 /// The rules of each name of a map. What they find in a name stands under that name, where the faults
 /// of its value stand.
-#[derive(Clone, Copy, Debug)]
+#[derive(Clone, Copy)]
 pub struct Keys<R>(pub R);
 
 /// They ask nothing of how many there are.

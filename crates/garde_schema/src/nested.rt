@@ -50,7 +50,7 @@ pub trait FromNested: Drop {
 /// in, at any level.
 ///
 /// It is read by calls as deep as the objects nest. A text that nests deeper than 128 is not parsed.
-#[derive(Clone, Copy, Debug)]
+#[derive(Clone, Copy)]
 pub struct Nested<'a, M, T>(pub &'a str, pub M, pub PhantomData<&'a T>);
 
 // Reads an object of the form, closed or not.

@@ -15,7 +15,7 @@ use garde_tape::Tree;
 use std::alloc::{AllocError, Global};
 
 /// An object with these members. The value is theirs.
-#[derive(Clone, Copy, Debug)]
+#[derive(Clone, Copy)]
 pub struct Object<M>(pub M);
 
 impl<'a, M: Members<'a>> Form<'a> for Object<M> {

@@ -16,7 +16,7 @@ use std::alloc::{AllocError, Global};
 /// `OneOf(&[("post", Delivery::Post), ("counter", Delivery::Counter)])`.
 ///
 /// Of a text that stands there twice the first value counts. A text that is not there is a fault.
-#[derive(Clone, Copy, Debug)]
+#[derive(Clone, Copy)]
 pub struct OneOf<'n, V>(pub &'n [(&'n str, V)]);
 
 // The value that stands beside this text.

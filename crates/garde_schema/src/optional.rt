@@ -17,7 +17,7 @@ use std::alloc::{AllocError, Global};
 
 /// A member that may be missing: its name and its form. The value is an option, and `None` where the
 /// member is missing. `null` is no missing member.
-#[derive(Clone, Copy, Debug)]
+#[derive(Clone, Copy)]
 pub struct Optional<'a, F>(pub &'a str, pub F);
 
 // Reads the value of a member, under its name.

@@ -16,7 +16,7 @@ use garde_tape::Tree;
 use std::alloc::{AllocError, Global};
 
 /// `true` or `false`.
-#[derive(Clone, Copy, Debug)]
+#[derive(Clone, Copy)]
 pub struct Flag;
 
 impl<'a> Form<'a> for Flag {
@@ -43,7 +43,7 @@ impl<'a> Form<'a> for Flag {
 }
 
 /// `null`.
-#[derive(Clone, Copy, Debug)]
+#[derive(Clone, Copy)]
 pub struct Null;
 
 // The value of `null`.
@@ -78,7 +78,7 @@ impl<'a> Form<'a> for Null {
 }
 
 /// Whatever there is. It is not read.
-#[derive(Clone, Copy, Debug)]
+#[derive(Clone, Copy)]
 pub struct Any;
 
 impl<'a> Form<'a> for Any {

@@ -29,7 +29,7 @@ fn text_of<'a>(tree: &Tree<'_, 'a>) -> Option<TextRef<'a>>
 }
 
 /// A text under these rules.
-#[derive(Clone, Copy, Debug)]
+#[derive(Clone, Copy)]
 pub struct Text<R>(pub R);
 
 impl<'a, R: Rules<TextRef<'a>>> Form<'a> for Text<R> {

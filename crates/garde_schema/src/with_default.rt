@@ -19,7 +19,7 @@ use std::alloc::{AllocError, Global};
 ///
 /// No rule is asked of that value. A member that is there and has another form is a fault, also where
 /// it is `null`.
-#[derive(Clone, Copy, Debug)]
+#[derive(Clone, Copy)]
 pub struct WithDefault<'a, F, T>(pub &'a str, pub F, pub T);
 
 // The value that was read, and the default where none was there.

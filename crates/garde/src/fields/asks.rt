@@ -11,7 +11,7 @@ use std::alloc::Global;
 ///
 /// It asks nothing of the value of the field, so the condition may be of any fields: that one of
 /// two is given, or that one is greater than another.
-#[derive(Clone, Copy, Debug)]
+#[derive(Clone, Copy)]
 pub struct Asks<'m>(pub &'m str, pub bool);
 
 impl<T> Rule<T> for Asks<'_> {

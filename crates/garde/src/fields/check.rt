@@ -70,7 +70,7 @@ impl<'a, T, R: MemoryRule<T>> Check<'a, T> for IsInMemory<R> {
 }
 
 /// The check that the value, under this context, is valid by its own `Validate`.
-#[derive(Clone, Copy, Debug)]
+#[derive(Clone, Copy)]
 pub struct Dive<'c, C>(pub &'c C);
 
 impl<'a, 'c, T: Validate> Check<'a, T> for Dive<'c, T::Context> {

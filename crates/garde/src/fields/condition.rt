@@ -8,7 +8,7 @@ use garde_report::{Report, Trail};
 use std::alloc::{AllocError, Global};
 
 /// The rules or the check, where the condition holds, and else none.
-#[derive(Clone, Copy, Debug)]
+#[derive(Clone, Copy)]
 pub struct When<C>(pub bool, pub C);
 
 impl<'a, T, C: Check<'a, T>> Check<'a, T> for When<C> {

@@ -45,7 +45,7 @@ pub trait Fields<'a> {
 }
 
 /// A field: its name, its value, and what is checked of it.
-#[derive(Clone, Copy, Debug)]
+#[derive(Clone, Copy)]
 pub struct Field<'a, T, C>(pub &'a str, pub &'a T, pub C);
 
 impl<'a, T, C: Check<'a, T>> Fields<'a> for Field<'a, T, C> {
@@ -72,7 +72,7 @@ impl<'a, T, C: Check<'a, T>> Fields<'a> for Field<'a, T, C> {
 }
 
 /// A field of a tuple: its index, its value, and what is checked of it.
-#[derive(Clone, Copy, Debug)]
+#[derive(Clone, Copy)]
 pub struct Item<'a, T, C>(pub usize, pub &'a T, pub C);
 
 impl<'a, T, C: Check<'a, T>> Fields<'a> for Item<'a, T, C> {
@@ -100,7 +100,7 @@ impl<'a, T, C: Check<'a, T>> Fields<'a> for Item<'a, T, C> {
 
 /// A value that is checked with no component of its own: its faults stand where those of the whole do.
 /// In a derive of the Rust crate the attribute `transparent` asks for this.
-#[derive(Clone, Copy, Debug)]
+#[derive(Clone, Copy)]
 pub struct Transparent<'a, T, C>(pub &'a T, pub C);
 
 impl<'a, T, C: Check<'a, T>> Fields<'a> for Transparent<'a, T, C> {

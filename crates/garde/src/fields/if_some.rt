@@ -9,7 +9,7 @@ use std::alloc::{AllocError, Global};
 
 /// The rules or the check of what an option holds, with no component of its own. An option without a value
 /// passes.
-#[derive(Clone, Copy, Debug)]
+#[derive(Clone, Copy)]
 pub struct IfSome<C>(pub C);
 
 #[tactic(auto, unfolding(crate::specs::Visits::optional))]

@@ -8,7 +8,7 @@ use crate::fault::Integer;
 use garde_tape::Tree;
 
 /// `i8`.
-#[derive(Clone, Copy, Debug)]
+#[derive(Clone, Copy)]
 pub struct I8;
 
 impl WholeType for I8 {
@@ -45,7 +45,7 @@ impl WholeType for I8 {
 }
 
 /// `i16`.
-#[derive(Clone, Copy, Debug)]
+#[derive(Clone, Copy)]
 pub struct I16;
 
 impl WholeType for I16 {
@@ -82,7 +82,7 @@ impl WholeType for I16 {
 }
 
 /// `i32`.
-#[derive(Clone, Copy, Debug)]
+#[derive(Clone, Copy)]
 pub struct I32;
 
 impl WholeType for I32 {
@@ -119,7 +119,7 @@ impl WholeType for I32 {
 }
 
 /// `i64`.
-#[derive(Clone, Copy, Debug)]
+#[derive(Clone, Copy)]
 pub struct I64;
 
 impl WholeType for I64 {
@@ -145,7 +145,7 @@ impl WholeType for I64 {
 }
 
 /// `isize`.
-#[derive(Clone, Copy, Debug)]
+#[derive(Clone, Copy)]
 pub struct Isize;
 
 impl WholeType for Isize {

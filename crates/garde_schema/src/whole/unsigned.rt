@@ -8,7 +8,7 @@ use crate::fault::Integer;
 use garde_tape::Tree;
 
 /// `u8`.
-#[derive(Clone, Copy, Debug)]
+#[derive(Clone, Copy)]
 pub struct U8;
 
 impl WholeType for U8 {
@@ -43,7 +43,7 @@ impl WholeType for U8 {
 }
 
 /// `u16`.
-#[derive(Clone, Copy, Debug)]
+#[derive(Clone, Copy)]
 pub struct U16;
 
 impl WholeType for U16 {
@@ -78,7 +78,7 @@ impl WholeType for U16 {
 }
 
 /// `u32`.
-#[derive(Clone, Copy, Debug)]
+#[derive(Clone, Copy)]
 pub struct U32;
 
 impl WholeType for U32 {
@@ -113,7 +113,7 @@ impl WholeType for U32 {
 }
 
 /// `u64`.
-#[derive(Clone, Copy, Debug)]
+#[derive(Clone, Copy)]
 pub struct U64;
 
 impl WholeType for U64 {
@@ -139,7 +139,7 @@ impl WholeType for U64 {
 }
 
 /// `usize`.
-#[derive(Clone, Copy, Debug)]
+#[derive(Clone, Copy)]
 pub struct Usize;
 
 impl WholeType for Usize {

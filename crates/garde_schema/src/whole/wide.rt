@@ -125,7 +125,7 @@ fn signed(text: &[u8]) -> Option<i128>
 }
 
 /// `u128`.
-#[derive(Clone, Copy, Debug)]
+#[derive(Clone, Copy)]
 pub struct U128;
 
 impl WholeType for U128 {
@@ -154,7 +154,7 @@ impl WholeType for U128 {
 }
 
 /// `i128`.
-#[derive(Clone, Copy, Debug)]
+#[derive(Clone, Copy)]
 pub struct I128;
 
 impl WholeType for I128 {
