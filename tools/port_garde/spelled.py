@@ -1,4 +1,4 @@
-"""What JSON spells of the types of a source, as `garde_library` states it, and the implementations by which a static library checks
+"""What JSON spells of the types of a source, as `garde_schema` states it, and the implementations by which a static library checks
 the bytes of one of them."""
 from dataclasses import dataclass
 
@@ -145,8 +145,8 @@ class Spellings:
         if self.writer.input != "json" or self.writer.context_of(item):
             spelling, is_under = self.spelling_of(item, item.name + (STATIC if self.turned[item.name].params else ""), ".now")
             return Reader(self.schema, item).text(f"({spelling})" if is_under else spelling, self.writer.context_of(item))
-        self.schema.use("read_json_first", "FormI18n", "FirstReadError", "Scratch")
-        self.writer.uses.others |= {"std::alloc::Global", "garde::I18n", "garde::Valid", "garde_library::ReadBody"}
+        self.schema.use("read_json_first", "FormI18n", "FirstReadError", "ReadBody", "Scratch")
+        self.writer.uses.others |= {"std::alloc::Global", "garde::I18n", "garde::Valid"}
         name, made = self.schema.names_of(item)
         head = LIBRARY.format(words=name.replace("_", " "), made=made) if self.writer.is_library else ""
         return head + BODY.format(made=made, name=name, forms=self.schema.forms(item, 8))
@@ -157,7 +157,7 @@ class Spellings:
         turned = self.turned[item.name]
         life, context = "<'t>" if turned.params else "", self.writer.context_of(item)
         trait, head = self.trait(item), f"ghost spelled = {{ {f'λ {context[1]}. ' if context else ''}"
-        self.writer.uses.others.add(f"garde_library::{trait}")
+        self.schema.use(trait)
         whole = head + lay(self.of_type(item), len(f"    {head}"), len(" };")) + " };"
         return f"impl{life} {trait} for {item.name}{life} {{\n    {whole}\n}}"
 

@@ -455,8 +455,8 @@ class Writer:
         lines += [f"ghost use {it};" for it in (*prelude, *cow, *sorted(uses.paths))]
         if uses.words:
             lines.append(f"ghost use Rattle.garde.specs.Fields.{{{', '.join(sorted(uses.words, key=word_order))}}};")
-        lines += [f"ghost use Rattle.garde_library.specs.Spelling.{{{', '.join(sorted(uses.spelled))}}};"] if uses.spelled else []
-        lines += [f"ghost use Rattle.garde_library.specs.Unions.{{{', '.join(sorted(uses.unions))}}};"] if uses.unions else []
+        lines += [f"ghost use Rattle.garde_schema.specs.Spelling.{{{', '.join(sorted(uses.spelled))}}};"] if uses.spelled else []
+        lines += [f"ghost use Rattle.garde_schema.specs.Unions.{{{', '.join(sorted(uses.unions))}}};"] if uses.unions else []
         lines += [f"ghost use Rattle.garde_form.specs.Spelling.{{{', '.join(sorted(uses.written))}}};"] if uses.written else []
         lines += ["ghost use Rattle.garde_schema.specs.declared.either.Either.TheVariants.{Left, Right};"] if uses.sides else []
         lines += [self.variants_use(it) for it in self.source.items if self.stated_variants(it)]

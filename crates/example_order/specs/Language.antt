@@ -10,7 +10,7 @@ use Rattle.garde_schema.specs.FormText.{default_form_text}
 use Rattle.garde_library.specs.declared.status.Status.{Status}
 use Rattle.garde_library.specs.declared.status.Status.TheVariants.{Valid}
 use Rattle.garde_library.specs.Checked.{IsChecked, IsListed, IsVerdict}
-use Rattle.garde_library.specs.Spelling.{Spelling, SpellsValid}
+use Rattle.garde_schema.specs.Spelling.{Spelling, SpellsValid}
 use Rattle.example_order.specs.declared.language.Language.{Language}
 use Rattle.example_order.specs.declared.language.Language.TheVariants.{English, Czech}
 use Rattle.example_order.specs.declared.body.TheConstants.{TITLE}

@@ -1,14 +1,13 @@
 //! The body that the library checks: an order, with its form and its rules.
 ghost use Rattle.std.specs.Prelude.{[], refl, ◌∷◌};
 ghost use Rattle.garde.specs.Fields.{◌and◌, between, chars, count, each, field, is, items, prefix, range};
-ghost use Rattle.garde_library.specs.Spelling.{a_list_of, a_number, a_text, an_object, closed, made, member, two, u32_numbers};
+ghost use Rattle.garde_schema.specs.Spelling.{a_list_of, a_number, a_text, an_object, closed, made, member, two, u32_numbers};
 
 use garde::fields::{Is, Prefix};
 use garde::{I18n, Stated, Valid, length, range};
-use garde_library::{ReadBody, Spelled};
 use garde_schema::{
-    Built, Closed, FirstReadError, FormI18n, FromParts, Items, ListUnder, Member, Object, Scratch,
-    Text, TextRef, U32, Whole, read_json_first,
+    Built, Closed, FirstReadError, FormI18n, FromParts, Items, ListUnder, Member, Object, ReadBody,
+    Scratch, Spelled, Text, TextRef, U32, Whole, read_json_first,
 };
 use std::alloc::Global;
 use std::marker::PhantomData;

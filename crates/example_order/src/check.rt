@@ -5,9 +5,9 @@ use crate::body::{Body, TITLE};
 use crate::czech::Czech;
 use crate::language::Language;
 use garde::{DefaultI18n, Stated};
-use garde_library::{Spelled, Status, check_body, is_valid_body, list_body};
+use garde_library::{Status, check_body, is_valid_body, list_body};
 use garde_problem::WithCodes;
-use garde_schema::Scratch;
+use garde_schema::{Scratch, Spelled};
 use std::alloc::Global;
 
 /// Checks the bytes of an order. `out` gets the problem details of what is wrong, cut where it ends,

@@ -1,16 +1,15 @@
 //! A delivery, as a body that a static library checks.
 ghost use Rattle.std.specs.Prelude.{[], refl, ◌∷◌};
 ghost use Rattle.garde.specs.Fields.{◌and◌, alphanumeric, ascii, at_least, at_most, between, bytes, chars, count, each, false, field, if_some, is, item, items, minus, none, plus, prefix, range, required, signed_range};
-ghost use Rattle.garde_library.specs.Spelling.{a_flag, a_list, a_list_of, a_map_of, a_name, a_number, a_text, an_object, closed, i16_numbers, made, member, nullish, or_null, ruled, six, three, u16_numbers, u32_numbers, u64_numbers, u8_numbers, with_default};
+ghost use Rattle.garde_schema.specs.Spelling.{a_flag, a_list, a_list_of, a_map_of, a_name, a_number, a_text, an_object, closed, i16_numbers, made, member, nullish, or_null, ruled, six, three, u16_numbers, u32_numbers, u64_numbers, u8_numbers, with_default};
 ghost use Rattle.example_ported.specs.declared.delivery.Hours.TheVariants.{AnyTime, Morning};
 
 use garde::fields::{Alphanumeric, Ascii, Is, Prefix, Required};
 use garde::{I18n, Stated, Valid, length, range};
-use garde_library::{ReadBody, Spelled};
 use garde_schema::{
     Built, Checked, Closed, Entries, FirstReadError, Flag, FormI18n, FromParts, I16, Items, List,
-    ListUnder, MapUnder, Member, Nullable, Nullish, Object, OneOf, Scratch, Text, TextRef, U8, U16,
-    U32, U64, Under, Whole, WithDefault, read_json_first,
+    ListUnder, MapUnder, Member, Nullable, Nullish, Object, OneOf, ReadBody, Scratch, Spelled,
+    Text, TextRef, U8, U16, U32, U64, Under, Whole, WithDefault, read_json_first,
 };
 use std::alloc::Global;
 use std::marker::PhantomData;

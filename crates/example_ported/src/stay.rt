@@ -4,14 +4,13 @@ ghost use Rattle.garde_schema.specs.Bytes.{AnswersBytes, OfDocument};
 ghost use Rattle.garde_schema.specs.Forms.{forget};
 ghost use Rattle.garde_tape.specs.Input.{without_mark};
 ghost use Rattle.garde.specs.Fields.{◌and◌, asks, byte_count, each, field, is, length, nat_eq, nat_le, nat_lt, none, not, quotient, remainder, slice, str, text_eq};
-ghost use Rattle.garde_library.specs.Spelling.{a_list, a_number, a_ruled, a_text, an_object, made, member, ruled, three, two, u16_numbers, u8_numbers};
+ghost use Rattle.garde_schema.specs.Spelling.{a_list, a_number, a_ruled, a_text, an_object, made, member, ruled, three, two, u16_numbers, u8_numbers};
 
 use garde::fields::{Asks, Each, Field, Fields, Is, Rule, Rules};
 use garde::{I18n, Report, RuleError, Stated, Trail, Valid, Validate};
-use garde_library::SpelledUnder;
 use garde_schema::{
-    Built, Checked, FormI18n, FromParts, Items, List, Member, Object, ReadError, Scratch, Text,
-    TextRef, U8, U16, Under, Whole, read_json,
+    Built, Checked, FormI18n, FromParts, Items, List, Member, Object, ReadError, Scratch,
+    SpelledUnder, Text, TextRef, U8, U16, Under, Whole, read_json,
 };
 use std::alloc::{AllocError, Global};
 use std::marker::PhantomData;

@@ -58,7 +58,7 @@ fn look_up(range: &[u8], offered: &[Language]) -> Option<usize>
 }
 
 /// The best of the ranges that were seen.
-#[derive(Clone, Copy, Debug)]
+#[derive(Clone, Copy)]
 pub(crate) struct Best {
     /// The place of the language that it asks for, or `None` where no range asks for one.
     pub place: Option<usize>,

@@ -83,7 +83,7 @@ fn first_place(text: &str) -> Result<Option<(&str, &str, &str)>, TemplateFault>
 }
 
 /// What was seen of the places of a text.
-#[derive(Clone, Copy, Debug)]
+#[derive(Clone, Copy)]
 pub struct Seen {
     all_known: bool,
     has_first: bool,

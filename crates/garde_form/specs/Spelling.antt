@@ -1,4 +1,4 @@
--- What a field of a web form or a cell of a table spells of a type, in the words of `garde_library`. Each word is that of a form.
+-- What a field of a web form or a cell of a table spells of a type, in the words of `garde_schema`. Each word is that of a form.
 use Prim.Native.String.{String as Literal}
 use Rattle.std.specs.Prelude.{◌≡◌, ℕ, ℤ, pos, negsuc, ◌-◌, ◌^◌, List, Bool, Option, None, codes, map, option_and_then, bytes_eq}
 use Rattle.std.specs.Borrow.{Bor}
@@ -16,7 +16,7 @@ use Rattle.garde_schema.specs.Forms.{formed}
 use Rattle.garde_schema.specs.Members.{optional_value, optional_visits}
 use Rattle.garde_schema.specs.Nulls.{nullable_value, nullable_visits}
 use Rattle.garde_schema.specs.Whole.{between, number_visits, up_to}
-use Rattle.garde_library.specs.Spelling.{Members, Spelling, all_found, first_beyond}
+use Rattle.garde_schema.specs.Spelling.{Members, Spelling, all_found, first_beyond}
 use Rattle.garde_form.specs.Texts.{flag_text, is_empty, nearest_text, signed_text, text_fault, unread, unsigned_text}
 use Rattle.garde_form.specs.WebForm.{form_json}
 

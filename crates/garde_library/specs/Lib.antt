@@ -1,4 +1,2 @@
 pub mod Checked
 pub mod Room
-pub mod Spelling
-pub mod Unions

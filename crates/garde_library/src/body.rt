@@ -3,15 +3,14 @@ ghost use Rattle.std.specs.Prelude.{◌≡◌, IfOk};
 ghost use Rattle.garde_tape.specs.Input.{without_mark};
 ghost use Rattle.garde_schema.specs.FirstRead.{AnswersFirstBytes};
 ghost use Rattle.garde_library.specs.Checked.{IsChecked, IsListed, IsVerdict};
-ghost use Rattle.garde_library.specs.Spelling.{SpellsValid};
+ghost use Rattle.garde_schema.specs.Spelling.{SpellsValid};
 ghost use Rattle.garde_library.specs.declared.status.Status.TheVariants.{Valid};
 
 use crate::answer::{hand_over, status_of, tell};
-use crate::spelled::ReadBody;
 use crate::status::Status;
 use crate::telling::Telling;
 use garde::I18n;
-use garde_schema::{FirstReadError, FormI18n, Scratch};
+use garde_schema::{FirstReadError, FormI18n, ReadBody, Scratch};
 use std::alloc::Global;
 
 /// Reads a body, and lets the value go.

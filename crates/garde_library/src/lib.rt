@@ -8,12 +8,10 @@ mod details;
 mod lines;
 mod loose;
 mod room;
-mod spelled;
 mod status;
 mod telling;
 
 pub use answer::{check_json, is_valid_json, list_json, out_of_memory};
 pub use body::{check_body, is_valid_body, list_body};
 pub use room::Room;
-pub use spelled::{ReadBody, Spelled, SpelledUnder};
 pub use status::Status;

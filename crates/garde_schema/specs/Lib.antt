@@ -10,6 +10,8 @@ pub mod Nested
 pub mod Nulls
 pub mod OneMember
 pub mod OneOf
+pub mod Spelling
+pub mod Unions
 pub mod Variants
 pub mod Whole
 pub mod Wide

@@ -31,9 +31,10 @@ pub fn read_json<'a, F: Form<'a>, H: I18n + FormI18n>(
     ensures value { IfOk result (λ out. OfDocument (without_mark input.now) (λ j. F.value form.now j ≡ Some out)) }
     ensures keeps { IfOk result (λ out. F.keeps form.now out) }
 {
-    match read_json_first(alloc, input, scratch, form, usize::MAX, h) {
+    let tape = parse_bytes(alloc, input, scratch)?;
+    match read_first(alloc, form, &Tree::root(&tape), usize::MAX, h) {
         Ok(out) => Ok(out),
-        Err(error) => Err(error.into_whole()),
+        Err(error) => Err(FirstReadError::from(error).into_whole()),
     }
 }
 
@@ -54,6 +55,8 @@ pub fn read_json_first<'a, F: Form<'a>, H: I18n + FormI18n>(
     ensures whole { IsFirstRead (forget result) → most < 2 ^ 64 - 1 }
 {
     let tape = parse_bytes(alloc, input, scratch)?;
-    let value = read_first(alloc, form, &Tree::root(&tape), most, h)?;
-    Ok(value)
+    match read_first(alloc, form, &Tree::root(&tape), most, h) {
+        Ok(out) => Ok(out),
+        Err(error) => Err(FirstReadError::from(error)),
+    }
 }

@@ -1,5 +1,5 @@
 //! Reading a tree by a form.
-ghost use Rattle.std.specs.Prelude.{◌≡◌, ◌<◌, ◌-◌, ◌^◌, Some, IfOk, IsSomeAnd};
+ghost use Rattle.std.specs.Prelude.{◌≡◌, ◌<◌, ◌-◌, ◌^◌, Some, IfOk};
 ghost use Rattle.garde.specs.Answers.{Answers, AnswersFirst, IsFirst};
 ghost use Rattle.garde_schema.specs.Forms.{forget};
 
@@ -8,41 +8,6 @@ use crate::handler::FormI18n;
 use garde::{FirstError, I18n, Report, Trail, ValidateError};
 use garde_tape::Tree;
 use std::alloc::Global;
-
-// Reads a tree that stands at the root, up to one fault more than so many. A report has fewer than
-// `usize::MAX` faults, so that many are all.
-fn examine<'t, 'a, F: Form<'a>, H: I18n + FormI18n>(
-    alloc: Global,
-    form: &F,
-    tree: &Tree<'t, 'a>,
-    most: usize,
-    h: &H,
-) -> Result<Option<F::Out>, FirstError>
-    ensures answer { AnswersFirst (F.visits form.now (H.form_text h.now) tree.now) (H.text h.now)
-        most (forget result) }
-    ensures taken { IfOk result (λ value. IsSomeAnd value
-        (λ out. (F.value form.now tree.now ≡ Some out) × F.keeps form.now out)) }
-    ensures whole { IsFirst (forget result) → most < 2 ^ 64 - 1 }
-{
-    let mut trail = Trail::new(alloc);
-    let mut report = Report::new(alloc);
-    trail.limit(most.saturating_add(1));
-    let taken = form.read(alloc, tree, &mut trail, &mut report, h);
-    if report.len() > most {
-        report.truncate(most);
-        return Err(FirstError::First(report));
-    }
-    match taken {
-        Ok(value) => {
-            if report.is_empty() {
-                Ok(value)
-            } else {
-                Err(FirstError::All(report))
-            }
-        }
-        Err(_) => Err(FirstError::Memory),
-    }
-}
 
 /// Reads a tree by a form: the value that it spells, or a report of every fault of its form and of
 /// the rules.
@@ -80,9 +45,21 @@ pub fn read_first<'t, 'a, F: Form<'a>, H: I18n + FormI18n>(
     ensures keeps { IfOk result (λ out. F.keeps form.now out) }
     ensures whole { IsFirst (forget result) → most < 2 ^ 64 - 1 }
 {
-    match examine(alloc, form, tree, most, h) {
+    let mut trail = Trail::new(alloc);
+    let mut report = Report::new(alloc);
+    // A report has fewer than `usize::MAX` faults, so that many are all.
+    trail.limit(most.saturating_add(1));
+    let taken = form.read(alloc, tree, &mut trail, &mut report, h);
+    if report.len() > most {
+        report.truncate(most);
+        return Err(FirstError::First(report));
+    }
+    if taken.is_ok() && !report.is_empty() {
+        return Err(FirstError::All(report));
+    }
+    match taken {
         Ok(Some(out)) => Ok(out),
         Ok(None) => unreachable!(),
-        Err(error) => Err(error),
+        Err(_) => Err(FirstError::Memory),
     }
 }

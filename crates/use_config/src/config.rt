@@ -1,21 +1,20 @@
-// Written by tools/port-garde from config.garde.rs: edit that file, not this one. Its sum is a0e6ca66f103b24f.
+// Written by tools/port-garde from config.garde.rs: edit that file, not this one. Its sum is 23ef6e77426a090a.
 //! The whole configuration.
 ghost use Rattle.std.specs.Prelude.{IfOk, Some, [], refl, ◌||◌, ◌∷◌, ◌≡◌};
 ghost use Rattle.garde_schema.specs.Bytes.{AnswersBytes, OfDocument};
 ghost use Rattle.garde_schema.specs.Forms.{forget};
 ghost use Rattle.garde_tape.specs.Input.{without_mark};
 ghost use Rattle.garde.specs.Fields.{◌and◌, at_least, between, Bool, bytes, count, each_value, false, field, if_some, is, is_in_memory, is_ipv4, is_ipv6, items, key_part, none, not, pattern, range, required, suffix, true, when};
-ghost use Rattle.garde_library.specs.Spelling.{a_map_of, a_name, a_number, a_text, an_object, closed, five, made, member, nullish, ruled, three, two, u16_numbers, u32_numbers};
+ghost use Rattle.garde_schema.specs.Spelling.{a_map_of, a_name, a_number, a_text, an_object, closed, five, made, member, nullish, ruled, three, two, u16_numbers, u32_numbers};
 ghost use Rattle.use_config.specs.declared.config.Level.TheVariants.{Error, Info, Debug};
 
 use garde::fields::{Is, IsInMemory, Pattern, Required, Rules, Suffix, When};
 use garde::rules::ip::{is_ipv4, is_ipv6};
 use garde::rules::pattern::regex::Regex;
 use garde::{I18n, Report, Stated, Trail, Valid, length, range};
-use garde_library::{Spelled, SpelledUnder};
 use garde_schema::{
     Built, Checked, Closed, Entries, FormI18n, FromParts, MapUnder, Member, Nullish, Object, OneOf,
-    ReadError, Scratch, Text, TextRef, U16, U32, Under, Whole, read_json,
+    ReadError, Scratch, Spelled, SpelledUnder, Text, TextRef, U16, U32, Under, Whole, read_json,
 };
 use std::alloc::{AllocError, Global};
 use std::marker::PhantomData;

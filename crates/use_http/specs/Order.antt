@@ -2,7 +2,7 @@
 use Rattle.std.specs.Prelude.{ℕ, List, [], ◌∷◌}
 use Rattle.json.specs.Json.{Json}
 use Rattle.garde.specs.Fields.{between, chars, count, is, prefix, range, Visits}
-use Rattle.garde_library.specs.Spelling.{Spelling, a_list_of, a_number, a_text, an_object, closed, member, two, u32_numbers}
+use Rattle.garde_schema.specs.Spelling.{Spelling, a_list_of, a_number, a_text, an_object, closed, member, two, u32_numbers}
 use Rattle.garde_schema.specs.Forms.{FormTexts}
 
 -- a line: so many pieces of an article

@@ -19,8 +19,8 @@ ghost use Rattle.use_library.specs.Codes.{IsCode};
 
 use example_order::{Body, Language, check_order, is_order, list_order};
 use garde::Stated;
-use garde_library::{Room, Spelled, Status, out_of_memory};
-use garde_schema::Scratch;
+use garde_library::{Room, Status, out_of_memory};
+use garde_schema::{Scratch, Spelled};
 use std::alloc::Global;
 
 /// The version of this interface: ORDER_VERSION, where the header belongs to the library.

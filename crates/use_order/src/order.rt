@@ -1,16 +1,15 @@
-// Written by tools/port-garde from order.garde.rs: edit that file, not this one. Its sum is 8a0e522d61f25e92.
+// Written by tools/port-garde from order.garde.rs: edit that file, not this one. Its sum is a5a73554062bbd6f.
 //! A page of orders with their lines.
 ghost use Rattle.std.specs.Prelude.{[], refl, ◌∷◌};
 ghost use Rattle.garde.specs.Fields.{◌and◌, at_least, at_most, between, Bool, chars, count, each, false, field, if_some, is, items, prefix, range, required, true, when};
-ghost use Rattle.garde_library.specs.Spelling.{a_list_of, a_name, a_number, a_text, an_object, closed, made, member, nullish, ruled, three, two, u32_numbers};
+ghost use Rattle.garde_schema.specs.Spelling.{a_list_of, a_name, a_number, a_text, an_object, closed, made, member, nullish, ruled, three, two, u32_numbers};
 ghost use Rattle.use_order.specs.declared.order.Delivery.TheVariants.{Counter, Post};
 
 use garde::fields::{Is, Prefix, Required, Rules, When};
 use garde::{I18n, Report, Stated, Trail, Valid, length, range};
-use garde_library::{ReadBody, Spelled};
 use garde_schema::{
     Built, Checked, Closed, FirstReadError, FormI18n, FromParts, Items, ListUnder, Member, Nullish,
-    Object, OneOf, Scratch, Text, TextRef, U32, Under, Whole, read_json_first,
+    Object, OneOf, ReadBody, Scratch, Spelled, Text, TextRef, U32, Under, Whole, read_json_first,
 };
 use std::alloc::{AllocError, Global};
 use std::marker::PhantomData;

@@ -1,8 +1,7 @@
 //! What is reported of a page, what is kept of a line, and what is written of it.
 use crate::order::{Line, Page};
 use garde::DefaultI18n;
-use garde_library::ReadBody;
-use garde_schema::{FirstReadError, Scratch, TextRef};
+use garde_schema::{FirstReadError, ReadBody, Scratch, TextRef};
 use json::Writer;
 use std::alloc::{AllocError, Global};
 

@@ -22,7 +22,7 @@ use garde::{Report, ValidateError};
 use garde_catalog::Catalog;
 use garde_form::{FormField, form_fields};
 use garde_html::Form;
-use garde_library::SpelledUnder;
+use garde_schema::SpelledUnder;
 use garde_service::{
     Body, Handler, Rejected, date_of, language_of, put_date, put_field, put_language, put_text,
 };

@@ -1,11 +1,11 @@
-// Written by tools/port-garde from sign_up.garde.rs: edit that file, not this one. Its sum is e4eca7ba2a1d2738.
+// Written by tools/port-garde from sign_up.garde.rs: edit that file, not this one. Its sum is 5f3afe94cf344068.
 //! Who signs up: the fields of the form and their rules.
 ghost use Rattle.std.specs.Prelude.{Err, IfOk, Some, [], codes, map, refl, ◌∷◌, ◌≡◌, ◌≢◌};
 ghost use Rattle.garde.specs.Answers.{Answers};
 ghost use Rattle.garde_form.specs.WebForm.{field_texts};
 ghost use Rattle.garde_schema.specs.Forms.{forget};
 ghost use Rattle.garde.specs.Fields.{◌and◌, alphanumeric, at_most, between, bytes, chars, count, field, if_some, is, items, matches, none, prefix, range, reference_to, required, text_eq};
-ghost use Rattle.garde_library.specs.Spelling.{a_list_of, a_name, a_ruled, a_text, an_object, closed, made, member, ruled, six, two};
+ghost use Rattle.garde_schema.specs.Spelling.{a_list_of, a_name, a_ruled, a_text, an_object, closed, made, member, ruled, six, two};
 ghost use Rattle.garde_form.specs.Spelling.{OfForm, a_written, optional, or_empty, u8_texts};
 ghost use Rattle.use_signup.specs.declared.sign_up.Topic.TheVariants.{News, Events};
 ghost use Rattle.use_signup.specs.declared.sign_up.Tick.TheVariants.{On};
@@ -14,10 +14,9 @@ use crate::terms::{Accepted, Words};
 use garde::fields::{Alphanumeric, Is, Matches, Prefix, Required, Rules};
 use garde::{I18n, Report, Stated, Trail, Valid, ValidateError, length, range};
 use garde_form::{FormField, OrEmpty, Parsed, read_form};
-use garde_library::{Spelled, SpelledUnder};
 use garde_schema::{
     Built, Checked, Closed, FormI18n, FromParts, Items, ListUnder, Member, Object, OneOf, Optional,
-    Text, TextRef, U8, Under,
+    Spelled, SpelledUnder, Text, TextRef, U8, Under,
 };
 use std::alloc::{AllocError, Global};
 use std::marker::PhantomData;

@@ -5,10 +5,12 @@ ghost use Rattle.garde_tape.specs.Input.{without_mark};
 ghost use Rattle.garde_schema.specs.Bytes.{OfDocument};
 ghost use Rattle.garde_schema.specs.FirstRead.{AnswersFirstBytes};
 ghost use Rattle.garde_schema.specs.Forms.{forget};
-ghost use Rattle.garde_library.specs.Spelling.{Spelling};
+ghost use Rattle.garde_schema.specs.Spelling.{Spelling};
 
+use crate::first_read_error::FirstReadError;
+use crate::handler::FormI18n;
 use garde::{I18n, Stated};
-use garde_schema::{FirstReadError, FormI18n, Scratch};
+use garde_tape::Scratch;
 use std::alloc::Global;
 
 /// A type whose values JSON spells. `tools/port-garde --body` writes the statement beside the type.

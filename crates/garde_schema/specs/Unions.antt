@@ -14,7 +14,7 @@ use Rattle.garde_schema.specs.Forms.{FormTexts, formed}
 use Rattle.garde_schema.specs.Members.{members_in, unknown}
 use Rattle.garde_schema.specs.OneMember.{only_fault, only_name}
 use Rattle.garde_schema.specs.Variants.{choice_or, chosen_value, chosen_visits, either_names, either_value, either_visits, first_choice, tag_choice}
-use Rattle.garde_library.specs.Spelling.{Members, Spelling, member}
+use Rattle.garde_schema.specs.Spelling.{Members, Spelling, member}
 
 -- Variants, one of which a name chooses: the choice by a name; and of a choice the value that an object spells, what a visit of the
 -- object finds, where the member of this name chose, and whether a member of this name is among those of the variant.

@@ -2,7 +2,7 @@ use Rattle.std.proofs.Common.{ap, sym, ◌∙◌, arith}
 use Rattle.garde.proofs.Author.{known_of}
 use Rattle.garde_schema.proofs.Examined.{examined_valid, examined_faults, examined_first}
 use Rattle.garde_schema.proofs.Lemmas.{taken_of}
-use Rattle.garde_schema.proofs.reading.examine.Goals as goal
+use Rattle.garde_schema.proofs.reading.read_first.Goals as goal
 
 pub returns-then-len-most-clause-answer : goal.returns-then-len-most-clause-answer
 returns-then-len-most-clause-answer g c =
