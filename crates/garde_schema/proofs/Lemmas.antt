@@ -87,10 +87,16 @@ members_none : (o : Option json.Members) {seen : Option (List (List ℕ × Json)
 members_none None none is = refl
 members_none (Some all) none is = let never : None ≡ Some (member_list all) = sym none ∙ is in cc
 
--- where nothing is wrong there is a value
-pub taken_of : {A : Type 0} (visits : Visits) (keeps : A → Type 0) (v o : Option A) → v ≡ o → Sound visits keeps o → Known visits → IsSomeAnd v (λ out. (o ≡ Some out) × keeps out)
-taken_of visits keeps v (Some x) is sound known = subst (λ z. IsSomeAnd z (λ out. (Some x ≡ Some out) × keeps out)) (sym is) (refl, sound known)
+-- where nothing is wrong there is a value, and what the rules ask holds of it
+taken_of : {A : Type 0} (visits : Visits) (keeps : A → Type 0) (v o : Option A) → v ≡ o → Sound visits keeps o → Known visits → IsSomeAnd v keeps
+taken_of visits keeps v (Some x) is sound known = subst (λ z. IsSomeAnd z keeps) (sym is) (sound known)
 taken_of visits keeps v None is sound known = absurd (sound known)
+
+pub taken_keeps : {A : Type 0} (visits : Visits) (keeps : A → Type 0) (v o : Option A) (x : A) → v ≡ o → Sound visits keeps o → Known visits → v ≡ Some x → keeps x
+taken_keeps visits keeps v o x is sound known some = subst (λ z. IsSomeAnd z keeps) some (taken_of visits keeps v o is sound known)
+
+pub taken_none : {A : Type 0} (visits : Visits) (keeps : A → Type 0) (v o : Option A) → v ≡ o → Sound visits keeps o → Known visits → v ≡ None → ⊥
+taken_none visits keeps v o is sound known none = subst (λ z. IsSomeAnd z keeps) none (taken_of visits keeps v o is sound known)
 
 pub on_ok : {A E : Type 0} (r : Result A E) {P : Type 0} → P → OnOk r P
 on_ok (Ok x) p = p

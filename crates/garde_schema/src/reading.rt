@@ -54,12 +54,10 @@ pub fn read_first<'t, 'a, F: Form<'a>, H: I18n + FormI18n>(
         report.truncate(most);
         return Err(FirstError::First(report));
     }
-    if taken.is_ok() && !report.is_empty() {
-        return Err(FirstError::All(report));
-    }
     match taken {
+        Err(_) => Err(FirstError::Memory),
+        Ok(_) if !report.is_empty() => Err(FirstError::All(report)),
         Ok(Some(out)) => Ok(out),
         Ok(None) => unreachable!(),
-        Err(_) => Err(FirstError::Memory),
     }
 }
