@@ -19,6 +19,7 @@ mod nulls;
 mod numbers;
 mod only_members;
 mod own_texts;
+mod own_type;
 mod parsed;
 mod rows;
 mod signup;

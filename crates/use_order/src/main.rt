@@ -7,8 +7,6 @@ mod faults;
 mod options;
 mod order;
 mod rely;
-#[cfg(test)]
-mod tests;
 
 use crate::faults::{report_lines, stop_line};
 use crate::options::{Options, Task, USAGE};

@@ -1,25 +1,30 @@
-//! What is reported of a page, what is kept of a line, and what is written of it.
-use crate::order::{Line, Page};
+//! Tests as an author writes them of a type: what is reported of a body, what is kept of a line, and what
+//! is written of it.
+use super::OrEnd;
+use example_ported::delivery::Delivery;
 use garde::DefaultI18n;
 use garde_schema::{FirstReadError, ReadBody, Scratch, TextRef};
 use json::Writer;
 use std::alloc::{AllocError, Global};
 
-// Pages, each with its whole report.
-static PAGES: [(&str, &str); 2] = [
-    ("{\"number\":0,\"entries\":[]}", "number: lower than 1\n"),
+// Bodies, each with its whole report.
+static BODIES: [(&str, &str); 2] = [
     (
-        "{\"number\":1,\"entries\":[{\"customer\":\"Ada\",\"delivery\":\"post\",\"lines\":[{\"code\":\"7\",\"count\":0,\"cents\":1}]}]}",
-        "entries[0].address: not set\nentries[0].lines[0].code: value does not begin with \"P\"\nentries[0].lines[0].count: lower than 1\n",
+        "{\"number\":0,\"sentTo\":\"\",\"phone\":\"1\",\"grams\":30001,\"floor\":41,\"crates\":[],\"labels\":{}}",
+        "number: lower than 1\nsentTo: length is lower than 1\nphone: value does not begin with \"+\"\ngrams: greater than 30000\nfloor: greater than 40\ncrates: length is lower than 1\n",
+    ),
+    (
+        "{\"number\":1,\"sentTo\":\"Ada\",\"grams\":1,\"floor\":0,\"crates\":[{\"name\":\"a\",\"pieces\":0,\"weight\":1,\"marks\":[\"-\"],\"seen\":[]}],\"labels\":{}}",
+        "crates[0].name: length is lower than 2\ncrates[0].pieces: lower than 1\ncrates[0].marks[0]: not alphanumeric\n",
     ),
 ];
 
-/// Whether this is the whole report of a page.
-fn is_reported(alloc: Global, page: &str, report: &str) -> bool {
+/// Whether this is the whole report of a body.
+fn is_reported(alloc: Global, body: &str, report: &str) -> bool {
     let mut scratch = Scratch::new(alloc);
-    let read = Page::read_body(
+    let read = Delivery::read_body(
         alloc,
-        page.as_bytes(),
+        body.as_bytes(),
         &mut scratch,
         usize::MAX,
         &DefaultI18n,
@@ -35,9 +40,17 @@ fn is_reported(alloc: Global, page: &str, report: &str) -> bool {
 
 #[test]
 fn reports_each_broken_rule(rt: HostRuntime) {
-    for (page, report) in &PAGES {
-        assert!(rt; is_reported(rt.alloc(), page, report), "{page}");
+    for (body, report) in &BODIES {
+        assert!(rt; is_reported(rt.alloc(), body, report), "{body}");
     }
+}
+
+/// A line of an order, as it is read.
+#[derive(Drop)]
+struct Line<'t> {
+    code: TextRef<'t>,
+    count: u32,
+    cents: u32,
 }
 
 /// A line that is kept after its input is gone.
@@ -81,13 +94,12 @@ fn is_written(alloc: Global, line: &Line<'_>, json: &str) -> Result<bool, AllocE
 }
 
 #[test]
-fn writes_a_line_that_is_kept(rt: HostRuntime) -> Result<(), AllocError> {
+fn writes_a_line_that_is_kept(rt: HostRuntime) {
     let line = Line {
         code: TextRef::new("P\"7"),
         count: 2,
         cents: 250,
     };
     let json = "{\"code\":\"P\\\"7\",\"count\":2,\"cents\":250}";
-    assert!(rt; is_written(rt.alloc(), &line, json)?);
-    Ok(())
+    assert!(rt; is_written(rt.alloc(), &line, json).or_end(&rt));
 }
