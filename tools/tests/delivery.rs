@@ -5,7 +5,7 @@ use serde::Deserialize;
 use std::collections::BTreeMap;
 
 /// When it comes.
-#[derive(Clone, Copy, Debug, Default, PartialEq, Deserialize)]
+#[derive(Clone, Copy, Default, Deserialize)]
 #[serde(rename_all = "snake_case")]
 pub enum Hours {
     #[default]
@@ -15,12 +15,12 @@ pub enum Hours {
 }
 
 /// Where it stands.
-#[derive(Debug, Deserialize, Validate)]
+#[derive(Deserialize, Validate)]
 #[serde(transparent)]
 pub struct Floor(#[garde(range(min = -3, max = 40))] pub i16);
 
 /// A box of it.
-#[derive(Debug, Deserialize, Validate)]
+#[derive(Deserialize, Validate)]
 #[serde(deny_unknown_fields)]
 pub struct Crate {
     #[garde(ascii, length(min = 2, max = 20))]
@@ -40,7 +40,7 @@ pub struct Crate {
 }
 
 /// A delivery.
-#[derive(Debug, Deserialize, Validate)]
+#[derive(Deserialize, Validate)]
 #[serde(rename_all = "camelCase", deny_unknown_fields)]
 pub struct Delivery {
     #[garde(range(min = 1))]

@@ -16,7 +16,7 @@ use std::alloc::Global;
 use std::marker::PhantomData;
 
 /// When it comes.
-#[derive(Clone, Copy, Debug, Default, PartialEq)]
+#[derive(Clone, Copy, Default)]
 pub enum Hours {
     #[default]
     AnyTime,
@@ -24,7 +24,7 @@ pub enum Hours {
 }
 
 /// Where it stands.
-#[derive(Debug, Drop)]
+#[derive(Drop)]
 pub struct Floor(pub i16);
 
 impl Stated for Floor {
@@ -34,7 +34,7 @@ impl Stated for Floor {
 }
 
 /// A box of it.
-#[derive(Debug, Drop)]
+#[derive(Drop)]
 pub struct Crate<'t> {
     pub name: TextRef<'t>,
     pub pieces: u8,
@@ -54,7 +54,7 @@ impl<'t> Stated for Crate<'t> {
 }
 
 /// A delivery.
-#[derive(Debug, Drop)]
+#[derive(Drop)]
 pub struct Delivery<'t> {
     pub number: u32,
     pub sent_to: TextRef<'t>,
