@@ -81,11 +81,6 @@ fn are_logins_and_numbers_told(rt: &impl Abort, alloc: Global) -> bool {
         && is_told(rt, alloc, &Data::Tuple(-11), "[0]: lower than -10\n")
 }
 
-#[test]
-fn a_refusal_prints_its_report(rt: HostRuntime) {
-    assert!(rt; are_logins_and_numbers_told(&rt, rt.alloc()));
-}
-
 /// Whether this is reported for a user without a name, by a type that adds no component, and this by
 /// a type that adds one.
 fn are_users_told(rt: &impl Abort, alloc: Global, transparent: &str, numbered: &str) -> bool {
@@ -118,13 +113,14 @@ fn table(rt: &impl Abort, alloc: Global) -> Table {
 }
 
 #[test]
-fn a_new_type_with_and_without_a_component(rt: HostRuntime) {
+fn a_refusal_prints_its_report(rt: HostRuntime) {
     let transparent = "username: length is lower than 3\n";
     let numbered = "username[0]: length is lower than 3\n";
     let cells =
         "rows[0][1]: not ascii\nrows[0][2]: length is lower than 1\nrows[1]: length is lower than 1\n";
     assert!(rt;
-        are_users_told(&rt, rt.alloc(), transparent, numbered)
+        are_logins_and_numbers_told(&rt, rt.alloc())
+            && are_users_told(&rt, rt.alloc(), transparent, numbered)
             && is_told(&rt, rt.alloc(), &table(&rt, rt.alloc()), cells)
     );
 }

@@ -140,26 +140,36 @@ fn payment(rt: &impl Abort, alloc: Global, card: &str, phone: &str) -> Payment {
 /// Whether the report is the right one of stays from one day to another, and of a tag whose texts are
 /// borrowed.
 fn are_stays_and_tags_told(rt: &impl Abort, alloc: Global, tag: &Tag<'_>) -> bool {
-    let stay = |arrival, departure| Stay { arrival, departure };
-    is_told(rt, alloc, &stay(8, 9), "")
-        && is_told(
-            rt,
-            alloc,
-            &stay(8, 8),
-            "departure: leave after you arrive\n",
-        )
-        && is_told(
-            rt,
-            alloc,
-            &stay(7, 6),
-            "arrival: closed on Mondays\ndeparture: leave after you arrive\n",
-        )
-        && is_told(
-            rt,
-            alloc,
-            tag,
-            "name: length is greater than 9\nalso[1]: not ascii\n",
-        )
+    is_told(
+        rt,
+        alloc,
+        &Stay {
+            arrival: 8,
+            departure: 9,
+        },
+        "",
+    ) && is_told(
+        rt,
+        alloc,
+        &Stay {
+            arrival: 8,
+            departure: 8,
+        },
+        "departure: leave after you arrive\n",
+    ) && is_told(
+        rt,
+        alloc,
+        &Stay {
+            arrival: 7,
+            departure: 6,
+        },
+        "arrival: closed on Mondays\ndeparture: leave after you arrive\n",
+    ) && is_told(
+        rt,
+        alloc,
+        tag,
+        "name: length is greater than 9\nalso[1]: not ascii\n",
+    )
 }
 
 #[test]

@@ -85,11 +85,6 @@ fn are_numbers_right(rt: &impl Abort, alloc: Global) -> bool {
         && is_refused(alloc, Level { percent: 256 })
 }
 
-#[test]
-fn numbers_that_rely_on_bounds(rt: HostRuntime) {
-    assert!(rt; are_numbers_right(&rt, rt.alloc()));
-}
-
 /// The prices of two kinds, one of which is express.
 fn tariff(rt: &impl Abort, alloc: Global, kind: &str) -> Tariff {
     let (express, other) = (text(rt, alloc, "express"), text(rt, alloc, kind));
@@ -97,21 +92,26 @@ fn tariff(rt: &impl Abort, alloc: Global, kind: &str) -> Tariff {
     Tariff { prices }
 }
 
-/// Whether a valid basket has its first article, a valid parcel its recipient and a valid tariff its
-/// price, and wrong ones are rejected.
-fn are_parts_there(rt: &impl Abort, alloc: Global, names: [&str; 2], to: &str) -> bool {
-    let parcel = |sender, recipient| Parcel { sender, recipient };
-    first(&valid(rt, alloc, basket(rt, alloc, &names))).as_str() == names[0]
-        && is_refused(alloc, basket(rt, alloc, &[]))
-        && recipient(&valid(rt, alloc, parcel(None, Some(text(rt, alloc, to))))).as_str() == to
-        && is_refused(alloc, parcel(Some(text(rt, alloc, to)), None))
-        && standard(&valid(rt, alloc, tariff(rt, alloc, "standard"))) == 120
-        && is_refused(alloc, tariff(rt, alloc, "slow"))
+/// Whether a valid parcel has its recipient, and one that has none is rejected.
+fn are_parcels_right(rt: &impl Abort, alloc: Global, to: &str) -> bool {
+    let sent = Parcel {
+        sender: None,
+        recipient: Some(text(rt, alloc, to)),
+    };
+    let lost = Parcel {
+        sender: Some(text(rt, alloc, to)),
+        recipient: None,
+    };
+    recipient(&valid(rt, alloc, sent)).as_str() == to && is_refused(alloc, lost)
 }
 
-#[test]
-fn parts_that_are_there(rt: HostRuntime) {
-    assert!(rt; are_parts_there(&rt, rt.alloc(), ["pears", "plums"], "Ada"));
+/// Whether a valid basket has its first article and a valid tariff its price, and wrong ones are
+/// rejected.
+fn are_parts_there(rt: &impl Abort, alloc: Global, names: [&str; 2]) -> bool {
+    first(&valid(rt, alloc, basket(rt, alloc, &names))).as_str() == names[0]
+        && is_refused(alloc, basket(rt, alloc, &[]))
+        && standard(&valid(rt, alloc, tariff(rt, alloc, "standard"))) == 120
+        && is_refused(alloc, tariff(rt, alloc, "slow"))
 }
 
 /// The gain of a reading that keeps its panel, if the panel has its channel.
@@ -196,8 +196,13 @@ fn are_pages_right(rt: &impl Abort, alloc: Global) -> bool {
 }
 
 #[test]
-fn the_first_article_of_each_basket(rt: HostRuntime) {
-    assert!(rt; are_pages_right(&rt, rt.alloc()));
+fn what_is_known_of_valid_values(rt: HostRuntime) {
+    assert!(rt;
+        are_numbers_right(&rt, rt.alloc())
+            && are_parts_there(&rt, rt.alloc(), ["pears", "plums"])
+            && are_parcels_right(&rt, rt.alloc(), "Ada")
+            && are_pages_right(&rt, rt.alloc())
+    );
 }
 
 /// Whether a page of a basket with this article is made, of which it is the first.

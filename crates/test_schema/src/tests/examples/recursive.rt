@@ -66,12 +66,11 @@ fn folder(rt: &impl Abort, alloc: Global, name: &str, folders: Vec<Folder>) -> F
 /// Folders in one whose name is too long: the first of them has one without a name in it, and the
 /// last has no name.
 fn folders(rt: &impl Abort, alloc: Global) -> Folder {
-    let none = || Vec::new(alloc);
-    let inner = list(rt, alloc, [folder(rt, alloc, "", none())]);
+    let inner = list(rt, alloc, [folder(rt, alloc, "", Vec::new(alloc))]);
     let all = [
         folder(rt, alloc, "first", inner),
-        folder(rt, alloc, "second", none()),
-        folder(rt, alloc, "", none()),
+        folder(rt, alloc, "second", Vec::new(alloc)),
+        folder(rt, alloc, "", Vec::new(alloc)),
     ];
     folder(rt, alloc, "a name too long", list(rt, alloc, all))
 }

@@ -88,12 +88,8 @@ fn holder(rt: &impl Abort, alloc: Global, from: &str) -> Holder<Nickname> {
     }
 }
 
-/// Whether the report of each type round a text is the right one.
-fn are_told(rt: &impl Abort, alloc: Global) -> bool {
-    let short = "length is lower than 3\n";
-    let code = |from| Code {
-        text: text(rt, alloc, from),
-    };
+/// Whether the report of each type with a part round a text, or with two rules of it, is the right one.
+fn are_holders_told(rt: &impl Abort, alloc: Global) -> bool {
     tells(rt, alloc, &boxes(rt, alloc, "abc"), &(), "")
         && tells(
             rt,
@@ -102,11 +98,21 @@ fn are_told(rt: &impl Abort, alloc: Global) -> bool {
             &(),
             "[0][0]: length is lower than 3\n",
         )
-        && tells(rt, alloc, &code("abcd"), &(), "")
         && tells(
             rt,
             alloc,
-            &code("é123"),
+            &Code {
+                text: text(rt, alloc, "abcd"),
+            },
+            &(),
+            "",
+        )
+        && tells(
+            rt,
+            alloc,
+            &Code {
+                text: text(rt, alloc, "é123"),
+            },
             &(),
             "not ascii\nlength is greater than 4\n",
         )
@@ -118,7 +124,12 @@ fn are_told(rt: &impl Abort, alloc: Global) -> bool {
             &(),
             "value: length is lower than 3\nlabel: length is lower than 1\n",
         )
-        && tells(rt, alloc, &Nickname(text(rt, alloc, "abc")), &(), "")
+}
+
+/// Whether the report of each type of one text, of numbered fields or of none is the right one.
+fn are_told(rt: &impl Abort, alloc: Global) -> bool {
+    let short = "length is lower than 3\n";
+    tells(rt, alloc, &Nickname(text(rt, alloc, "abc")), &(), "")
         && tells(rt, alloc, &Nickname(text(rt, alloc, "ab")), &(), short)
         && tells(rt, alloc, &Nothing, &(), "")
         && tells(rt, alloc, &Numbered(text(rt, alloc, "abc")), &(), "")
@@ -141,5 +152,5 @@ fn are_told(rt: &impl Abort, alloc: Global) -> bool {
 
 #[test]
 fn types_of_one_field_or_of_numbered_ones(rt: HostRuntime) {
-    assert!(rt; are_told(&rt, rt.alloc()));
+    assert!(rt; are_holders_told(&rt, rt.alloc()) && are_told(&rt, rt.alloc()));
 }
