@@ -2,7 +2,7 @@
 use garde::Validate;
 
 /// Who has an account.
-#[derive(Debug, Validate)]
+#[derive(Validate)]
 pub struct Account {
     #[garde(ascii, length(min = 3, max = 25))]
     pub username: String,

@@ -2,10 +2,9 @@
 //@ --body Delivery
 use garde::Validate;
 use serde::Deserialize;
-use std::collections::BTreeMap;
 
 /// When it comes.
-#[derive(Clone, Copy, Debug, Default, PartialEq, Deserialize)]
+#[derive(Clone, Copy, Default, Deserialize)]
 #[serde(rename_all = "snake_case")]
 pub enum Hours {
     #[default]
@@ -15,12 +14,12 @@ pub enum Hours {
 }
 
 /// Where it stands.
-#[derive(Debug, Deserialize, Validate)]
+#[derive(Deserialize, Validate)]
 #[serde(transparent)]
 pub struct Floor(#[garde(range(min = -3, max = 40))] pub i16);
 
 /// A box of it.
-#[derive(Debug, Deserialize, Validate)]
+#[derive(Deserialize, Validate)]
 #[serde(deny_unknown_fields)]
 pub struct Crate {
     #[garde(ascii, length(min = 2, max = 20))]
@@ -33,22 +32,14 @@ pub struct Crate {
     pub fragile: bool,
     #[garde(skip)]
     pub weight: u64,
-    #[garde(length(max = 5), inner(alphanumeric))]
-    pub marks: Vec<String>,
     #[garde(skip)]
     pub seen: Vec<Option<bool>>,
 }
 
 /// A delivery.
-#[derive(Debug, Deserialize, Validate)]
+#[derive(Deserialize, Validate)]
 #[serde(rename_all = "camelCase", deny_unknown_fields)]
 pub struct Delivery {
-    #[garde(range(min = 1))]
-    pub number: u32,
-    #[garde(length(chars, min = 1, max = 80))]
-    pub sent_to: String,
-    #[garde(prefix("+"), length(max = 16))]
-    pub phone: Option<String>,
     #[garde(required, range(max = 30000))]
     #[serde(rename = "grams")]
     pub weight: Option<u16>,
@@ -58,9 +49,7 @@ pub struct Delivery {
     #[garde(dive)]
     pub floor: Floor,
     #[garde(length(min = 1, max = 50), dive)]
-    pub crates: Vec<Crate>,
-    #[garde(length(max = 3))]
-    pub labels: BTreeMap<String, String>,
+    pub sent_crates: Vec<Crate>,
 }
 
 fn one() -> u8 {

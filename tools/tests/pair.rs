@@ -2,7 +2,7 @@
 use garde::Validate;
 
 /// Who changes an account.
-#[derive(Debug, Validate)]
+#[derive(Validate)]
 pub struct Pair {
     #[garde(length(max = 80))]
     pub mail: Option<String>,

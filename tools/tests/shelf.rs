@@ -26,38 +26,26 @@ pub struct Shelf {
     pub rows: Option<u8>,
 }
 
-/// A lamp for it.
+/// A lamp and a heater for it.
 #[derive(Validate)]
-pub struct Lamp {
+pub struct Power {
     #[garde(skip)]
     pub room: Room,
     #[garde(if(cond = self.room != Room::Open, required))]
-    pub watts: Option<u8>,
-}
-
-/// A heater for it.
-#[derive(Validate)]
-pub struct Heater {
-    #[garde(skip)]
-    pub room: Room,
+    pub lamp: Option<u8>,
     #[garde(if(cond = matches!(self.room, Room::Cold { .. } | Room::Dry(..)), range(min = 5)))]
-    pub watts: u16,
+    pub heater: u16,
 }
 
-/// What stands on it.
+/// What stands on it, and what is said of it.
 #[derive(Validate)]
 pub struct Thing {
     #[garde(skip)]
     pub kind: String,
     #[garde(if(cond = self.kind == "old", ascii))]
     pub name: String,
-}
-
-/// What is said of it.
-#[derive(Validate)]
-pub struct Note {
     #[garde(skip)]
     pub places: Vec<u16>,
     #[garde(if(cond = self.places.contains(3), ascii))]
-    pub text: String,
+    pub note: String,
 }

@@ -8,7 +8,7 @@ use garde_csv::Fault;
 use std::fmt;
 
 /// Why a record of a list is no row, where the records behind it can be read.
-#[derive(Clone, Copy, Debug, PartialEq, Eq)]
+#[derive(Clone, Copy)]
 pub enum Flaw {
     /// It has more or fewer fields than the header.
     Lengths,
@@ -29,7 +29,7 @@ impl fmt::Display for Flaw {
 }
 
 /// What a list has under an index.
-#[derive(Debug, Drop)]
+#[derive(Drop)]
 pub enum Item {
     Row(Row),
     Broken(Flaw),

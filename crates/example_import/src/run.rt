@@ -10,7 +10,7 @@ use garde::I18n;
 use std::alloc::Global;
 
 /// When an import keeps what it stored.
-#[derive(Clone, Copy, Debug, PartialEq, Eq)]
+#[derive(Clone, Copy, Debug)]
 pub enum Batch {
     /// After every so many items of the list, and at its end.
     Items(usize),
@@ -40,14 +40,14 @@ impl Batch {
 }
 
 /// How many items of a list were taken, and how many rows were stored of them.
-#[derive(Clone, Copy, Debug, PartialEq, Eq)]
+#[derive(Clone, Copy)]
 pub struct Progress {
     pub items: usize,
     pub stored: usize,
 }
 
 /// Why an import ended before the list did.
-#[derive(Debug, Drop)]
+#[derive(Drop)]
 pub enum Cause<L, S, R> {
     Memory,
     /// The list cannot be read on. The reports of its items up to there were handed on.
@@ -59,14 +59,14 @@ pub enum Cause<L, S, R> {
 }
 
 /// An import that ended before the list did: what the table keeps of it, and why.
-#[derive(Debug, Drop)]
+#[derive(Drop)]
 pub struct Stopped<L, S, R> {
     pub kept: Progress,
     pub cause: Cause<L, S, R>,
 }
 
 /// How many rows were stored so far, whether an item had a fault, and what is kept.
-#[derive(Clone, Copy, Debug)]
+#[derive(Clone, Copy)]
 pub struct Run {
     pub(crate) stored: usize,
     pub(crate) faulty: bool,

@@ -12,7 +12,7 @@ use garde::{Component, Error, I18n, Path, Report, Trail, Valid, Validate, Valida
 use std::alloc::{AllocError, Global};
 
 /// Why an item was not taken.
-#[derive(Debug, Drop)]
+#[derive(Drop)]
 pub enum TakeError<E> {
     Memory,
     Store(E),

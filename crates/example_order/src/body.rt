@@ -13,7 +13,7 @@ use std::alloc::Global;
 use std::marker::PhantomData;
 
 /// So many pieces of an article.
-#[derive(Debug, Drop)]
+#[derive(Drop)]
 pub struct Line<'t> {
     pub code: TextRef<'t>,
     pub count: u32,
@@ -28,7 +28,7 @@ impl<'t> Stated for Line<'t> {
 }
 
 /// Who orders, and the lines.
-#[derive(Debug, Drop)]
+#[derive(Drop)]
 pub struct Order<'t> {
     pub customer: TextRef<'t>,
     pub lines: Items<Line<'t>>,

@@ -30,7 +30,7 @@ const REPEATED: &str = "položka se opakuje";
 const UNKNOWN: &str = "neznámá položka";
 
 /// A handler whose texts are Czech. The rules that no form here asks have one text.
-#[derive(Drop, Clone, Copy, Debug)]
+#[derive(Drop, Clone, Copy)]
 pub struct Czech;
 
 impl I18n for Czech {

@@ -6,7 +6,7 @@ use garde::{I18n, Report, Stated, Trail, Validate, length};
 use std::alloc::{AllocError, Global};
 
 /// Who has an account.
-#[derive(Debug, Drop)]
+#[derive(Drop)]
 pub struct Account {
     pub username: String,
     /// At least 15 bytes.

@@ -1,21 +1,21 @@
 //! A delivery, as a body that a static library checks.
 ghost use Rattle.std.specs.Prelude.{[], refl, ◌∷◌};
-ghost use Rattle.garde.specs.Fields.{◌and◌, alphanumeric, ascii, at_least, at_most, between, bytes, chars, count, each, false, field, if_some, is, item, items, minus, none, plus, prefix, range, required, signed_range};
-ghost use Rattle.garde_schema.specs.Spelling.{a_flag, a_list, a_list_of, a_map_of, a_name, a_number, a_text, an_object, closed, i16_numbers, made, member, nullish, or_null, ruled, six, three, u16_numbers, u32_numbers, u64_numbers, u8_numbers, with_default};
+ghost use Rattle.garde.specs.Fields.{◌and◌, ascii, at_most, between, bytes, count, each, false, field, if_some, is, item, items, minus, plus, range, required, signed_range};
+ghost use Rattle.garde_schema.specs.Spelling.{a_flag, a_list, a_list_of, a_name, a_number, a_text, an_object, closed, five, four, i16_numbers, made, member, nullish, or_null, ruled, u16_numbers, u64_numbers, u8_numbers, with_default};
 ghost use Rattle.example_ported.specs.declared.delivery.Hours.TheVariants.{AnyTime, Morning};
 
-use garde::fields::{Alphanumeric, Ascii, Is, Prefix, Required};
+use garde::fields::{Ascii, Is, Required};
 use garde::{I18n, Stated, Valid, length, range};
 use garde_schema::{
-    Built, Checked, Closed, Entries, FirstReadError, Flag, FormI18n, FromParts, I16, Items, List,
-    ListUnder, MapUnder, Member, Nullable, Nullish, Object, OneOf, ReadBody, Scratch, Spelled,
-    Text, TextRef, U8, U16, U32, U64, Under, Whole, WithDefault, read_json_first,
+    Built, Checked, Closed, FirstReadError, Flag, FormI18n, FromParts, I16, Items, List, ListUnder,
+    Member, Nullable, Nullish, Object, OneOf, ReadBody, Scratch, Spelled, Text, TextRef, U8, U16,
+    U64, Under, Whole, WithDefault, read_json_first,
 };
 use std::alloc::Global;
 use std::marker::PhantomData;
 
 /// When it comes.
-#[derive(Clone, Copy, Debug, Default, PartialEq)]
+#[derive(Clone, Copy, Default)]
 pub enum Hours {
     #[default]
     AnyTime,
@@ -23,7 +23,7 @@ pub enum Hours {
 }
 
 /// Where it stands.
-#[derive(Debug, Drop)]
+#[derive(Drop)]
 pub struct Floor(pub i16);
 
 impl Stated for Floor {
@@ -33,13 +33,12 @@ impl Stated for Floor {
 }
 
 /// A box of it.
-#[derive(Debug, Drop)]
+#[derive(Drop)]
 pub struct Crate<'t> {
     pub name: TextRef<'t>,
     pub pieces: u8,
     pub fragile: bool,
     pub weight: u64,
-    pub marks: Items<TextRef<'t>>,
     pub seen: Items<Option<bool>>,
 }
 
@@ -48,34 +47,25 @@ impl<'t> Stated for Crate<'t> {
 
     ghost visits = { λ v _.
         field "name" (is (ascii v.name) and is (bytes (between 2 20) v.name))
-        and field "pieces" (is (range (between 1 99) v.pieces))
-        and field "marks" (is (items (at_most 5) v.marks) and each (λ x. is (alphanumeric x)) v.marks) };
+        and field "pieces" (is (range (between 1 99) v.pieces)) };
 }
 
 /// A delivery.
-#[derive(Debug, Drop)]
+#[derive(Drop)]
 pub struct Delivery<'t> {
-    pub number: u32,
-    pub sent_to: TextRef<'t>,
-    pub phone: Option<TextRef<'t>>,
     pub weight: Option<u16>,
     pub hours: Hours,
     pub floor: Floor,
-    pub crates: Items<Crate<'t>>,
-    pub labels: Entries<'t, TextRef<'t>>,
+    pub sent_crates: Items<Crate<'t>>,
 }
 
 impl<'t> Stated for Delivery<'t> {
     type Context = ();
 
     ghost visits = { λ v ctx.
-        field "number" (is (range (at_least 1) v.number))
-        and field "sent_to" (is (chars (between 1 80) v.sent_to))
-        and field "phone" (if_some (λ x. is (prefix "+" x) and is (bytes (at_most 16) x)) v.phone)
-        and field "weight" (is (required v.weight) and if_some (λ x. is (range (at_most 30000) x)) v.weight)
+        field "weight" (is (required v.weight) and if_some (λ x. is (range (at_most 30000) x)) v.weight)
         and field "floor" (⟦<Floor as Stated>⟧.visits v.floor ctx)
-        and field "crates" (is (items (between 1 50) v.crates) and each (λ x. ⟦<Crate<'t> as Stated>⟧.visits x ctx) v.crates)
-        and field "labels" (is (items (at_most 3) v.labels)) };
+        and field "sent_crates" (is (items (between 1 50) v.sent_crates) and each (λ x. ⟦<Crate<'t> as Stated>⟧.visits x ctx) v.sent_crates) };
 }
 
 /// A value of the type `Floor` is made of what its form reads.
@@ -95,36 +85,27 @@ impl FromParts for Floor {
 
 /// A value of the type `Crate` is made of what its form reads.
 impl<'t> FromParts for Crate<'t> {
-    type Parts = (
-        TextRef<'t>,
-        u8,
-        bool,
-        u64,
-        Items<TextRef<'t>>,
-        Items<Option<bool>>,
-    );
+    type Parts = (TextRef<'t>, u8, bool, u64, Items<Option<bool>>);
 
     ghost builds = { λ parts. record {
       name = parts.0;
       pieces = parts.1;
       fragile = parts.2;
       weight = parts.3;
-      marks = parts.4;
-      seen = parts.5;
+      seen = parts.4;
     } };
 
-    ghost parts_of = { λ v. (v.name, v.pieces, v.fragile, v.weight, v.marks, v.seen) };
+    ghost parts_of = { λ v. (v.name, v.pieces, v.fragile, v.weight, v.seen) };
 
     ghost kept = { λ _. refl };
 
     fn from_parts(parts: Self::Parts) -> Self {
-        let (name, pieces, fragile, weight, marks, seen) = parts;
+        let (name, pieces, fragile, weight, seen) = parts;
         Crate {
             name,
             pieces,
             fragile,
             weight,
-            marks,
             seen,
         }
     }
@@ -132,42 +113,26 @@ impl<'t> FromParts for Crate<'t> {
 
 /// A value of the type `Delivery` is made of what its form reads.
 impl<'t> FromParts for Delivery<'t> {
-    type Parts = (
-        u32,
-        TextRef<'t>,
-        Option<TextRef<'t>>,
-        Option<u16>,
-        Hours,
-        (Floor, Items<Crate<'t>>, Entries<'t, TextRef<'t>>),
-    );
+    type Parts = (Option<u16>, Hours, Floor, Items<Crate<'t>>);
 
     ghost builds = { λ parts. record {
-      number = parts.0;
-      sent_to = parts.1;
-      phone = parts.2;
-      weight = parts.3;
-      hours = parts.4;
-      floor = parts.5.0;
-      crates = parts.5.1;
-      labels = parts.5.2;
+      weight = parts.0;
+      hours = parts.1;
+      floor = parts.2;
+      sent_crates = parts.3;
     } };
 
-    ghost parts_of = { λ v.
-        (v.number, v.sent_to, v.phone, v.weight, v.hours, (v.floor, v.crates, v.labels)) };
+    ghost parts_of = { λ v. (v.weight, v.hours, v.floor, v.sent_crates) };
 
     ghost kept = { λ _. refl };
 
     fn from_parts(parts: Self::Parts) -> Self {
-        let (number, sent_to, phone, weight, hours, (floor, crates, labels)) = parts;
+        let (weight, hours, floor, sent_crates) = parts;
         Delivery {
-            number,
-            sent_to,
-            phone,
             weight,
             hours,
             floor,
-            crates,
-            labels,
+            sent_crates,
         }
     }
 }
@@ -187,39 +152,28 @@ impl<'t> Spelled for Crate<'t> {
       pieces = parts.1;
       fragile = parts.2;
       weight = parts.3;
-      marks = parts.4;
-      seen = parts.5;
-    }) (an_object (closed (six
+      seen = parts.4;
+    }) (an_object (closed (five
         (member "name" (a_text (λ v. is (ascii v) and is (bytes (between 2 20) v))))
         (with_default "pieces" (a_number u8_numbers (range (between 1 99) ∷ [])) 1)
         (with_default "fragile" a_flag false)
         (member "weight" (a_number u64_numbers []))
-        (member "marks" (a_list_of (λ v. is (count (at_most 5) v)) (a_text (λ v. is (alphanumeric v)))))
         (member "seen" (a_list (or_null a_flag)))))) };
 }
 
 impl<'t> Spelled for Delivery<'t> {
     ghost spelled = { made (λ parts. record {
-      number = parts.0;
-      sent_to = parts.1;
-      phone = parts.2;
-      weight = parts.3;
-      hours = parts.4;
-      floor = parts.5.0;
-      crates = parts.5.1;
-      labels = parts.5.2;
-    }) (an_object (closed (six
-        (member "number" (a_number u32_numbers (range (at_least 1) ∷ [])))
-        (member "sentTo" (a_text (λ v. is (chars (between 1 80) v))))
-        (nullish "phone" (a_text (λ v. is (prefix "+" v) and is (bytes (at_most 16) v))))
+      weight = parts.0;
+      hours = parts.1;
+      floor = parts.2;
+      sent_crates = parts.3;
+    }) (an_object (closed (four
         (ruled
         (nullish "grams" (a_number u16_numbers (range (at_most 30000) ∷ [])))
         (λ v. field "grams" (is (required v))))
         (with_default "hours" ⟦<Hours as Spelled>⟧.spelled AnyTime)
-        (three
         (member "floor" ⟦<Floor as Spelled>⟧.spelled)
-        (member "crates" (a_list_of (λ v. is (count (between 1 50) v)) ⟦<Crate<'t> as Spelled>⟧.spelled))
-        (member "labels" (a_map_of (λ v. is (count (at_most 3) v)) (a_text (λ _. none)))))))) };
+        (member "sentCrates" (a_list_of (λ v. is (count (between 1 50) v)) ⟦<Crate<'t> as Spelled>⟧.spelled))))) };
 }
 
 /// The title of the problem details.
@@ -252,31 +206,21 @@ impl<'a> ReadBody<'a> for Delivery<'a> {
                 WithDefault("pieces", Whole(U8, Is(range!(min = 1, max = 99))), 1),
                 WithDefault("fragile", Flag, false),
                 Member("weight", Whole(U64, ())),
-                Member(
-                    "marks",
-                    ListUnder(Is(length!(max = 5)), Text(Is(Alphanumeric))),
-                ),
                 Member("seen", List(Nullable(Flag))),
             ))),
             PhantomData::<&Crate<'_>>,
         );
         let delivery_form = Built(
             Object(Closed((
-                Member("number", Whole(U32, Is(range!(min = 1)))),
-                Member("sentTo", Text(Is(length!(chars, min = 1, max = 80)))),
-                Nullish("phone", Text((Is(Prefix("+")), Is(length!(max = 16))))),
                 Checked(
                     Nullish("grams", Whole(U16, Is(range!(max = 30000)))),
                     Under("grams", Is(Required)),
                 ),
                 WithDefault("hours", hours_form, Hours::AnyTime),
-                (
-                    Member("floor", floor_form),
-                    Member(
-                        "crates",
-                        ListUnder(Is(length!(min = 1, max = 50)), crate_form),
-                    ),
-                    Member("labels", MapUnder(Is(length!(max = 3)), Text(()))),
+                Member("floor", floor_form),
+                Member(
+                    "sentCrates",
+                    ListUnder(Is(length!(min = 1, max = 50)), crate_form),
                 ),
             ))),
             PhantomData::<&Delivery<'_>>,

@@ -6,7 +6,7 @@ use garde::{I18n, Report, Stated, Trail, Validate, length, range};
 use std::alloc::{AllocError, Global};
 
 /// Who changes an account.
-#[derive(Debug, Drop)]
+#[derive(Drop)]
 pub struct Pair {
     pub mail: Option<String>,
     pub mail_again: Option<String>,

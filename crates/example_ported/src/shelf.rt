@@ -80,21 +80,23 @@ impl Validate for Shelf {
     }
 }
 
-/// A lamp for it.
+/// A lamp and a heater for it.
 #[derive(Drop)]
-pub struct Lamp {
+pub struct Power {
     pub room: Room,
-    pub watts: Option<u8>,
+    pub lamp: Option<u8>,
+    pub heater: u16,
 }
 
-impl Stated for Lamp {
+impl Stated for Power {
     type Context = ();
 
     ghost visits = { λ v _.
-        field "watts" (when (not (elim v.room as (λ _. Bool) [ Open ↦ true | _ ↦ false ])) (is (required v.watts))) };
+        field "lamp" (when (not (elim v.room as (λ _. Bool) [ Open ↦ true | _ ↦ false ])) (is (required v.lamp)))
+        and field "heater" (when (elim v.room as (λ _. Bool) [ Cold _ ↦ true | Dry _ ↦ true | _ ↦ false ]) (is (range (at_least 5) v.heater))) };
 }
 
-impl Validate for Lamp {
+impl Validate for Power {
     fn validate_into<'a, H: I18n>(
         &'a self,
         alloc: Global,
@@ -103,64 +105,41 @@ impl Validate for Lamp {
         report: &mut Report,
         h: &H,
     ) -> Result<(), AllocError> {
-        let Self { room, watts } = self;
-        Field(
-            "watts",
-            watts,
-            When(!matches!(room, Room::Open), Is(Required)),
-        )
-        .visit(alloc, trail, report, h)
-    }
-}
-
-/// A heater for it.
-#[derive(Drop)]
-pub struct Heater {
-    pub room: Room,
-    pub watts: u16,
-}
-
-impl Stated for Heater {
-    type Context = ();
-
-    ghost visits = { λ v _.
-        field "watts" (when (elim v.room as (λ _. Bool) [ Cold _ ↦ true | Dry _ ↦ true | _ ↦ false ]) (is (range (at_least 5) v.watts))) };
-}
-
-impl Validate for Heater {
-    fn validate_into<'a, H: I18n>(
-        &'a self,
-        alloc: Global,
-        _ctx: &(),
-        trail: &mut Trail<'a>,
-        report: &mut Report,
-        h: &H,
-    ) -> Result<(), AllocError> {
-        let Self { room, watts } = self;
-        Field(
-            "watts",
-            watts,
-            When(
-                matches!(room, Room::Cold { .. } | Room::Dry(..)),
-                Is(range!(min = 5)),
+        let Self { room, lamp, heater } = self;
+        (
+            Field(
+                "lamp",
+                lamp,
+                When(!matches!(room, Room::Open), Is(Required)),
+            ),
+            Field(
+                "heater",
+                heater,
+                When(
+                    matches!(room, Room::Cold { .. } | Room::Dry(..)),
+                    Is(range!(min = 5)),
+                ),
             ),
         )
-        .visit(alloc, trail, report, h)
+            .visit(alloc, trail, report, h)
     }
 }
 
-/// What stands on it.
+/// What stands on it, and what is said of it.
 #[derive(Drop)]
 pub struct Thing {
     pub kind: String,
     pub name: String,
+    pub places: Vec<u16>,
+    pub note: String,
 }
 
 impl Stated for Thing {
     type Context = ();
 
     ghost visits = { λ v _.
-        field "name" (when (text_is "old" (str v.kind)) (is (ascii (str v.name)))) };
+        field "name" (when (text_is "old" (str v.kind)) (is (ascii (str v.name))))
+        and field "note" (when (includes nat_eq (slice v.places) 3) (is (ascii (str v.note)))) };
 }
 
 impl Validate for Thing {
@@ -172,40 +151,20 @@ impl Validate for Thing {
         report: &mut Report,
         h: &H,
     ) -> Result<(), AllocError> {
-        let Self { kind, name } = self;
-        Field("name", name, When(kind.as_str() == "old", Is(Ascii))).visit(alloc, trail, report, h)
-    }
-}
-
-/// What is said of it.
-#[derive(Drop)]
-pub struct Note {
-    pub places: Vec<u16>,
-    pub text: String,
-}
-
-impl Stated for Note {
-    type Context = ();
-
-    ghost visits = { λ v _.
-        field "text" (when (includes nat_eq (slice v.places) 3) (is (ascii (str v.text)))) };
-}
-
-impl Validate for Note {
-    fn validate_into<'a, H: I18n>(
-        &'a self,
-        alloc: Global,
-        _ctx: &(),
-        trail: &mut Trail<'a>,
-        report: &mut Report,
-        h: &H,
-    ) -> Result<(), AllocError> {
-        let Self { places, text } = self;
-        Field(
-            "text",
-            text,
-            When(includes(places.as_slice(), &Equal, &3), Is(Ascii)),
+        let Self {
+            kind,
+            name,
+            places,
+            note,
+        } = self;
+        (
+            Field("name", name, When(kind.as_str() == "old", Is(Ascii))),
+            Field(
+                "note",
+                note,
+                When(includes(places.as_slice(), &Equal, &3), Is(Ascii)),
+            ),
         )
-        .visit(alloc, trail, report, h)
+            .visit(alloc, trail, report, h)
     }
 }

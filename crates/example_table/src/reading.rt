@@ -15,7 +15,7 @@ use std::alloc::{AllocError, Global};
 use std::collections::VecDeque;
 
 /// A row of the table. What the rules ask is known of a valid one.
-#[derive(Debug, Drop)]
+#[derive(Drop)]
 pub enum Stored {
     Valid(Valid<Row>),
     /// Every fault of a row that is not valid, under its index in the table. No call of this crate

@@ -7,14 +7,14 @@ use garde::{I18n, Report, Stated, Trail, Validate, length};
 use std::alloc::{AllocError, Global};
 
 /// A link, with the title that it is shown under.
-#[derive(Debug, Drop)]
+#[derive(Drop)]
 pub struct Link {
     pub title: String,
     pub address: String,
 }
 
 /// That two links have the same title.
-#[derive(Clone, Copy, Debug)]
+#[derive(Clone, Copy)]
 pub struct Title;
 
 impl Same<Link> for Title {
@@ -26,7 +26,7 @@ impl Same<Link> for Title {
 }
 
 /// How someone is reached: by an email, which is given twice, or by phone. A business has a name.
-#[derive(Debug, Drop)]
+#[derive(Drop)]
 pub struct Contact {
     pub kind: String,
     pub business: Option<String>,

@@ -7,7 +7,7 @@ use garde::{Component, I18n, Report, Stated, Trail, Validate, range};
 use std::alloc::{AllocError, Global};
 
 /// A number from -10 to 10, with a name or with a place.
-#[derive(Clone, Copy, Debug)]
+#[derive(Clone, Copy)]
 pub enum Data {
     /// The number is reported under `field`.
     Struct { field: i32 },

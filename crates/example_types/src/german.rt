@@ -6,7 +6,7 @@ use std::alloc::{AllocError, Global};
 use std::borrow::CowStr;
 
 /// A handler whose texts are German. It names one reason, that of a URL without a host.
-#[derive(Drop, Clone, Copy, Debug)]
+#[derive(Drop, Clone, Copy)]
 pub struct German;
 
 impl Texts for German {

@@ -9,7 +9,7 @@ use garde::{I18n, Report, Stated, Trail, Validate};
 use std::alloc::{AllocError, Global};
 
 /// Rows in the order in which they came, each under its key.
-#[derive(Debug, Drop)]
+#[derive(Drop)]
 pub struct Pairs<T> {
     pub rows: Vec<(String, T)>,
 }
@@ -40,7 +40,7 @@ impl<T> Inner<T> for Pairs<T> {
 }
 
 /// Who owns what, in the order of entry. Each owner is of ASCII.
-#[derive(Debug, Drop)]
+#[derive(Drop)]
 pub struct Ledger {
     pub owners: Pairs<String>,
 }

@@ -7,7 +7,7 @@ use garde::{I18n, Report, Stated, Trail, Validate};
 use std::alloc::{AllocError, Global};
 
 /// One name at least, each of them set, of ASCII and not empty.
-#[derive(Debug, Drop)]
+#[derive(Drop)]
 pub struct Names {
     pub items: Vec<Option<String>>,
 }
@@ -42,7 +42,7 @@ const NOT_EMPTY: Length = Length {
 };
 
 /// The check that each item is set.
-#[derive(Clone, Copy, Debug)]
+#[derive(Clone, Copy)]
 struct EachSet;
 
 impl<'a> Check<'a, Vec<Option<String>>> for EachSet {
@@ -63,7 +63,7 @@ impl<'a> Check<'a, Vec<Option<String>>> for EachSet {
 }
 
 /// The check that each text is of ASCII and not empty.
-#[derive(Clone, Copy, Debug)]
+#[derive(Clone, Copy)]
 struct EachText;
 
 impl<'a> Check<'a, Vec<Option<String>>> for EachText {

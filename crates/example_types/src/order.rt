@@ -6,7 +6,7 @@ use garde::{I18n, Report, Stated, Trail, Validate, all, length, range};
 use std::alloc::{AllocError, Global};
 
 /// What is sent, to whom and where.
-#[derive(Debug, Drop)]
+#[derive(Drop)]
 pub struct Order {
     pub number: u32,
     pub customer: String,

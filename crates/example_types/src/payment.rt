@@ -10,7 +10,7 @@ use garde::{I18n, Report, Stated, Trail, Validate};
 use std::alloc::{AllocError, Global};
 
 /// A card's number, of 16 bytes.
-#[derive(Debug, Drop)]
+#[derive(Drop)]
 pub struct CardText(pub String);
 
 impl credit_card::CreditCard for CardText {
@@ -26,7 +26,7 @@ impl credit_card::CreditCard for CardText {
 }
 
 /// A phone's number, of 15 bytes at most.
-#[derive(Debug, Drop)]
+#[derive(Drop)]
 pub struct PhoneText(pub String);
 
 impl phone_number::PhoneNumber for PhoneText {
@@ -42,7 +42,7 @@ impl phone_number::PhoneNumber for PhoneText {
 }
 
 /// What is paid with, and whom to call.
-#[derive(Debug, Drop)]
+#[derive(Drop)]
 pub struct Payment {
     pub card: CardText,
     pub phone: PhoneText,

@@ -6,7 +6,7 @@ use garde::{I18n, Report, Stated, Trail, Validate, length, range};
 use std::alloc::{AllocError, Global};
 
 /// What people say of themselves. A name has to be there.
-#[derive(Debug, Drop)]
+#[derive(Drop)]
 pub struct Profile {
     pub name: Option<String>,
     pub age: Option<u8>,

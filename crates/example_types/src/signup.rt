@@ -10,7 +10,7 @@ use std::alloc::{AllocError, Global};
 use std::borrow::CowStr;
 
 /// The rule that the terms are accepted.
-#[derive(Clone, Copy, Debug)]
+#[derive(Clone, Copy)]
 pub struct Accepted;
 
 impl Rule<bool> for Accepted {
@@ -26,7 +26,7 @@ impl Rule<bool> for Accepted {
 }
 
 /// Who signs up.
-#[derive(Debug, Drop)]
+#[derive(Drop)]
 pub struct Signup {
     pub name: String,
     pub password: String,

@@ -7,7 +7,7 @@ use std::alloc::{AllocError, Global};
 use std::borrow::CowStr;
 
 /// The rule that a day is no Monday. Days are counted from a Monday.
-#[derive(Clone, Copy, Debug)]
+#[derive(Clone, Copy)]
 pub struct NoMonday;
 
 impl Rule<u32> for NoMonday {
@@ -23,7 +23,7 @@ impl Rule<u32> for NoMonday {
 }
 
 /// The rule that a number is greater than this one.
-#[derive(Clone, Copy, Debug)]
+#[derive(Clone, Copy)]
 pub struct After(pub u32);
 
 impl Rule<u32> for After {
@@ -39,7 +39,7 @@ impl Rule<u32> for After {
 }
 
 /// From which day to which one someone stays.
-#[derive(Debug, Drop)]
+#[derive(Drop)]
 pub struct Stay {
     pub arrival: u32,
     pub departure: u32,

@@ -8,7 +8,7 @@ use std::collections::{BTreeMap, BTreeSet};
 
 /// What a store has: the number of pieces by the name of an article, the shelves by their numbers,
 /// the floors, of which some lie below the street, and marks.
-#[derive(Debug, Drop)]
+#[derive(Drop)]
 pub struct Stock {
     pub pieces: BTreeMap<String, u32>,
     pub shelves: BTreeMap<u32, String>,

@@ -6,7 +6,7 @@ use garde::{I18n, Report, Stated, Trail, Validate, length};
 use std::alloc::{AllocError, Global};
 
 /// Rows of one cell at least, each of ASCII and not empty.
-#[derive(Debug, Drop)]
+#[derive(Drop)]
 pub struct Table {
     pub rows: Vec<Vec<String>>,
 }

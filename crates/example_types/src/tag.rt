@@ -6,7 +6,7 @@ use garde::{I18n, Report, Stated, Trail, Validate, length};
 use std::alloc::{AllocError, Global};
 
 /// A name, and other names for the same.
-#[derive(Clone, Copy, Debug)]
+#[derive(Clone, Copy)]
 pub struct Tag<'t> {
     pub name: &'t str,
     pub also: &'t [&'t str],

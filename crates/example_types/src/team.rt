@@ -6,7 +6,7 @@ use garde::{I18n, Report, Stated, Trail, Validate, length, range};
 use std::alloc::{AllocError, Global};
 
 /// What a league asks of its teams.
-#[derive(Clone, Copy, Debug)]
+#[derive(Clone, Copy)]
 pub struct League {
     /// The least age of a member in years.
     pub least_age: u8,
@@ -15,7 +15,7 @@ pub struct League {
 }
 
 /// Someone of a team.
-#[derive(Debug, Drop)]
+#[derive(Drop)]
 pub struct Member {
     pub nickname: String,
     pub age: u8,
@@ -48,7 +48,7 @@ impl Validate for Member {
 }
 
 /// A team.
-#[derive(Debug, Drop)]
+#[derive(Drop)]
 pub struct Team {
     pub name: String,
     pub members: Vec<Member>,

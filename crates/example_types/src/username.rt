@@ -6,7 +6,7 @@ use garde::{Component, I18n, Report, Stated, Trail, Validate, length};
 use std::alloc::{AllocError, Global};
 
 /// A name that is transparent: its faults stand where the name stands.
-#[derive(Debug, Drop)]
+#[derive(Drop)]
 pub struct Username(pub String);
 
 impl Stated for Username {
@@ -30,7 +30,7 @@ impl Validate for Username {
 }
 
 /// A name that is a tuple of one field: its faults stand under the field's index.
-#[derive(Debug, Drop)]
+#[derive(Drop)]
 pub struct NumberedUsername(pub String);
 
 impl Stated for NumberedUsername {
@@ -55,7 +55,7 @@ impl Validate for NumberedUsername {
 }
 
 /// A value that validates itself, under the name `username`.
-#[derive(Debug, Drop)]
+#[derive(Drop)]
 pub struct User<N> {
     pub username: N,
 }

@@ -7,7 +7,7 @@ use garde::{I18n, Report, Stated, Trail, Valid, Validate, range};
 use std::alloc::{AllocError, Global};
 
 /// What is to be paid in cents, by 1 to 40 guests.
-#[derive(Debug, Drop)]
+#[derive(Drop)]
 pub struct Bill {
     pub cents: u32,
     pub guests: u32,

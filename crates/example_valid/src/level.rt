@@ -12,7 +12,7 @@ use std::alloc::{AllocError, Global};
 pub const PERCENT: Range<u32> = range!(max = 200);
 
 /// How loud something is played, in percent.
-#[derive(Debug, Drop)]
+#[derive(Drop)]
 pub struct Level {
     pub percent: u32,
 }

@@ -8,7 +8,7 @@ use garde::{I18n, Report, Stated, Trail, Valid, Validate, length};
 use std::alloc::{AllocError, Global};
 
 /// From 1 to 20 values.
-#[derive(Debug, Drop)]
+#[derive(Drop)]
 pub struct Page<T> {
     pub entries: Vec<T>,
 }

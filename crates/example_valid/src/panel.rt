@@ -7,13 +7,13 @@ use garde::{I18n, Report, Stated, Trail, ValidUnder, Validate, range};
 use std::alloc::{AllocError, Global};
 
 /// A panel, whose channels are numbered from 0 to this.
-#[derive(Clone, Copy, Debug)]
+#[derive(Clone, Copy)]
 pub struct Panel {
     pub last: usize,
 }
 
 /// What was read on a channel.
-#[derive(Debug, Drop)]
+#[derive(Drop)]
 pub struct Reading {
     pub channel: usize,
     pub volts: u32,

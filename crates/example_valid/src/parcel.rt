@@ -7,7 +7,7 @@ use garde::{I18n, Report, Stated, Trail, Valid, Validate};
 use std::alloc::{AllocError, Global};
 
 /// A parcel with a recipient. Who sends it may be left out.
-#[derive(Debug, Drop)]
+#[derive(Drop)]
 pub struct Parcel {
     pub sender: Option<String>,
     pub recipient: Option<String>,

@@ -7,7 +7,7 @@ use garde::{I18n, Report, Stated, Trail, Valid, Validate, range};
 use std::alloc::{AllocError, Global};
 
 /// A seat in one of eight rows.
-#[derive(Debug, Drop)]
+#[derive(Drop)]
 pub struct Seat {
     pub row: usize,
 }

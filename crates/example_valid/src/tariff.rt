@@ -10,7 +10,7 @@ use std::borrow::CowStr;
 use std::collections::BTreeMap;
 
 /// The rule that one of the prices is that of `standard`.
-#[derive(Clone, Copy, Debug)]
+#[derive(Clone, Copy)]
 pub struct HasStandard;
 
 impl Rule<BTreeMap<String, u32>> for HasStandard {
@@ -31,7 +31,7 @@ impl Rule<BTreeMap<String, u32>> for HasStandard {
 }
 
 /// The prices of letters in cents, by their kind.
-#[derive(Debug, Drop)]
+#[derive(Drop)]
 pub struct Tariff {
     pub prices: BTreeMap<String, u32>,
 }

@@ -4,7 +4,7 @@ use garde::Validate;
 use serde::Deserialize;
 
 /// So many pieces of an article.
-#[derive(Debug, Deserialize, Validate)]
+#[derive(Deserialize, Validate)]
 #[serde(deny_unknown_fields)]
 pub struct Line {
     #[garde(prefix("P"))]
@@ -14,7 +14,7 @@ pub struct Line {
 }
 
 /// Who orders, and the lines.
-#[derive(Debug, Deserialize, Validate)]
+#[derive(Deserialize, Validate)]
 #[serde(deny_unknown_fields)]
 pub struct Order {
     #[garde(length(chars, min = 1, max = 80))]

@@ -10,7 +10,7 @@ use garde::{I18n, Report, Stated, Trail, Validate, length};
 use std::alloc::{AllocError, Global};
 
 /// A comment and the replies to it, each with a text of 1 to 280 characters.
-#[derive(Debug, Drop)]
+#[derive(Drop)]
 pub struct Comment {
     pub text: String,
     pub replies: Vec<Comment>,

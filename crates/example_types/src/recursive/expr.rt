@@ -7,7 +7,7 @@ use garde::{Component, I18n, Report, Stated, Trail, Validate, range};
 use std::alloc::{AllocError, Global};
 
 /// An expression whose numbers are at least -10 and at most 10.
-#[derive(Debug, Drop)]
+#[derive(Drop)]
 pub enum Expr {
     /// A number.
     Num(i64),

@@ -10,7 +10,7 @@ use garde::{I18n, Report, Stated, Trail, Validate, length};
 use std::alloc::{AllocError, Global};
 
 /// A folder and the folders in it, each with a name of 1 to 9 bytes.
-#[derive(Debug, Drop)]
+#[derive(Drop)]
 pub struct Folder {
     pub name: String,
     pub folders: Vec<Folder>,

@@ -11,7 +11,7 @@ use std::alloc::{AllocError, Global};
 use std::collections::BTreeMap;
 
 /// A menu and the menus in it by their names, each with a label of 1 to 20 bytes.
-#[derive(Debug, Drop)]
+#[derive(Drop)]
 pub struct Menu {
     pub label: String,
     pub menus: BTreeMap<String, Menu>,

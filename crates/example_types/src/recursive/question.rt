@@ -11,7 +11,7 @@ use garde::{I18n, Report, Stated, Trail, Validate, length};
 use std::alloc::{AllocError, Global};
 
 /// What an entry of a survey is.
-#[derive(Clone, Copy, Debug)]
+#[derive(Clone, Copy)]
 pub enum Kind {
     Question,
     Answer,
@@ -19,7 +19,7 @@ pub enum Kind {
 
 /// An entry of a survey: a question with its answers, or an answer with the questions that follow.
 /// A question has 1 to 200 characters, and an answer 40 at most.
-#[derive(Debug, Drop)]
+#[derive(Drop)]
 pub struct Entry {
     pub kind: Kind,
     pub text: String,

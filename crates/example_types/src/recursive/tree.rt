@@ -10,7 +10,7 @@ use garde::{I18n, Report, Stated, Trail, Validate};
 use std::alloc::{AllocError, Global};
 
 /// A value and the trees under it.
-#[derive(Debug, Drop)]
+#[derive(Drop)]
 pub struct Tree<T> {
     pub value: T,
     pub children: Vec<Tree<T>>,

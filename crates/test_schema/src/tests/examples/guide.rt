@@ -1,6 +1,6 @@
 //! The whole reports of the guide's types.
 use super::{is_told, owned, text};
-use crate::tests::examples::OrEnd;
+use crate::tests::OrEnd;
 use example_types::contact::{Contact, Link};
 use example_types::order::Order;
 use example_types::payment::{CardText, Payment, PhoneText};
@@ -13,45 +13,24 @@ use std::alloc::Global;
 use std::collections::{BTreeMap, BTreeSet};
 use std::process::Abort;
 
-/// Two articles.
-fn pieces(rt: &impl Abort, alloc: Global, pears: u32) -> BTreeMap<String, u32> {
-    let mut pieces = BTreeMap::new(alloc);
-    pieces.insert(text(rt, alloc, "apples"), 1).or_end(rt);
-    pieces.insert(text(rt, alloc, "pears"), pears).or_end(rt);
-    pieces
-}
-
-/// Two shelves.
-fn shelves(rt: &impl Abort, alloc: Global, shelf: &str) -> BTreeMap<u32, String> {
-    let mut shelves = BTreeMap::new(alloc);
-    shelves.insert(7, text(rt, alloc, "left")).or_end(rt);
-    shelves
-        .insert(4_000_000_000, text(rt, alloc, shelf))
-        .or_end(rt);
-    shelves
-}
-
-/// A floor below the street.
-fn floors(rt: &impl Abort, alloc: Global, floor: &str) -> BTreeMap<i8, String> {
-    let mut floors = BTreeMap::new(alloc);
-    floors.insert(-1, text(rt, alloc, floor)).or_end(rt);
-    floors
-}
-
-/// One mark.
-fn marks(rt: &impl Abort, alloc: Global, mark: &str) -> BTreeSet<String> {
-    let mut marks = BTreeSet::new(alloc);
-    marks.insert(text(rt, alloc, mark)).or_end(rt);
-    marks
+/// A map of these entries.
+fn map<K: Ord + Drop, V: Drop, const N: usize>(
+    rt: &impl Abort,
+    alloc: Global,
+    entries: [(K, V); N],
+) -> BTreeMap<K, V> {
+    BTreeMap::from_array(alloc, entries).or_end(rt)
 }
 
 /// A stock of two articles, two shelves, a floor below the street and a mark.
 fn stock(rt: &impl Abort, alloc: Global, pears: u32, [shelf, floor, mark]: [&str; 3]) -> Stock {
+    let (apples, all) = (text(rt, alloc, "apples"), text(rt, alloc, "pears"));
+    let (left, right) = (text(rt, alloc, "left"), text(rt, alloc, shelf));
     Stock {
-        pieces: pieces(rt, alloc, pears),
-        shelves: shelves(rt, alloc, shelf),
-        floors: floors(rt, alloc, floor),
-        marks: marks(rt, alloc, mark),
+        pieces: map(rt, alloc, [(apples, 1), (all, pears)]),
+        shelves: map(rt, alloc, [(7, left), (4_000_000_000, right)]),
+        floors: map(rt, alloc, [(-1, text(rt, alloc, floor))]),
+        marks: BTreeSet::from_array(alloc, [text(rt, alloc, mark)]).or_end(rt),
     }
 }
 
@@ -69,31 +48,13 @@ fn is_told_of_a_stock(
 #[test]
 fn keys_that_are_texts_and_numbers(rt: HostRuntime) {
     let good = ["right", "cellar", "12345678"];
-    assert!(rt; is_told_of_a_stock(&rt, rt.alloc(), 999, good, ""));
     let bad = ["é", "under the street, deep", "123456789"];
     let text =
         "pieces.pears: greater than 999\nshelves[4000000000]: not ascii\nfloors[-1]: length is greater than 20\nmarks[0]: length is greater than 8\n";
-    assert!(rt; is_told_of_a_stock(&rt, rt.alloc(), 1000, bad, text));
-}
-
-/// Whether this is reported for a stay from one day to another.
-fn is_told_of_a_stay(
-    rt: &impl Abort,
-    alloc: Global,
-    arrival: u32,
-    departure: u32,
-    text: &str,
-) -> bool {
-    is_told(rt, alloc, &Stay { arrival, departure }, text)
-}
-
-#[test]
-fn a_field_compared_with_another(rt: HostRuntime) {
-    assert!(rt; is_told_of_a_stay(&rt, rt.alloc(), 8, 9, ""));
-    let early = "departure: leave after you arrive\n";
-    assert!(rt; is_told_of_a_stay(&rt, rt.alloc(), 8, 8, early));
-    let closed = "arrival: closed on Mondays\ndeparture: leave after you arrive\n";
-    assert!(rt; is_told_of_a_stay(&rt, rt.alloc(), 7, 6, closed));
+    assert!(rt;
+        is_told_of_a_stock(&rt, rt.alloc(), 999, good, "")
+            && is_told_of_a_stock(&rt, rt.alloc(), 1000, bad, text)
+    );
 }
 
 /// The name, the motto and the page of a profile, and its age.
@@ -143,51 +104,21 @@ fn options_that_are_asked_as_a_whole(rt: HostRuntime) {
     }
 }
 
-/// Who signs up, under a name and from a host.
-pub(super) fn signup(
-    rt: &impl Abort,
-    alloc: Global,
-    name: &str,
-    host: &str,
-    terms: bool,
-) -> Signup {
+/// Who signs up, with five faults.
+pub(super) fn signup(rt: &impl Abort, alloc: Global) -> Signup {
     Signup {
-        name: text(rt, alloc, name),
+        name: text(rt, alloc, "é"),
         password: text(rt, alloc, "analytical engine"),
         again: text(rt, alloc, "analytical"),
         age: None,
-        host: text(rt, alloc, host),
-        terms,
+        host: text(rt, alloc, "example.com"),
+        terms: false,
     }
 }
 
-/// Whether this is reported for one who signs up with five faults.
-fn is_told_of_a_signup(rt: &impl Abort, alloc: Global, text: &str) -> bool {
-    let bad = signup(rt, alloc, "é", "example.com", false);
-    is_told(rt, alloc, &bad, text)
-}
-
-#[test]
-fn messages_of_ones_own(rt: HostRuntime) {
-    let text =
-        "name: choose a longer name\nagain: does not match password field\nage: not set\nhost: does not end with \".org\"\nterms: accept the terms\n";
-    assert!(rt; is_told_of_a_signup(&rt, rt.alloc(), text));
-}
-
-#[test]
-fn texts_that_are_borrowed(rt: HostRuntime) {
-    let also = ["b", "é"];
-    let tag = Tag {
-        name: "0123456789",
-        also: &also,
-    };
-    let text = "name: length is greater than 9\nalso[1]: not ascii\n";
-    assert!(rt; is_told(&rt, rt.alloc(), &tag, text));
-}
-
-/// Whether this is reported for an order whose texts are empty, all but its customer.
-fn is_told_of_an_order(rt: &impl Abort, alloc: Global, told: &str) -> bool {
-    let order = Order {
+/// An order whose texts are empty, all but its customer.
+fn order(rt: &impl Abort, alloc: Global) -> Order {
+    Order {
         number: 0,
         customer: text(rt, alloc, "é"),
         street: String::new(alloc),
@@ -195,44 +126,79 @@ fn is_told_of_an_order(rt: &impl Abort, alloc: Global, told: &str) -> bool {
         lines: vec![in alloc; String::new(alloc)].or_end(rt),
         note: Some(String::new(alloc)),
         parcels: 21,
-    };
-    is_told(rt, alloc, &order, told)
-}
-
-#[test]
-fn seven_fields(rt: HostRuntime) {
-    let text =
-        "number: lower than 1\ncustomer: not ascii\ncustomer: length is lower than 3\nstreet: length is lower than 1\ntown: length is lower than 1\nlines[0]: length is lower than 1\nnote: length is lower than 1\nparcels: greater than 20\n";
-    assert!(rt; is_told_of_an_order(&rt, rt.alloc(), text));
-}
-
-/// Whether this is reported for numbers of a card and of a phone.
-fn is_told_of_a_payment(
-    rt: &impl Abort,
-    alloc: Global,
-    card: &str,
-    phone: &str,
-    told: &str,
-) -> bool {
-    let card = CardText(text(rt, alloc, card));
-    let phone = PhoneText(text(rt, alloc, phone));
-    is_told(rt, alloc, &Payment { card, phone }, told)
-}
-
-#[test]
-fn numbers_of_cards_and_phones(rt: HostRuntime) {
-    let text =
-        "card: not a valid credit card number: invalid length\nphone: not a valid phone number: the number is too long\n";
-    assert!(rt; is_told_of_a_payment(&rt, rt.alloc(), "4111", "+420 123 456 789", text));
-}
-
-/// A link of this title.
-fn link(rt: &impl Abort, alloc: Global, title: &str) -> Link {
-    let address = text(rt, alloc, "https://example.org/");
-    Link {
-        title: text(rt, alloc, title),
-        address,
     }
+}
+
+/// Numbers of a card and of a phone.
+fn payment(rt: &impl Abort, alloc: Global, card: &str, phone: &str) -> Payment {
+    Payment {
+        card: CardText(text(rt, alloc, card)),
+        phone: PhoneText(text(rt, alloc, phone)),
+    }
+}
+
+/// Whether the report is the right one of stays from one day to another, and of a tag whose texts are
+/// borrowed.
+fn are_stays_and_tags_told(rt: &impl Abort, alloc: Global, tag: &Tag<'_>) -> bool {
+    is_told(
+        rt,
+        alloc,
+        &Stay {
+            arrival: 8,
+            departure: 9,
+        },
+        "",
+    ) && is_told(
+        rt,
+        alloc,
+        &Stay {
+            arrival: 8,
+            departure: 8,
+        },
+        "departure: leave after you arrive\n",
+    ) && is_told(
+        rt,
+        alloc,
+        &Stay {
+            arrival: 7,
+            departure: 6,
+        },
+        "arrival: closed on Mondays\ndeparture: leave after you arrive\n",
+    ) && is_told(
+        rt,
+        alloc,
+        tag,
+        "name: length is greater than 9\nalso[1]: not ascii\n",
+    )
+}
+
+#[test]
+fn a_field_compared_with_another(rt: HostRuntime) {
+    let tag = Tag {
+        name: "0123456789",
+        also: &["b", "é"],
+    };
+    assert!(rt; are_stays_and_tags_told(&rt, rt.alloc(), &tag));
+}
+
+#[test]
+fn messages_of_ones_own(rt: HostRuntime) {
+    let signup_text =
+        "name: choose a longer name\nagain: does not match password field\nage: not set\nhost: does not end with \".org\"\nterms: accept the terms\n";
+    let order_text =
+        "number: lower than 1\ncustomer: not ascii\ncustomer: length is lower than 3\nstreet: length is lower than 1\ntown: length is lower than 1\nlines[0]: length is lower than 1\nnote: length is lower than 1\nparcels: greater than 20\n";
+    let payment_text =
+        "card: not a valid credit card number: invalid length\nphone: not a valid phone number: the number is too long\n";
+    assert!(rt;
+        is_told(&rt, rt.alloc(), &signup(&rt, rt.alloc()), signup_text)
+            && is_told(&rt, rt.alloc(), &order(&rt, rt.alloc()), order_text)
+            && is_told(
+                &rt,
+                rt.alloc(),
+                &payment(&rt, rt.alloc(), "4111", "+420 123 456 789"),
+                payment_text,
+            )
+    );
 }
 
 /// The kind of a contact without a business, an email twice and a phone, and the title of its last
@@ -259,7 +225,9 @@ static CONTACTS: [(Reached, &str); 3] = [
 fn links(rt: &impl Abort, alloc: Global, titles: [&str; 3]) -> Vec<Link> {
     let mut links = Vec::new(alloc);
     for title in titles {
-        links.push(link(rt, alloc, title)).or_end(rt);
+        let address = text(rt, alloc, "https://example.org/");
+        let title = text(rt, alloc, title);
+        links.push(Link { title, address }).or_end(rt);
     }
     links
 }

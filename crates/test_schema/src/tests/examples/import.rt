@@ -1,5 +1,6 @@
 //! An import into a table in memory.
-
+use super::text;
+use crate::tests::OrEnd;
 use example_import::item::{Flaw, Item, Sink, Source};
 use example_import::memory::MemoryTable;
 use example_import::row::Row;
@@ -8,6 +9,7 @@ use garde::{DefaultI18n, Report};
 use garde_csv::Fault;
 use std::alloc::{AllocError, Global};
 use std::fmt::Write;
+use std::process::Abort;
 use std::rt::HostRuntime;
 
 /// A list whose items are taken from the end of a vector.
@@ -64,30 +66,27 @@ const RECORDS: &[Record] = &[
     Record::Row("P1", "Screw", Some(1)),
 ];
 
-fn row(alloc: Global, code: &str, name: &str, quantity: Option<u64>) -> Result<Row, AllocError> {
-    Ok(Row {
-        code: String::from_str(alloc, code)?,
-        name: String::from_str(alloc, name)?,
-        quantity,
-        price: Some(5),
-        page: None,
-    })
-}
-
-fn item(alloc: Global, record: Record) -> Result<Item, AllocError> {
+/// An item of this record.
+fn item(rt: &impl Abort, alloc: Global, record: Record) -> Item {
     match record {
-        Record::Row(code, name, quantity) => Ok(Item::Row(row(alloc, code, name, quantity)?)),
-        Record::Broken(flaw) => Ok(Item::Broken(flaw)),
+        Record::Row(code, name, quantity) => Item::Row(Row {
+            code: text(rt, alloc, code),
+            name: text(rt, alloc, name),
+            quantity,
+            price: Some(5),
+            page: None,
+        }),
+        Record::Broken(flaw) => Item::Broken(flaw),
     }
 }
 
 /// A list with an item of each kind.
-fn list(alloc: Global) -> Result<Items, AllocError> {
+fn list(rt: &impl Abort, alloc: Global) -> Items {
     let mut items = Vec::new(alloc);
     for record in RECORDS {
-        items.push(item(alloc, *record)?)?;
+        items.push(item(rt, alloc, *record)).or_end(rt);
     }
-    Ok(Items { items })
+    Items { items }
 }
 
 const REPORT: &str = "[1].code: value does not begin with \"P\"
@@ -99,34 +98,37 @@ const REPORT: &str = "[1].code: value does not begin with \"P\"
 [5]: a quote in line 7 is not closed
 ";
 
+/// Batches, how many rows are stored under each, and the names of those that are kept.
+static CASES: [(Batch, usize, &[&str]); 4] = [
+    (Batch::Items(0), 2, &["Screw", "Nut"]),
+    (Batch::Items(1), 2, &["Screw", "Nut"]),
+    (Batch::Items(3), 2, &["Screw", "Nut"]),
+    (Batch::All, 0, &[]),
+];
+
+/// Whether a table keeps rows of these names and has no other.
+fn keeps(table: &MemoryTable, kept: &[&str]) -> bool {
+    let names = table.kept_rows().iter().map(|row| row.name.as_str());
+    names.eq(kept.iter().map(|name| *name)) && table.rows.len() == table.kept
+}
+
 /// Whether an import under this batch reports all faults, counts so many stored rows, and keeps
 /// those of these names and leaves no other.
-fn imports(alloc: Global, batch: Batch, stored: usize, kept: &[&str]) -> Result<bool, AllocError> {
+fn imports(rt: &impl Abort, alloc: Global, batch: Batch, stored: usize, kept: &[&str]) -> bool {
     let mut table = MemoryTable::new(alloc);
-    let mut list = list(alloc)?;
+    let mut list = list(rt, alloc);
     let mut out = Lines {
         text: String::new(alloc),
     };
-    let counted = match import(alloc, &mut table, &mut list, &mut out, batch, &DefaultI18n) {
-        Ok(done) => done.items == 7 && done.stored == stored,
-        Err(_) => false,
-    };
-    let names = table.kept_rows().iter().map(|row| row.name.as_str());
-    let same = names.eq(kept.iter().map(|name| *name)) && table.rows.len() == table.kept;
-    Ok(counted && out.text.as_str() == REPORT && same)
+    let answer = import(alloc, &mut table, &mut list, &mut out, batch, &DefaultI18n);
+    matches!(&answer, Ok(done) if done.items == 7 && done.stored == stored)
+        && out.text.as_str() == REPORT
+        && keeps(&table, kept)
 }
 
 #[test]
 fn imports_into_memory(rt: HostRuntime) {
-    let alloc = rt.alloc();
-    let cases: [(Batch, usize, &[&str]); 4] = [
-        (Batch::Items(0), 2, &["Screw", "Nut"]),
-        (Batch::Items(1), 2, &["Screw", "Nut"]),
-        (Batch::Items(3), 2, &["Screw", "Nut"]),
-        (Batch::All, 0, &[]),
-    ];
-    for (batch, stored, kept) in cases {
-        let right = imports(alloc, batch, stored, kept).unwrap_or(false);
-        assert!(rt; right);
+    for (batch, stored, kept) in &CASES {
+        assert!(rt; imports(&rt, rt.alloc(), *batch, *stored, *kept));
     }
 }

@@ -1,6 +1,6 @@
 //! Code that relies on valid values, on valid ones, and what is not valid.
 use super::text;
-use crate::tests::examples::OrEnd;
+use crate::tests::OrEnd;
 use example_valid::basket::{Basket, first};
 use example_valid::bill::{Bill, share};
 use example_valid::level::{Level, byte};
@@ -40,45 +40,9 @@ fn basket(rt: &impl Abort, alloc: Global, names: &[&str]) -> Basket {
     Basket { articles }
 }
 
-/// Whether this is the first of these articles of a valid basket.
-fn is_first(rt: &impl Abort, alloc: Global, names: &[&str], name: &str) -> bool {
-    let basket = valid(rt, alloc, basket(rt, alloc, names));
-    first(&basket).as_str() == name
-}
-
-/// Whether a basket without articles is rejected.
-fn is_empty_basket_refused(rt: &impl Abort, alloc: Global) -> bool {
-    is_refused(alloc, basket(rt, alloc, &[]))
-}
-
-#[test]
-fn the_first_article(rt: HostRuntime) {
-    assert!(rt; is_first(&rt, rt.alloc(), &["pears", "plums"], "pears"));
-    assert!(rt; is_empty_basket_refused(&rt, rt.alloc()));
-}
-
 /// The share of each guest in a valid bill.
 fn share_of(rt: &impl Abort, alloc: Global, cents: u32, guests: u32) -> u32 {
     share(&valid(rt, alloc, Bill { cents, guests }))
-}
-
-/// Bills of so many cents for so many guests, and the share of each.
-static SHARES: [(u32, u32, u32); 3] = [(100, 3, 33), (7, 40, 0), (u32::MAX, 1, u32::MAX)];
-
-/// Whether a bill for so many guests is rejected.
-fn is_bill_refused(alloc: Global, guests: u32) -> bool {
-    is_refused(alloc, Bill { cents: 1, guests })
-}
-
-#[test]
-fn a_share_of_a_bill(rt: HostRuntime) {
-    for (cents, guests, each) in &SHARES {
-        assert!(rt;
-            share_of(&rt, rt.alloc(), *cents, *guests) == *each,
-            "{cents}"
-        );
-    }
-    assert!(rt; is_bill_refused(rt.alloc(), 0) && is_bill_refused(rt.alloc(), 41));
 }
 
 /// The price of a valid seat in this row.
@@ -87,87 +51,67 @@ fn price_of(rt: &impl Abort, alloc: Global, row: usize) -> u32 {
     price(&valid(rt, alloc, Seat { row }), &prices)
 }
 
-/// The prices of the first row and of the last two.
-fn prices_of(rt: &impl Abort, alloc: Global) -> [u32; 3] {
-    [
-        price_of(rt, alloc, 0),
-        price_of(rt, alloc, 6),
-        price_of(rt, alloc, 7),
-    ]
-}
-
-#[test]
-fn the_price_of_a_row(rt: HostRuntime) {
-    assert!(rt; prices_of(&rt, rt.alloc()) == [900, 600, 500]);
-    assert!(rt; is_refused(rt.alloc(), Seat { row: 8 }));
-}
-
-/// Whether a parcel to someone of this name goes there.
-fn goes_to(rt: &impl Abort, alloc: Global, name: &str) -> bool {
-    let parcel = Parcel {
-        sender: None,
-        recipient: Some(text(rt, alloc, name)),
-    };
-    recipient(&valid(rt, alloc, parcel)).as_str() == name
-}
-
-/// Whether a parcel from someone of this name to nobody is rejected.
-fn is_lost(rt: &impl Abort, alloc: Global, name: &str) -> bool {
-    let parcel = Parcel {
-        sender: Some(text(rt, alloc, name)),
-        recipient: None,
-    };
-    is_refused(alloc, parcel)
-}
-
-#[test]
-fn to_whom_a_parcel_goes(rt: HostRuntime) {
-    assert!(rt; goes_to(&rt, rt.alloc(), "Ada"));
-    assert!(rt; is_lost(&rt, rt.alloc(), "Bea"));
-}
-
 /// A valid level as a byte.
 fn byte_of(rt: &impl Abort, alloc: Global, percent: u32) -> u8 {
     byte(&valid(rt, alloc, Level { percent }))
 }
 
-/// Three levels as bytes.
-fn bytes_of(rt: &impl Abort, alloc: Global) -> [u8; 3] {
-    [
-        byte_of(rt, alloc, 0),
-        byte_of(rt, alloc, 150),
-        byte_of(rt, alloc, 200),
-    ]
-}
-
-#[test]
-fn a_level_as_a_byte(rt: HostRuntime) {
-    assert!(rt; bytes_of(&rt, rt.alloc()) == [0, 150, 200]);
-    assert!(rt; is_refused(rt.alloc(), Level { percent: 256 }));
+/// Whether bills, seats and levels have the right share, price and byte, and wrong ones are rejected.
+fn are_numbers_right(rt: &impl Abort, alloc: Global) -> bool {
+    share_of(rt, alloc, 100, 3) == 33
+        && share_of(rt, alloc, 7, 40) == 0
+        && share_of(rt, alloc, u32::MAX, 1) == u32::MAX
+        && is_refused(
+            alloc,
+            Bill {
+                cents: 1,
+                guests: 0,
+            },
+        )
+        && is_refused(
+            alloc,
+            Bill {
+                cents: 1,
+                guests: 41,
+            },
+        )
+        && price_of(rt, alloc, 0) == 900
+        && price_of(rt, alloc, 6) == 600
+        && price_of(rt, alloc, 7) == 500
+        && is_refused(alloc, Seat { row: 8 })
+        && byte_of(rt, alloc, 0) == 0
+        && byte_of(rt, alloc, 150) == 150
+        && byte_of(rt, alloc, 200) == 200
+        && is_refused(alloc, Level { percent: 256 })
 }
 
 /// The prices of two kinds, one of which is express.
 fn tariff(rt: &impl Abort, alloc: Global, kind: &str) -> Tariff {
-    let mut prices = BTreeMap::new(alloc);
-    prices.insert(text(rt, alloc, "express"), 300).or_end(rt);
-    prices.insert(text(rt, alloc, kind), 120).or_end(rt);
+    let (express, other) = (text(rt, alloc, "express"), text(rt, alloc, kind));
+    let prices = BTreeMap::from_array(alloc, [(express, 300), (other, 120)]).or_end(rt);
     Tariff { prices }
 }
 
-/// The price of a standard letter in a valid tariff.
-fn standard_price(rt: &impl Abort, alloc: Global, kind: &str) -> u32 {
-    standard(&valid(rt, alloc, tariff(rt, alloc, kind)))
+/// Whether a valid parcel has its recipient, and one that has none is rejected.
+fn are_parcels_right(rt: &impl Abort, alloc: Global, to: &str) -> bool {
+    let sent = Parcel {
+        sender: None,
+        recipient: Some(text(rt, alloc, to)),
+    };
+    let lost = Parcel {
+        sender: Some(text(rt, alloc, to)),
+        recipient: None,
+    };
+    recipient(&valid(rt, alloc, sent)).as_str() == to && is_refused(alloc, lost)
 }
 
-/// Whether a tariff without a standard letter is rejected.
-fn is_tariff_refused(rt: &impl Abort, alloc: Global, kind: &str) -> bool {
-    is_refused(alloc, tariff(rt, alloc, kind))
-}
-
-#[test]
-fn the_price_of_a_standard_letter(rt: HostRuntime) {
-    assert_eq!(rt; standard_price(&rt, rt.alloc(), "standard"), 120);
-    assert!(rt; is_tariff_refused(&rt, rt.alloc(), "slow"));
+/// Whether a valid basket has its first article and a valid tariff its price, and wrong ones are
+/// rejected.
+fn are_parts_there(rt: &impl Abort, alloc: Global, names: [&str; 2]) -> bool {
+    first(&valid(rt, alloc, basket(rt, alloc, &names))).as_str() == names[0]
+        && is_refused(alloc, basket(rt, alloc, &[]))
+        && standard(&valid(rt, alloc, tariff(rt, alloc, "standard"))) == 120
+        && is_refused(alloc, tariff(rt, alloc, "slow"))
 }
 
 /// The gain of a reading that keeps its panel, if the panel has its channel.
@@ -180,25 +124,22 @@ fn kept_gain(alloc: Global, channel: usize, panel: &Panel, gains: &[u32; 3]) -> 
     }
 }
 
-/// The gain of a channel on a panel of two, by either way.
-fn gains_of(alloc: Global, channel: usize) -> [Option<u32>; 2] {
+/// Whether this is the gain of a channel on a panel of two, by either way.
+fn has_gain(alloc: Global, channel: usize, wanted: Option<u32>) -> bool {
     let panel = Panel { last: 1 };
     let gains = [10, 20, 30];
     let reading = Reading { channel, volts: 5 };
-    [
-        gain(alloc, &reading, &panel, &gains),
-        kept_gain(alloc, channel, &panel, &gains),
-    ]
+    gain(alloc, &reading, &panel, &gains) == wanted
+        && kept_gain(alloc, channel, &panel, &gains) == wanted
 }
-
-/// Channels, and the gain of each.
-static GAINS: [(usize, Option<u32>); 3] = [(0, Some(10)), (1, Some(20)), (2, None)];
 
 #[test]
 fn the_gain_of_a_channel(rt: HostRuntime) {
-    for (channel, gain) in &GAINS {
-        assert!(rt; gains_of(rt.alloc(), *channel) == [*gain; 2], "{channel}");
-    }
+    assert!(rt;
+        has_gain(rt.alloc(), 0, Some(10))
+            && has_gain(rt.alloc(), 1, Some(20))
+            && has_gain(rt.alloc(), 2, None)
+    );
 }
 
 /// The volts of a reading that a panel of eight keeps.
@@ -215,73 +156,53 @@ fn volts_of(alloc: Global, channel: usize) -> Option<u32> {
 
 #[test]
 fn a_value_that_keeps_its_context(rt: HostRuntime) {
-    assert!(rt; volts_of(rt.alloc(), 0) == Some(230));
-    assert!(rt; volts_of(rt.alloc(), 7) == Some(230));
-    assert!(rt; volts_of(rt.alloc(), 8).is_none());
+    assert!(rt;
+        volts_of(rt.alloc(), 0) == Some(230)
+            && volts_of(rt.alloc(), 7) == Some(230)
+            && volts_of(rt.alloc(), 8).is_none()
+    );
 }
 
 /// A page of two baskets, of pears and plums, and of these.
 fn page(rt: &impl Abort, alloc: Global, names: &[&str]) -> Page<Basket> {
-    let entries = vec![in alloc;
-        basket(rt, alloc, &["pears", "plums"]),
-        basket(rt, alloc, names),
-    ]
-    .or_end(rt);
+    let first = basket(rt, alloc, &["pears", "plums"]);
+    let entries = vec![in alloc; first, basket(rt, alloc, names)].or_end(rt);
     Page { entries }
 }
 
-/// The first articles of the baskets of a page, each followed by a space.
-fn firsts(rt: &impl Abort, alloc: Global, page: &Valid<Page<Basket>>) -> String {
-    let mut text = String::new(alloc);
-    for place in 0..page.entries.len() {
-        text.push_str(first_of(page, place).as_str()).or_end(rt);
-        text.push(' ').or_end(rt);
+/// Whether these are the first articles of the baskets of a page.
+fn are_firsts(page: &Valid<Page<Basket>>, names: [&str; 2]) -> bool {
+    page.entries.len() == 2
+        && first_of(page, 0).as_str() == names[0]
+        && first_of(page, 1).as_str() == names[1]
+        && first_of_first(page).as_str() == names[0]
+}
+
+/// Whether these are the first articles of baskets.
+fn are_firsts_of(baskets: &[Valid<Basket>], names: [&str; 2]) -> bool {
+    match baskets {
+        [one, other] => first(one).as_str() == names[0] && first(other).as_str() == names[1],
+        _ => false,
     }
-    text
 }
 
-/// The first articles of baskets, each followed by a space.
-fn firsts_of(rt: &impl Abort, alloc: Global, baskets: &[Valid<Basket>]) -> String {
-    let mut text = String::new(alloc);
-    for basket in baskets {
-        text.push_str(first(basket).as_str()).or_end(rt);
-        text.push(' ').or_end(rt);
-    }
-    text
-}
-
-/// A valid page of two baskets.
-fn page_of_two(rt: &impl Abort, alloc: Global) -> Valid<Page<Basket>> {
-    valid(rt, alloc, page(rt, alloc, &["figs"]))
-}
-
-/// Whether the first article of all is this one.
-fn is_first_of_first(rt: &impl Abort, alloc: Global, name: &str) -> bool {
-    first_of_first(&page_of_two(rt, alloc)).as_str() == name
-}
-
-/// Whether these are the first articles of the page.
-fn are_firsts(rt: &impl Abort, alloc: Global, names: &str) -> bool {
-    firsts(rt, alloc, &page_of_two(rt, alloc)).as_str() == names
-}
-
-/// Whether these are the first articles of the baskets that are taken out of the page.
-fn are_firsts_of_parts(rt: &impl Abort, alloc: Global, names: &str) -> bool {
-    let parts = baskets(alloc, page_of_two(rt, alloc)).or_end(rt);
-    firsts_of(rt, alloc, &parts).as_str() == names
-}
-
-/// Whether a page with a basket without articles is rejected.
-fn is_page_refused(rt: &impl Abort, alloc: Global) -> bool {
-    is_refused(alloc, page(rt, alloc, &[]))
+/// Whether the first articles of the baskets of a page, and of those that are taken out of it, are
+/// pears and figs, and a page with a basket without articles is rejected.
+fn are_pages_right(rt: &impl Abort, alloc: Global) -> bool {
+    let page_of_two = valid(rt, alloc, page(rt, alloc, &["figs"]));
+    are_firsts(&page_of_two, ["pears", "figs"])
+        && are_firsts_of(&baskets(alloc, page_of_two).or_end(rt), ["pears", "figs"])
+        && is_refused(alloc, page(rt, alloc, &[]))
 }
 
 #[test]
-fn the_first_article_of_each_basket(rt: HostRuntime) {
-    assert!(rt; is_first_of_first(&rt, rt.alloc(), "pears"));
-    assert!(rt; are_firsts(&rt, rt.alloc(), "pears figs "));
-    assert!(rt; are_firsts_of_parts(&rt, rt.alloc(), "pears figs "));
-    assert!(rt; is_page_refused(&rt, rt.alloc()));
+fn what_is_known_of_valid_values(rt: HostRuntime) {
+    assert!(rt;
+        are_numbers_right(&rt, rt.alloc())
+            && are_parts_there(&rt, rt.alloc(), ["pears", "plums"])
+            && are_parcels_right(&rt, rt.alloc(), "Ada")
+            && are_pages_right(&rt, rt.alloc())
+    );
 }
 
 /// Whether a page of a basket with this article is made, of which it is the first.
@@ -298,14 +219,14 @@ fn share_of_made(guests: u32) -> Option<u32> {
     }
 }
 
-/// So many guests, and the share of each.
-static MADE: [(u32, Option<u32>); 4] = [(0, None), (1, Some(80)), (40, Some(2)), (41, None)];
-
 #[test]
 fn values_that_are_made(rt: HostRuntime) {
-    assert!(rt; share(&made::for_two(901)) == 450);
-    for (guests, each) in &MADE {
-        assert!(rt; share_of_made(*guests) == *each, "{guests}");
-    }
-    assert!(rt; is_first_of_made(&rt, rt.alloc(), "figs"));
+    assert!(rt;
+        share(&made::for_two(901)) == 450
+            && share_of_made(0).is_none()
+            && share_of_made(1) == Some(80)
+            && share_of_made(40) == Some(2)
+            && share_of_made(41).is_none()
+            && is_first_of_made(&rt, rt.alloc(), "figs")
+    );
 }

@@ -1,6 +1,6 @@
 //! Each module that `garde` passes on from the crates below it, and `garde_json`.
 use super::login;
-use crate::tests::examples::OrEnd;
+use crate::tests::OrEnd;
 use example_types::login::Login;
 use garde::error::{Component, Kind, PathComponentKind};
 use garde::i18n::{DefaultI18n, IpKind};
@@ -16,65 +16,42 @@ use std::process::Abort;
 /// A report of one fault.
 fn report(rt: &impl Abort, alloc: Global) -> Report {
     let mut report = Report::new(alloc);
+    let path = Path::new(alloc, "a").or_end(rt);
     report
-        .append(
-            Path::new(alloc, "a").or_end(rt),
-            Error::new(alloc, "weak").or_end(rt),
-        )
+        .append(path, Error::new(alloc, "weak").or_end(rt))
         .or_end(rt);
     report
 }
 
-/// The messages at and under a prefix, one after the other.
-fn messages(rt: &impl Abort, alloc: Global, report: &Report, way: &[&str]) -> String {
-    let mut text = String::new(alloc);
-    for error in select(report, way) {
-        text.push_str(error.message()).or_end(rt);
-    }
-    text
-}
-
-/// The path of a trail onto which this component is pushed.
-fn path_at(rt: &impl Abort, alloc: Global, key: &str) -> Path {
+/// Whether a trail onto which this component is pushed gives its path.
+fn is_trail_at(rt: &impl Abort, alloc: Global, key: &str) -> bool {
     let mut trail = Trail::new(alloc);
     trail.push(Component::key(key)).or_end(rt);
-    trail.path().or_end(rt)
-}
-
-/// Whether a path is the one of this component.
-fn is_path_of(rt: &impl Abort, alloc: Global, path: &Path, key: &str) -> bool {
-    *path == Path::new(alloc, key).or_end(rt)
-}
-
-/// Whether a trail gives the path of the component that is pushed.
-fn is_trail_at(rt: &impl Abort, alloc: Global, key: &str) -> bool {
-    is_path_of(rt, alloc, &path_at(rt, alloc, key), key)
-}
-
-/// How many items a list has to which one is appended.
-fn length_of_one(rt: &impl Abort, alloc: Global) -> usize {
-    List::new().append(alloc, 'a').or_end(rt).len()
+    trail.path().or_end(rt) == Path::new(alloc, key).or_end(rt)
 }
 
 #[test]
 fn lists_and_trails(rt: HostRuntime) {
-    assert_eq!(rt; length_of_one(&rt, rt.alloc()), 1);
-    assert!(rt; is_trail_at(&rt, rt.alloc(), "a"));
-    assert!(rt; usize::component_kind() == Kind::Index);
+    assert!(rt;
+        List::new().append(rt.alloc(), 'a').or_end(&rt).len() == 1
+            && is_trail_at(&rt, rt.alloc(), "a")
+            && usize::component_kind() == Kind::Index
+    );
 }
 
 /// Whether a report that is read back from its tree prints this text.
 fn is_read_back(rt: &impl Abort, alloc: Global, report: &Report, text: &str) -> bool {
     let tree = report_to_json(alloc, report).or_end(rt);
-    let Ok(back) = report_from_json(alloc, &tree) else {
-        return false;
-    };
-    back.to_string(alloc).or_end(rt).as_str() == text
+    match report_from_json(alloc, &tree) {
+        Ok(back) => back.to_string(alloc).or_end(rt).as_str() == text,
+        Err(_) => false,
+    }
 }
 
-/// Whether these are the messages of a report at and under a prefix.
-fn has_messages(rt: &impl Abort, alloc: Global, report: &Report, way: &[&str], text: &str) -> bool {
-    messages(rt, alloc, report, way).as_str() == text
+/// Whether a report has one message at and under a prefix, this one.
+fn has_message(report: &Report, way: &[&str], text: &str) -> bool {
+    let mut found = select(report, way);
+    matches!(found.next(), Some(error) if error.message() == text) && found.next().is_none()
 }
 
 /// Whether an outcome is rejected with this message.
@@ -82,17 +59,14 @@ fn is_refused(outcome: garde::Result, message: &str) -> bool {
     matches!(&outcome, Err(error) if error.message() == message)
 }
 
-/// Whether an outcome of an error of this message is rejected with it.
-fn is_refused_with(rt: &impl Abort, alloc: Global, message: &str) -> bool {
-    is_refused(Err(Error::new(alloc, message).or_end(rt)), message)
-}
-
 #[test]
 fn reports_and_their_trees(rt: HostRuntime) {
     let report = report(&rt, rt.alloc());
-    assert!(rt; is_read_back(&rt, rt.alloc(), &report, "a: weak\n"));
-    assert!(rt; has_messages(&rt, rt.alloc(), &report, &["a"], "weak"));
-    assert!(rt; is_refused_with(&rt, rt.alloc(), "weak"));
+    assert!(rt;
+        is_read_back(&rt, rt.alloc(), &report, "a: weak\n")
+            && has_message(&report, &["a"], "weak")
+            && is_refused(Err(Error::new(rt.alloc(), "weak").or_end(&rt)), "weak")
+    );
 }
 
 /// Whether a text that is no address is rejected with this message.
@@ -102,11 +76,6 @@ fn is_no_address(alloc: Global, text: &str, message: &str) -> bool {
         |h| ip::apply(alloc, &text, (IpKind::V6,), h),
     );
     matches!(&answer, Err(RuleError::Fault(error)) if error.message() == message)
-}
-
-#[test]
-fn rules_and_handlers(rt: HostRuntime) {
-    assert!(rt; is_no_address(rt.alloc(), "::g", "not a valid IPv6 address"));
 }
 
 /// Whether the login of a password becomes a valid one, of this name.
@@ -127,6 +96,9 @@ fn is_refused_on(rt: &impl Abort, alloc: Global, password: &str, nodes: usize) -
 
 #[test]
 fn a_login_becomes_a_valid_one(rt: HostRuntime) {
-    assert!(rt; is_valid(&rt, rt.alloc(), "not_a_very_good_password", "test"));
-    assert!(rt; is_refused_on(&rt, rt.alloc(), "weak", 1));
+    assert!(rt;
+        is_no_address(rt.alloc(), "::g", "not a valid IPv6 address")
+            && is_valid(&rt, rt.alloc(), "not_a_very_good_password", "test")
+            && is_refused_on(&rt, rt.alloc(), "weak", 1)
+    );
 }

@@ -7,7 +7,8 @@ mod parts;
 mod rules;
 mod strings;
 
-use crate::tests::examples::{OrEnd, prints_as};
+use crate::tests::OrEnd;
+use crate::tests::examples::{prints_as, text};
 use garde::Validate;
 use std::alloc::Global;
 use std::process::Abort;
@@ -23,26 +24,11 @@ fn tells<V: Validate>(
     prints_as(rt, alloc, value.validate_with(alloc, ctx), text)
 }
 
-/// Puts a text at the end of a list.
-fn put(rt: &impl Abort, alloc: Global, texts: &mut Vec<String>, text: &str) {
-    texts
-        .push(String::from_str(alloc, text).or_end(rt))
-        .or_end(rt);
-}
-
-/// Texts, the first of which is the last one of the list.
+/// Texts, in order.
 fn texts(rt: &impl Abort, alloc: Global, from: &[&str]) -> Vec<String> {
     let mut found = Vec::new(alloc);
-    for text in from.iter().rev() {
-        put(rt, alloc, &mut found, text);
+    for it in from {
+        found.push(text(rt, alloc, it)).or_end(rt);
     }
     found
-}
-
-/// The next of some texts, or the empty one.
-fn next(alloc: Global, texts: &mut Vec<String>) -> String {
-    match texts.pop() {
-        Some(text) => text,
-        None => String::new(alloc),
-    }
 }

@@ -1,6 +1,7 @@
 //! What is reported for values that hold values of their own type.
+use super::text;
 use super::walks::is_told;
-use crate::tests::examples::OrEnd;
+use crate::tests::OrEnd;
 use example_types::recursive::comment::Comment;
 use example_types::recursive::expr::Expr;
 use example_types::recursive::folder::Folder;
@@ -12,69 +13,97 @@ use std::alloc::Global;
 use std::collections::BTreeMap;
 use std::process::Abort;
 
+/// A list of these items.
+fn list<T: Drop, const N: usize>(rt: &impl Abort, alloc: Global, items: [T; N]) -> Vec<T> {
+    Vec::from_array(alloc, items).or_end(rt)
+}
+
 /// The number -11 under a sign.
 fn low(rt: &impl Abort, alloc: Global) -> Expr {
     Expr::Neg(Box::new(alloc, Expr::Num(-11)).or_end(rt))
 }
 
-fn sum(rt: &impl Abort, alloc: Global, left: Expr, right: Expr) -> Expr {
-    Expr::Add(
-        Box::new(alloc, left).or_end(rt),
-        Box::new(alloc, right).or_end(rt),
-    )
+/// The sum of two numbers beyond the bounds.
+fn sum(rt: &impl Abort, alloc: Global) -> Expr {
+    let right = Box::new(alloc, low(rt, alloc)).or_end(rt);
+    Expr::Add(Box::new(alloc, Expr::Num(11)).or_end(rt), right)
 }
 
-/// Whether this is reported for the sum of two numbers beyond the bounds.
-fn is_told_of_a_sum(rt: &impl Abort, alloc: Global, text: &str) -> bool {
-    is_told(
-        rt,
-        alloc,
-        &sum(rt, alloc, Expr::Num(11), low(rt, alloc)),
-        text,
+/// A tree of this number and these trees.
+fn tree(value: Expr, children: Vec<Tree<Expr>>) -> Tree<Expr> {
+    Tree { value, children }
+}
+
+/// A tree of a number that is too great, on a valid one above one that is too low and on one that is
+/// too great.
+fn high(rt: &impl Abort, alloc: Global) -> Tree<Expr> {
+    let leaves = list(rt, alloc, [tree(low(rt, alloc), Vec::new(alloc))]);
+    let second = tree(Expr::Num(12), Vec::new(alloc));
+    tree(
+        Expr::Num(11),
+        list(rt, alloc, [tree(Expr::Num(1), leaves), second]),
     )
 }
 
 #[test]
-fn numbers_in_an_expression(rt: HostRuntime) {
-    let text = "[0].num: greater than 10\n[1][0].num: lower than -10\nnodes: 5";
-    assert!(rt; is_told_of_a_sum(&rt, rt.alloc(), text));
-    assert!(rt; is_told(&rt, rt.alloc(), &Expr::Num(10), "nodes: 0"));
+fn trees_of_values_of_a_type(rt: HostRuntime) {
+    let numbers = "[0].num: greater than 10\n[1][0].num: lower than -10\n";
+    let values =
+        "value.num: greater than 10\nchildren[0].children[0].value[0].num: lower than -10\nchildren[1].value.num: greater than 10\n";
+    assert!(rt;
+        is_told(&rt, rt.alloc(), &sum(&rt, rt.alloc()), numbers, 5)
+            && is_told(&rt, rt.alloc(), &Expr::Num(10), "", 0)
+            && is_told(&rt, rt.alloc(), &high(&rt, rt.alloc()), values, 12)
+    );
 }
 
+/// A folder of this name with these folders in it.
 fn folder(rt: &impl Abort, alloc: Global, name: &str, folders: Vec<Folder>) -> Folder {
-    let name = String::from_str(alloc, name).or_end(rt);
+    let name = text(rt, alloc, name);
     Folder { name, folders }
 }
 
-/// A folder of one that has no name.
-fn nest(rt: &impl Abort, alloc: Global, name: &str) -> Folder {
-    let leaf = folder(rt, alloc, "", Vec::new(alloc));
-    folder(rt, alloc, name, vec![in alloc; leaf].or_end(rt))
+/// Folders in one whose name is too long: the first of them has one without a name in it, and the
+/// last has no name.
+fn folders(rt: &impl Abort, alloc: Global) -> Folder {
+    let inner = list(rt, alloc, [folder(rt, alloc, "", Vec::new(alloc))]);
+    let all = [
+        folder(rt, alloc, "first", inner),
+        folder(rt, alloc, "second", Vec::new(alloc)),
+        folder(rt, alloc, "", Vec::new(alloc)),
+    ];
+    folder(rt, alloc, "a name too long", list(rt, alloc, all))
 }
 
-/// Folders, of which the first has one in it, and the last has no name.
-fn folders(rt: &impl Abort, alloc: Global) -> Vec<Folder> {
-    let first = nest(rt, alloc, "first");
-    let second = folder(rt, alloc, "second", Vec::new(alloc));
-    let third = folder(rt, alloc, "", Vec::new(alloc));
-    vec![in alloc; first, second, third].or_end(rt)
+/// A thousand folders, each in the next, and in the last of them one that has no name.
+fn deep(rt: &impl Abort, alloc: Global) -> Folder {
+    let mut outer = folder(rt, alloc, "", Vec::new(alloc));
+    for _ in 0..1000 {
+        outer = folder(rt, alloc, "inner", list(rt, alloc, [outer]));
+    }
+    outer
 }
 
-/// Whether this is reported for the folders in one whose name is too long.
-fn is_told_of_folders(rt: &impl Abort, alloc: Global, text: &str) -> bool {
-    let top = folder(rt, alloc, "a name too long", folders(rt, alloc));
-    is_told(rt, alloc, &top, text)
+/// Whether this is reported for the innermost of the thousand folders.
+fn is_told_of_deep(rt: &impl Abort, alloc: Global, fault: &str, nodes: usize) -> bool {
+    let mut told = "folders[0].".repeat(alloc, 1000).or_end(rt);
+    told.push_str(fault).or_end(rt);
+    is_told(rt, alloc, &deep(rt, alloc), told.as_str(), nodes)
 }
 
 #[test]
 fn folders_at_each_level(rt: HostRuntime) {
-    let text =
-        "name: length is greater than 9\nfolders[0].folders[0].name: length is lower than 1\nfolders[2].name: length is lower than 1\nnodes: 8";
-    assert!(rt; is_told_of_folders(&rt, rt.alloc(), text));
+    let told =
+        "name: length is greater than 9\nfolders[0].folders[0].name: length is lower than 1\nfolders[2].name: length is lower than 1\n";
+    assert!(rt;
+        is_told(&rt, rt.alloc(), &folders(&rt, rt.alloc()), told, 8)
+            && is_told_of_deep(&rt, rt.alloc(), "name: length is lower than 1\n", 2001)
+    );
 }
 
-fn entry(rt: &impl Abort, alloc: Global, kind: Kind, text: &str, entries: Vec<Entry>) -> Entry {
-    let text = String::from_str(alloc, text).or_end(rt);
+/// An entry of this kind and text, with these entries.
+fn entry(rt: &impl Abort, alloc: Global, kind: Kind, told: &str, entries: Vec<Entry>) -> Entry {
+    let text = text(rt, alloc, told);
     Entry {
         kind,
         text,
@@ -82,165 +111,77 @@ fn entry(rt: &impl Abort, alloc: Global, kind: Kind, text: &str, entries: Vec<En
     }
 }
 
-/// Whether this is reported for a question without a text, whose one answer is this, and from which
-/// a question without a text follows.
-fn is_told_of_an_answer(rt: &impl Abort, alloc: Global, answer: &str, text: &str) -> bool {
+/// A question without a text, whose one answer is this, and from which a question without a text
+/// follows.
+fn question(rt: &impl Abort, alloc: Global, answer: &str) -> Entry {
     let last = entry(rt, alloc, Kind::Question, "", Vec::new(alloc));
-    let given = entry(
-        rt,
-        alloc,
-        Kind::Answer,
-        answer,
-        vec![in alloc; last].or_end(rt),
-    );
-    let first = entry(
-        rt,
-        alloc,
-        Kind::Question,
-        "",
-        vec![in alloc; given].or_end(rt),
-    );
-    is_told(rt, alloc, &first, text)
+    let given = entry(rt, alloc, Kind::Answer, answer, list(rt, alloc, [last]));
+    entry(rt, alloc, Kind::Question, "", list(rt, alloc, [given]))
 }
 
 #[test]
 fn questions_and_answers(rt: HostRuntime) {
-    let text =
-        "text: length is lower than 1\nentries[0].text: length is greater than 40\nentries[0].entries[0].text: length is lower than 1\nnodes: 7";
     let answer = "an answer that is longer than forty signs";
-    assert!(rt; is_told_of_an_answer(&rt, rt.alloc(), answer, text));
-    let text =
-        "text: length is lower than 1\nentries[0].entries[0].text: length is lower than 1\nnodes: 6";
-    assert!(rt; is_told_of_an_answer(&rt, rt.alloc(), "", text));
+    let long =
+        "text: length is lower than 1\nentries[0].text: length is greater than 40\nentries[0].entries[0].text: length is lower than 1\n";
+    let short =
+        "text: length is lower than 1\nentries[0].entries[0].text: length is lower than 1\n";
+    assert!(rt;
+        is_told(&rt, rt.alloc(), &question(&rt, rt.alloc(), answer), long, 7)
+            && is_told(&rt, rt.alloc(), &question(&rt, rt.alloc(), ""), short, 6)
+    );
 }
 
-/// A thousand folders, each in the next, and in the last of them one that has no name.
-fn deep(rt: &impl Abort, alloc: Global) -> Folder {
-    let mut outer = folder(rt, alloc, "", Vec::new(alloc));
-    for _ in 0..1000 {
-        outer = folder(rt, alloc, "inner", vec![in alloc; outer].or_end(rt));
-    }
-    outer
-}
-
-/// What is reported for the folder without a name.
-fn told_of_deep(rt: &impl Abort, alloc: Global) -> String {
-    let mut expected = "folders[0].".repeat(alloc, 1000).or_end(rt);
-    expected
-        .push_str("name: length is lower than 1\nnodes: 2001")
-        .or_end(rt);
-    expected
-}
-
-/// Whether this is reported for the thousand folders.
-fn is_told_of_deep(rt: &impl Abort, alloc: Global, text: &str) -> bool {
-    is_told(rt, alloc, &deep(rt, alloc), text)
-}
-
-#[test]
-fn a_thousand_folders_deep(rt: HostRuntime) {
-    let expected = told_of_deep(&rt, rt.alloc());
-    assert!(rt; is_told_of_deep(&rt, rt.alloc(), expected.as_str()));
-}
-
-fn comment(rt: &impl Abort, alloc: Global, text: &str, replies: Vec<Comment>) -> Comment {
-    let text = String::from_str(alloc, text).or_end(rt);
+/// A comment of this text with these replies.
+fn comment(rt: &impl Abort, alloc: Global, told: &str, replies: Vec<Comment>) -> Comment {
+    let text = text(rt, alloc, told);
     Comment { text, replies }
 }
 
-/// A reply with one that is empty.
-fn reply(rt: &impl Abort, alloc: Global) -> Comment {
-    let leaf = comment(rt, alloc, "", Vec::new(alloc));
-    comment(rt, alloc, "first", vec![in alloc; leaf].or_end(rt))
-}
-
-/// A comment without a text, with the reply and one that is empty.
+/// A comment without a text, with a reply that has an empty one, and with an empty one.
 fn thread(rt: &impl Abort, alloc: Global) -> Comment {
-    let first = reply(rt, alloc);
+    let leaves = list(rt, alloc, [comment(rt, alloc, "", Vec::new(alloc))]);
     let second = comment(rt, alloc, "", Vec::new(alloc));
-    comment(rt, alloc, "", vec![in alloc; first, second].or_end(rt))
+    let replies = [comment(rt, alloc, "first", leaves), second];
+    comment(rt, alloc, "", list(rt, alloc, replies))
 }
 
-/// Whether this is reported for the comment.
-fn is_told_of_a_thread(rt: &impl Abort, alloc: Global, text: &str) -> bool {
-    is_told(rt, alloc, &thread(rt, alloc), text)
-}
-
-#[test]
-fn replies_at_each_level(rt: HostRuntime) {
-    let text =
-        "text: length is lower than 1\nreplies[0].replies[0].text: length is lower than 1\nreplies[1].text: length is lower than 1\nnodes: 8";
-    assert!(rt; is_told_of_a_thread(&rt, rt.alloc(), text));
-}
-
-fn menu(rt: &impl Abort, alloc: Global, label: &str) -> Menu {
-    let label = String::from_str(alloc, label).or_end(rt);
+/// A menu of this label, with these menus under their names.
+fn menu<const N: usize>(
+    rt: &impl Abort,
+    alloc: Global,
+    label: &str,
+    menus: [(String, Menu); N],
+) -> Menu {
     Menu {
-        label,
-        menus: BTreeMap::new(alloc),
+        label: text(rt, alloc, label),
+        menus: BTreeMap::from_array(alloc, menus).or_end(rt),
     }
 }
 
-fn with(rt: &impl Abort, alloc: Global, mut outer: Menu, name: &str, inner: Menu) -> Menu {
-    let _before = outer
-        .menus
-        .insert(String::from_str(alloc, name).or_end(rt), inner)
-        .or_end(rt);
-    outer
-}
-
-/// A menu under `File` that has no label.
-fn file(rt: &impl Abort, alloc: Global) -> Menu {
-    with(
-        rt,
-        alloc,
-        menu(rt, alloc, "File"),
-        "recent",
-        menu(rt, alloc, ""),
-    )
-}
-
-/// A menu without a label, with one whose label is too long.
-fn view(rt: &impl Abort, alloc: Global) -> Menu {
-    let long = menu(rt, alloc, "a label that is too long");
-    with(rt, alloc, menu(rt, alloc, ""), "view", long)
-}
-
-/// Whether this is reported for both menus in one.
-fn is_told_of_menus(rt: &impl Abort, alloc: Global, text: &str) -> bool {
-    let top = with(rt, alloc, view(rt, alloc), "file", file(rt, alloc));
-    is_told(rt, alloc, &top, text)
+/// A menu without a label, with one of a label that is too long and with one that has a menu without
+/// a label.
+fn menus(rt: &impl Abort, alloc: Global) -> Menu {
+    let recent = [(text(rt, alloc, "recent"), menu(rt, alloc, "", []))];
+    let file = menu(rt, alloc, "File", recent);
+    let view = menu(rt, alloc, "a label that is too long", []);
+    let all = [
+        (text(rt, alloc, "view"), view),
+        (text(rt, alloc, "file"), file),
+    ];
+    menu(rt, alloc, "", all)
 }
 
 #[test]
 fn menus_under_their_keys(rt: HostRuntime) {
-    let text =
-        "label: length is lower than 1\nmenus.file.menus.recent.label: length is lower than 1\nmenus.view.label: length is greater than 20\nnodes: 8";
-    assert!(rt; is_told_of_menus(&rt, rt.alloc(), text));
-}
-
-fn tree(value: Expr, children: Vec<Tree<Expr>>) -> Tree<Expr> {
-    Tree { value, children }
-}
-
-/// A tree of a valid number, under which is one that is too low.
-fn branch(rt: &impl Abort, alloc: Global) -> Tree<Expr> {
-    let leaf = tree(low(rt, alloc), Vec::new(alloc));
-    tree(Expr::Num(1), vec![in alloc; leaf].or_end(rt))
-}
-
-/// Whether this is reported for a tree of that one and of two numbers that are too great.
-fn is_told_of_a_tree(rt: &impl Abort, alloc: Global, text: &str) -> bool {
-    let second = tree(Expr::Num(12), Vec::new(alloc));
-    let children = vec![in alloc; branch(rt, alloc), second].or_end(rt);
-    is_told(rt, alloc, &tree(Expr::Num(11), children), text)
-}
-
-#[test]
-fn trees_of_values_of_a_type(rt: HostRuntime) {
-    let text =
-        "value.num: greater than 10\nchildren[0].children[0].value[0].num: lower than -10\nchildren[1].value.num: greater than 10\nnodes: 12";
-    assert!(rt; is_told_of_a_tree(&rt, rt.alloc(), text));
+    let texts =
+        "text: length is lower than 1\nreplies[0].replies[0].text: length is lower than 1\nreplies[1].text: length is lower than 1\n";
+    let labels =
+        "label: length is lower than 1\nmenus.file.menus.recent.label: length is lower than 1\nmenus.view.label: length is greater than 20\n";
+    assert!(rt;
+        is_told(&rt, rt.alloc(), &thread(&rt, rt.alloc()), texts, 8)
+            && is_told(&rt, rt.alloc(), &menus(&rt, rt.alloc()), labels, 8)
+    );
 }
 
 #[test]

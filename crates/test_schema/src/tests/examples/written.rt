@@ -2,36 +2,18 @@
 use garde::fields::{ByteLength, CharLength, GraphemeLength, Length, Range, Utf16Length};
 use garde::{length, range};
 
-/// A bound that is computed where the rule is made.
-fn most() -> usize {
-    300
-}
-
-/// Whether each length has the bounds that it is written with.
-fn are_lengths_right() -> bool {
+/// Whether each length has the bounds that it is written with. `most` is computed where they are
+/// made.
+fn are_lengths_right(most: usize) -> bool {
     length!(min = 3) == Length::min(3)
-        && length!(max = most()) == Length::max(300)
-        && length!(equal = most()) == Length::equal(300)
-        && length!(min = 3, max = most()) == Length::between(3, 300)
+        && length!(max = most) == Length::max(300)
+        && length!(equal = most) == Length::equal(300)
+        && length!(min = 3, max = most) == Length::between(3, 300)
         && length!(simple, min = 3) == Length::min(3)
-}
-
-#[test]
-fn lengths_by_their_bounds(rt: HostRuntime) {
-    assert!(rt; are_lengths_right());
-}
-
-/// Whether each length is counted in the unit that it is written with.
-fn are_units_right() -> bool {
-    length!(bytes, min = 3) == ByteLength::min(3)
+        && length!(bytes, min = 3) == ByteLength::min(3)
         && length!(chars, max = 25) == CharLength::max(25)
         && length!(graphemes, equal = 5) == GraphemeLength::equal(5)
         && length!(utf16, min = 3, max = 25) == Utf16Length::between(3, 25)
-}
-
-#[test]
-fn lengths_in_their_units(rt: HostRuntime) {
-    assert!(rt; are_units_right());
 }
 
 const TOP: i32 = 120;
@@ -45,6 +27,6 @@ fn are_ranges_right() -> bool {
 }
 
 #[test]
-fn ranges_by_their_bounds(rt: HostRuntime) {
-    assert!(rt; are_ranges_right());
+fn rules_by_their_bounds(rt: HostRuntime) {
+    assert!(rt; are_lengths_right(300) && are_ranges_right());
 }

@@ -1,11 +1,12 @@
 //! Types of numbers, and an enum.
-use super::{next, tells, texts};
+use super::tells;
+use crate::tests::examples::text;
 use example_ported::event::Event;
 use example_ported::reading::Reading;
 use std::alloc::Global;
 use std::process::Abort;
 
-const READINGS: &[(Reading, &str)] = &[
+static READINGS: [(Reading, &str); 2] = [
     (
         Reading {
             age: 18,
@@ -36,70 +37,47 @@ const READINGS: &[(Reading, &str)] = &[
 
 #[test]
 fn each_number_within_its_bounds(rt: HostRuntime) {
-    for (place, (reading, text)) in READINGS.iter().enumerate() {
-        assert!(rt; tells(&rt, rt.alloc(), reading, &(), text), "row {place}");
+    for (reading, text) in &READINGS {
+        assert!(rt; tells(&rt, rt.alloc(), reading, &(), text), "{text}");
     }
 }
 
-/// A variant of an event.
-#[derive(Clone, Copy)]
-enum Of {
-    Move,
-    Say,
-    Wait,
-    Pair,
-    Stop,
-    Mark,
-}
-
-const EVENTS: &[(Of, u8, &str, &str)] = &[
-    (Of::Move, 10, "", ""),
-    (Of::Move, 11, "", "steps: greater than 10\n"),
-    (Of::Say, 0, "abc", ""),
-    (
-        Of::Say,
-        0,
-        "é12",
-        "text: not ascii\nreport: length is greater than 3\n",
-    ),
-    (Of::Wait, 60, "", ""),
-    (Of::Wait, 61, "", "[0]: greater than 60\n"),
-    (Of::Pair, 0, "ab", ""),
-    (Of::Pair, 0, "é", "[0]: not ascii\n"),
-    (Of::Stop, 0, "", ""),
-    (Of::Mark, 255, "", ""),
-];
-
-fn event(rt: &impl Abort, alloc: Global, of: Of, number: u8, text: &str) -> Event {
-    let mut all = texts(rt, alloc, &[text, text]);
-    let first = next(alloc, &mut all);
-    let second = next(alloc, &mut all);
-    match of {
-        Of::Move => Event::Move {
-            steps: number as i32,
-        },
-        Of::Say => Event::Say {
-            text: first,
-            sender: 0,
-            report: second,
-        },
-        Of::Wait => Event::Wait(number),
-        Of::Pair => Event::Pair(first, second),
-        Of::Stop => Event::Stop,
-        Of::Mark => Event::Mark(number),
+/// Someone who says this and reports it.
+fn say(rt: &impl Abort, alloc: Global, from: &str) -> Event {
+    Event::Say {
+        text: text(rt, alloc, from),
+        sender: 0,
+        report: text(rt, alloc, from),
     }
 }
 
-fn event_tells(rt: &impl Abort, alloc: Global, of: Of, number: u8, from: &str, text: &str) -> bool {
-    tells(rt, alloc, &event(rt, alloc, of, number, from), &(), text)
+/// A pair of this text, twice.
+fn pair(rt: &impl Abort, alloc: Global, from: &str) -> Event {
+    Event::Pair(text(rt, alloc, from), text(rt, alloc, from))
+}
+
+/// Whether the report of each variant is the right one.
+fn are_told(rt: &impl Abort, alloc: Global) -> bool {
+    let said = "text: not ascii\nreport: length is greater than 3\n";
+    tells(rt, alloc, &Event::Move { steps: 10 }, &(), "")
+        && tells(
+            rt,
+            alloc,
+            &Event::Move { steps: 11 },
+            &(),
+            "steps: greater than 10\n",
+        )
+        && tells(rt, alloc, &say(rt, alloc, "abc"), &(), "")
+        && tells(rt, alloc, &say(rt, alloc, "é12"), &(), said)
+        && tells(rt, alloc, &Event::Wait(60), &(), "")
+        && tells(rt, alloc, &Event::Wait(61), &(), "[0]: greater than 60\n")
+        && tells(rt, alloc, &pair(rt, alloc, "ab"), &(), "")
+        && tells(rt, alloc, &pair(rt, alloc, "é"), &(), "[0]: not ascii\n")
+        && tells(rt, alloc, &Event::Stop, &(), "")
+        && tells(rt, alloc, &Event::Mark(255), &(), "")
 }
 
 #[test]
 fn each_variant_in_its_way(rt: HostRuntime) {
-    for (place, (of, number, from, text)) in EVENTS.iter().enumerate() {
-        assert!(rt;
-            event_tells(&rt, rt.alloc(), *of, *number, from, text),
-            "row {place}"
-        );
-    }
+    assert!(rt; are_told(&rt, rt.alloc()));
 }

@@ -1,6 +1,7 @@
 //! Types with conditions, patterns and rules of their own.
-use super::{next, tells, texts};
-use crate::tests::examples::{OrEnd, owned};
+use super::{tells, texts};
+use crate::tests::OrEnd;
+use crate::tests::examples::{owned, text};
 use example_ported::coupon::{Coupon, Discount, Season, Tag};
 use example_ported::page::{Page, Press};
 use example_ported::visitor::{Badge, BadgePatterns, Desk, Patterns, Visitor};
@@ -20,7 +21,8 @@ struct Row {
     told: &'static str,
 }
 
-const PAGES: &[Row] = &[
+/// Pages, and what is reported for each.
+static PAGES: [Row; 4] = [
     Row {
         plain: true,
         short: false,
@@ -63,32 +65,27 @@ const PAGES: &[Row] = &[
     },
 ];
 
-fn page(rt: &impl Abort, alloc: Global, row: &Row) -> Page {
-    let mut all = texts(rt, alloc, &row.texts);
-    let notes = texts(rt, alloc, row.notes);
-    let content = owned(rt, alloc, row.content);
-    Page {
+/// Whether the report of a page is the right one.
+fn is_told_of_a_page(rt: &impl Abort, alloc: Global, row: &Row) -> bool {
+    let page = Page {
         plain: row.plain,
         short: row.short,
-        content,
-        notes,
-        title: next(alloc, &mut all),
-        author: next(alloc, &mut all),
-        source: next(alloc, &mut all),
-        volume: next(alloc, &mut all),
+        content: owned(rt, alloc, row.content),
+        notes: texts(rt, alloc, row.notes),
+        title: text(rt, alloc, row.texts[0]),
+        author: text(rt, alloc, row.texts[1]),
+        source: text(rt, alloc, row.texts[2]),
+        volume: text(rt, alloc, row.texts[3]),
         number: row.number,
-    }
-}
-
-fn page_tells(rt: &impl Abort, alloc: Global, row: &Row) -> bool {
+    };
     let press = Press { strict: row.strict };
-    tells(rt, alloc, &page(rt, alloc, row), &press, row.told)
+    tells(rt, alloc, &page, &press, row.told)
 }
 
 #[test]
 fn rules_under_conditions(rt: HostRuntime) {
-    for (place, row) in PAGES.iter().enumerate() {
-        assert!(rt; page_tells(&rt, rt.alloc(), row), "row {place}");
+    for row in &PAGES {
+        assert!(rt; is_told_of_a_page(&rt, rt.alloc(), row), "{}", row.told);
     }
 }
 
@@ -97,119 +94,94 @@ fn pattern(rt: &impl Abort, alloc: Global, source: &str) -> Regex {
     Regex::new(alloc, source).or_end(rt)
 }
 
-fn patterns(rt: &impl Abort, alloc: Global) -> Patterns {
-    let mail = pattern(rt, alloc, "^[^@]+@[^@]+$");
-    let phone = pattern(rt, alloc, "^[0-9]+$");
-    Patterns { mail, phone }
+/// Whether this is reported for a visitor of this mail and phone.
+fn is_told_of_a_visitor(rt: &impl Abort, alloc: Global, from: [&str; 2], told: &str) -> bool {
+    let patterns = Patterns {
+        mail: pattern(rt, alloc, "^[^@]+@[^@]+$"),
+        phone: pattern(rt, alloc, "^[0-9]+$"),
+    };
+    let visitor = Visitor {
+        mail: text(rt, alloc, from[0]),
+        phone: Some(text(rt, alloc, from[1])),
+    };
+    tells(rt, alloc, &visitor, &patterns, told)
 }
 
-fn badge_patterns(rt: &impl Abort, alloc: Global) -> BadgePatterns {
-    let number = pattern(rt, alloc, "^[A-Z]{2}[0-9]+$");
-    let colors = pattern(rt, alloc, "^[a-z]+$");
-    BadgePatterns { number, colors }
-}
-
-fn visitor(rt: &impl Abort, alloc: Global, from: &[&str]) -> Visitor {
-    let mut all = texts(rt, alloc, from);
-    let mail = next(alloc, &mut all);
-    let phone = Some(next(alloc, &mut all));
-    Visitor { mail, phone }
-}
-
-fn visitor_tells(rt: &impl Abort, alloc: Global, from: &[&str], text: &str) -> bool {
-    let visitor = visitor(rt, alloc, from);
-    tells(rt, alloc, &visitor, &patterns(rt, alloc), text)
-}
-
-fn badge(rt: &impl Abort, alloc: Global, from: &[&str]) -> Badge {
-    let mut all = texts(rt, alloc, from);
-    let number = next(alloc, &mut all);
-    let floor = if number.len() == 3 { 9 } else { 10 };
-    Badge {
-        number,
-        colors: all,
+/// Whether this is reported for a badge of this number and color, which is given on a floor.
+fn is_told_of_a_badge(
+    rt: &impl Abort,
+    alloc: Global,
+    from: [&str; 2],
+    floor: u8,
+    told: &str,
+) -> bool {
+    let patterns = BadgePatterns {
+        number: pattern(rt, alloc, "^[A-Z]{2}[0-9]+$"),
+        colors: pattern(rt, alloc, "^[a-z]+$"),
+    };
+    let badge = Badge {
+        number: text(rt, alloc, from[0]),
+        colors: texts(rt, alloc, &[from[1]]),
         desk: Desk { floor },
-    }
-}
-
-fn badge_tells(rt: &impl Abort, alloc: Global, from: &[&str], text: &str) -> bool {
-    let badge = badge(rt, alloc, from);
-    tells(rt, alloc, &badge, &badge_patterns(rt, alloc), text)
-}
-
-/// A type with patterns.
-#[derive(Clone, Copy)]
-enum Of {
-    Badge,
-    Visitor,
-}
-
-const MATCHED: &[(Of, [&str; 2], &str)] = &[
-    (Of::Badge, ["AB1", "red"], ""),
-    (
-        Of::Badge,
-        ["AB", "Red"],
-        "number: does not match pattern /^[A-Z]{2}[0-9]+$/\ncolors[0]: does not match pattern /^[a-z]+$/\ndesk.floor: greater than 9\n",
-    ),
-    (Of::Visitor, ["a@b", "123"], ""),
-    (
-        Of::Visitor,
-        ["é", "a"],
-        "mail: not ascii\nmail: does not match pattern /^[^@]+@[^@]+$/\nphone: does not match pattern /^[0-9]+$/\n",
-    ),
-];
-
-/// Whether this is reported for a value of a type that is made of two texts.
-fn is_told(rt: &impl Abort, alloc: Global, of: Of, from: &[&str], text: &str) -> bool {
-    match of {
-        Of::Badge => badge_tells(rt, alloc, from, text),
-        Of::Visitor => visitor_tells(rt, alloc, from, text),
-    }
+    };
+    tells(rt, alloc, &badge, &patterns, told)
 }
 
 #[test]
 fn compiled_patterns(rt: HostRuntime) {
-    for (place, (of, from, text)) in MATCHED.iter().enumerate() {
-        assert!(rt; is_told(&rt, rt.alloc(), *of, from, text), "row {place}");
-    }
+    let badge =
+        "number: does not match pattern /^[A-Z]{2}[0-9]+$/\ncolors[0]: does not match pattern /^[a-z]+$/\ndesk.floor: greater than 9\n";
+    let visitor =
+        "mail: not ascii\nmail: does not match pattern /^[^@]+@[^@]+$/\nphone: does not match pattern /^[0-9]+$/\n";
+    assert!(rt;
+        is_told_of_a_badge(&rt, rt.alloc(), ["AB1", "red"], 9, "")
+            && is_told_of_a_badge(&rt, rt.alloc(), ["AB", "Red"], 10, badge)
+            && is_told_of_a_visitor(&rt, rt.alloc(), ["a@b", "123"], "")
+            && is_told_of_a_visitor(&rt, rt.alloc(), ["é", "a"], visitor)
+    );
 }
 
+/// A coupon of this number and tag.
 fn coupon(rt: &impl Abort, alloc: Global, number: u32, tag: &str, terms: bool) -> Coupon {
-    let tag = Tag(String::from_str(alloc, tag).or_end(rt));
+    let tag = Tag(text(rt, alloc, tag));
     Coupon { number, tag, terms }
 }
 
-fn discount(rt: &impl Abort, alloc: Global, percent: u8) -> Discount {
-    let further = [percent].to_vec(alloc).or_end(rt);
-    Discount { percent, further }
-}
-
-fn coupon_tells(
-    rt: &impl Abort,
-    alloc: Global,
-    number: u32,
-    tag: &str,
-    terms: bool,
-    text: &str,
-) -> bool {
-    tells(rt, alloc, &coupon(rt, alloc, number, tag, terms), &(), text)
-}
-
 /// Whether this is reported for a discount in a season of at most 20 percent.
-fn discount_tells(rt: &impl Abort, alloc: Global, percent: u8, text: &str) -> bool {
-    let season = Season { most: 20 };
-    tells(rt, alloc, &discount(rt, alloc, percent), &season, text)
+fn is_told_of_a_discount(rt: &impl Abort, alloc: Global, percent: u8, told: &str) -> bool {
+    let further = [percent].to_vec(alloc).or_end(rt);
+    tells(
+        rt,
+        alloc,
+        &Discount { percent, further },
+        &Season { most: 20 },
+        told,
+    )
 }
-
-const BAD_COUPON: &str =
-    "number: not even\ntag: value does not begin with \"t-\"\ntag: length is greater than 6\nterms: accept the terms\n";
-
-const BAD_DISCOUNT: &str = "percent: not in season\nfurther[0]: not in season\n";
 
 #[test]
 fn rules_of_ones_own(rt: HostRuntime) {
-    assert!(rt; coupon_tells(&rt, rt.alloc(), 2, "t-1234", true, ""));
-    assert!(rt; coupon_tells(&rt, rt.alloc(), 3, "1234567", false, BAD_COUPON));
-    assert!(rt; discount_tells(&rt, rt.alloc(), 20, ""));
-    assert!(rt; discount_tells(&rt, rt.alloc(), 21, BAD_DISCOUNT));
+    let bad =
+        "number: not even\ntag: value does not begin with \"t-\"\ntag: length is greater than 6\nterms: accept the terms\n";
+    assert!(rt;
+        tells(
+            &rt,
+            rt.alloc(),
+            &coupon(&rt, rt.alloc(), 2, "t-1234", true),
+            &(),
+            ""
+        ) && tells(
+            &rt,
+            rt.alloc(),
+            &coupon(&rt, rt.alloc(), 3, "1234567", false),
+            &(),
+            bad
+        ) && is_told_of_a_discount(&rt, rt.alloc(), 20, "")
+            && is_told_of_a_discount(
+                &rt,
+                rt.alloc(),
+                21,
+                "percent: not in season\nfurther[0]: not in season\n",
+            )
+    );
 }

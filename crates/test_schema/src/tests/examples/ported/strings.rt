@@ -1,5 +1,6 @@
 //! Types of texts.
-use super::{next, tells, texts};
+use super::tells;
+use crate::tests::examples::{owned, text};
 use example_ported::account::Account;
 use example_ported::draft::Draft;
 use example_ported::label::Label;
@@ -9,53 +10,95 @@ use std::alloc::Global;
 use std::borrow::CowStr;
 use std::process::Abort;
 
-/// A type of texts.
-#[derive(Clone, Copy)]
-enum Of {
-    Account,
-    Draft,
-    Label,
-    Pair,
-    Place,
+/// An account of these texts.
+fn account(rt: &impl Abort, alloc: Global, from: [&str; 4]) -> Account {
+    Account {
+        username: text(rt, alloc, from[0]),
+        password: text(rt, alloc, from[1]),
+        again: text(rt, alloc, from[2]),
+        code: text(rt, alloc, from[3]),
+        remember: false,
+    }
 }
 
-const ROWS: &[(Of, &[&str], &str)] = &[
-    (
-        Of::Account,
-        &[
-            "test",
-            "not a very good password",
-            "not a very good password",
-            "a1",
-        ],
+/// Whether this is reported for a draft of this report and height.
+fn is_told_of_a_draft(rt: &impl Abort, alloc: Global, from: &str, h: u8, told: &str) -> bool {
+    let report = text(rt, alloc, from);
+    let draft = Draft {
+        report,
+        trail: 200,
+        h,
+    };
+    tells(rt, alloc, &draft, &(), told)
+}
+
+/// A pair, in which the second of both is this.
+fn pair(rt: &impl Abort, alloc: Global, again: Option<&str>, pin_again: u32) -> Pair {
+    Pair {
+        mail: Some(text(rt, alloc, "a@b.org")),
+        mail_again: owned(rt, alloc, again),
+        pin: 1000,
+        pin_again,
+    }
+}
+
+/// Whether this is reported for a label of five texts.
+fn is_told_of_a_label(rt: &impl Abort, alloc: Global, from: [&str; 5], told: &str) -> bool {
+    let also = ["b", from[1]];
+    let label = Label {
+        name: from[0],
+        also: &also,
+        code: Some(from[2]),
+        text: CowStr::Borrowed(from[3]),
+        mark: from[4],
+    };
+    tells(rt, alloc, &label, &(), told)
+}
+
+/// Whether the report of each type of a few texts is the right one.
+fn are_texts_told(rt: &impl Abort, alloc: Global) -> bool {
+    let long = "not a very good password";
+    tells(
+        rt,
+        alloc,
+        &account(rt, alloc, ["test", long, long, "a1"]),
+        &(),
         "",
-    ),
-    (
-        Of::Account,
-        &["é", "short", "other", "a_23456789"],
+    ) && tells(
+        rt,
+        alloc,
+        &account(rt, alloc, ["é", "short", "other", "a_23456789"]),
+        &(),
         "username: not ascii\nusername: length is lower than 3\npassword: length is lower than 15\nagain: does not match password field\ncode: not alphanumeric\ncode: length is greater than 8\n",
-    ),
-    (Of::Draft, &["a"], ""),
+    ) && is_told_of_a_draft(rt, alloc, "a", 9, "")
+        && is_told_of_a_draft(
+            rt,
+            alloc,
+            "",
+            10,
+            "report: length is lower than 1\nh: greater than 9\n",
+        )
+        && is_told_of_a_label(rt, alloc, ["name", "b1", "a-b", "text", "mark"], "")
+        && is_told_of_a_label(
+            rt,
+            alloc,
+            ["é", "cde", "x", "_", "marks"],
+            "name: not ascii\nalso[1]: value does not begin with \"b\"\nalso[1]: length is greater than 2\ncode: does not contain \"-\"\ncode: length is lower than 2\ntext: not alphanumeric\nmark: not short\n",
+        )
+        && tells(rt, alloc, &pair(rt, alloc, Some("a@b.org"), 1000), &(), "")
+        && tells(
+            rt,
+            alloc,
+            &pair(rt, alloc, None, 1001),
+            &(),
+            "mail_again: does not match mail field\npin_again: does not match pin field\n",
+        )
+}
+
+/// Places of these texts, and what is reported for each.
+static PLACES: [([&str; 9], &str); 2] = [
     (
-        Of::Draft,
-        &[],
-        "report: length is lower than 1\nh: greater than 9\n",
-    ),
-    (Of::Label, &["name", "b1", "a-b", "text", "mark"], ""),
-    (
-        Of::Label,
-        &["é", "cde", "x", "_", "marks"],
-        "name: not ascii\nalso[1]: value does not begin with \"b\"\nalso[1]: length is greater than 2\ncode: does not contain \"-\"\ncode: length is lower than 2\ntext: not alphanumeric\nmark: not short\n",
-    ),
-    (Of::Pair, &["a@b.org", "a@b.org"], ""),
-    (
-        Of::Pair,
-        &["a@b.org"],
-        "mail_again: does not match mail field\npin_again: does not match pin field\n",
-    ),
-    (
-        Of::Place,
-        &[
+        [
             "a@b.org",
             "t-abc",
             "::1",
@@ -69,97 +112,34 @@ const ROWS: &[(Of, &[&str], &str)] = &[
         "",
     ),
     (
-        Of::Place,
-        &[
+        [
             "mail", "x", "host", "::1", "1.2.3.4", "abc", "", "a😂", "abcde",
         ],
         "mail: does not contain \"@\"\nmail: does not end with \".org\"\ntag: value does not begin with \"t-\"\ntag: length is lower than 5\nhost: not a valid IP address\nold: not a valid IPv4 address\nnew: not a valid IPv6 address\nsite: not a valid url: relative URL without a base\nsign: length is lower than 1\nshort: length is greater than 2\ntitle: length is greater than 4\n",
     ),
 ];
 
-fn account(rt: &impl Abort, alloc: Global, from: &[&str]) -> Account {
-    let mut all = texts(rt, alloc, from);
-    Account {
-        username: next(alloc, &mut all),
-        password: next(alloc, &mut all),
-        again: next(alloc, &mut all),
-        code: next(alloc, &mut all),
-        remember: false,
-    }
-}
-
-/// A draft, whose height is too great where it has no report.
-fn draft(rt: &impl Abort, alloc: Global, from: &[&str]) -> Draft {
-    let mut all = texts(rt, alloc, from);
-    Draft {
-        report: next(alloc, &mut all),
-        trail: 200,
-        h: if from.is_empty() { 10 } else { 9 },
-    }
-}
-
-/// A pair, in which nothing is given a second time where there is one text.
-fn pair(rt: &impl Abort, alloc: Global, from: &[&str]) -> Pair {
-    let mut all = texts(rt, alloc, from);
-    let mail = next(alloc, &mut all);
-    let (mail_again, pin_again) = if from.len() < 2 {
-        (None, 1001)
-    } else {
-        (Some(next(alloc, &mut all)), 1000)
+/// Whether this is reported for a place of these texts.
+fn is_told_of_a_place(rt: &impl Abort, alloc: Global, from: &[&str; 9], told: &str) -> bool {
+    let place = Place {
+        mail: text(rt, alloc, from[0]),
+        tag: text(rt, alloc, from[1]),
+        host: text(rt, alloc, from[2]),
+        old: text(rt, alloc, from[3]),
+        new: text(rt, alloc, from[4]),
+        site: text(rt, alloc, from[5]),
+        sign: text(rt, alloc, from[6]),
+        short: text(rt, alloc, from[7]),
+        title: text(rt, alloc, from[8]),
     };
-    Pair {
-        mail: Some(mail),
-        mail_again,
-        pin: 1000,
-        pin_again,
-    }
-}
-
-fn place(rt: &impl Abort, alloc: Global, from: &[&str]) -> Place {
-    let mut all = texts(rt, alloc, from);
-    Place {
-        mail: next(alloc, &mut all),
-        tag: next(alloc, &mut all),
-        host: next(alloc, &mut all),
-        old: next(alloc, &mut all),
-        new: next(alloc, &mut all),
-        site: next(alloc, &mut all),
-        sign: next(alloc, &mut all),
-        short: next(alloc, &mut all),
-        title: next(alloc, &mut all),
-    }
-}
-
-/// Whether this is reported for a label of five texts.
-fn label_tells(rt: &impl Abort, alloc: Global, from: &[&str], text: &str) -> bool {
-    let [name, second, code, all, mark] = from else {
-        return false;
-    };
-    let also = ["b", *second];
-    let label = Label {
-        name: *name,
-        also: &also,
-        code: Some(*code),
-        text: CowStr::Borrowed(*all),
-        mark: *mark,
-    };
-    tells(rt, alloc, &label, &(), text)
-}
-
-/// Whether this is reported for a value of a type that is made of texts.
-fn is_told(rt: &impl Abort, alloc: Global, of: Of, from: &[&str], text: &str) -> bool {
-    match of {
-        Of::Account => tells(rt, alloc, &account(rt, alloc, from), &(), text),
-        Of::Draft => tells(rt, alloc, &draft(rt, alloc, from), &(), text),
-        Of::Label => label_tells(rt, alloc, from, text),
-        Of::Pair => tells(rt, alloc, &pair(rt, alloc, from), &(), text),
-        Of::Place => tells(rt, alloc, &place(rt, alloc, from), &(), text),
-    }
+    tells(rt, alloc, &place, &(), told)
 }
 
 #[test]
 fn types_of_texts(rt: HostRuntime) {
-    for (place, (of, from, text)) in ROWS.iter().enumerate() {
-        assert!(rt; is_told(&rt, rt.alloc(), *of, from, text), "row {place}");
-    }
+    assert!(rt;
+        are_texts_told(&rt, rt.alloc())
+            && is_told_of_a_place(&rt, rt.alloc(), &PLACES[0].0, PLACES[0].1)
+            && is_told_of_a_place(&rt, rt.alloc(), &PLACES[1].0, PLACES[1].1)
+    );
 }
