@@ -86,5 +86,5 @@ static ORDERS: [(&str, &str, &str); 9] = [
 
 #[test]
 fn reads_the_value_that_a_text_stands_for(rt: HostRuntime) {
-    compare_codes(&rt, rt.alloc(), Case::Enums, &ORDERS);
+    compare_codes(&rt, rt.alloc(), &Case::Enums, &ORDERS);
 }

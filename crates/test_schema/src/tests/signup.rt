@@ -49,5 +49,5 @@ static SIGNUPS: [(&str, &str, &str); 3] = [
 
 #[test]
 fn reads_texts_and_whole_numbers_under_rules(rt: HostRuntime) {
-    compare_codes(&rt, rt.alloc(), Case::Signup, &SIGNUPS);
+    compare_codes(&rt, rt.alloc(), &Case::Signup, &SIGNUPS);
 }

@@ -95,5 +95,5 @@ static PAYMENTS: [(&str, &str, &str); 13] = [
 
 #[test]
 fn reads_the_variant_that_the_tag_names(rt: HostRuntime) {
-    compare_codes(&rt, rt.alloc(), Case::Unions, &PAYMENTS);
+    compare_codes(&rt, rt.alloc(), &Case::Unions, &PAYMENTS);
 }
