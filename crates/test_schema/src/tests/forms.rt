@@ -3,6 +3,7 @@
 ghost use Rattle.std.specs.Prelude.{nat_le, length};
 ghost use Rattle.garde.specs.Fields.{asks};
 
+use super::is_handed;
 use super::long::{Long, is_told};
 use super::texts::Texts;
 use super::told::{Case, check, told};
@@ -164,21 +165,13 @@ static FAULTS: [(FormFault, &str, &str); 8] = [
     ),
 ];
 
-// Whether a handler gives a fault of form this text.
-fn has_text<H: FormI18n>(alloc: Global, h: &H, fault: FormFault, text: &str) -> bool {
-    match h.form_fault(alloc, fault) {
-        Ok(given) => given.as_str() == text,
-        Err(_) => false,
-    }
-}
-
 #[test]
 fn gives_each_fault_of_form_its_text(rt: HostRuntime) {
     let (plain, coded) = (Texts(DefaultI18n), WithCodes(Texts(DefaultI18n)));
     for (fault, expected, with_code) in &FAULTS {
         assert!(rt;
-            has_text(rt.alloc(), &plain, *fault, expected)
-                && has_text(rt.alloc(), &coded, *fault, with_code),
+            is_handed(plain.form_fault(rt.alloc(), *fault), expected)
+                && is_handed(coded.form_fault(rt.alloc(), *fault), with_code),
             "{expected}"
         );
     }

@@ -1,7 +1,7 @@
 //! Bytes that are read by a form: the value of each, its whole report, or where they stop to be JSON.
 
-use super::told::{Case, check, told};
 use super::is_text;
+use super::told::{Case, check, told};
 use garde::fields::Is;
 use garde::{DefaultI18n, I18n, length};
 use garde_schema::{

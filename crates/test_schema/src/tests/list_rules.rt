@@ -205,12 +205,7 @@ static RUSH: [(&str, &str); 5] = [
 
 #[test]
 fn asks_rules_of_a_list_and_of_its_items(rt: HostRuntime) {
-    compare(
-        &rt,
-        rt.alloc(),
-        &Form::ListRules(Case::Several),
-        &SEVERAL,
-    );
+    compare(&rt, rt.alloc(), &Form::ListRules(Case::Several), &SEVERAL);
     compare(&rt, rt.alloc(), &Form::ListRules(Case::Apart), &APART);
     compare(&rt, rt.alloc(), &Form::ListRules(Case::Many), &MANY);
     compare(&rt, rt.alloc(), &Form::ListRules(Case::Each), &EACH);

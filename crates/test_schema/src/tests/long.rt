@@ -21,12 +21,7 @@ pub enum Long {
     ),
     /// A text, each number from the first one up to the second one behind another text, and again behind
     /// a third text if there is one, and a last text.
-    Numbered(
-        &'static str,
-        (usize, usize),
-        (&'static str, &'static str),
-        &'static str,
-    ),
+    Numbered(&'static str, (usize, usize), (&'static str, &'static str), &'static str),
 }
 
 // Two texts, each so many times, and others before, between and behind them.
@@ -72,6 +67,14 @@ impl Long {
             }
         }
     }
+
+    /// Whether a text was made, and is this one.
+    pub fn is<E: Drop>(&self, alloc: Global, made: Result<String, E>) -> bool {
+        match self.text(alloc) {
+            Ok(text) => is_text(made, text.as_str()),
+            Err(_) => false,
+        }
+    }
 }
 
 /// Whether a body reads as this.
@@ -83,13 +86,7 @@ pub fn is_told<H: I18n + FormI18n>(
     told: &Long,
 ) -> bool {
     match body.text(alloc) {
-        Ok(body) => match told.text(alloc) {
-            Ok(told) => is_text(
-                told_of(alloc, case, body.as_str().as_bytes(), h),
-                told.as_str(),
-            ),
-            Err(_) => false,
-        },
+        Ok(body) => told.is(alloc, told_of(alloc, case, body.as_str().as_bytes(), h)),
         Err(_) => false,
     }
 }
@@ -151,22 +148,45 @@ static BODIES: [(Case, Long, Long); 15] = [
     (
         Case::Json,
         Long::Numbered("{\"name\":\"Ada\"", (0, 2_000), (",\"k", "\":"), "}"),
-        Long::Numbered("k0", (1, 2_000), (": not known here\nk", ""), ": not known here\n"),
+        Long::Numbered(
+            "k0",
+            (1, 2_000),
+            (": not known here\nk", ""),
+            ": not known here\n",
+        ),
     ),
     // Lists, one in the other, in an object.
     (
         Case::Json,
-        Long::Repeated("{\"name\":\"Ada\",\"any\":", (126, "["), "", (126, "]"), "}"),
+        Long::Repeated(
+            "{\"name\":\"Ada\",\"any\":",
+            (126, "["),
+            "",
+            (126, "]"),
+            "}",
+        ),
         Long::Text(VALID),
     ),
     (
         Case::Json,
-        Long::Repeated("{\"name\":\"Ada\",\"any\":", (127, "["), "", (127, "]"), "}"),
+        Long::Repeated(
+            "{\"name\":\"Ada\",\"any\":",
+            (127, "["),
+            "",
+            (127, "]"),
+            "}",
+        ),
         Long::Text(VALID),
     ),
     (
         Case::Json,
-        Long::Repeated("{\"name\":\"Ada\",\"any\":", (128, "["), "", (128, "]"), "}"),
+        Long::Repeated(
+            "{\"name\":\"Ada\",\"any\":",
+            (128, "["),
+            "",
+            (128, "]"),
+            "}",
+        ),
         Long::Text(TOO_DEEP),
     ),
     (
@@ -199,10 +219,19 @@ static BODIES: [(Case, Long, Long); 15] = [
     // Folders, each in the one before.
     (
         Case::Nested(nested::Case::Closed),
-        Long::Repeated("", (60, "{\"name\":\"a\",\"folders\":["), "", (60, "]}"), ""),
         Long::Repeated(
             "",
-            (60, "Folder { name: TextRef(\"a\"), size: None, folders: Items(["),
+            (60, "{\"name\":\"a\",\"folders\":["),
+            "",
+            (60, "]}"),
+            "",
+        ),
+        Long::Repeated(
+            "",
+            (
+                60,
+                "Folder { name: TextRef(\"a\"), size: None, folders: Items([",
+            ),
             "",
             (60, "]) }"),
             "",
@@ -220,7 +249,10 @@ static BODIES: [(Case, Long, Long); 15] = [
         Long::Numbered(
             "Folder { name: TextRef(\"a\"), size: None, folders: Items([Folder { name: TextRef(\"a\"), size: Some(0",
             (1, 10_000),
-            ("), folders: Items([]) }, Folder { name: TextRef(\"a\"), size: Some(", ""),
+            (
+                "), folders: Items([]) }, Folder { name: TextRef(\"a\"), size: Some(",
+                "",
+            ),
             "), folders: Items([]) }]) }",
         ),
     ),
@@ -244,6 +276,9 @@ static BODIES: [(Case, Long, Long); 15] = [
 #[test]
 fn reads_long_and_deep_bodies(rt: HostRuntime) {
     for (row, (case, body, told)) in BODIES.iter().enumerate() {
-        assert!(rt; is_told(rt.alloc(), case, &DefaultI18n, body, told), "row {row}");
+        assert!(rt;
+            is_told(rt.alloc(), case, &DefaultI18n, body, told),
+            "row {row}"
+        );
     }
 }

@@ -1,8 +1,8 @@
 //! What a body reads as by a form: its value, as it prints for debugging, or its whole report.
 
 use super::{
-    OrEnd, checked, enums, forms, json, list_rules, lists, maps, nested, nulls, only_members, signup,
-    tuples, unions, wide_numbers,
+    OrEnd, checked, enums, forms, json, list_rules, lists, maps, nested, nulls, only_members,
+    signup, tuples, unions, wide_numbers,
 };
 use garde::{CodeI18n, DefaultI18n, I18n};
 use garde_schema::{Form, FormI18n, read};

@@ -94,7 +94,11 @@ static TUPLES: [(Case, &str, &str); 18] = [
         "{\"a\":1,\"b\":true,\"c\":3,\"z\":0}",
         "b: not a whole number\nz: not known here\n",
     ),
-    (Case::Tuples(4), "{\"d\":4,\"c\":3,\"b\":2,\"a\":1}", "(1, 2, 3, 4)"),
+    (
+        Case::Tuples(4),
+        "{\"d\":4,\"c\":3,\"b\":2,\"a\":1}",
+        "(1, 2, 3, 4)",
+    ),
     (
         Case::Tuples(4),
         "{\"a\":1,\"b\":true,\"c\":3,\"d\":21,\"z\":0}",

@@ -73,7 +73,14 @@ const NUMBERS: &[(&str, &str, &str)] = &[
 fn reads_whole_numbers_of_128_bits(rt: HostRuntime) {
     for (body, unsigned, signed) in NUMBERS {
         let (alloc, bytes) = (rt.alloc(), body.as_bytes());
-        check(&rt, alloc, &Case::Wide(false), bytes, &DefaultI18n, unsigned);
+        check(
+            &rt,
+            alloc,
+            &Case::Wide(false),
+            bytes,
+            &DefaultI18n,
+            unsigned,
+        );
         check(&rt, alloc, &Case::Wide(true), bytes, &DefaultI18n, signed);
     }
 }
