@@ -2,7 +2,7 @@
 ghost use Rattle.std.specs.Prelude.{nat_le, refl};
 ghost use Rattle.garde.specs.Fields.{asks};
 
-use super::told::{Case as Form, compare, told};
+use super::told::told;
 use garde::fields::{Ascii, Is, Prefix, Rule};
 use garde::{I18n, RuleError, range};
 use garde_schema::{
@@ -77,8 +77,8 @@ impl<'a> FromParts for Line<'a> {
     }
 }
 
-// Bodies, and what each reads as.
-static LINES: [(&str, &str); 3] = [
+/// Bodies, and what each reads as.
+pub const LINES: &[(&str, &str)] = &[
     ("[]", "Items([])"),
     (
         "[{\"code\":\"P1\",\"count\":2,\"cents\":250},{\"cents\":0,\"count\":99,\"code\":\"P\"}]",
@@ -106,8 +106,8 @@ impl Rule<(u32, u32)> for InOrder {
     }
 }
 
-// Bodies, and what each reads as.
-static SPANS: [(&str, &str); 6] = [
+/// Bodies, and what each reads as.
+pub const SPANS: &[(&str, &str)] = &[
     (
         "{\"from\":1,\"to\":2,\"name\":\"a\"}",
         "((1, 2), TextRef(\"a\"))",
@@ -131,21 +131,10 @@ static SPANS: [(&str, &str); 6] = [
     ),
 ];
 
-// Bodies, and what each reads as.
-static ENDS: [(&str, &str); 4] = [
+/// Bodies, and what each reads as.
+pub const ENDS: &[(&str, &str)] = &[
     ("{\"from\":1,\"to\":2}", "(1, 2)"),
     ("{\"from\":2,\"to\":1}", "not in order\n"),
     ("{\"from\":2}", "to: missing\n"),
     ("[2,1]", "not an object\n"),
 ];
-
-#[test]
-fn makes_values_of_a_user_defined_type(rt: HostRuntime) {
-    compare(&rt, rt.alloc(), &Form::Checked(Case::Lines), &LINES);
-}
-
-#[test]
-fn asks_a_rule_over_two_members(rt: HostRuntime) {
-    compare(&rt, rt.alloc(), &Form::Checked(Case::Span), &SPANS);
-    compare(&rt, rt.alloc(), &Form::Checked(Case::Ends), &ENDS);
-}

@@ -3,7 +3,7 @@
 ghost use Rattle.std.specs.Prelude.{bytes_eq, codes, nat_le};
 ghost use Rattle.garde.specs.Fields.{asks, includes, is, required, when};
 
-use super::told::{Case as Form, compare, told};
+use super::told::told;
 use garde::fields::{
     Ascii, Each, Equal, IfSome, Is, Required, Rule, Rules, Unique, When, includes,
 };
@@ -115,16 +115,16 @@ impl<'t, P> Rules<(Items<TextRef<'t>>, Option<P>)> for PhoneForRush {
     }
 }
 
-// Bodies, and what each reads as.
-static SEVERAL: [(&str, &str); 4] = [
+/// Bodies, and what each reads as.
+pub const SEVERAL: &[(&str, &str)] = &[
     ("[]", "alone\n"),
     ("[-1]", "alone\n[0]: out of range: 0 to 255\n"),
     ("[2,1]", "Items([2, 1])"),
     ("[2,1,2]", "Items([2, 1, 2])"),
 ];
 
-// Bodies, and what each reads as.
-static APART: [(&str, &str); 9] = [
+/// Bodies, and what each reads as.
+pub const APART: &[(&str, &str)] = &[
     ("[]", "Items([])"),
     (
         "[\"a\",\"b\",\"\",\"A\"]",
@@ -148,8 +148,8 @@ static APART: [(&str, &str); 9] = [
     ("{\"a\":\"a\"}", "not a list\n"),
 ];
 
-// Bodies, and what each reads as.
-static MANY: [(&str, &str); 3] = [
+/// Bodies, and what each reads as.
+pub const MANY: &[(&str, &str)] = &[
     (
         "{\"five\":[\"a\",\"b\"],\"six\":[\"c\",\"\"]}",
         "(Items([TextRef(\"a\"), TextRef(\"b\")]), Items([TextRef(\"c\"), TextRef(\"\")]))",
@@ -164,8 +164,8 @@ static MANY: [(&str, &str); 3] = [
     ),
 ];
 
-// Bodies, and what each reads as.
-static EACH: [(&str, &str); 3] = [
+/// Bodies, and what each reads as.
+pub const EACH: &[(&str, &str)] = &[
     ("[\"ab\",\"c\"]", "Items([TextRef(\"ab\"), TextRef(\"c\")])"),
     (
         "[\"abc\",\"\u{e9}\",\"abc\"]",
@@ -174,8 +174,8 @@ static EACH: [(&str, &str); 3] = [
     ("[\"abc\",null]", "[1]: not a text\n"),
 ];
 
-// Bodies, and what each reads as.
-static MAYBE_APART: [(&str, &str); 4] = [
+/// Bodies, and what each reads as.
+pub const MAYBE_APART: &[(&str, &str)] = &[
     ("{}", "(None, None)"),
     (
         "{\"tags\":[\"b\",\"a\"]}",
@@ -188,8 +188,8 @@ static MAYBE_APART: [(&str, &str); 4] = [
     ),
 ];
 
-// Bodies, and what each reads as.
-static RUSH: [(&str, &str); 5] = [
+/// Bodies, and what each reads as.
+pub const RUSH: &[(&str, &str)] = &[
     ("{\"tags\":[]}", "(Items([]), None)"),
     (
         "{\"tags\":[\"rus\",\"rush!\"]}",
@@ -202,18 +202,3 @@ static RUSH: [(&str, &str); 5] = [
     ),
     ("{\"tags\":[\"rush\",1]}", "tags[1]: not a text\n"),
 ];
-
-#[test]
-fn asks_rules_of_a_list_and_of_its_items(rt: HostRuntime) {
-    compare(&rt, rt.alloc(), &Form::ListRules(Case::Several), &SEVERAL);
-    compare(&rt, rt.alloc(), &Form::ListRules(Case::Apart), &APART);
-    compare(&rt, rt.alloc(), &Form::ListRules(Case::Many), &MANY);
-    compare(&rt, rt.alloc(), &Form::ListRules(Case::Each), &EACH);
-    compare(
-        &rt,
-        rt.alloc(),
-        &Form::ListRules(Case::MaybeApart),
-        &MAYBE_APART,
-    );
-    compare(&rt, rt.alloc(), &Form::ListRules(Case::Rush), &RUSH);
-}

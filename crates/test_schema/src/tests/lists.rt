@@ -2,7 +2,7 @@
 
 use super::OrEnd;
 use super::long::Long;
-use super::told::{Case as Form, compare, told};
+use super::told::told;
 use garde::fields::{Ascii, Is};
 use garde::{DefaultI18n, I18n, length, range};
 use garde_schema::{
@@ -49,8 +49,8 @@ pub fn told_by<H: I18n + FormI18n>(
     }
 }
 
-// Bodies, and what each reads as.
-static TAGS: [(&str, &str); 8] = [
+/// Bodies, and what each reads as.
+pub const TAGS: &[(&str, &str)] = &[
     ("{\"tags\":[]}", "(Items([]), None)"),
     (
         "{\"tags\":[\"b\",\"a\",\"\\u0063\"]}",
@@ -73,8 +73,8 @@ static TAGS: [(&str, &str); 8] = [
     ),
 ];
 
-// Bodies, and what each reads as.
-static FEW: [(&str, &str); 8] = [
+/// Bodies, and what each reads as.
+pub const FEW: &[(&str, &str)] = &[
     ("[3]", "Items([3])"),
     ("[3,1,2]", "Items([3, 1, 2])"),
     ("[]", "length is lower than 1\n"),
@@ -91,8 +91,8 @@ static FEW: [(&str, &str); 8] = [
     ),
 ];
 
-// Bodies, and what each reads as.
-static DEEP: [(&str, &str); 3] = [
+/// Bodies, and what each reads as.
+pub const DEEP: &[(&str, &str)] = &[
     (
         "[[[[[[[[[[1,2]]]]]]]]]]",
         "Items([Items([Items([Items([Items([Items([Items([Items([Items([Items([1, 2])])])])])])])])])])",
@@ -103,13 +103,6 @@ static DEEP: [(&str, &str); 3] = [
         "[0][0][0][0][0][0][0][0][0][1]: not a whole number\n[0][0][0][0][0][0][0][0][1]: not a list\n[1]: not a list\n",
     ),
 ];
-
-#[test]
-fn reads_lists(rt: HostRuntime) {
-    compare(&rt, rt.alloc(), &Form::Lists(Case::Tags), &TAGS);
-    compare(&rt, rt.alloc(), &Form::Lists(Case::Few), &FEW);
-    compare(&rt, rt.alloc(), &Form::Lists(Case::Deep), &DEEP);
-}
 
 // A list of the numbers from 0 to 299.
 static NUMBERS: Long = Long::Numbered("[0", (1, 300), (",", ""), "]");

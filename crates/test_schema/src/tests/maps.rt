@@ -1,6 +1,6 @@
 //! Objects with any names: the whole report of each body, or its pairs in order.
 
-use super::told::{Case as Form, compare, told};
+use super::told::told;
 use garde::fields::{Alphanumeric, Ascii, Is};
 use garde::{I18n, all, length, range};
 use garde_schema::{
@@ -67,8 +67,8 @@ fn many<H: I18n + FormI18n>(
     told(alloc, tree, &form, h)
 }
 
-// Bodies, and what each reads as.
-static LABELS: [(&str, &str); 7] = [
+/// Bodies, and what each reads as.
+pub const LABELS: &[(&str, &str)] = &[
     ("{\"labels\":{},\"end\":true}", "(Items([]), true)"),
     (
         "{\"labels\":{\"b\":\"x\",\"\":\"y\",\"a.b\":\"\",\"[0]\":\"\\u007a\"},\"end\":true}",
@@ -93,8 +93,8 @@ static LABELS: [(&str, &str); 7] = [
     ),
 ];
 
-// Bodies, and what each reads as.
-static FEW_LABELS: [(&str, &str); 7] = [
+/// Bodies, and what each reads as.
+pub const FEW_LABELS: &[(&str, &str)] = &[
     (
         "{\"b\":\"x\",\"a\":\"\"}",
         "Items([(TextRef(\"b\"), TextRef(\"x\")), (TextRef(\"a\"), TextRef(\"\"))])",
@@ -113,8 +113,8 @@ static FEW_LABELS: [(&str, &str); 7] = [
     ("null", "not an object\n"),
 ];
 
-// Bodies, and what each reads as.
-static NAMED: [(&str, &str); 8] = [
+/// Bodies, and what each reads as.
+pub const NAMED: &[(&str, &str)] = &[
     ("{}", "Items([])"),
     (
         "{\"b2\":1,\"\":9}",
@@ -134,8 +134,8 @@ static NAMED: [(&str, &str); 8] = [
     ("[\"a-b\"]", "not an object\n"),
 ];
 
-// Bodies, and what each reads as.
-static MANY: [(&str, &str); 2] = [
+/// Bodies, and what each reads as.
+pub const MANY: &[(&str, &str)] = &[
     (
         "{\"five\":{\"a\":1},\"six\":{\"b\":2}}",
         "(Items([(TextRef(\"a\"), 1)]), Items([(TextRef(\"b\"), 2)]))",
@@ -146,8 +146,8 @@ static MANY: [(&str, &str); 2] = [
     ),
 ];
 
-// Bodies, and what each reads as.
-static NESTED: [(&str, &str); 2] = [
+/// Bodies, and what each reads as.
+pub const NESTED: &[(&str, &str)] = &[
     (
         "{\"a\":[{\"b\":{\"c\":1}}],\"d\":[]}",
         "Items([(TextRef(\"a\"), Items([Items([(TextRef(\"b\"), Items([(TextRef(\"c\"), 1)]))])])), (TextRef(\"d\"), Items([]))])",
@@ -157,12 +157,3 @@ static NESTED: [(&str, &str); 2] = [
         "a[1].b.c: repeated\na[1].b.d: out of range: 0 to 255\na[1].e: not an object\nf: not a list\n",
     ),
 ];
-
-#[test]
-fn reads_objects_with_any_names(rt: HostRuntime) {
-    compare(&rt, rt.alloc(), &Form::Maps(Case::Labels), &LABELS);
-    compare(&rt, rt.alloc(), &Form::Maps(Case::FewLabels), &FEW_LABELS);
-    compare(&rt, rt.alloc(), &Form::Maps(Case::Named), &NAMED);
-    compare(&rt, rt.alloc(), &Form::Maps(Case::Many), &MANY);
-    compare(&rt, rt.alloc(), &Form::Maps(Case::Nested), &NESTED);
-}

@@ -5,7 +5,7 @@ ghost use Rattle.test_schema.specs.declared.tests.nested.Folder.{out-Folder, rol
 
 use super::OrEnd;
 use super::long::Long;
-use super::told::{Case as Form, compare, told, told_of};
+use super::told::{Case as Form, told, told_of};
 use garde::fields::{Ascii, Is};
 use garde::{DefaultI18n, I18n, length, range};
 use garde_schema::{
@@ -79,8 +79,8 @@ impl<'a> FromNested for Folder<'a> {
     ghost kept = { λ _ _. Prim.search (rules, the_lemmas) };
 }
 
-// Bodies, and what each reads as.
-static CLOSED: [(&str, &str); 13] = [
+/// Bodies, and what each reads as.
+pub const CLOSED: &[(&str, &str)] = &[
     (
         "{\"name\":\"a\",\"folders\":[]}",
         "Folder { name: TextRef(\"a\"), size: None, folders: Items([]) }",
@@ -128,8 +128,8 @@ fn leaves_none_out<'a, T: FromNested, M: Members<'a, Out = T::Own>>(_form: &Nest
     laws::nested_objects::<'a, T, M>();
 }
 
-// Bodies, and what each reads as.
-static OPEN: [(&str, &str); 2] = [
+/// Bodies, and what each reads as.
+pub const OPEN: &[(&str, &str)] = &[
     (
         "{\"x\":1,\"name\":\"a\",\"folders\":[{\"name\":\"\",\"y\":[],\"folders\":[]}]}",
         "Folder { name: TextRef(\"a\"), size: None, folders: Items([Folder { name: TextRef(\"\"), size: None, folders: Items([]) }]) }",
@@ -139,12 +139,6 @@ static OPEN: [(&str, &str); 2] = [
         "name: not a text\nfolders[0].name: missing\n",
     ),
 ];
-
-#[test]
-fn makes_folders_that_hold_folders_or_tells_their_faults(rt: HostRuntime) {
-    compare(&rt, rt.alloc(), &Form::Nested(Case::Closed), &CLOSED);
-    compare(&rt, rt.alloc(), &Form::Nested(Case::Open), &OPEN);
-}
 
 // Folders, each in the one before, and each with a number for its name.
 static SIXTY: Long = Long::Repeated("", (60, "{\"name\":1,\"folders\":["), "", (60, "]}"), "");

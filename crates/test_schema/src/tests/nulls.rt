@@ -1,6 +1,6 @@
 //! Values that may be null, and members that may be null or missing, beside those that may not.
 
-use super::told::{Case as Form, compare, compare_codes, told};
+use super::told::told;
 use garde::fields::Is;
 use garde::{I18n, length, range};
 use garde_schema::{
@@ -47,8 +47,8 @@ pub fn told_by<H: I18n + FormI18n>(
     }
 }
 
-// Bodies, and what each reads as, in English and as codes.
-static TEXTS: [(&str, &str, &str); 9] = [
+/// Bodies, and what each reads as, in English and as codes.
+pub const TEXTS: &[(&str, &str, &str)] = &[
     (
         "{\"must\":\"abc\",\"may\":\"bcd\",\"ish\":\"cde\",\"or\":\"def\"}",
         "((Some(TextRef(\"abc\")), Some(Some(TextRef(\"bcd\")))), (Some(TextRef(\"cde\")), TextRef(\"def\")))",
@@ -92,8 +92,8 @@ static TEXTS: [(&str, &str, &str); 9] = [
     ),
 ];
 
-// Bodies, and what each reads as.
-static DEFAULTS: [(&str, &str); 6] = [
+/// Bodies, and what each reads as.
+pub const DEFAULTS: &[(&str, &str)] = &[
     ("null", "None"),
     (
         "{\"twice\":null}",
@@ -113,12 +113,6 @@ static DEFAULTS: [(&str, &str); 6] = [
     ),
     ("[null]", "not an object\n"),
 ];
-
-#[test]
-fn reads_members_that_may_be_null_or_missing(rt: HostRuntime) {
-    compare_codes(&rt, rt.alloc(), &Form::Nulls(Case::Texts), &TEXTS);
-    compare(&rt, rt.alloc(), &Form::Nulls(Case::Defaults), &DEFAULTS);
-}
 
 // A text that is longer than what lies in a value.
 const LONG: &str = "a text of more than twenty-two bytes";

@@ -1,6 +1,6 @@
 //! Unions by the only member: the whole report of each body in English and as codes, or its value.
 
-use super::told::{Case as Form, compare_codes, told};
+use super::told::told;
 use garde::fields::Is;
 use garde::{I18n, range};
 use garde_schema::{
@@ -49,8 +49,8 @@ const NONE: &str = "not an object with one member\n";
 
 const NONE_IN_CODES: &str = "wrong_form wanted=OneMember found=Object\n";
 
-// Bodies, and what each reads as, in English and as codes.
-static PAYMENTS: [(&str, &str, &str); 16] = [
+/// Bodies, and what each reads as, in English and as codes.
+pub const PAYMENTS: &[(&str, &str, &str)] = &[
     (
         "{\"card\":{\"year\":30,\"number\":\"49\"}}",
         "Left((TextRef(\"49\"), Some(30)))",
@@ -113,8 +113,8 @@ static PAYMENTS: [(&str, &str, &str); 16] = [
     ),
 ];
 
-// Bodies, and what each reads as, in English and as codes.
-static MIXED: [(&str, &str, &str); 10] = [
+/// Bodies, and what each reads as, in English and as codes.
+pub const MIXED: &[(&str, &str, &str)] = &[
     ("\"cash\"", "Left(0)", "Left(0)"),
     ("\"transfer\"", "Left(1)", "Left(1)"),
     (
@@ -154,14 +154,3 @@ static MIXED: [(&str, &str, &str); 10] = [
         "wrong_form wanted=Object found=Null\n",
     ),
 ];
-
-#[test]
-fn reads_the_variant_that_the_only_member_names(rt: HostRuntime) {
-    compare_codes(
-        &rt,
-        rt.alloc(),
-        &Form::OnlyMembers(Case::Payment),
-        &PAYMENTS,
-    );
-    compare_codes(&rt, rt.alloc(), &Form::OnlyMembers(Case::Mixed), &MIXED);
-}

@@ -103,17 +103,77 @@ pub fn check<H: I18n + FormI18n>(
     assert_eq!(rt; told.as_str(), expected);
 }
 
-/// Asks that each body reads as this, in English.
-pub fn compare(rt: &impl Abort, alloc: Global, case: &Case, rows: &[(&str, &str)]) {
+// Asks that each body reads as this, in English.
+fn compare(rt: &impl Abort, alloc: Global, case: &Case, rows: &[(&str, &str)]) {
     for (body, expected) in rows {
         check(rt, alloc, case, body.as_bytes(), &DefaultI18n, expected);
     }
 }
 
-/// Asks that each body reads as this, in English and as codes.
-pub fn compare_codes(rt: &impl Abort, alloc: Global, case: &Case, rows: &[(&str, &str, &str)]) {
+// Asks that each body reads as this, in English and as codes.
+fn compare_codes(rt: &impl Abort, alloc: Global, case: &Case, rows: &[(&str, &str, &str)]) {
     for (body, english, codes) in rows {
         check(rt, alloc, case, body.as_bytes(), &DefaultI18n, english);
         check(rt, alloc, case, body.as_bytes(), &CodeI18n, codes);
+    }
+}
+
+// The forms whose bodies are read in English, and the bodies.
+static ENGLISH: [(Case, &[(&str, &str)]); 20] = [
+    (Case::Lists(lists::Case::Tags), lists::TAGS),
+    (Case::Lists(lists::Case::Few), lists::FEW),
+    (Case::Lists(lists::Case::Deep), lists::DEEP),
+    (
+        Case::ListRules(list_rules::Case::Several),
+        list_rules::SEVERAL,
+    ),
+    (Case::ListRules(list_rules::Case::Apart), list_rules::APART),
+    (Case::ListRules(list_rules::Case::Many), list_rules::MANY),
+    (Case::ListRules(list_rules::Case::Each), list_rules::EACH),
+    (
+        Case::ListRules(list_rules::Case::MaybeApart),
+        list_rules::MAYBE_APART,
+    ),
+    (Case::ListRules(list_rules::Case::Rush), list_rules::RUSH),
+    (Case::Maps(maps::Case::Labels), maps::LABELS),
+    (Case::Maps(maps::Case::FewLabels), maps::FEW_LABELS),
+    (Case::Maps(maps::Case::Named), maps::NAMED),
+    (Case::Maps(maps::Case::Many), maps::MANY),
+    (Case::Maps(maps::Case::Nested), maps::NESTED),
+    (Case::Nested(nested::Case::Closed), nested::CLOSED),
+    (Case::Nested(nested::Case::Open), nested::OPEN),
+    (Case::Checked(checked::Case::Lines), checked::LINES),
+    (Case::Checked(checked::Case::Span), checked::SPANS),
+    (Case::Checked(checked::Case::Ends), checked::ENDS),
+    (Case::Nulls(nulls::Case::Defaults), nulls::DEFAULTS),
+];
+
+#[test]
+fn reads_bodies_in_english(rt: HostRuntime) {
+    for (case, rows) in &ENGLISH {
+        compare(&rt, rt.alloc(), case, rows);
+    }
+}
+
+// The forms whose bodies are read in English and as codes, and the bodies.
+static IN_CODES: [(Case, &[(&str, &str, &str)]); 6] = [
+    (Case::Enums, enums::ORDERS),
+    (Case::Signup, signup::SIGNUPS),
+    (Case::Unions, unions::PAYMENTS),
+    (
+        Case::OnlyMembers(only_members::Case::Payment),
+        only_members::PAYMENTS,
+    ),
+    (
+        Case::OnlyMembers(only_members::Case::Mixed),
+        only_members::MIXED,
+    ),
+    (Case::Nulls(nulls::Case::Texts), nulls::TEXTS),
+];
+
+#[test]
+fn reads_bodies_in_english_and_as_codes(rt: HostRuntime) {
+    for (case, rows) in &IN_CODES {
+        compare_codes(&rt, rt.alloc(), case, rows);
     }
 }
