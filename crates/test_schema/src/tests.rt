@@ -11,7 +11,10 @@ mod first;
 mod form;
 mod forms;
 mod json;
+mod languages;
+mod list_rules;
 mod lists;
+mod long;
 mod maps;
 mod members;
 mod nested;
@@ -32,10 +35,19 @@ mod unions;
 mod unneeded;
 mod wide_numbers;
 
+use std::borrow::CowStr;
 use std::process::Abort;
 
 /// Whether a text was made, and is this one.
 fn is_text<E: Drop>(made: Result<String, E>, text: &str) -> bool {
+    match made {
+        Ok(made) => made.as_str() == text,
+        Err(_) => false,
+    }
+}
+
+/// Whether a text of a handler was made, and is this one.
+fn is_handed<E: Drop>(made: Result<CowStr<'static>, E>, text: &str) -> bool {
     match made {
         Ok(made) => made.as_str() == text,
         Err(_) => false,

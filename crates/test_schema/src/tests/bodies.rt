@@ -4,14 +4,19 @@ use super::is_text;
 use garde_tape::{Kind, ParseError, Place, Scratch, Tree, parse_bytes};
 use serde_json::Value;
 use std::alloc::{AllocError, Global};
-use std::fmt::Write;
+use std::fmt::{Debug, Write};
+
+// Writes a text, and a value as it prints for debugging.
+fn push<T: Debug>(out: &mut String, before: &str, value: &T) -> Result<(), AllocError> {
+    write!(out, "{before}{value:?}")
+}
 
 // Writes the kinds of the first four items of a list.
 fn draw_items(out: &mut String, tree: &Tree<'_, '_>) -> Result<(), AllocError> {
     if let Some(mut items) = tree.items() {
         for _ in 0..4 {
             if let Some(item) = items.next() {
-                write!(out, " {:?}", item.kind())?;
+                push(out, " ", &item.kind())?;
             }
         }
     }
@@ -23,7 +28,8 @@ fn draw_members(out: &mut String, tree: &Tree<'_, '_>) -> Result<(), AllocError>
     if let Some(mut members) = tree.members() {
         for _ in 0..8 {
             if let Some((name, value)) = members.next() {
-                write!(out, " {name:?}={:?}", value.kind())?;
+                push(out, " ", &name)?;
+                push(out, "=", &value.kind())?;
             }
         }
     }
@@ -33,32 +39,24 @@ fn draw_members(out: &mut String, tree: &Tree<'_, '_>) -> Result<(), AllocError>
 // Writes a text, a number or a flag, where the value is one.
 fn draw_leaf(out: &mut String, tree: &Tree<'_, '_>) -> Result<(), AllocError> {
     if let Some(text) = tree.as_str() {
-        write!(out, " {text:?}")
+        push(out, " ", &text)
     } else if let Some(number) = tree.as_number() {
-        write!(out, " {number}")
+        out.push_str(" ")?;
+        out.push_str(number)
+    } else if let Some(flag) = tree.as_bool() {
+        push(out, " ", &flag)
     } else {
-        draw_flag(out, tree)
+        Ok(())
     }
-}
-
-fn draw_flag(out: &mut String, tree: &Tree<'_, '_>) -> Result<(), AllocError> {
-    match tree.as_bool() {
-        Some(flag) => write!(out, " {flag}"),
-        None => Ok(()),
-    }
-}
-
-fn draw(out: &mut String, tree: &Tree<'_, '_>) -> Result<(), AllocError> {
-    write!(out, "{:?}", tree.kind())?;
-    draw_leaf(out, tree)?;
-    draw_items(out, tree)?;
-    draw_members(out, tree)
 }
 
 // A value: its kind, and what stands in it, of an object and of a list one level deep.
 pub(super) fn drawn(alloc: Global, tree: &Tree<'_, '_>) -> Result<String, AllocError> {
     let mut out = String::new(alloc);
-    draw(&mut out, tree)?;
+    push(&mut out, "", &tree.kind())?;
+    draw_leaf(&mut out, tree)?;
+    draw_items(&mut out, tree)?;
+    draw_members(&mut out, tree)?;
     Ok(out)
 }
 
@@ -113,27 +111,22 @@ fn tells_what_a_body_is(rt: HostRuntime) {
     }
 }
 
-fn place_of(alloc: Global, bytes: &[u8]) -> Option<Place> {
-    let mut scratch = Scratch::new(alloc);
-    match parse_bytes(alloc, bytes, &mut scratch) {
-        Err(ParseError::NotJson(place) | ParseError::NotUtf8(place)) => Some(place),
-        _ => None,
-    }
-}
-
-// The place that serde_json tells.
-fn place_by_serde(alloc: Global, bytes: &[u8]) -> Option<(usize, usize)> {
+// Whether serde_json tells this place.
+fn is_place_of_serde(alloc: Global, bytes: &[u8], place: Place) -> bool {
     match Value::from_slice(alloc, bytes) {
-        Err(error) => Some((error.line(), error.column())),
-        Ok(_) => None,
+        Err(error) => (error.line(), error.column()) == (place.line, place.column),
+        Ok(_) => false,
     }
 }
 
 // Whether both tell the same place.
 fn is_told_by_serde(alloc: Global, bytes: &[u8]) -> bool {
-    match place_of(alloc, bytes) {
-        Some(place) => place_by_serde(alloc, bytes) == Some((place.line, place.column)),
-        None => false,
+    let mut scratch = Scratch::new(alloc);
+    match parse_bytes(alloc, bytes, &mut scratch) {
+        Err(ParseError::NotJson(place) | ParseError::NotUtf8(place)) => {
+            is_place_of_serde(alloc, bytes, place)
+        }
+        _ => false,
     }
 }
 

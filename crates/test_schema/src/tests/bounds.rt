@@ -24,72 +24,72 @@ fn report<R: NumberRules<u8> + Drop>(
     }
 }
 
-// The same by so many rules, of which the last two have bounds.
-fn report_by(alloc: Global, count: usize, body: &str) -> Result<String, AllocError> {
+// Under which rules a number is read.
+enum Under {
+    /// So many, of which the first are that it is even, and the last two have bounds.
+    Many(usize),
+    /// One with a bound, under a condition that holds or not.
+    Condition(bool),
+}
+
+// The same by these rules.
+fn report_under(alloc: Global, under: &Under, body: &str) -> Result<String, AllocError> {
     let even = Is(MultipleOf(2));
     let least = Is(range!(min = 10));
     let most = Is(range!(max = 100));
-    match count {
-        0 => report(alloc, body, ()),
-        1 => report(alloc, body, even),
-        2 => report(alloc, body, (least, most)),
-        3 => report(alloc, body, (even, least, most)),
-        4 => report(alloc, body, (even, even, least, most)),
-        5 => report(alloc, body, (even, even, even, least, most)),
-        6 => report(alloc, body, (even, even, even, even, least, most)),
-        7 => report(alloc, body, (even, even, even, even, even, (least, most))),
-        _ => {
+    match under {
+        Under::Condition(holds) => report(alloc, body, When(*holds, most)),
+        Under::Many(0) => report(alloc, body, ()),
+        Under::Many(1) => report(alloc, body, even),
+        Under::Many(2) => report(alloc, body, (least, most)),
+        Under::Many(3) => report(alloc, body, (even, least, most)),
+        Under::Many(4) => report(alloc, body, (even, even, least, most)),
+        Under::Many(5) => report(alloc, body, (even, even, even, least, most)),
+        Under::Many(6) => report(alloc, body, (even, even, even, even, least, most)),
+        Under::Many(7) => report(alloc, body, (even, even, even, even, even, (least, most))),
+        Under::Many(_) => {
             let eight = all!(even, even, even, even, even, even, least, most);
             report(alloc, body, eight)
         }
     }
 }
 
-// The number of rules, and what is reported of -1 and of 256.
-const ROWS: &[(usize, &str, &str)] = &[
-    (0, "out of range: 0 to 255\n", "out of range: 0 to 255\n"),
-    (1, "out of range: 0 to 255\n", "out of range: 0 to 255\n"),
-    (2, "lower than 10\n", "greater than 100\n"),
-    (3, "lower than 10\n", "greater than 100\n"),
-    (4, "lower than 10\n", "greater than 100\n"),
-    (5, "lower than 10\n", "greater than 100\n"),
-    (6, "lower than 10\n", "greater than 100\n"),
-    (7, "lower than 10\n", "greater than 100\n"),
-    (8, "lower than 10\n", "greater than 100\n"),
+const U8_RANGE: &str = "out of range: 0 to 255\n";
+
+const LOWER: &str = "lower than 10\n";
+
+const GREATER: &str = "greater than 100\n";
+
+// The rules, a number, and what is reported of it.
+static ROWS: [(Under, &str, &str); 22] = [
+    (Under::Many(0), "-1", U8_RANGE),
+    (Under::Many(0), "256", U8_RANGE),
+    (Under::Many(1), "-1", U8_RANGE),
+    (Under::Many(1), "256", U8_RANGE),
+    (Under::Many(1), "6", "6"),
+    (Under::Many(1), "7", "not a multiple of 2\n"),
+    (Under::Many(2), "-1", LOWER),
+    (Under::Many(2), "256", GREATER),
+    (Under::Many(3), "-1", LOWER),
+    (Under::Many(3), "256", GREATER),
+    (Under::Many(4), "-1", LOWER),
+    (Under::Many(4), "256", GREATER),
+    (Under::Many(5), "-1", LOWER),
+    (Under::Many(5), "256", GREATER),
+    (Under::Many(6), "-1", LOWER),
+    (Under::Many(6), "256", GREATER),
+    (Under::Many(7), "-1", LOWER),
+    (Under::Many(7), "256", GREATER),
+    (Under::Many(8), "-1", LOWER),
+    (Under::Many(8), "256", GREATER),
+    (Under::Condition(true), "256", GREATER),
+    (Under::Condition(false), "256", U8_RANGE),
 ];
 
 #[test]
 fn tells_the_first_bound_that_a_number_is_beyond(rt: HostRuntime) {
-    for (count, below, above) in ROWS {
-        assert!(rt;
-            is_text(report_by(rt.alloc(), *count, "-1"), below),
-            "{count}"
-        );
-        assert!(rt;
-            is_text(report_by(rt.alloc(), *count, "256"), above),
-            "{count}"
-        );
+    for (row, (under, body, told)) in ROWS.iter().enumerate() {
+        let report = report_under(rt.alloc(), under, body);
+        assert!(rt; is_text(report, told), "row {row}");
     }
-}
-
-// What is reported of 256 by a bound under a condition.
-fn report_when(alloc: Global, condition: bool) -> Result<String, AllocError> {
-    report(alloc, "256", When(condition, Is(range!(max = 100))))
-}
-
-#[test]
-fn asks_a_bound_under_its_condition(rt: HostRuntime) {
-    assert!(rt; is_text(report_when(rt.alloc(), true), "greater than 100\n"));
-    assert!(rt; is_text(report_when(rt.alloc(), false), "out of range: 0 to 255\n"));
-}
-
-// What is reported of a number that has to be even.
-fn report_even(alloc: Global, body: &str) -> Result<String, AllocError> {
-    report(alloc, body, Is(MultipleOf(2)))
-}
-
-#[test]
-fn asks_for_a_multiple(rt: HostRuntime) {
-    assert!(rt; is_text(report_even(rt.alloc(), "6"), "6"));
-    assert!(rt; is_text(report_even(rt.alloc(), "7"), "not a multiple of 2\n"));
 }

@@ -2,7 +2,7 @@
 ghost use Rattle.std.specs.Prelude.{nat_le, refl};
 ghost use Rattle.garde.specs.Fields.{asks};
 
-use super::told::{Case as Form, compare, told};
+use super::told::told;
 use garde::fields::{Ascii, Is, Prefix, Rule};
 use garde::{I18n, RuleError, range};
 use garde_schema::{
@@ -15,7 +15,6 @@ use std::borrow::CowStr;
 use std::marker::PhantomData;
 
 /// The forms of this module.
-#[derive(Clone, Copy)]
 pub enum Case {
     Lines,
     Span,
@@ -26,13 +25,32 @@ pub enum Case {
 pub fn told_by<H: I18n + FormI18n>(
     alloc: Global,
     tree: &Tree<'_, '_>,
-    case: Case,
+    case: &Case,
     h: &H,
 ) -> Result<String, AllocError> {
     match case {
-        Case::Lines => lines(alloc, tree, h),
-        Case::Span => span(alloc, tree, h),
-        Case::Ends => ends(alloc, tree, h),
+        Case::Lines => {
+            let line = Object(Closed((
+                Member("code", Text(Is(Prefix("P")))),
+                Member("count", Whole(U32, Is(range!(min = 1, max = 99)))),
+                Member("cents", Whole(U32, Is(range!(max = 9999)))),
+            )));
+            let form = List(Built(line, PhantomData::<&Line<'_>>));
+            told(alloc, tree, &form, h)
+        }
+        // A span and its name. The rule over both ends stands under the last of them.
+        Case::Span => {
+            let from = Member("from", Whole(U32, Is(range!(max = 100))));
+            let ends = (from, Member("to", Whole(U32, ())));
+            let span = Checked(ends, Under("to", Is(InOrder)));
+            let form = Object(Closed((span, Member("name", Text(Is(Ascii))))));
+            told(alloc, tree, &form, h)
+        }
+        // Both ends, by a rule on the object itself.
+        Case::Ends => {
+            let ends = Object((Member("from", Whole(U32, ())), Member("to", Whole(U32, ()))));
+            told(alloc, tree, &Checked(ends, Is(InOrder)), h)
+        }
     }
 }
 
@@ -59,22 +77,8 @@ impl<'a> FromParts for Line<'a> {
     }
 }
 
-fn lines<H: I18n + FormI18n>(
-    alloc: Global,
-    tree: &Tree<'_, '_>,
-    h: &H,
-) -> Result<String, AllocError> {
-    let line = Object(Closed((
-        Member("code", Text(Is(Prefix("P")))),
-        Member("count", Whole(U32, Is(range!(min = 1, max = 99)))),
-        Member("cents", Whole(U32, Is(range!(max = 9999)))),
-    )));
-    let form = List(Built(line, PhantomData::<&Line<'_>>));
-    told(alloc, tree, &form, h)
-}
-
-// Bodies, and what each reads as.
-static LINES: [(&str, &str); 3] = [
+/// Bodies, and what each reads as.
+pub const LINES: &[(&str, &str)] = &[
     ("[]", "Items([])"),
     (
         "[{\"code\":\"P1\",\"count\":2,\"cents\":250},{\"cents\":0,\"count\":99,\"code\":\"P\"}]",
@@ -85,11 +89,6 @@ static LINES: [(&str, &str); 3] = [
         "[0].code: value does not begin with \"P\"\n[0].count: lower than 1\n[0].cents: greater than 9999\n[1]: not an object\n[2].cents: missing\n",
     ),
 ];
-
-#[test]
-fn makes_values_of_a_user_defined_type(rt: HostRuntime) {
-    compare(&rt, rt.alloc(), Form::Checked(Case::Lines), &LINES);
-}
 
 // The rule that the first number is at most the second.
 #[derive(Clone, Copy)]
@@ -107,23 +106,8 @@ impl Rule<(u32, u32)> for InOrder {
     }
 }
 
-// A span and its name. The rule over both ends stands under the last of them.
-fn span<H: I18n + FormI18n>(
-    alloc: Global,
-    tree: &Tree<'_, '_>,
-    h: &H,
-) -> Result<String, AllocError> {
-    let ends = (
-        Member("from", Whole(U32, Is(range!(max = 100)))),
-        Member("to", Whole(U32, ())),
-    );
-    let span = Checked(ends, Under("to", Is(InOrder)));
-    let form = Object(Closed((span, Member("name", Text(Is(Ascii))))));
-    told(alloc, tree, &form, h)
-}
-
-// Bodies, and what each reads as.
-static SPANS: [(&str, &str); 6] = [
+/// Bodies, and what each reads as.
+pub const SPANS: &[(&str, &str)] = &[
     (
         "{\"from\":1,\"to\":2,\"name\":\"a\"}",
         "((1, 2), TextRef(\"a\"))",
@@ -147,30 +131,10 @@ static SPANS: [(&str, &str); 6] = [
     ),
 ];
 
-#[test]
-fn asks_a_rule_over_two_members(rt: HostRuntime) {
-    compare(&rt, rt.alloc(), Form::Checked(Case::Span), &SPANS);
-}
-
-// Both ends, by a rule on the object itself.
-fn ends<H: I18n + FormI18n>(
-    alloc: Global,
-    tree: &Tree<'_, '_>,
-    h: &H,
-) -> Result<String, AllocError> {
-    let ends = Object((Member("from", Whole(U32, ())), Member("to", Whole(U32, ()))));
-    told(alloc, tree, &Checked(ends, Is(InOrder)), h)
-}
-
-// Bodies, and what each reads as.
-static ENDS: [(&str, &str); 4] = [
+/// Bodies, and what each reads as.
+pub const ENDS: &[(&str, &str)] = &[
     ("{\"from\":1,\"to\":2}", "(1, 2)"),
     ("{\"from\":2,\"to\":1}", "not in order\n"),
     ("{\"from\":2}", "to: missing\n"),
     ("[2,1]", "not an object\n"),
 ];
-
-#[test]
-fn asks_a_rule_of_the_whole_object(rt: HostRuntime) {
-    compare(&rt, rt.alloc(), Form::Checked(Case::Ends), &ENDS);
-}

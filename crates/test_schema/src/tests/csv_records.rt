@@ -18,10 +18,10 @@ fn reads_rows_and_faults(rt: HostRuntime) {
     let mut cells = StringRecord::new(rt.alloc());
     for (next, line) in wanted {
         let met = records.read(&mut cells).expect(&rt, "memory");
-        assert_eq!(rt; met, next);
-        assert_eq!(rt; records.line(), line);
-        if next == Next::Row {
-            assert_eq!(rt; cells.get(1), Some("b \"c\""));
-        }
+        assert!(rt;
+            met == next
+                && records.line() == line
+                && (next != Next::Row || cells.get(1) == Some("b \"c\""))
+        );
     }
 }

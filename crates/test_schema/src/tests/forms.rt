@@ -3,9 +3,10 @@
 ghost use Rattle.std.specs.Prelude.{nat_le, length};
 ghost use Rattle.garde.specs.Fields.{asks};
 
-use super::OrEnd;
+use super::is_handed;
+use super::long::{Long, is_told};
 use super::texts::Texts;
-use super::told::{Case, check, check_many, told};
+use super::told::{Case, check, told};
 use garde::fields::{Is, Rule};
 use garde::{DefaultI18n, I18n, RuleError};
 use garde_problem::WithCodes;
@@ -16,7 +17,6 @@ use garde_schema::{
 use garde_tape::{Kind, Tree};
 use std::alloc::{AllocError, Global};
 use std::borrow::CowStr;
-use std::fmt::Write;
 
 // The rule that a text has so many bytes.
 #[derive(Clone, Copy)]
@@ -100,40 +100,29 @@ const BODIES: &[(&str, &str)] = &[
 fn tells_every_fault_of_form_and_of_rules(rt: HostRuntime) {
     for (body, expected) in BODIES {
         let h = Texts(DefaultI18n);
-        check(&rt, rt.alloc(), Case::Forms, body.as_bytes(), &h, expected);
+        check(&rt, rt.alloc(), &Case::Forms, body.as_bytes(), &h, expected);
     }
 }
 
-// An object of this many members, none of which is known, behind the known ones.
-fn wide(alloc: Global, count: usize) -> Result<String, AllocError> {
-    let known = "{\"name\":\"Ada\",\"news\":true,\"address\":{\"town\":\"Bern\"},\"end\":null";
-    let mut body = String::from_str(alloc, known)?;
-    for i in 0..count {
-        write!(body, ",\"k{i}\":0")?;
-    }
-    body.push_str("}")?;
-    Ok(body)
-}
+// An object of ten thousand members, none of which is known, behind the known ones, and its report.
+static UNKNOWN: (Long, Long) = (
+    Long::Numbered(
+        "{\"name\":\"Ada\",\"news\":true,\"address\":{\"town\":\"Bern\"},\"end\":null,\"k0",
+        (1, 10_000),
+        ("\":0,\"k", ""),
+        "\":0}",
+    ),
+    Long::Numbered("k0", (1, 10_000), (": unknown\nk", ""), ": unknown\n"),
+);
 
 #[test]
 fn tells_each_of_many_unknown_members(rt: HostRuntime) {
-    let body = wide(rt.alloc(), 10_000).or_end(&rt);
-    check_many(
-        &rt,
-        rt.alloc(),
-        Case::Forms,
-        body.as_str(),
-        &Texts(DefaultI18n),
-        10_000,
-        (
-            "k0: unknown\nk1: unknown\n",
-            "k9998: unknown\nk9999: unknown\n",
-        ),
-    );
+    let (body, told) = &UNKNOWN;
+    assert!(rt; is_told(rt.alloc(), &Case::Forms, &Texts(DefaultI18n), body, told));
 }
 
 // A fault of form, its text, and its text with a code.
-const FAULTS: &[(FormFault, &str, &str)] = &[
+static FAULTS: [(FormFault, &str, &str); 8] = [
     (
         FormFault::Wrong(Wanted::Whole, Kind::List),
         "list in place of whole number",
@@ -176,24 +165,13 @@ const FAULTS: &[(FormFault, &str, &str)] = &[
     ),
 ];
 
-// Whether a handler gives a fault of form this text.
-fn has_text<H: FormI18n>(alloc: Global, h: &H, fault: FormFault, text: &str) -> bool {
-    match h.form_fault(alloc, fault) {
-        Ok(given) => given.as_str() == text,
-        Err(_) => false,
-    }
-}
-
 #[test]
 fn gives_each_fault_of_form_its_text(rt: HostRuntime) {
-    for (fault, expected, with_code) in FAULTS {
+    let (plain, coded) = (Texts(DefaultI18n), WithCodes(Texts(DefaultI18n)));
+    for (fault, expected, with_code) in &FAULTS {
         assert!(rt;
-            has_text(rt.alloc(), &Texts(DefaultI18n), *fault, expected),
-            "{expected}"
-        );
-        let coded = WithCodes(Texts(DefaultI18n));
-        assert!(rt;
-            has_text(rt.alloc(), &coded, *fault, with_code),
+            is_handed(plain.form_fault(rt.alloc(), *fault), expected)
+                && is_handed(coded.form_fault(rt.alloc(), *fault), with_code),
             "{expected}"
         );
     }

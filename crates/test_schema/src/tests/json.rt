@@ -1,7 +1,7 @@
 //! Bytes that are read by a form: the value of each, its whole report, or where they stop to be JSON.
 
+use super::is_text;
 use super::told::{Case, check, told};
-use super::{OrEnd, is_text};
 use garde::fields::Is;
 use garde::{DefaultI18n, I18n, length};
 use garde_schema::{
@@ -9,8 +9,6 @@ use garde_schema::{
     Text, Tree, U8, Whole, read_json,
 };
 use std::alloc::{AllocError, Global};
-use std::fmt::Write;
-use std::process::Abort;
 
 /// A name, perhaps an age, a town and whatever there is, and names that a path may confuse.
 pub fn person<H: I18n + FormI18n>(
@@ -156,7 +154,7 @@ const BODIES: &[(&[u8], &str)] = &[
 #[test]
 fn reads_bytes_by_a_form(rt: HostRuntime) {
     for (body, expected) in BODIES {
-        check(&rt, rt.alloc(), Case::Json, body, &DefaultI18n, expected);
+        check(&rt, rt.alloc(), &Case::Json, body, &DefaultI18n, expected);
     }
 }
 
@@ -189,128 +187,29 @@ fn reads_a_name_from_bytes(rt: HostRuntime) {
     }
 }
 
-// Asks that a body reads as this.
-fn check_text(rt: &impl Abort, alloc: Global, body: &str, expected: &str) {
-    check(
-        rt,
-        alloc,
-        Case::Json,
-        body.as_bytes(),
-        &DefaultI18n,
-        expected,
-    );
-}
-
-// What stands before the digits of an age, and what is told of it.
-static DIGITS: [(&str, &str); 2] = [
-    ("", "age: out of range: 0 to 255\n"),
-    ("0.", "age: not a whole number\n"),
-];
-
-// A body whose age is written by a thousand digits behind others.
-fn with_digits(alloc: Global, before: &str) -> Result<String, AllocError> {
-    let digits = "9".repeat(alloc, 1000)?;
-    format!(in alloc; "{{\"name\":\"Ada\",\"any\":{digits},\"age\":{before}{digits}}}")
-}
-
-#[test]
-fn tells_a_number_of_a_thousand_digits(rt: HostRuntime) {
-    for (before, expected) in &DIGITS {
-        let body = with_digits(rt.alloc(), before).or_end(&rt);
-        check_text(&rt, rt.alloc(), body.as_str(), expected);
-    }
-}
-
-// An object of so many members behind the known one.
-fn wide(alloc: Global, count: usize) -> Result<String, AllocError> {
-    let mut body = String::from_str(alloc, "{\"name\":\"Ada\"")?;
-    for i in 0..count {
-        write!(body, ",\"k{i}\":{i}")?;
-    }
-    body.push_str("}")?;
-    Ok(body)
-}
-
-// The report of so many members that are not known.
-fn wide_report(alloc: Global, count: usize) -> Result<String, AllocError> {
-    let mut report = String::new(alloc);
-    for i in 0..count {
-        write!(report, "k{i}: not known here\n")?;
-    }
-    Ok(report)
-}
-
-#[test]
-fn tells_each_of_two_thousand_members(rt: HostRuntime) {
-    let body = wide(rt.alloc(), 2_000).or_end(&rt);
-    let expected = wide_report(rt.alloc(), 2_000).or_end(&rt);
-    check_text(&rt, rt.alloc(), body.as_str(), expected.as_str());
-}
-
-// A body of so many lists, one in the other, in an object.
-fn nest(alloc: Global, lists: usize) -> Result<String, AllocError> {
-    let begun = "[".repeat(alloc, lists)?;
-    let ended = "]".repeat(alloc, lists)?;
-    format!(in alloc; "{{\"name\":\"Ada\",\"any\":{begun}{ended}}}")
-}
-
-const VALID: &str = "((TextRef(\"Ada\"), None), ((None, Some(())), ((None, None), (None, None))))";
-
-// How many lists there are, and what is told of them.
-static NESTS: [(usize, &str); 4] = [
-    (126, VALID),
-    (127, VALID),
-    (128, "nested deeper than 128 at line 1 column 148"),
-    (200_000, "nested deeper than 128 at line 1 column 148"),
-];
-
-#[test]
-fn reads_bodies_that_nest_no_deeper_than_128(rt: HostRuntime) {
-    for (count, expected) in &NESTS {
-        let body = nest(rt.alloc(), *count).or_end(&rt);
-        check_text(&rt, rt.alloc(), body.as_str(), expected);
-    }
-}
-
-// The error of bytes that are no form of any object.
-fn error_of(alloc: Global, bytes: &[u8]) -> Option<ReadError> {
+// The error of bytes that are no form of any object: where they stop to be UTF-8, where they stop to be
+// JSON, or how many lines their report has.
+fn error_of(alloc: Global, bytes: &[u8]) -> (Option<Place>, Option<Place>, usize) {
     let mut scratch = Scratch::new(alloc);
     let form = Object(Member("name", Null));
-    read_json(alloc, bytes, &mut scratch, &form, &DefaultI18n).err()
-}
-
-// Where bytes stop to be UTF-8, or else to be JSON.
-fn stop_of(alloc: Global, bytes: &[u8]) -> Option<(bool, Place)> {
-    match error_of(alloc, bytes) {
-        Some(ReadError::Parse(ParseError::NotUtf8(at))) => Some((true, at)),
-        Some(ReadError::Parse(ParseError::NotJson(at))) => Some((false, at)),
-        _ => None,
+    match read_json(alloc, bytes, &mut scratch, &form, &DefaultI18n) {
+        Err(ReadError::Parse(ParseError::NotUtf8(at))) => (Some(at), None, 0),
+        Err(ReadError::Parse(ParseError::NotJson(at))) => (None, Some(at), 0),
+        Err(ReadError::Report(report)) => (None, None, report.len()),
+        _ => (None, None, 0),
     }
 }
 
-// How many lines the report of bytes has, if they have one.
-fn lines_of(alloc: Global, bytes: &[u8]) -> Option<usize> {
-    match error_of(alloc, bytes) {
-        Some(ReadError::Report(report)) => Some(report.len()),
-        _ => None,
-    }
-}
-
-// Whether bytes that are no JSON, no UTF-8 and no object are told apart.
-fn are_apart(alloc: Global) -> bool {
-    let place = Place { line: 2, column: 3 };
-    stop_of(alloc, b"[\n0 1]") == Some((false, place))
-        && stop_of(alloc, b"[\n0 \xff]") == Some((true, place))
-        && lines_of(alloc, b"[\n0]") == Some(1)
-}
+// Where bytes stop in the test below.
+const STOP: Place = Place { line: 2, column: 3 };
 
 #[test]
 fn tells_bytes_that_are_no_json_apart(rt: HostRuntime) {
-    assert!(rt; are_apart(rt.alloc()));
+    let alloc = rt.alloc();
     assert!(rt;
-        is_text(
-            format!(in rt.alloc(); "{}", ReadError::Memory),
-            "out of memory"
-        )
+        error_of(alloc, b"[\n0 1]") == (None, Some(STOP), 0)
+            && error_of(alloc, b"[\n0 \xff]") == (Some(STOP), None, 0)
+            && error_of(alloc, b"[\n0]") == (None, None, 1)
+            && is_text(ReadError::Memory.to_string(alloc), "out of memory")
     );
 }

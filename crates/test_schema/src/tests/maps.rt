@@ -1,18 +1,15 @@
 //! Objects with any names: the whole report of each body, or its pairs in order.
 
-use super::OrEnd;
-use super::told::{Case as Form, check, compare, told, told_of};
+use super::told::told;
 use garde::fields::{Alphanumeric, Ascii, Is};
-use garde::{DefaultI18n, I18n, all, length, range};
+use garde::{I18n, all, length, range};
 use garde_schema::{
     Flag, FormI18n, Keys, List, Map, MapUnder, Member, Object, Text, U8, U16, Whole,
 };
 use garde_tape::Tree;
 use std::alloc::{AllocError, Global};
-use std::fmt::Write;
 
 /// The forms of this module.
-#[derive(Clone, Copy)]
 pub enum Case {
     Labels,
     FewLabels,
@@ -26,32 +23,52 @@ pub enum Case {
 pub fn told_by<H: I18n + FormI18n>(
     alloc: Global,
     tree: &Tree<'_, '_>,
-    case: Case,
+    case: &Case,
     h: &H,
 ) -> Result<String, AllocError> {
     match case {
-        Case::Labels => labels(alloc, tree, h),
-        Case::FewLabels => few_labels(alloc, tree, h),
-        Case::Named => named(alloc, tree, h),
+        // An object with labels.
+        Case::Labels => {
+            let label = Text((Is(Ascii), Is(length!(max = 3))));
+            let form = Object((Member("labels", Map(label)), Member("end", Flag)));
+            told(alloc, tree, &form, h)
+        }
+        // An object of one or two labels.
+        Case::FewLabels => {
+            let form = MapUnder(Is(length!(min = 1, max = 2)), Text(Is(Ascii)));
+            told(alloc, tree, &form, h)
+        }
+        // An object of one or two numbers under short names of letters and digits.
+        Case::Named => {
+            let names = Keys((Is(Alphanumeric), Is(length!(max = 3))));
+            let form = MapUnder(
+                (Is(length!(max = 2)), names),
+                Whole(U8, Is(range!(max = 9))),
+            );
+            told(alloc, tree, &form, h)
+        }
         Case::Many => many(alloc, tree, h),
         Case::Numbers => told(alloc, tree, &Map(Whole(U16, ())), h),
         Case::Nested => told(alloc, tree, &Map(List(Map(Map(Whole(U8, ()))))), h),
     }
 }
 
-// An object with labels.
-fn labels<H: I18n + FormI18n>(
+// Numbers under five and under six rules: of how many there are, and of their names.
+fn many<H: I18n + FormI18n>(
     alloc: Global,
     tree: &Tree<'_, '_>,
     h: &H,
 ) -> Result<String, AllocError> {
-    let label = Text((Is(Ascii), Is(length!(max = 3))));
-    let form = Object((Member("labels", Map(label)), Member("end", Flag)));
+    let (few, plain) = (Is(length!(max = 1)), Keys(Is(Alphanumeric)));
+    let short = Keys(Is(length!(max = 1)));
+    let five = MapUnder(all!(few, plain, short, few, plain), Whole(U8, ()));
+    let six = MapUnder(all!(plain, few, few, plain, few, short), Whole(U8, ()));
+    let form = Object((Member("five", five), Member("six", six)));
     told(alloc, tree, &form, h)
 }
 
-// Bodies, and what each reads as.
-static LABELS: [(&str, &str); 7] = [
+/// Bodies, and what each reads as.
+pub const LABELS: &[(&str, &str)] = &[
     ("{\"labels\":{},\"end\":true}", "(Items([]), true)"),
     (
         "{\"labels\":{\"b\":\"x\",\"\":\"y\",\"a.b\":\"\",\"[0]\":\"\\u007a\"},\"end\":true}",
@@ -76,23 +93,8 @@ static LABELS: [(&str, &str); 7] = [
     ),
 ];
 
-#[test]
-fn tells_each_wrong_value_under_its_name(rt: HostRuntime) {
-    compare(&rt, rt.alloc(), Form::Maps(Case::Labels), &LABELS);
-}
-
-// An object of one or two labels.
-fn few_labels<H: I18n + FormI18n>(
-    alloc: Global,
-    tree: &Tree<'_, '_>,
-    h: &H,
-) -> Result<String, AllocError> {
-    let form = MapUnder(Is(length!(min = 1, max = 2)), Text(Is(Ascii)));
-    told(alloc, tree, &form, h)
-}
-
-// Bodies, and what each reads as.
-static FEW_LABELS: [(&str, &str); 7] = [
+/// Bodies, and what each reads as.
+pub const FEW_LABELS: &[(&str, &str)] = &[
     (
         "{\"b\":\"x\",\"a\":\"\"}",
         "Items([(TextRef(\"b\"), TextRef(\"x\")), (TextRef(\"a\"), TextRef(\"\"))])",
@@ -111,27 +113,8 @@ static FEW_LABELS: [(&str, &str); 7] = [
     ("null", "not an object\n"),
 ];
 
-#[test]
-fn asks_how_many_members_there_are_before_their_values(rt: HostRuntime) {
-    compare(&rt, rt.alloc(), Form::Maps(Case::FewLabels), &FEW_LABELS);
-}
-
-// An object of one or two numbers under short names of letters and digits.
-fn named<H: I18n + FormI18n>(
-    alloc: Global,
-    tree: &Tree<'_, '_>,
-    h: &H,
-) -> Result<String, AllocError> {
-    let names = Keys((Is(Alphanumeric), Is(length!(max = 3))));
-    let form = MapUnder(
-        (Is(length!(max = 2)), names),
-        Whole(U8, Is(range!(max = 9))),
-    );
-    told(alloc, tree, &form, h)
-}
-
-// Bodies, and what each reads as.
-static NAMED: [(&str, &str); 8] = [
+/// Bodies, and what each reads as.
+pub const NAMED: &[(&str, &str)] = &[
     ("{}", "Items([])"),
     (
         "{\"b2\":1,\"\":9}",
@@ -151,27 +134,8 @@ static NAMED: [(&str, &str); 8] = [
     ("[\"a-b\"]", "not an object\n"),
 ];
 
-#[test]
-fn tells_a_wrong_name_under_itself_after_all_values(rt: HostRuntime) {
-    compare(&rt, rt.alloc(), Form::Maps(Case::Named), &NAMED);
-}
-
-// Numbers under five and under six rules: of how many there are, and of their names.
-fn many<H: I18n + FormI18n>(
-    alloc: Global,
-    tree: &Tree<'_, '_>,
-    h: &H,
-) -> Result<String, AllocError> {
-    let (few, plain) = (Is(length!(max = 1)), Keys(Is(Alphanumeric)));
-    let short = Keys(Is(length!(max = 1)));
-    let five = MapUnder(all!(few, plain, short, few, plain), Whole(U8, ()));
-    let six = MapUnder(all!(plain, few, few, plain, few, short), Whole(U8, ()));
-    let form = Object((Member("five", five), Member("six", six)));
-    told(alloc, tree, &form, h)
-}
-
-// Bodies, and what each reads as.
-static MANY: [(&str, &str); 2] = [
+/// Bodies, and what each reads as.
+pub const MANY: &[(&str, &str)] = &[
     (
         "{\"five\":{\"a\":1},\"six\":{\"b\":2}}",
         "(Items([(TextRef(\"a\"), 1)]), Items([(TextRef(\"b\"), 2)]))",
@@ -182,55 +146,8 @@ static MANY: [(&str, &str); 2] = [
     ),
 ];
 
-#[test]
-fn asks_five_and_six_rules_of_a_map_in_turn(rt: HostRuntime) {
-    compare(&rt, rt.alloc(), Form::Maps(Case::Many), &MANY);
-}
-
-// An object of this many members whose values are their numbers. The last one is named so.
-fn wide(alloc: Global, count: usize, last: &str) -> Result<String, AllocError> {
-    let mut body = String::from_str(alloc, "{")?;
-    for i in 0..count {
-        write!(body, "\"k{i}\":{i},")?;
-    }
-    write!(body, "\"{last}\":{count}}}")?;
-    Ok(body)
-}
-
-// Whether there are a thousand members and one more, from the first to the last.
-fn has_a_thousand(told: &str) -> bool {
-    told.split("TextRef").count() == 1_002
-        && told.starts_with(
-            "Items([(TextRef(\"k0\"), 0), (TextRef(\"k1\"), 1), (TextRef(\"k2\"), 2), ",
-        )
-        && told.ends_with(" (TextRef(\"k999\"), 999), (TextRef(\"end\"), 1000)])")
-}
-
-#[test]
-fn reads_a_thousand_members_in_order(rt: HostRuntime) {
-    let body = wide(rt.alloc(), 1_000, "end").or_end(&rt);
-    let bytes = body.as_str().as_bytes();
-    let told = told_of(rt.alloc(), Form::Maps(Case::Numbers), bytes, &DefaultI18n).or_end(&rt);
-    assert!(rt; has_a_thousand(told.as_str()));
-}
-
-#[test]
-fn finds_the_first_of_a_thousand_names_again(rt: HostRuntime) {
-    let body = wide(rt.alloc(), 1_000, "k0").or_end(&rt);
-    let bytes = body.as_str().as_bytes();
-    let numbers = Form::Maps(Case::Numbers);
-    check(
-        &rt,
-        rt.alloc(),
-        numbers,
-        bytes,
-        &DefaultI18n,
-        "k0: repeated\n",
-    );
-}
-
-// Bodies, and what each reads as.
-static NESTED: [(&str, &str); 2] = [
+/// Bodies, and what each reads as.
+pub const NESTED: &[(&str, &str)] = &[
     (
         "{\"a\":[{\"b\":{\"c\":1}}],\"d\":[]}",
         "Items([(TextRef(\"a\"), Items([Items([(TextRef(\"b\"), Items([(TextRef(\"c\"), 1)]))])])), (TextRef(\"d\"), Items([]))])",
@@ -240,8 +157,3 @@ static NESTED: [(&str, &str); 2] = [
         "a[1].b.c: repeated\na[1].b.d: out of range: 0 to 255\na[1].e: not an object\nf: not a list\n",
     ),
 ];
-
-#[test]
-fn reads_maps_of_lists_of_maps(rt: HostRuntime) {
-    compare(&rt, rt.alloc(), Form::Maps(Case::Nested), &NESTED);
-}

@@ -4,7 +4,8 @@ ghost use Rattle.std.proofs.Common.{rules};
 ghost use Rattle.test_schema.specs.declared.tests.nested.Folder.{out-Folder, roll-Folder, the_lemmas};
 
 use super::OrEnd;
-use super::told::{Case as Form, check_many, compare, told, told_of};
+use super::long::Long;
+use super::told::{Case as Form, told, told_of};
 use garde::fields::{Ascii, Is};
 use garde::{DefaultI18n, I18n, length, range};
 use garde_schema::{
@@ -13,12 +14,9 @@ use garde_schema::{
 };
 use garde_tape::Tree;
 use std::alloc::{AllocError, Global};
-use std::fmt::Write;
 use std::marker::PhantomData;
-use std::process::Abort;
 
 /// The forms of this module.
-#[derive(Clone, Copy)]
 pub enum Case {
     Closed,
     Open,
@@ -28,12 +26,24 @@ pub enum Case {
 pub fn told_by<H: I18n + FormI18n>(
     alloc: Global,
     tree: &Tree<'_, '_>,
-    case: Case,
+    case: &Case,
     h: &H,
 ) -> Result<String, AllocError> {
     match case {
-        Case::Closed => closed(alloc, tree, h),
-        Case::Open => open(alloc, tree, h),
+        Case::Closed => {
+            let members = (
+                Member("name", Text((Is(Ascii), Is(length!(min = 1, max = 9))))),
+                Optional("size", Whole(U16, Is(range!(max = 1000)))),
+            );
+            let form = Closed(Nested("folders", members, PhantomData::<&Folder<'_>>));
+            told(alloc, tree, &form, h)
+        }
+        Case::Open => {
+            let members = (Member("name", Text(())), Optional("size", Whole(U16, ())));
+            let form = Nested("folders", members, PhantomData::<&Folder<'_>>);
+            leaves_none_out(&form);
+            told(alloc, tree, &form, h)
+        }
     }
 }
 
@@ -69,21 +79,8 @@ impl<'a> FromNested for Folder<'a> {
     ghost kept = { λ _ _. Prim.search (rules, the_lemmas) };
 }
 
-fn closed<H: I18n + FormI18n>(
-    alloc: Global,
-    tree: &Tree<'_, '_>,
-    h: &H,
-) -> Result<String, AllocError> {
-    let members = (
-        Member("name", Text((Is(Ascii), Is(length!(min = 1, max = 9))))),
-        Optional("size", Whole(U16, Is(range!(max = 1000)))),
-    );
-    let form = Closed(Nested("folders", members, PhantomData::<&Folder<'_>>));
-    told(alloc, tree, &form, h)
-}
-
-// Bodies, and what each reads as.
-static CLOSED: [(&str, &str); 13] = [
+/// Bodies, and what each reads as.
+pub const CLOSED: &[(&str, &str)] = &[
     (
         "{\"name\":\"a\",\"folders\":[]}",
         "Folder { name: TextRef(\"a\"), size: None, folders: Items([]) }",
@@ -126,29 +123,13 @@ static CLOSED: [(&str, &str); 13] = [
     ),
 ];
 
-#[test]
-fn makes_folders_that_hold_folders_or_tells_their_faults(rt: HostRuntime) {
-    compare(&rt, rt.alloc(), Form::Nested(Case::Closed), &CLOSED);
-}
-
-fn open<H: I18n + FormI18n>(
-    alloc: Global,
-    tree: &Tree<'_, '_>,
-    h: &H,
-) -> Result<String, AllocError> {
-    let members = (Member("name", Text(())), Optional("size", Whole(U16, ())));
-    let form = Nested("folders", members, PhantomData::<&Folder<'_>>);
-    leaves_none_out(&form);
-    told(alloc, tree, &form, h)
-}
-
 // Calls the law of objects in objects for this form.
 fn leaves_none_out<'a, T: FromNested, M: Members<'a, Out = T::Own>>(_form: &Nested<'a, M, T>) {
     laws::nested_objects::<'a, T, M>();
 }
 
-// Bodies, and what each reads as.
-static OPEN: [(&str, &str); 2] = [
+/// Bodies, and what each reads as.
+pub const OPEN: &[(&str, &str)] = &[
     (
         "{\"x\":1,\"name\":\"a\",\"folders\":[{\"name\":\"\",\"y\":[],\"folders\":[]}]}",
         "Folder { name: TextRef(\"a\"), size: None, folders: Items([Folder { name: TextRef(\"\"), size: None, folders: Items([]) }]) }",
@@ -159,98 +140,24 @@ static OPEN: [(&str, &str); 2] = [
     ),
 ];
 
-#[test]
-fn lets_unknown_members_of_open_folders_through(rt: HostRuntime) {
-    compare(&rt, rt.alloc(), Form::Nested(Case::Open), &OPEN);
-}
-
-// Folders of this name, each in the one before.
-fn deep(alloc: Global, depth: usize, name: &str) -> Result<String, AllocError> {
-    let mut body = String::new(alloc);
-    for _ in 0..depth {
-        write!(body, "{{\"name\":{name},\"folders\":[")?;
-    }
-    for _ in 0..depth {
-        body.push_str("]}")?;
-    }
-    Ok(body)
-}
-
-// What is told of a body, in English.
-fn told_in_english(rt: &impl Abort, alloc: Global, case: Case, body: &str) -> String {
-    told_of(alloc, Form::Nested(case), body.as_bytes(), &DefaultI18n).or_end(rt)
-}
-
-#[test]
-fn reads_folders_sixty_deep(rt: HostRuntime) {
-    let body = deep(rt.alloc(), 60, "\"a\"").or_end(&rt);
-    let told = told_in_english(&rt, rt.alloc(), Case::Closed, body.as_str());
-    let folder = "Folder { name: TextRef(\"a\")";
-    assert!(rt; told.as_str().matches(folder).count() == 60);
-}
-
-// Whether a line is the fault of a folder at this depth.
-fn is_fault_at(line: &str, depth: usize) -> bool {
-    line.matches("folders[0].").count() == depth && line.ends_with("name: not a text")
-}
+// Folders, each in the one before, and each with a number for its name.
+static SIXTY: Long = Long::Repeated("", (60, "{\"name\":1,\"folders\":["), "", (60, "]}"), "");
 
 // Whether there are sixty lines, each of which is the fault of a folder below the one before.
 fn has_a_fault_at_each_depth(told: &str) -> bool {
     let mut right = told.lines().count() == 60;
     for (depth, line) in told.lines().enumerate() {
-        right = right && is_fault_at(line, depth);
+        right = right
+            && line.matches("folders[0].").count() == depth
+            && line.ends_with("name: not a text");
     }
     right
 }
 
 #[test]
 fn tells_a_fault_of_each_folder_of_sixty(rt: HostRuntime) {
-    let body = deep(rt.alloc(), 60, "1").or_end(&rt);
-    let told = told_in_english(&rt, rt.alloc(), Case::Closed, body.as_str());
-    assert!(rt; has_a_fault_at_each_depth(told.as_str()));
-}
-
-// A folder with this many folders in it, each with this member.
-fn wide(alloc: Global, count: usize, member: &str) -> Result<String, AllocError> {
-    let mut body = String::from_str(alloc, "{\"name\":\"a\",\"folders\":[")?;
-    for i in 0..count {
-        let comma = if i == 0 { "" } else { "," };
-        write!(
-            body,
-            "{comma}{{\"name\":\"a\",\"folders\":[],{member}:{i}}}"
-        )?;
-    }
-    body.push_str("]}")?;
-    Ok(body)
-}
-
-// Whether there are ten thousand sizes, the first of which is 0, and the last 9999.
-fn has_ten_thousand_in_order(told: &str) -> bool {
-    told.matches("size: Some(").count() == 10_000
-        && told.find("size: Some(") == told.find("size: Some(0)")
-        && told.rfind("size: Some(") == told.find("size: Some(9999)")
-}
-
-#[test]
-fn reads_ten_thousand_folders_in_order(rt: HostRuntime) {
-    let body = wide(rt.alloc(), 10_000, "\"size\"").or_end(&rt);
-    let told = told_in_english(&rt, rt.alloc(), Case::Open, body.as_str());
-    assert!(rt; has_ten_thousand_in_order(told.as_str()));
-}
-
-#[test]
-fn tells_a_fault_of_each_folder_of_ten_thousand(rt: HostRuntime) {
-    let body = wide(rt.alloc(), 10_000, "\"x\"").or_end(&rt);
-    check_many(
-        &rt,
-        rt.alloc(),
-        Form::Nested(Case::Closed),
-        body.as_str(),
-        &DefaultI18n,
-        10_000,
-        (
-            "folders[0].x: not known here\nfolders[1].x: not known here\n",
-            "\nfolders[9999].x: not known here\n",
-        ),
-    );
+    let body = SIXTY.text(rt.alloc()).or_end(&rt);
+    let bytes = body.as_str().as_bytes();
+    let read = told_of(rt.alloc(), &Form::Nested(Case::Closed), bytes, &DefaultI18n);
+    assert!(rt; has_a_fault_at_each_depth(read.or_end(&rt).as_str()));
 }

@@ -1,6 +1,6 @@
 //! Values that may be null, and members that may be null or missing, beside those that may not.
 
-use super::told::{Case as Form, compare, compare_codes, told};
+use super::told::told;
 use garde::fields::Is;
 use garde::{I18n, length, range};
 use garde_schema::{
@@ -10,7 +10,6 @@ use garde_schema::{
 use std::alloc::{AllocError, Global};
 
 /// The forms of this module.
-#[derive(Clone, Copy)]
 pub enum Case {
     Texts,
     Defaults,
@@ -20,37 +19,36 @@ pub enum Case {
 pub fn told_by<H: I18n + FormI18n>(
     alloc: Global,
     tree: &Tree<'_, '_>,
-    case: Case,
+    case: &Case,
     h: &H,
 ) -> Result<String, AllocError> {
     match case {
-        Case::Texts => texts(alloc, tree, h),
-        Case::Defaults => defaults(alloc, tree, h),
+        // Four members with texts, which differ in what may stand for one.
+        Case::Texts => {
+            let text = Text(Is(length!(min = 2, max = 3)));
+            let must = Member("must", Nullable(text));
+            let or = WithDefault("or", text, TextRef::new("a default that is too long"));
+            let texts = (
+                (must, Optional("may", Nullable(text))),
+                (Nullish("ish", text), or),
+            );
+            told(alloc, tree, &Object(Closed(texts)), h)
+        }
+        // Members that have defaults of other types, or are null in other places.
+        Case::Defaults => {
+            let count = WithDefault("count", Whole(U8, Is(range!(min = 2))), 1);
+            let twice = Member("twice", Nullable(Nullable(Whole(U8, ()))));
+            let defaults = (
+                (count, WithDefault("news", Flag, true)),
+                ((Nullish("null", Null), Nullish("any", Any)), twice),
+            );
+            told(alloc, tree, &Nullable(Object(defaults)), h)
+        }
     }
 }
 
-// Four members with texts, which differ in what may stand for one.
-fn texts<H: I18n + FormI18n>(
-    alloc: Global,
-    tree: &Tree<'_, '_>,
-    h: &H,
-) -> Result<String, AllocError> {
-    let text = Text(Is(length!(min = 2, max = 3)));
-    let form = Object(Closed((
-        (
-            Member("must", Nullable(text)),
-            Optional("may", Nullable(text)),
-        ),
-        (
-            Nullish("ish", text),
-            WithDefault("or", text, TextRef::new("a default that is too long")),
-        ),
-    )));
-    told(alloc, tree, &form, h)
-}
-
-// Bodies, and what each reads as, in English and as codes.
-static TEXTS: [(&str, &str, &str); 9] = [
+/// Bodies, and what each reads as, in English and as codes.
+pub const TEXTS: &[(&str, &str, &str)] = &[
     (
         "{\"must\":\"abc\",\"may\":\"bcd\",\"ish\":\"cde\",\"or\":\"def\"}",
         "((Some(TextRef(\"abc\")), Some(Some(TextRef(\"bcd\")))), (Some(TextRef(\"cde\")), TextRef(\"def\")))",
@@ -94,32 +92,8 @@ static TEXTS: [(&str, &str, &str); 9] = [
     ),
 ];
 
-#[test]
-fn reads_members_that_may_be_null_or_missing(rt: HostRuntime) {
-    compare_codes(&rt, rt.alloc(), Form::Nulls(Case::Texts), &TEXTS);
-}
-
-// Members that have defaults of other types, or are null in other places.
-fn defaults<H: I18n + FormI18n>(
-    alloc: Global,
-    tree: &Tree<'_, '_>,
-    h: &H,
-) -> Result<String, AllocError> {
-    let form = Nullable(Object((
-        (
-            WithDefault("count", Whole(U8, Is(range!(min = 2))), 1),
-            WithDefault("news", Flag, true),
-        ),
-        (
-            (Nullish("null", Null), Nullish("any", Any)),
-            Member("twice", Nullable(Nullable(Whole(U8, ())))),
-        ),
-    )));
-    told(alloc, tree, &form, h)
-}
-
-// Bodies, and what each reads as.
-static DEFAULTS: [(&str, &str); 6] = [
+/// Bodies, and what each reads as.
+pub const DEFAULTS: &[(&str, &str)] = &[
     ("null", "None"),
     (
         "{\"twice\":null}",
@@ -140,14 +114,14 @@ static DEFAULTS: [(&str, &str); 6] = [
     ("[null]", "not an object\n"),
 ];
 
-#[test]
-fn reads_members_that_have_a_default(rt: HostRuntime) {
-    compare(&rt, rt.alloc(), Form::Nulls(Case::Defaults), &DEFAULTS);
-}
+// A text that is longer than what lies in a value.
+const LONG: &str = "a text of more than twenty-two bytes";
 
 #[test]
 fn duplicates_values(rt: HostRuntime) {
-    assert!(rt; 7.duplicate() == 7 && Some(true).duplicate() == Some(true));
-    let text = TextRef::new("a text of more than twenty-two bytes");
-    assert!(rt; text.duplicate().text() == text.text());
+    assert!(rt;
+        7.duplicate() == 7
+            && Some(true).duplicate() == Some(true)
+            && TextRef::new(LONG).duplicate().text() == LONG
+    );
 }

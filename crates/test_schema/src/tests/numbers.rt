@@ -5,96 +5,93 @@ use garde_tape::{Scratch, Tree, parse};
 use serde_json::Value;
 use std::alloc::Global;
 
-// What a number is: the whole one without a sign, the whole one with a sign, and whether it is one of
-// any size.
-fn read(alloc: Global, text: &str) -> Option<(Option<u64>, Option<i64>, bool)> {
-    let mut scratch = Scratch::new(alloc);
-    let tape = parse(alloc, text, &mut scratch).ok()?;
-    let tree = Tree::root(&tape);
-    Some((tree.as_u64(), tree.as_i64(), tree.is_whole()))
-}
-
-// The first two by serde_json.
-fn by_serde(alloc: Global, text: &str) -> Option<(Option<u64>, Option<i64>)> {
-    let tree = Value::from_str(alloc, text).ok()?;
-    Some((tree.as_u64(), tree.as_i64()))
-}
-
-const NUMBERS: &[(&str, Option<u64>, Option<i64>)] = &[
-    ("0", Some(0), Some(0)),
-    ("18", Some(18), Some(18)),
-    ("-18", None, Some(-18)),
-    ("-0", None, None),
-    ("18.0", None, None),
-    ("1e2", None, None),
-    ("18E0", None, None),
+// A text, the whole number without a sign, the whole one with a sign, and whether it is one of any size.
+static NUMBERS: [(&str, Option<u64>, Option<i64>, bool); 19] = [
+    ("0", Some(0), Some(0), true),
+    ("18", Some(18), Some(18), true),
+    ("-18", None, Some(-18), true),
+    ("-1", None, Some(-1), true),
+    ("-0", None, None, false),
+    ("18.0", None, None, false),
+    ("1.0", None, None, false),
+    ("1e2", None, None, false),
+    ("18E0", None, None, false),
     (
         "9223372036854775807",
         Some(9223372036854775807),
         Some(9223372036854775807),
+        true,
     ),
-    ("9223372036854775808", Some(9223372036854775808), None),
-    ("-9223372036854775808", None, Some(-9223372036854775808)),
-    ("-9223372036854775809", None, None),
-    ("18446744073709551615", Some(18446744073709551615), None),
-    ("18446744073709551616", None, None),
-    ("\"18\"", None, None),
-    ("null", None, None),
+    ("9223372036854775808", Some(9223372036854775808), None, true),
+    (
+        "-9223372036854775808",
+        None,
+        Some(-9223372036854775808),
+        true,
+    ),
+    ("-9223372036854775809", None, None, true),
+    (
+        "18446744073709551615",
+        Some(18446744073709551615),
+        None,
+        true,
+    ),
+    ("18446744073709551616", None, None, true),
+    ("-340282366920938463463374607431768211456", None, None, true),
+    ("\"18\"", None, None, false),
+    ("\"1\"", None, None, false),
+    ("null", None, None, false),
 ];
 
-// Whether both read a number as these.
-fn is_read(alloc: Global, text: &str, (unsigned, signed): (Option<u64>, Option<i64>)) -> bool {
-    match read(alloc, text) {
-        Some((read, also, _)) => {
-            read == unsigned && also == signed && by_serde(alloc, text) == Some((unsigned, signed))
+// Whether a text is read as these.
+fn is_read(
+    alloc: Global,
+    text: &str,
+    unsigned: Option<u64>,
+    signed: Option<i64>,
+    whole: bool,
+) -> bool {
+    let mut scratch = Scratch::new(alloc);
+    match parse(alloc, text, &mut scratch) {
+        Ok(tape) => {
+            let tree = Tree::root(&tape);
+            tree.as_u64() == unsigned && tree.as_i64() == signed && tree.is_whole() == whole
         }
-        None => false,
+        Err(_) => false,
+    }
+}
+
+// Whether serde_json reads a text as the first two.
+fn is_by_serde(alloc: Global, text: &str, unsigned: Option<u64>, signed: Option<i64>) -> bool {
+    match Value::from_str(alloc, text) {
+        Ok(value) => value.as_u64() == unsigned && value.as_i64() == signed,
+        Err(_) => false,
     }
 }
 
 #[test]
 fn reads_whole_numbers(rt: HostRuntime) {
-    for (text, unsigned, signed) in NUMBERS {
-        assert!(rt; is_read(rt.alloc(), text, (*unsigned, *signed)), "{text}");
-    }
-}
-
-const WHOLE: &[(&str, bool)] = &[
-    ("0", true),
-    ("-0", false),
-    ("-1", true),
-    ("1.0", false),
-    ("1e2", false),
-    ("18446744073709551616", true),
-    ("-340282366920938463463374607431768211456", true),
-    ("\"1\"", false),
-];
-
-// Whether a text is a whole number of any size.
-fn is_whole(alloc: Global, text: &str) -> Option<bool> {
-    match read(alloc, text) {
-        Some((_, _, whole)) => Some(whole),
-        None => None,
-    }
-}
-
-#[test]
-fn tells_whole_numbers_of_any_size(rt: HostRuntime) {
-    for (text, whole) in WHOLE {
-        assert!(rt; is_whole(rt.alloc(), text) == Some(*whole), "{text}");
+    for (text, unsigned, signed, whole) in &NUMBERS {
+        assert!(rt;
+            is_read(rt.alloc(), text, *unsigned, *signed, *whole)
+                && is_by_serde(rt.alloc(), text, *unsigned, *signed),
+            "{text}"
+        );
     }
 }
 
 // Whether the text of a number is kept as it is.
-fn keeps(alloc: Global, text: &str) -> Option<bool> {
+fn is_kept(alloc: Global, text: &str) -> bool {
     let mut scratch = Scratch::new(alloc);
-    let tape = parse(alloc, text, &mut scratch).ok()?;
-    Some(Tree::root(&tape).as_number() == Some(text))
+    match parse(alloc, text, &mut scratch) {
+        Ok(tape) => Tree::root(&tape).as_number() == Some(text),
+        Err(_) => false,
+    }
 }
 
 #[test]
 fn keeps_a_number_of_a_thousand_digits(rt: HostRuntime) {
     let digits = "9".repeat(rt.alloc(), 1000).or_end(&rt);
-    assert!(rt; keeps(rt.alloc(), digits.as_str()) == Some(true));
-    assert!(rt; read(rt.alloc(), digits.as_str()) == Some((None, None, true)));
+    let text = digits.as_str();
+    assert!(rt; is_kept(rt.alloc(), text) && is_read(rt.alloc(), text, None, None, true));
 }

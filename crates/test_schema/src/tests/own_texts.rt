@@ -1,61 +1,51 @@
 //! Texts, lists of texts and fields as trees, held against the trees of JSON texts.
 
 use super::bodies::drawn;
+use super::is_text;
 use super::members::{found, got};
 use garde_tape::{FieldValue, Scratch, Tree, parse};
-use std::alloc::Global;
-use std::process::Abort;
+use std::alloc::{AllocError, Global};
 
-// What a tree is, and what is found in it under a name, with the last value there.
-fn seen(
-    alloc: Global,
-    tree: &Tree<'_, '_>,
-    name: &str,
-) -> Option<(String, &'static str, &'static str)> {
-    let drawn = drawn(alloc, tree).ok()?;
-    Some((drawn, found(tree, name), got(tree, name)))
+// What a tree is, and what is found in it under three names, each with the last value there.
+fn seen(alloc: Global, tree: &Tree<'_, '_>) -> Result<String, AllocError> {
+    let mut out = drawn(alloc, tree)?;
+    for name in &NAMES {
+        out.push_str(found(tree, name))?;
+        out.push_str(got(tree, name))?;
+    }
+    Ok(out)
 }
 
-// The same of a JSON text.
-fn seen_in(alloc: Global, text: &str, name: &str) -> Option<(String, &'static str, &'static str)> {
+static NAMES: [&str; 3] = ["a", "b", ""];
+
+// Whether this is seen of a JSON text.
+fn is_seen(alloc: Global, text: &str, own: &str) -> bool {
     let mut scratch = Scratch::new(alloc);
-    let tape = parse(alloc, text, &mut scratch).ok()?;
-    seen(alloc, &Tree::root(&tape), name)
-}
-
-// Whether the same is seen of a tree by itself, and of the text that spells it.
-fn is_same(alloc: Global, tree: &Tree<'_, '_>, text: &str, name: &str) -> bool {
-    match seen(alloc, tree, name) {
-        Some(own) => seen_in(alloc, text, name) == Some(own),
-        None => false,
+    match parse(alloc, text, &mut scratch) {
+        Ok(tape) => is_text(seen(alloc, &Tree::root(&tape)), own),
+        Err(_) => false,
     }
 }
 
-// A tree by itself, and the text that spells it.
-fn tell_same(rt: &impl Abort, alloc: Global, tree: &Tree<'_, '_>, text: &str) {
-    for name in ["a", "b", ""] {
-        assert!(rt; is_same(alloc, tree, text, name), "{text}, {name}");
+// Whether the same is seen of a tree by itself, and of the text that spells it.
+fn is_same(alloc: Global, tree: &Tree<'_, '_>, text: &str) -> bool {
+    match seen(alloc, tree) {
+        Ok(own) => is_seen(alloc, text, own.as_str()),
+        Err(_) => false,
     }
 }
 
 #[test]
 fn reads_texts_as_the_json_that_spells_them(rt: HostRuntime) {
-    tell_same(&rt, rt.alloc(), &Tree::text(""), "\"\"");
-    tell_same(&rt, rt.alloc(), &Tree::text("it"), "\"it\"");
-    tell_same(&rt, rt.alloc(), &Tree::text("1"), "\"1\"");
-    tell_same(
-        &rt,
-        rt.alloc(),
-        &Tree::text("a\"\n\u{e9}"),
-        "\"a\\\"\\n\\u00e9\"",
-    );
-    tell_same(&rt, rt.alloc(), &Tree::texts(&[]), "[]");
-    tell_same(&rt, rt.alloc(), &Tree::texts(&["it"]), "[\"it\"]");
-    tell_same(
-        &rt,
-        rt.alloc(),
-        &Tree::texts(&["", "a", "a"]),
-        "[\"\",\"a\",\"a\"]",
+    let alloc = rt.alloc();
+    assert!(rt;
+        is_same(alloc, &Tree::text(""), "\"\"")
+            && is_same(alloc, &Tree::text("it"), "\"it\"")
+            && is_same(alloc, &Tree::text("1"), "\"1\"")
+            && is_same(alloc, &Tree::text("a\"\n\u{e9}"), "\"a\\\"\\n\\u00e9\"")
+            && is_same(alloc, &Tree::texts(&[]), "[]")
+            && is_same(alloc, &Tree::texts(&["it"]), "[\"it\"]")
+            && is_same(alloc, &Tree::texts(&["", "a", "a"]), "[\"\",\"a\",\"a\"]")
     );
 }
 
@@ -92,6 +82,6 @@ static FIELDS: [(&[(&str, FieldValue<'static, 'static>)], &str); 5] = [
 #[test]
 fn reads_fields_as_the_json_that_spells_them(rt: HostRuntime) {
     for (fields, text) in &FIELDS {
-        tell_same(&rt, rt.alloc(), &Tree::fields(fields), text);
+        assert!(rt; is_same(rt.alloc(), &Tree::fields(fields), text), "{text}");
     }
 }

@@ -10,12 +10,12 @@ use std::alloc::{AllocError, Global};
 // Bodies, each with its whole report.
 static BODIES: [(&str, &str); 2] = [
     (
-        "{\"number\":0,\"sentTo\":\"\",\"phone\":\"1\",\"grams\":30001,\"floor\":41,\"crates\":[],\"labels\":{}}",
-        "number: lower than 1\nsentTo: length is lower than 1\nphone: value does not begin with \"+\"\ngrams: greater than 30000\nfloor: greater than 40\ncrates: length is lower than 1\n",
+        "{\"grams\":30001,\"floor\":41,\"sentCrates\":[]}",
+        "grams: greater than 30000\nfloor: greater than 40\nsentCrates: length is lower than 1\n",
     ),
     (
-        "{\"number\":1,\"sentTo\":\"Ada\",\"grams\":1,\"floor\":0,\"crates\":[{\"name\":\"a\",\"pieces\":0,\"weight\":1,\"marks\":[\"-\"],\"seen\":[]}],\"labels\":{}}",
-        "crates[0].name: length is lower than 2\ncrates[0].pieces: lower than 1\ncrates[0].marks[0]: not alphanumeric\n",
+        "{\"grams\":1,\"floor\":0,\"sentCrates\":[{\"name\":\"a\",\"pieces\":0,\"weight\":1,\"seen\":[]}]}",
+        "sentCrates[0].name: length is lower than 2\nsentCrates[0].pieces: lower than 1\n",
     ),
 ];
 

@@ -1,7 +1,7 @@
 //! A sign-up, whose texts and whole numbers are read under rules of `garde`: the whole report of each
 //! body in English and as codes.
 
-use super::told::{Case, compare_codes, told};
+use super::told::told;
 use garde::fields::{Ascii, Is, When};
 use garde::{I18n, length, range};
 use garde_schema::{FormI18n, I8, Member, Object, Text, U8, U64, Whole};
@@ -28,8 +28,8 @@ pub fn signup<H: I18n + FormI18n>(
     told(alloc, tree, &form, h)
 }
 
-// Bodies, and what each reads as, in English and as codes.
-static SIGNUPS: [(&str, &str, &str); 3] = [
+/// Bodies, and what each reads as, in English and as codes.
+pub const SIGNUPS: &[(&str, &str, &str)] = &[
     (
         "{\"name\":\"ab\",\"again\":\"ab\",\"age\":18,\"low\":-128,\"big\":18446744073709551615}",
         "((TextRef(\"ab\"), TextRef(\"ab\")), (18, (-128, 18446744073709551615)))",
@@ -46,8 +46,3 @@ static SIGNUPS: [(&str, &str, &str); 3] = [
         "name: member_repeated\nagain: member_missing\nage: range_lower_than min=18\nlow: wrong_form wanted=Whole found=Number\nbig: wrong_form wanted=Whole found=Text\n",
     ),
 ];
-
-#[test]
-fn reads_texts_and_whole_numbers_under_rules(rt: HostRuntime) {
-    compare_codes(&rt, rt.alloc(), Case::Signup, &SIGNUPS);
-}

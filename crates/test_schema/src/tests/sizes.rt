@@ -1,21 +1,14 @@
 //! Wide and deep bodies.
 
 use super::OrEnd;
-use garde_tape::{Found, ParseError, Place, Scratch, Tree, parse};
-use std::alloc::{AllocError, Global};
-use std::fmt::Write;
+use super::long::Long;
+use garde_tape::{Found, ParseError, Scratch, Tree, parse};
+use std::alloc::Global;
 
 const WIDTH: usize = 100_000;
 
-// An object of `WIDTH` members, the names of which are `k0` and so on.
-fn wide(alloc: Global) -> Result<String, AllocError> {
-    let mut text = String::from_str(alloc, "{\"z\":null")?;
-    for i in 0..WIDTH {
-        write!(text, ",\"k{i}\":{i}")?;
-    }
-    text.push_str("}")?;
-    Ok(text)
-}
+// An object of `WIDTH` members behind a first one, the names of which are `k0` and so on.
+static WIDE: Long = Long::Numbered("{\"z\":null", (0, WIDTH), (",\"k", "\":"), "}");
 
 // The last member of an object of `WIDTH` members behind the first, and whether one more is left.
 fn last<'a>(tree: &Tree<'_, 'a>) -> Option<(&'a str, Option<u64>, bool)> {
@@ -28,52 +21,48 @@ fn last<'a>(tree: &Tree<'_, 'a>) -> Option<(&'a str, Option<u64>, bool)> {
 }
 
 // Whether an object of many members has all of them.
-fn has_all(alloc: Global, text: &str) -> Option<bool> {
+fn has_all(alloc: Global, text: &str) -> bool {
     let mut scratch = Scratch::new(alloc);
-    let tape = parse(alloc, text, &mut scratch).ok()?;
-    let tree = Tree::root(&tape);
-    Some(
-        last(&tree) == Some(("k99999", Some(99_999), false))
-            && matches!(tree.find("k99999"), Found::Once(_))
-            && matches!(tree.find("k100000"), Found::Missing),
-    )
+    match parse(alloc, text, &mut scratch) {
+        Ok(tape) => {
+            let tree = Tree::root(&tape);
+            last(&tree) == Some(("k99999", Some(99_999), false))
+                && matches!(tree.find("k99999"), Found::Once(_))
+                && matches!(tree.find("k100000"), Found::Missing)
+        }
+        Err(_) => false,
+    }
 }
 
 #[test]
 fn reads_an_object_of_many_members(rt: HostRuntime) {
-    let text = wide(rt.alloc()).or_end(&rt);
-    assert!(rt; has_all(rt.alloc(), text.as_str()).or_end(&rt));
+    let text = WIDE.text(rt.alloc()).or_end(&rt);
+    assert!(rt; has_all(rt.alloc(), text.as_str()));
 }
 
-fn nest(alloc: Global, depth: usize) -> Result<String, AllocError> {
-    let mut text = "[".repeat(alloc, depth)?;
-    text.push_str("]".repeat(alloc, depth)?.as_str())?;
-    Ok(text)
-}
+// Nests of lists, and the line and the column where each is too deep, if it is.
+static NESTS: [(Long, Option<(usize, usize)>); 2] = [
+    (Long::Repeated("", (128, "["), "", (128, "]"), ""), None),
+    (
+        Long::Repeated("", (129, "["), "", (129, "]"), ""),
+        Some((1, 129)),
+    ),
+];
 
-// Where a nest of lists is too deep, if it is.
-fn stop_of(alloc: Global, text: &str) -> Option<Place> {
+// Whether a text is too deep there, or else is JSON.
+fn stops(alloc: Global, text: &str, place: Option<(usize, usize)>) -> bool {
     let mut scratch = Scratch::new(alloc);
     match parse(alloc, text, &mut scratch) {
-        Err(ParseError::TooDeep(at)) => Some(at),
-        _ => None,
+        Ok(_) => place.is_none(),
+        Err(ParseError::TooDeep(at)) => place == Some((at.line, at.column)),
+        Err(_) => false,
     }
-}
-
-// Whether a nest of lists is JSON.
-fn is_json(alloc: Global, text: &str) -> bool {
-    let mut scratch = Scratch::new(alloc);
-    parse(alloc, text, &mut scratch).is_ok()
 }
 
 #[test]
 fn refuses_a_nest_that_is_too_deep(rt: HostRuntime) {
-    let deepest = nest(rt.alloc(), 128).or_end(&rt);
-    assert!(rt; is_json(rt.alloc(), deepest.as_str()));
-    let deeper = nest(rt.alloc(), 129).or_end(&rt);
-    let place = Place {
-        line: 1,
-        column: 129,
-    };
-    assert_eq!(rt; stop_of(rt.alloc(), deeper.as_str()), Some(place));
+    for (nest, place) in &NESTS {
+        let text = nest.text(rt.alloc()).or_end(&rt);
+        assert!(rt; stops(rt.alloc(), text.as_str(), *place));
+    }
 }

@@ -1,8 +1,8 @@
 //! What a body reads as by a form: its value, as it prints for debugging, or its whole report.
 
 use super::{
-    OrEnd, checked, enums, forms, json, lists, maps, nested, nulls, only_members, signup, tuples,
-    unions, wide_numbers,
+    OrEnd, checked, enums, forms, json, list_rules, lists, maps, nested, nulls, only_members,
+    signup, tuples, unions, wide_numbers,
 };
 use garde::{CodeI18n, DefaultI18n, I18n};
 use garde_schema::{Form, FormI18n, read};
@@ -12,13 +12,13 @@ use std::fmt::Debug;
 use std::process::Abort;
 
 /// The forms of these tests, by the module that has them.
-#[derive(Clone, Copy)]
 pub enum Case {
     Checked(checked::Case),
     Enums,
     Forms,
     Json,
     Lists(lists::Case),
+    ListRules(list_rules::Case),
     Maps(maps::Case),
     Nested(nested::Case),
     Nulls(nulls::Case),
@@ -55,7 +55,7 @@ where
 fn told_by<H: I18n + FormI18n>(
     alloc: Global,
     tree: &Tree<'_, '_>,
-    case: Case,
+    case: &Case,
     h: &H,
 ) -> Result<String, AllocError> {
     match case {
@@ -64,21 +64,22 @@ fn told_by<H: I18n + FormI18n>(
         Case::Forms => forms::person(alloc, tree, h),
         Case::Json => json::person(alloc, tree, h),
         Case::Lists(case) => lists::told_by(alloc, tree, case, h),
+        Case::ListRules(case) => list_rules::told_by(alloc, tree, case, h),
         Case::Maps(case) => maps::told_by(alloc, tree, case, h),
         Case::Nested(case) => nested::told_by(alloc, tree, case, h),
         Case::Nulls(case) => nulls::told_by(alloc, tree, case, h),
         Case::OnlyMembers(case) => only_members::told_by(alloc, tree, case, h),
         Case::Signup => signup::signup(alloc, tree, h),
-        Case::Tuples(size) => tuples::told_by(alloc, tree, size, h),
+        Case::Tuples(size) => tuples::told_by(alloc, tree, *size, h),
         Case::Unions => unions::payment(alloc, tree, h),
-        Case::Wide(signed) => wide_numbers::number(alloc, tree, signed, h),
+        Case::Wide(signed) => wide_numbers::number(alloc, tree, *signed, h),
     }
 }
 
 /// The same of bytes, or where they stop to be JSON.
 pub fn told_of<H: I18n + FormI18n>(
     alloc: Global,
-    case: Case,
+    case: &Case,
     bytes: &[u8],
     h: &H,
 ) -> Result<String, AllocError> {
@@ -93,7 +94,7 @@ pub fn told_of<H: I18n + FormI18n>(
 pub fn check<H: I18n + FormI18n>(
     rt: &impl Abort,
     alloc: Global,
-    case: Case,
+    case: &Case,
     bytes: &[u8],
     h: &H,
     expected: &str,
@@ -102,36 +103,77 @@ pub fn check<H: I18n + FormI18n>(
     assert_eq!(rt; told.as_str(), expected);
 }
 
-// Whether a report has so many lines, the first and the last of which are these.
-fn has_lines(told: &str, count: usize, (first, last): (&str, &str)) -> bool {
-    told.lines().count() == count && told.starts_with(first) && told.ends_with(last)
-}
-
-/// Asks that the report of a body has so many lines, the first and the last of which are these.
-pub fn check_many<H: I18n + FormI18n>(
-    rt: &impl Abort,
-    alloc: Global,
-    case: Case,
-    body: &str,
-    h: &H,
-    count: usize,
-    ends: (&str, &str),
-) {
-    let told = told_of(alloc, case, body.as_bytes(), h).or_end(rt);
-    assert!(rt; has_lines(told.as_str(), count, ends));
-}
-
-/// Asks that each body reads as this, in English.
-pub fn compare(rt: &impl Abort, alloc: Global, case: Case, rows: &[(&str, &str)]) {
+// Asks that each body reads as this, in English.
+fn compare(rt: &impl Abort, alloc: Global, case: &Case, rows: &[(&str, &str)]) {
     for (body, expected) in rows {
         check(rt, alloc, case, body.as_bytes(), &DefaultI18n, expected);
     }
 }
 
-/// Asks that each body reads as this, in English and as codes.
-pub fn compare_codes(rt: &impl Abort, alloc: Global, case: Case, rows: &[(&str, &str, &str)]) {
+// Asks that each body reads as this, in English and as codes.
+fn compare_codes(rt: &impl Abort, alloc: Global, case: &Case, rows: &[(&str, &str, &str)]) {
     for (body, english, codes) in rows {
         check(rt, alloc, case, body.as_bytes(), &DefaultI18n, english);
         check(rt, alloc, case, body.as_bytes(), &CodeI18n, codes);
+    }
+}
+
+// The forms whose bodies are read in English, and the bodies.
+static ENGLISH: [(Case, &[(&str, &str)]); 20] = [
+    (Case::Lists(lists::Case::Tags), lists::TAGS),
+    (Case::Lists(lists::Case::Few), lists::FEW),
+    (Case::Lists(lists::Case::Deep), lists::DEEP),
+    (
+        Case::ListRules(list_rules::Case::Several),
+        list_rules::SEVERAL,
+    ),
+    (Case::ListRules(list_rules::Case::Apart), list_rules::APART),
+    (Case::ListRules(list_rules::Case::Many), list_rules::MANY),
+    (Case::ListRules(list_rules::Case::Each), list_rules::EACH),
+    (
+        Case::ListRules(list_rules::Case::MaybeApart),
+        list_rules::MAYBE_APART,
+    ),
+    (Case::ListRules(list_rules::Case::Rush), list_rules::RUSH),
+    (Case::Maps(maps::Case::Labels), maps::LABELS),
+    (Case::Maps(maps::Case::FewLabels), maps::FEW_LABELS),
+    (Case::Maps(maps::Case::Named), maps::NAMED),
+    (Case::Maps(maps::Case::Many), maps::MANY),
+    (Case::Maps(maps::Case::Nested), maps::NESTED),
+    (Case::Nested(nested::Case::Closed), nested::CLOSED),
+    (Case::Nested(nested::Case::Open), nested::OPEN),
+    (Case::Checked(checked::Case::Lines), checked::LINES),
+    (Case::Checked(checked::Case::Span), checked::SPANS),
+    (Case::Checked(checked::Case::Ends), checked::ENDS),
+    (Case::Nulls(nulls::Case::Defaults), nulls::DEFAULTS),
+];
+
+#[test]
+fn reads_bodies_in_english(rt: HostRuntime) {
+    for (case, rows) in &ENGLISH {
+        compare(&rt, rt.alloc(), case, rows);
+    }
+}
+
+// The forms whose bodies are read in English and as codes, and the bodies.
+static IN_CODES: [(Case, &[(&str, &str, &str)]); 6] = [
+    (Case::Enums, enums::ORDERS),
+    (Case::Signup, signup::SIGNUPS),
+    (Case::Unions, unions::PAYMENTS),
+    (
+        Case::OnlyMembers(only_members::Case::Payment),
+        only_members::PAYMENTS,
+    ),
+    (
+        Case::OnlyMembers(only_members::Case::Mixed),
+        only_members::MIXED,
+    ),
+    (Case::Nulls(nulls::Case::Texts), nulls::TEXTS),
+];
+
+#[test]
+fn reads_bodies_in_english_and_as_codes(rt: HostRuntime) {
+    for (case, rows) in &IN_CODES {
+        compare_codes(&rt, rt.alloc(), case, rows);
     }
 }

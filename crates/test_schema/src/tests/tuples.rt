@@ -8,31 +8,8 @@ use garde_schema::{Closed, FormI18n, Member, Members, Object, U8, Whole, read};
 use garde_tape::Tree;
 use std::alloc::{AllocError, Global};
 use std::fmt::Debug;
-use std::process::Abort;
 
-// What is told of a tree with the first one to six of these members and no other.
-fn few<'a, M: Members<'a> + Copy, H: I18n + FormI18n>(
-    alloc: Global,
-    tree: &Tree<'_, 'a>,
-    size: usize,
-    members: &[M; 16],
-    h: &H,
-) -> Result<String, AllocError>
-where
-    M::Out: Debug,
-{
-    let [a, b, c, d, e, f, ..] = *members;
-    match size {
-        1 => told(alloc, tree, &Object(Closed((a,))), h),
-        2 => told(alloc, tree, &Object(Closed((a, b))), h),
-        3 => told(alloc, tree, &Object(Closed((a, b, c))), h),
-        4 => told(alloc, tree, &Object(Closed((a, b, c, d))), h),
-        5 => told(alloc, tree, &Object(Closed((a, b, c, d, e))), h),
-        _ => told(alloc, tree, &Object(Closed((a, b, c, d, e, f))), h),
-    }
-}
-
-// The same of sixteen, whose values are taken out of them.
+// What is told of a tree with sixteen members and no other, whose values are taken out of them.
 fn sixteen<'a, M: Members<'a> + Copy, H: I18n + FormI18n>(
     alloc: Global,
     tree: &Tree<'_, 'a>,
@@ -54,27 +31,8 @@ where
     }
 }
 
-// The same of the first seven, in a tuple whose last item is a tuple, or of the first twelve.
-fn many<'a, M: Members<'a> + Copy, H: I18n + FormI18n>(
-    alloc: Global,
-    tree: &Tree<'_, 'a>,
-    size: usize,
-    members: &[M; 16],
-    h: &H,
-) -> Result<String, AllocError>
-where
-    M::Out: Debug,
-{
-    let [a, b, c, d, e, f, g, i, j, k, l, m, ..] = *members;
-    if size == 7 {
-        told(alloc, tree, &Object(Closed((a, b, c, d, e, (f, g)))), h)
-    } else {
-        let twelve = all!(a, b, c, d, e, f, g, i, j, k, l, m);
-        told(alloc, tree, &Object(Closed(twelve)), h)
-    }
-}
-
-// The same of so many.
+// What is told of a tree with so many of these members and no other: the first one to six, seven, the
+// last two of them in a tuple of their own, twelve or sixteen.
 fn told_of_members<'a, M: Members<'a> + Copy, H: I18n + FormI18n>(
     alloc: Global,
     tree: &Tree<'_, 'a>,
@@ -85,9 +43,19 @@ fn told_of_members<'a, M: Members<'a> + Copy, H: I18n + FormI18n>(
 where
     M::Out: Debug,
 {
+    let [a, b, c, d, e, f, g, i, j, k, l, m, ..] = *members;
     match size {
-        0..=6 => few(alloc, tree, size, members, h),
-        7..=12 => many(alloc, tree, size, members, h),
+        1 => told(alloc, tree, &Object(Closed((a,))), h),
+        2 => told(alloc, tree, &Object(Closed((a, b))), h),
+        3 => told(alloc, tree, &Object(Closed((a, b, c))), h),
+        4 => told(alloc, tree, &Object(Closed((a, b, c, d))), h),
+        5 => told(alloc, tree, &Object(Closed((a, b, c, d, e))), h),
+        6 => told(alloc, tree, &Object(Closed((a, b, c, d, e, f))), h),
+        7 => told(alloc, tree, &Object(Closed((a, b, c, d, e, (f, g)))), h),
+        12 => {
+            let twelve = all!(a, b, c, d, e, f, g, i, j, k, l, m);
+            told(alloc, tree, &Object(Closed(twelve)), h)
+        }
         _ => sixteen(alloc, tree, members, h),
     }
 }
@@ -110,98 +78,94 @@ pub fn told_by<H: I18n + FormI18n>(
     told_of_members(alloc, tree, size, &members, h)
 }
 
-// Asks that each body with so many members reads as this.
-fn compare_sizes(rt: &impl Abort, alloc: Global, rows: &[(usize, &str, &str)]) {
-    for (size, body, expected) in rows {
-        let case = Case::Tuples(*size);
-        check(rt, alloc, case, body.as_bytes(), &DefaultI18n, expected);
-    }
-}
-
 // How many members there are, a body, and what it reads as.
-const TUPLES: &[(usize, &str, &str)] = &[
-    (1, "{\"a\":1}", "(1,)"),
-    (1, "{\"a\":1,\"z\":0}", "z: not known here\n"),
-    (2, "{\"b\":2,\"a\":1}", "(1, 2)"),
+static TUPLES: [(Case, &str, &str); 18] = [
+    (Case::Tuples(1), "{\"a\":1}", "(1,)"),
+    (Case::Tuples(1), "{\"a\":1,\"z\":0}", "z: not known here\n"),
+    (Case::Tuples(2), "{\"b\":2,\"a\":1}", "(1, 2)"),
     (
-        2,
+        Case::Tuples(2),
         "{\"a\":1,\"b\":true,\"z\":0}",
         "b: not a whole number\nz: not known here\n",
     ),
-    (3, "{\"c\":3,\"b\":2,\"a\":1}", "(1, 2, 3)"),
+    (Case::Tuples(3), "{\"c\":3,\"b\":2,\"a\":1}", "(1, 2, 3)"),
     (
-        3,
+        Case::Tuples(3),
         "{\"a\":1,\"b\":true,\"c\":3,\"z\":0}",
         "b: not a whole number\nz: not known here\n",
     ),
-    (4, "{\"d\":4,\"c\":3,\"b\":2,\"a\":1}", "(1, 2, 3, 4)"),
     (
-        4,
+        Case::Tuples(4),
+        "{\"d\":4,\"c\":3,\"b\":2,\"a\":1}",
+        "(1, 2, 3, 4)",
+    ),
+    (
+        Case::Tuples(4),
         "{\"a\":1,\"b\":true,\"c\":3,\"d\":21,\"z\":0}",
         "b: not a whole number\nd: greater than 20\nz: not known here\n",
     ),
     (
-        5,
+        Case::Tuples(5),
         "{\"e\":5,\"d\":4,\"c\":3,\"b\":2,\"a\":1}",
         "(1, 2, 3, 4, 5)",
     ),
     (
-        5,
+        Case::Tuples(5),
         "{\"a\":1,\"b\":true,\"c\":3,\"d\":21,\"e\":5,\"z\":0}",
         "b: not a whole number\nd: greater than 20\nz: not known here\n",
     ),
     (
-        6,
+        Case::Tuples(6),
         "{\"f\":6,\"e\":5,\"d\":4,\"c\":3,\"b\":2,\"a\":1}",
         "(1, 2, 3, 4, 5, 6)",
     ),
     (
-        6,
+        Case::Tuples(6),
         "{\"a\":1,\"b\":true,\"c\":3,\"d\":21,\"e\":5,\"f\":\"1\",\"z\":0}",
         "b: not a whole number\nd: greater than 20\nf: not a whole number\nz: not known here\n",
     ),
-];
-
-#[test]
-fn reads_tuples_of_up_to_six_members(rt: HostRuntime) {
-    compare_sizes(&rt, rt.alloc(), TUPLES);
-}
-
-// The same of more than six.
-const LONGER: &[(usize, &str, &str)] = &[
     (
-        7,
+        Case::Tuples(7),
         "{\"g\":7,\"f\":6,\"e\":5,\"d\":4,\"c\":3,\"b\":2,\"a\":1}",
         "(1, 2, 3, 4, 5, (6, 7))",
     ),
     (
-        7,
+        Case::Tuples(7),
         "{\"a\":1,\"b\":true,\"c\":3,\"d\":21,\"e\":5,\"f\":\"1\",\"g\":7,\"z\":0}",
         "b: not a whole number\nd: greater than 20\nf: not a whole number\nz: not known here\n",
     ),
     (
-        12,
+        Case::Tuples(12),
         "{\"l\":12,\"k\":11,\"j\":10,\"i\":9,\"h\":8,\"g\":7,\"f\":6,\"e\":5,\"d\":4,\"c\":3,\"b\":2,\"a\":1}",
         "(1, 2, 3, 4, 5, (6, 7, 8, 9, 10, (11, 12)))",
     ),
     (
-        12,
+        Case::Tuples(12),
         "{\"a\":1,\"b\":true,\"c\":3,\"d\":21,\"e\":5,\"f\":\"1\",\"g\":7,\"h\":256,\"i\":9,\"j\":1.0,\"k\":11,\"l\":-1,\"z\":0}",
         "b: not a whole number\nd: greater than 20\nf: not a whole number\nh: greater than 20\nj: not a whole number\nl: out of range: 0 to 255\nz: not known here\n",
     ),
     (
-        16,
+        Case::Tuples(16),
         "{\"p\":16,\"o\":15,\"n\":14,\"m\":13,\"l\":12,\"k\":11,\"j\":10,\"i\":9,\"h\":8,\"g\":7,\"f\":6,\"e\":5,\"d\":4,\"c\":3,\"b\":2,\"a\":1}",
         "((1, 2, 3, 4, 5, 6, 7, 8), (9, 10, 11, 12, 13, 14, 15, 16))",
     ),
     (
-        16,
+        Case::Tuples(16),
         "{\"p\":256,\"o\":15,\"n\":1.0,\"m\":13,\"l\":12,\"k\":11,\"j\":10,\"i\":9,\"h\":8,\"g\":7,\"f\":6,\"e\":5,\"d\":4,\"c\":3,\"b\":[],\"a\":1,\"q\":0}",
         "b: not a whole number\nn: not a whole number\np: greater than 20\nq: not known here\n",
     ),
 ];
 
 #[test]
-fn reads_more_members_as_tuples_in_tuples(rt: HostRuntime) {
-    compare_sizes(&rt, rt.alloc(), LONGER);
+fn reads_tuples_of_members(rt: HostRuntime) {
+    for (case, body, expected) in &TUPLES {
+        check(
+            &rt,
+            rt.alloc(),
+            case,
+            body.as_bytes(),
+            &DefaultI18n,
+            expected,
+        );
+    }
 }

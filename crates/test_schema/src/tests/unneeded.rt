@@ -1,5 +1,6 @@
 //! Texts of faults of form that need no memory, while each request for memory fails.
 
+use super::is_handed;
 use garde::DefaultI18n;
 use garde_schema::{FormFault, FormI18n, Integer, Wanted};
 use garde_tape::Kind;
@@ -49,8 +50,7 @@ static STORED: [(FormFault, &str); 17] = [
 fn gives_each<H: FormI18n>(alloc: Global, h: &H) -> bool {
     let mut all = true;
     for (fault, wanted) in &STORED {
-        let text = h.form_fault(alloc, *fault);
-        all = all && matches!(&text, Ok(text) if text.as_str() == *wanted);
+        all = all && is_handed(h.form_fault(alloc, *fault), wanted);
     }
     all
 }

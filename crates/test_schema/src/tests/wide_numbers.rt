@@ -1,6 +1,5 @@
 //! Whole numbers of 128 bits under a rule: the whole report of each body, or the number.
 
-use super::OrEnd;
 use super::told::{Case, check, told};
 use garde::fields::Is;
 use garde::{DefaultI18n, I18n, range};
@@ -73,44 +72,15 @@ const NUMBERS: &[(&str, &str, &str)] = &[
 #[test]
 fn reads_whole_numbers_of_128_bits(rt: HostRuntime) {
     for (body, unsigned, signed) in NUMBERS {
-        let bytes = body.as_bytes();
+        let (alloc, bytes) = (rt.alloc(), body.as_bytes());
         check(
             &rt,
-            rt.alloc(),
-            Case::Wide(false),
+            alloc,
+            &Case::Wide(false),
             bytes,
             &DefaultI18n,
             unsigned,
         );
-        check(
-            &rt,
-            rt.alloc(),
-            Case::Wide(true),
-            bytes,
-            &DefaultI18n,
-            signed,
-        );
+        check(&rt, alloc, &Case::Wide(true), bytes, &DefaultI18n, signed);
     }
-}
-
-#[test]
-fn tells_a_thousand_digits_out_of_range(rt: HostRuntime) {
-    let digits = "9".repeat(rt.alloc(), 1_000).or_end(&rt);
-    let bytes = digits.as_str().as_bytes();
-    check(
-        &rt,
-        rt.alloc(),
-        Case::Wide(false),
-        bytes,
-        &DefaultI18n,
-        ABOVE,
-    );
-    check(
-        &rt,
-        rt.alloc(),
-        Case::Wide(true),
-        bytes,
-        &DefaultI18n,
-        GREATER,
-    );
 }

@@ -5,7 +5,7 @@ use garde_schema::{I8, I16, I32, I64, Isize, U8, U16, U32, U64, Usize};
 use std::process::Abort;
 
 // Asks that a type makes of each text the value that stands beside it.
-fn reads<P: Parse>(rt: &impl Abort, parser: &P, rows: &[(&str, Option<P::Value>)])
+pub(super) fn reads<P: Parse>(rt: &impl Abort, parser: &P, rows: &[(&str, Option<P::Value>)])
 where
     P::Value: PartialEq,
 {

@@ -1,6 +1,7 @@
 //! Texts that write `true` or `false`, or one character: what each parser makes of each.
 
-use garde_form::{Character, Parse};
+use super::numbers::reads;
+use garde_form::Character;
 use garde_schema::Flag;
 
 static FLAGS: [(&str, Option<bool>); 11] = [
@@ -16,13 +17,6 @@ static FLAGS: [(&str, Option<bool>); 11] = [
     ("on", None),
     ("tru\u{435}", None),
 ];
-
-#[test]
-fn reads_true_and_false(rt: HostRuntime) {
-    for (text, expected) in &FLAGS {
-        assert!(rt; Flag.parse(text) == *expected, "{text}");
-    }
-}
 
 static CHARACTERS: [(&str, Option<char>); 12] = [
     ("a", Some('a')),
@@ -40,8 +34,7 @@ static CHARACTERS: [(&str, Option<char>); 12] = [
 ];
 
 #[test]
-fn reads_one_character(rt: HostRuntime) {
-    for (text, expected) in &CHARACTERS {
-        assert!(rt; Character.parse(text) == *expected, "{text}");
-    }
+fn reads_flags_and_characters(rt: HostRuntime) {
+    reads(&rt, &Flag, &FLAGS);
+    reads(&rt, &Character, &CHARACTERS);
 }

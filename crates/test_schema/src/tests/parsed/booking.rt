@@ -12,7 +12,7 @@ use std::alloc::{AllocError, Global};
 use std::borrow::CowStr;
 
 /// The year is this one or a later one.
-#[derive(Clone, Copy, Debug)]
+#[derive(Clone, Copy)]
 struct Since(i16);
 
 impl Rule<jiff::civil::Date> for Since {

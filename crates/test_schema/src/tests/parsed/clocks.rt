@@ -1,13 +1,10 @@
 //! Times of day, and timestamps: the value of each text, or the whole report.
 
-use super::texts::check;
-use garde_parsed::{Time, Timestamp};
-
 const NO_TIME: &str = "not a time\n";
 
 // `partial-time` of RFC 3339, section 5.6; the other forms of ISO 8601 that `jiff` reads; and texts
 // that are none, one of which is as well a month and a day.
-static TIMES: [(&str, &str); 20] = [
+pub(super) static TIMES: [(&str, &str); 20] = [
     ("23:20:50.52", "23:20:50.52"),
     ("00:00:00", "00:00:00"),
     ("23:59:59.999999999", "23:59:59.999999999"),
@@ -30,16 +27,11 @@ static TIMES: [(&str, &str); 20] = [
     ("", NO_TIME),
 ];
 
-#[test]
-fn reads_times_of_day(rt: HostRuntime) {
-    check(&rt, rt.alloc(), Time, &TIMES);
-}
-
 const NO_TIMESTAMP: &str = "not a timestamp\n";
 
 // The five texts of RFC 3339, section 5.8, each with the moment that this section names (a leap
 // second is the second before); and texts that are none.
-static TIMESTAMPS: [(&str, &str); 19] = [
+pub(super) static TIMESTAMPS: [(&str, &str); 19] = [
     ("1985-04-12T23:20:50.52Z", "1985-04-12T23:20:50.52Z"),
     ("1996-12-19T16:39:57-08:00", "1996-12-20T00:39:57Z"),
     ("1990-12-31T23:59:60Z", "1990-12-31T23:59:59Z"),
@@ -60,8 +52,3 @@ static TIMESTAMPS: [(&str, &str); 19] = [
     ("Fri, 12 Apr 1985 23:20:50 GMT", NO_TIMESTAMP),
     ("", NO_TIMESTAMP),
 ];
-
-#[test]
-fn reads_timestamps(rt: HostRuntime) {
-    check(&rt, rt.alloc(), Timestamp, &TIMESTAMPS);
-}

@@ -1,13 +1,10 @@
 //! Dates, and dates with a time of day: the value of each text, or the whole report.
 
-use super::texts::check;
-use garde_parsed::{Date, DateTime};
-
 const NO_DATE: &str = "not a date\n";
 
 // `full-date` of RFC 3339, section 5.6, with the days of each month of section 5.7; the other forms
 // of ISO 8601 that `jiff` reads; and texts that are none.
-static DATES: [(&str, &str); 33] = [
+pub(super) static DATES: [(&str, &str); 33] = [
     ("1985-04-12", "1985-04-12"),
     ("2024-02-29", "2024-02-29"),
     ("2000-02-29", "2000-02-29"),
@@ -43,15 +40,10 @@ static DATES: [(&str, &str); 33] = [
     ("\u{661}985-04-12", NO_DATE),
 ];
 
-#[test]
-fn reads_dates(rt: HostRuntime) {
-    check(&rt, rt.alloc(), Date, &DATES);
-}
-
 const NO_DATE_TIME: &str = "not a date and time\n";
 
 // The texts of RFC 3339, section 5.8, with and without their offsets.
-static DATE_TIMES: [(&str, &str); 17] = [
+pub(super) static DATE_TIMES: [(&str, &str); 17] = [
     ("1985-04-12T23:20:50.52", "1985-04-12T23:20:50.52"),
     ("1985-04-12t23:20:50.52", "1985-04-12T23:20:50.52"),
     ("1985-04-12 23:20", "1985-04-12T23:20:00"),
@@ -70,8 +62,3 @@ static DATE_TIMES: [(&str, &str); 17] = [
     ("23:20:50", NO_DATE_TIME),
     ("", NO_DATE_TIME),
 ];
-
-#[test]
-fn reads_dates_with_a_time(rt: HostRuntime) {
-    check(&rt, rt.alloc(), DateTime, &DATE_TIMES);
-}

@@ -1,8 +1,10 @@
 //! A parser, and a table of texts with what each is read as.
 
+use super::{addresses, clocks, dates, uuids};
 use crate::tests::is_text;
 use garde::DefaultI18n;
 use garde_form::{Parse, Parsed};
+use garde_parsed::{Date, DateTime, Ipv4, Ipv6, Time, Timestamp, Uuid};
 use garde_schema::{Scratch, read_json};
 use std::alloc::{AllocError, Global};
 use std::fmt::Display;
@@ -25,7 +27,7 @@ where
 }
 
 // Asks that of each text is told what stands beside it.
-pub(super) fn check<P: Parse>(rt: &impl Abort, alloc: Global, parser: P, rows: &[(&str, &str)])
+fn check<P: Parse>(rt: &impl Abort, alloc: Global, parser: P, rows: &[(&str, &str)])
 where
     P: Copy,
     P::Value: Display,
@@ -33,4 +35,15 @@ where
     for (text, expected) in rows {
         assert!(rt; is_text(told(alloc, &parser, text), expected), "{text}");
     }
+}
+
+#[test]
+fn reads_texts_of_each_kind(rt: HostRuntime) {
+    check(&rt, rt.alloc(), Ipv4, &addresses::IPV4);
+    check(&rt, rt.alloc(), Ipv6, &addresses::IPV6);
+    check(&rt, rt.alloc(), Uuid, &uuids::UUIDS);
+    check(&rt, rt.alloc(), Date, &dates::DATES);
+    check(&rt, rt.alloc(), DateTime, &dates::DATE_TIMES);
+    check(&rt, rt.alloc(), Time, &clocks::TIMES);
+    check(&rt, rt.alloc(), Timestamp, &clocks::TIMESTAMPS);
 }

@@ -1,12 +1,12 @@
 //! UUIDs: the value of each text, or the whole report.
 
-use super::texts::check;
-use garde_parsed::Uuid;
+const NO_UUID: &str = "not a UUID\n";
 
 const ONE: &str = "f81d4fae-7dec-11d0-a765-00a0c91e6bf6";
 
-// The texts of RFC 9562, sections 4 and 5 and appendix A, and the other forms of one of them.
-static UUIDS: [(&str, &str); 10] = [
+// The texts of RFC 9562, sections 4 and 5 and appendix A, the other forms of one of
+// them, and texts that are none.
+pub(super) static UUIDS: [(&str, &str); 24] = [
     (ONE, ONE),
     ("urn:uuid:f81d4fae-7dec-11d0-a765-00a0c91e6bf6", ONE),
     ("URN:UUID:F81D4FAE-7DEC-11D0-A765-00A0C91E6BF6", ONE),
@@ -32,16 +32,6 @@ static UUIDS: [(&str, &str); 10] = [
         "017F22E2-79B0-7CC3-98C4-DC0C0C07398F",
         "017f22e2-79b0-7cc3-98c4-dc0c0c07398f",
     ),
-];
-
-#[test]
-fn reads_uuids(rt: HostRuntime) {
-    check(&rt, rt.alloc(), Uuid, &UUIDS);
-}
-
-const NO_UUID: &str = "not a UUID\n";
-
-static NO_UUIDS: [(&str, &str); 14] = [
     ("", NO_UUID),
     ("f81d4fae-7dec-11d0-a765-00a0c91e6bf", NO_UUID),
     ("f81d4fae-7dec-11d0-a765-00a0c91e6bf66", NO_UUID),
@@ -57,8 +47,3 @@ static NO_UUIDS: [(&str, &str); 14] = [
     (" f81d4fae-7dec-11d0-a765-00a0c91e6bf6", NO_UUID),
     ("f81d4fae-7dec-11d0-a765-00a0c91e6b\u{e9}", NO_UUID),
 ];
-
-#[test]
-fn tells_of_texts_that_are_no_uuids(rt: HostRuntime) {
-    check(&rt, rt.alloc(), Uuid, &NO_UUIDS);
-}

@@ -1,11 +1,12 @@
 //! Headers of many columns, and rows of many cells.
 
 use super::tables::told_of_row;
+use crate::tests::long::Long;
 use crate::tests::{OrEnd, is_text};
 use csv::StringRecord;
-use garde::{DefaultI18n, ValidateError};
-use garde_rows::{Columns, Names, read_columns};
-use std::alloc::{AllocError, Global};
+use garde::DefaultI18n;
+use garde_rows::{Names, read_columns};
+use std::alloc::Global;
 use std::process::Abort;
 
 const MANY: usize = 10_000;
@@ -19,37 +20,21 @@ fn many(rt: &impl Abort, alloc: Global, first: &[&str], other: &str) -> StringRe
     cells
 }
 
-// The columns of a header, or its report.
-fn columns(alloc: Global, header: &StringRecord) -> Result<Columns<'_>, ValidateError> {
-    let known = Names(&["code", "price"]);
-    read_columns(alloc, header, known, &DefaultI18n)
-}
+// A line for each column but the two that are known.
+static NOTES: Long = Long::Repeated("", (9_998, "note: not known here\n"), "", (0, ""), "");
 
-// What is told of a header.
-fn told_of_header(alloc: Global, header: &StringRecord) -> Result<String, AllocError> {
-    match columns(alloc, header) {
-        Ok(_) => Ok(String::new(alloc)),
-        Err(error) => error.to_string(alloc),
-    }
-}
-
-// How many lines are told of a header that begins with two known columns.
-fn lines_of_many(rt: &impl Abort, alloc: Global) -> usize {
+// Whether each column is told of a header that begins with two known columns.
+fn is_each_told(rt: &impl Abort, alloc: Global) -> bool {
     let header = many(rt, alloc, &["price", "code"], "note");
-    let told = told_of_header(alloc, &header).or_end(rt);
-    told.as_str().lines().count()
+    match read_columns(alloc, &header, Names(&["code", "price"]), &DefaultI18n) {
+        Ok(_) => false,
+        Err(error) => NOTES.is(alloc, error.to_string(alloc)),
+    }
 }
 
 #[test]
 fn tells_each_of_ten_thousand_columns(rt: HostRuntime) {
-    assert_eq!(rt; lines_of_many(&rt, rt.alloc()), MANY - 2);
-}
-
-// Whether a row of many cells is not as long as its header.
-fn is_too_wide(rt: &impl Abort, alloc: Global, columns: &Columns<'_>) -> bool {
-    let cells = many(rt, alloc, &["5", "P1"], "9");
-    let told = told_of_row(alloc, 7, columns, &cells);
-    is_text(told, "[7]: not as many fields as in the header\n")
+    assert!(rt; is_each_told(&rt, rt.alloc()));
 }
 
 // A row with a cell of 1,500,000 bytes.
@@ -58,15 +43,19 @@ fn long_row(rt: &impl Abort, alloc: Global) -> StringRecord {
     StringRecord::from_fields(alloc, &["4", text.as_str()]).or_end(rt)
 }
 
-// Whether the whole of it is told: a quote, five bytes for each three, a quote, and the other values.
-fn is_whole(told: &str) -> bool {
-    told.ends_with("P\\\"\\n\" 4 None\n") && told.len() == 2_500_010
-}
+// What is told of it: a quote, five bytes for each three, a quote, and the other values.
+static LONG: Long = Long::Repeated("\"", (500_000, "P\\\"\\n"), "\" 4 None\n", (0, ""), "");
 
-// Whether a row with a cell of 1,500,000 bytes is read.
-fn is_long_read(rt: &impl Abort, alloc: Global, columns: &Columns<'_>) -> bool {
-    match told_of_row(alloc, 7, columns, &long_row(rt, alloc)) {
-        Ok(told) => is_whole(told.as_str()),
+// Whether a row of many cells is not as long as its header, and one with a cell of 1,500,000 bytes is
+// read.
+fn are_told(rt: &impl Abort, alloc: Global, header: &StringRecord) -> bool {
+    match read_columns(alloc, header, Names(&["code", "price"]), &DefaultI18n) {
+        Ok(columns) => {
+            is_text(
+                told_of_row(alloc, 7, &columns, &many(rt, alloc, &["5", "P1"], "9")),
+                "[7]: not as many fields as in the header\n",
+            ) && LONG.is(alloc, told_of_row(alloc, 7, &columns, &long_row(rt, alloc)))
+        }
         Err(_) => false,
     }
 }
@@ -74,7 +63,5 @@ fn is_long_read(rt: &impl Abort, alloc: Global, columns: &Columns<'_>) -> bool {
 #[test]
 fn reads_rows_of_many_cells(rt: HostRuntime) {
     let header = StringRecord::from_fields(rt.alloc(), &["price", "code"]).or_end(&rt);
-    let columns = columns(rt.alloc(), &header).or_end(&rt);
-    assert!(rt; is_too_wide(&rt, rt.alloc(), &columns));
-    assert!(rt; is_long_read(&rt, rt.alloc(), &columns));
+    assert!(rt; are_told(&rt, rt.alloc(), &header));
 }

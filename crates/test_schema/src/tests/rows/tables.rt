@@ -3,7 +3,7 @@
 use crate::tests::OrEnd;
 use csv::StringRecord;
 use garde::fields::{Is, Prefix};
-use garde::{DefaultI18n, ValidateError, range};
+use garde::{DefaultI18n, range};
 use garde_form::{OrEmpty, Parsed};
 use garde_rows::{Columns, Names, read_columns, read_row};
 use garde_schema::{Any, Member, Object, Optional, Text, U8};
@@ -31,29 +31,12 @@ pub(super) fn told_of_row<'a, 'c: 'a>(
     }
 }
 
-// The columns of a header, or its report.
-fn columns(alloc: Global, header: &StringRecord) -> Result<Columns<'_>, ValidateError> {
-    let known = (Names(&["code", "price"]), Optional("page", Any));
-    read_columns(alloc, header, known, &DefaultI18n)
-}
-
-// What is told of the row of this index, of these cells.
-fn told_of_cells(
-    rt: &impl Abort,
-    alloc: Global,
-    index: usize,
-    columns: &Columns<'_>,
-    cells: &[&str],
-) -> String {
-    let cells = StringRecord::from_fields(alloc, cells).or_end(rt);
-    told_of_row(alloc, index, columns, &cells).or_end(rt)
-}
-
 // What is told of each row.
 fn told_of_rows(rt: &impl Abort, alloc: Global, columns: &Columns<'_>, rows: &[&[&str]]) -> String {
     let mut all = String::new(alloc);
-    for (index, cells) in rows.iter().enumerate() {
-        let told = told_of_cells(rt, alloc, index, columns, cells);
+    for (index, row) in rows.iter().enumerate() {
+        let cells = StringRecord::from_fields(alloc, row).or_end(rt);
+        let told = told_of_row(alloc, index, columns, &cells).or_end(rt);
         all.push_str(&told).or_end(rt);
     }
     all
@@ -62,98 +45,20 @@ fn told_of_rows(rt: &impl Abort, alloc: Global, columns: &Columns<'_>, rows: &[&
 // What is told of a table.
 fn told(rt: &impl Abort, alloc: Global, header: &[&str], rows: &[&[&str]]) -> String {
     let header = StringRecord::from_fields(alloc, header).or_end(rt);
-    match columns(alloc, &header) {
+    let known = (Names(&["code", "price"]), Optional("page", Any));
+    match read_columns(alloc, &header, known, &DefaultI18n) {
         Ok(columns) => told_of_rows(rt, alloc, &columns, rows),
         Err(error) => error.to_string(alloc).or_end(rt),
     }
 }
 
-static ROWS: [(&[&str], &str); 14] = [
-    (&["P1", "5", "x"], "\"P1\" 5 Some(\"x\")\n"),
-    (&["P1", "+200", ""], "\"P1\" 200 None\n"),
-    (
-        &["P\"\\,\n\u{1}é", "007", "{}"],
-        "\"P\\\"\\\\,\\n\\u{1}é\" 7 Some(\"{}\")\n",
-    ),
-    (
-        &["Q1", "201", ""],
-        "[0].code: value does not begin with \"P\"\n[0].price: greater than 200\n",
-    ),
-    (
-        &["", "", ""],
-        "[0].code: value does not begin with \"P\"\n[0].price: not a whole number\n",
-    ),
-    (&["P1", "256", ""], "[0].price: greater than 200\n"),
-    (&["P1", "-1", ""], "[0].price: lower than 1\n"),
-    (
-        &["P1", "5555555555555555555555555555555555555555", ""],
-        "[0].price: greater than 200\n",
-    ),
-    (&["P1", " 5", ""], "[0].price: not a whole number\n"),
-    (&["P1", "1_0", ""], "[0].price: not a whole number\n"),
-    (&["P1", "5.0", ""], "[0].price: not a whole number\n"),
-    (&["Q1", "x"], "[0]: not as many fields as in the header\n"),
-    (
-        &["P1", "5", "x", ""],
-        "[0]: not as many fields as in the header\n",
-    ),
-    (&[], "[0]: not as many fields as in the header\n"),
-];
-
 // The header of all known columns.
 const KNOWN: &[&str] = &["code", "price", "page"];
 
-// Whether this is told of a table.
-fn is_told(rt: &impl Abort, alloc: Global, header: &[&str], rows: &[&[&str]], text: &str) -> bool {
-    told(rt, alloc, header, rows).as_str() == text
-}
-
-#[test]
-fn tells_every_fault_of_a_row(rt: HostRuntime) {
-    for (row, expected) in &ROWS {
-        assert!(rt;
-            is_told(&rt, rt.alloc(), KNOWN, &[*row], expected),
-            "{expected}"
-        );
-    }
-}
-
-static HEADERS: [(&[&str], &str); 9] = [
-    (&["code", "price", "page"], "\"P1\" 7 Some(\"9\")\n"),
-    (
-        &["page", "code", "price"],
-        "[0].code: value does not begin with \"P\"\n",
-    ),
-    (
-        &["code", "price"],
-        "[0]: not as many fields as in the header\n",
-    ),
-    (&["code", "page"], "price: missing\n"),
-    (&["code", "price", "code"], "code: repeated\n"),
-    (&["page", "price", "page", "code"], "page: repeated\n"),
-    (
-        &["note", "code", "price", "note", ""],
-        "note: not known here\nnote: not known here\n: not known here\n",
-    ),
-    (
-        &["Code", "price", "price"],
-        "code: missing\nprice: repeated\nCode: not known here\n",
-    ),
-    (&[], "code: missing\nprice: missing\n"),
-];
-
+// One row behind a header.
 const ONE: &[&[&str]] = &[&["P1", "7", "9"]];
 
-#[test]
-fn tells_of_the_columns_before_any_row(rt: HostRuntime) {
-    for (header, expected) in &HEADERS {
-        assert!(rt;
-            is_told(&rt, rt.alloc(), header, ONE, expected),
-            "{expected}"
-        );
-    }
-}
-
+// Rows behind rows with a fault.
 const SIX: &[&[&str]] = &[
     &["7", "P1"],
     &["7"],
@@ -163,9 +68,100 @@ const SIX: &[&[&str]] = &[
     &["8", "P5"],
 ];
 
+// A header, rows, and what is told of them.
+static TABLES: [(&[&str], &[&[&str]], &str); 24] = [
+    (KNOWN, &[&["P1", "5", "x"]], "\"P1\" 5 Some(\"x\")\n"),
+    (KNOWN, &[&["P1", "+200", ""]], "\"P1\" 200 None\n"),
+    (
+        KNOWN,
+        &[&["P\"\\,\n\u{1}é", "007", "{}"]],
+        "\"P\\\"\\\\,\\n\\u{1}é\" 7 Some(\"{}\")\n",
+    ),
+    (
+        KNOWN,
+        &[&["Q1", "201", ""]],
+        "[0].code: value does not begin with \"P\"\n[0].price: greater than 200\n",
+    ),
+    (
+        KNOWN,
+        &[&["", "", ""]],
+        "[0].code: value does not begin with \"P\"\n[0].price: not a whole number\n",
+    ),
+    (
+        KNOWN,
+        &[&["P1", "256", ""]],
+        "[0].price: greater than 200\n",
+    ),
+    (KNOWN, &[&["P1", "-1", ""]], "[0].price: lower than 1\n"),
+    (
+        KNOWN,
+        &[&["P1", "5555555555555555555555555555555555555555", ""]],
+        "[0].price: greater than 200\n",
+    ),
+    (
+        KNOWN,
+        &[&["P1", " 5", ""]],
+        "[0].price: not a whole number\n",
+    ),
+    (
+        KNOWN,
+        &[&["P1", "1_0", ""]],
+        "[0].price: not a whole number\n",
+    ),
+    (
+        KNOWN,
+        &[&["P1", "5.0", ""]],
+        "[0].price: not a whole number\n",
+    ),
+    (
+        KNOWN,
+        &[&["Q1", "x"]],
+        "[0]: not as many fields as in the header\n",
+    ),
+    (
+        KNOWN,
+        &[&["P1", "5", "x", ""]],
+        "[0]: not as many fields as in the header\n",
+    ),
+    (KNOWN, &[&[]], "[0]: not as many fields as in the header\n"),
+    (&["code", "price", "page"], ONE, "\"P1\" 7 Some(\"9\")\n"),
+    (
+        &["page", "code", "price"],
+        ONE,
+        "[0].code: value does not begin with \"P\"\n",
+    ),
+    (
+        &["code", "price"],
+        ONE,
+        "[0]: not as many fields as in the header\n",
+    ),
+    (&["code", "page"], ONE, "price: missing\n"),
+    (&["code", "price", "code"], ONE, "code: repeated\n"),
+    (&["page", "price", "page", "code"], ONE, "page: repeated\n"),
+    (
+        &["note", "code", "price", "note", ""],
+        ONE,
+        "note: not known here\nnote: not known here\n: not known here\n",
+    ),
+    (
+        &["Code", "price", "price"],
+        ONE,
+        "code: missing\nprice: repeated\nCode: not known here\n",
+    ),
+    (&[], ONE, "code: missing\nprice: missing\n"),
+    (
+        &["price", "code"],
+        SIX,
+        "\"P1\" 7 None\n[1]: not as many fields as in the header\n[2].price: not a whole number\n[3]: not as many fields as in the header\n[4].code: value does not begin with \"P\"\n[4].price: greater than 200\n\"P5\" 8 None\n",
+    ),
+];
+
 #[test]
-fn reads_the_rows_behind_a_fault(rt: HostRuntime) {
-    let expected =
-        "\"P1\" 7 None\n[1]: not as many fields as in the header\n[2].price: not a whole number\n[3]: not as many fields as in the header\n[4].code: value does not begin with \"P\"\n[4].price: greater than 200\n\"P5\" 8 None\n";
-    assert!(rt; is_told(&rt, rt.alloc(), &["price", "code"], SIX, expected));
+fn tells_every_fault_of_a_table(rt: HostRuntime) {
+    for (header, rows, expected) in &TABLES {
+        assert!(rt;
+            told(&rt, rt.alloc(), header, rows).as_str() == *expected,
+            "{expected}"
+        );
+    }
 }

@@ -11,6 +11,7 @@ use garde_schema::{
 };
 use garde_toml::toml_to_json;
 use std::alloc::{AllocError, Global};
+use std::fmt::Write;
 
 // What is read of four bare values, or what is told of them.
 fn read_dates(alloc: Global, json: &[u8]) -> Result<String, AllocError> {
@@ -128,7 +129,7 @@ fn read_others(alloc: Global, json: &[u8]) -> Result<String, AllocError> {
     let form = Object(Closed((texts, others)));
     let mut scratch = Scratch::new(alloc);
     match read_json(alloc, json, &mut scratch, &form, &DefaultI18n) {
-        Ok(_) => format!(in alloc; "valid"),
+        Ok(_) => String::from_str(alloc, "valid"),
         Err(error) => error.to_string(alloc),
     }
 }
@@ -137,8 +138,7 @@ fn read_others(alloc: Global, json: &[u8]) -> Result<String, AllocError> {
 fn told_of_each(alloc: Global, value: &str) -> Result<String, AllocError> {
     let mut text = String::new(alloc);
     for name in &NAMES {
-        let line = format!(in alloc; "{name} = {value}\n")?;
-        text.push_str(line.as_str())?;
+        write!(text, "{name} = {value}\n")?;
     }
     match toml_to_json(alloc, text.as_str()) {
         Ok(json) => read_others(alloc, json.as_bytes()),

@@ -1,11 +1,11 @@
 //! TOML texts as JSON: the whole text of each document.
 
-use crate::tests::{OrEnd, is_text};
+use crate::tests::is_text;
+use crate::tests::long::Long;
 use garde_toml::toml_to_json;
 use std::alloc::Global;
-use std::process::Abort;
 
-static VALUES: [(&str, &str); 12] = [
+static DOCUMENTS: [(&str, &str); 19] = [
     ("", "{}"),
     ("\u{feff}", "{}"),
     ("\u{feff}# a comment", "{}"),
@@ -42,21 +42,6 @@ static VALUES: [(&str, &str); 12] = [
         "a = 2024-02-29\nb = 23:59:60\nc = 1979-05-27t07:32:00.500",
         r#"{"a":[-0,"2024-02-29"],"b":[-0,"23:59:60"],"c":[-0,"1979-05-27T07:32:00.5"]}"#,
     ),
-];
-
-// Whether a document is written as this text.
-fn is_written(alloc: Global, document: &str, text: &str) -> bool {
-    is_text(toml_to_json(alloc, document), text)
-}
-
-#[test]
-fn writes_each_value(rt: HostRuntime) {
-    for (text, expected) in &VALUES {
-        assert!(rt; is_written(rt.alloc(), text, expected), "{expected}");
-    }
-}
-
-static TABLES: [(&str, &str); 7] = [
     ("b = 1\nB = 2\na = 3", r#"{"B":2,"a":3,"b":1}"#),
     (
         "'a b' = 1\n\"\" = 2\n\"\\u001B\" = 3\n10 = 4",
@@ -82,48 +67,45 @@ static TABLES: [(&str, &str); 7] = [
 ];
 
 #[test]
-fn writes_tables_and_arrays(rt: HostRuntime) {
-    for (text, expected) in &TABLES {
-        assert!(rt; is_written(rt.alloc(), text, expected), "{expected}");
+fn writes_each_value(rt: HostRuntime) {
+    for (text, expected) in &DOCUMENTS {
+        assert!(rt;
+            is_text(toml_to_json(rt.alloc(), text), expected),
+            "{expected}"
+        );
     }
 }
 
-// These items in arrays, 79 deep, between two texts.
-fn nested(rt: &impl Abort, alloc: Global, before: &str, items: &str, after: &str) -> String {
-    let begin = "[".repeat(alloc, 79).or_end(rt);
-    let end = "]".repeat(alloc, 79).or_end(rt);
-    format!(in alloc; "{before}{begin}{items}{end}{after}").or_end(rt)
-}
+// Arrays as deep as they may nest, and ten thousand keys, each with its number. Where an array were asked
+// twice how deep it nests, or written twice, the first took 2^79 steps.
+static LONG: [(Long, Long); 2] = [
+    (
+        Long::Repeated("a = ", (79, "["), "1979-05-27, 1", (79, "]"), ""),
+        Long::Repeated(
+            "{\"a\":",
+            (79, "["),
+            "[-0,\"1979-05-27\"],1",
+            (79, "]"),
+            "}",
+        ),
+    ),
+    (
+        Long::Numbered("k10000 = 10000", (10_001, 20_000), ("\nk", " = "), "\n"),
+        Long::Numbered("{\"k10000\":10000", (10_001, 20_000), (",\"k", "\":"), "}"),
+    ),
+];
 
-// Where an array were asked twice how deep it nests, or written twice, this took 2^79 steps.
-#[test]
-fn writes_arrays_as_deep_as_they_may_nest(rt: HostRuntime) {
-    let text = nested(&rt, rt.alloc(), "a = ", "1979-05-27, 1", "");
-    let expected = nested(&rt, rt.alloc(), "{\"a\":", "[-0,\"1979-05-27\"],1", "}");
-    assert!(rt; is_written(rt.alloc(), text.as_str(), expected.as_str()));
-}
-
-// A text of ten thousand keys, each with its number.
-fn many_keys(rt: &impl Abort, alloc: Global) -> String {
-    let mut text = String::new(alloc);
-    for number in 10_000..20_000u32 {
-        let line = format!(in alloc; "k{number} = {number}\n").or_end(rt);
-        text.push_str(line.as_str()).or_end(rt);
+// Whether a document is written as this text.
+fn is_written(alloc: Global, document: &Long, text: &Long) -> bool {
+    match document.text(alloc) {
+        Ok(document) => text.is(alloc, toml_to_json(alloc, document.as_str())),
+        Err(_) => false,
     }
-    text
-}
-
-// Whether a text has each of these keys once, the first and the last of them at its ends.
-fn has_each_key(json: &str) -> bool {
-    // Fourteen bytes and a comma a key, but for the last, and two braces.
-    json.len() == 150_001
-        && json.starts_with("{\"k10000\":10000,\"k10001\":10001,")
-        && json.ends_with(",\"k19999\":19999}")
-        && json.matches("\"k1").count() == 10_000
 }
 
 #[test]
-fn writes_each_of_ten_thousand_keys(rt: HostRuntime) {
-    let text = many_keys(&rt, rt.alloc());
-    assert!(rt; has_each_key(&toml_to_json(rt.alloc(), text.as_str()).or_end(&rt)));
+fn writes_long_and_deep_documents(rt: HostRuntime) {
+    for (document, text) in &LONG {
+        assert!(rt; is_written(rt.alloc(), document, text));
+    }
 }

@@ -55,52 +55,43 @@ fn tells_what_is_wrong_with_a_text(rt: HostRuntime) {
             wrong: Wrong::Template(*fault),
         };
         let table = [(*key, *text)];
-        assert_eq!(rt;
-            faults_of(rt.alloc(), &table, wanted),
-            Some((KEYS.len(), true))
+        assert!(rt;
+            faults_of(rt.alloc(), &table, wanted) == Some((KEYS.len(), true)),
+            "{text}"
         );
     }
 }
 
 static TWICE: [Entry<'static>; 2] = [(Key::NotText, "a"), (Key::NotText, "b")];
 
+// Whether this is one of as many faults as there are keys, of a table with one key twice and no other.
+fn is_fault_of_twice(alloc: Global, key: Key, wrong: Wrong) -> bool {
+    faults_of(alloc, &TWICE, CatalogFault { key, wrong }) == Some((KEYS.len(), true))
+}
+
 #[test]
 fn tells_a_repeated_and_a_missing_key(rt: HostRuntime) {
-    let alloc = rt.alloc();
-    let twice = CatalogFault {
-        key: Key::NotText,
-        wrong: Wrong::Repeated,
-    };
-    let missing = CatalogFault {
-        key: Key::NotUrl,
-        wrong: Wrong::Missing,
-    };
-    assert_eq!(rt; faults_of(alloc, &TWICE, twice), Some((KEYS.len(), true)));
-    assert_eq!(rt; faults_of(alloc, &TWICE, missing), Some((KEYS.len(), true)));
+    assert!(rt;
+        is_fault_of_twice(rt.alloc(), Key::NotText, Wrong::Repeated)
+            && is_fault_of_twice(rt.alloc(), Key::NotUrl, Wrong::Missing)
+    );
 }
 
 static ONE: [Entry<'static>; 1] = [(Key::NotText, "kein Text")];
 
-// Whether a catalog has the text of this table, and another from its fallback.
-fn is_mixed(h: &Catalog<'_>) -> bool {
-    h.word(Key::NotText) == "kein Text" && h.word(Key::NotUrl) == "not a URL"
+// Whether a catalog was made, and has the text of this table, and another from its fallback.
+fn is_mixed(made: Result<Catalog<'_>, CatalogError>) -> bool {
+    match made {
+        Ok(h) => h.word(Key::NotText) == "kein Text" && h.word(Key::NotUrl) == "not a URL",
+        Err(_) => false,
+    }
 }
 
 #[test]
 fn takes_missing_texts_from_the_fallback(rt: HostRuntime) {
-    let is_right = match Catalog::with_fallback(rt.alloc(), &ONE, &ENGLISH) {
-        Ok(h) => is_mixed(&h),
-        Err(_) => false,
-    };
-    assert!(rt; is_right);
-}
-
-#[test]
-fn borrows_tables_for_a_while(rt: HostRuntime) {
     let table = [(Key::NotText, "kein Text")];
-    let is_right = match Catalog::lent(rt.alloc(), &table, &ENGLISH) {
-        Ok(h) => is_mixed(&h),
-        Err(_) => false,
-    };
-    assert!(rt; is_right);
+    assert!(rt;
+        is_mixed(Catalog::with_fallback(rt.alloc(), &ONE, &ENGLISH))
+            && is_mixed(Catalog::lent(rt.alloc(), &table, &ENGLISH))
+    );
 }

@@ -1,5 +1,7 @@
 //! Fields `Accept-Language`, each with the language that it asks for.
 
+use crate::tests::long::Long;
+use crate::tests::{OrEnd, is_text};
 use garde_catalog::{Catalog, Catalogs, ENGLISH, Key, Language, Spoken, languages, ranges_of};
 use std::alloc::Global;
 
@@ -47,34 +49,6 @@ fn tag_of(field: &str) -> &'static str {
     }
 }
 
-#[test]
-fn finds_the_language_that_is_asked_for(rt: HostRuntime) {
-    for (field, tag) in &ASKED {
-        assert_eq!(rt; tag_of(field), *tag);
-    }
-}
-
-// A text of so many times another one.
-fn repeated(alloc: Global, text: &str, count: usize) -> String {
-    let mut whole = String::new(alloc);
-    for _ in 0..count {
-        if whole.push_str(text).is_err() {
-            return String::new(alloc);
-        }
-    }
-    whole
-}
-
-#[test]
-fn reads_a_field_of_64_kib(rt: HostRuntime) {
-    let alloc = rt.alloc();
-    let many = repeated(alloc, "xx-yy;q=0.9,", 5461);
-    assert_eq!(rt; many.len(), 65532);
-    assert_eq!(rt; tag_of(many.as_str()), "");
-    let long = repeated(alloc, "l", 200);
-    assert_eq!(rt; tag_of(long.as_str()), "");
-}
-
 // The tag of the language that the ranges of a field ask for, or nothing.
 fn tag_of_ranges(alloc: Global, field: &str) -> &'static str {
     match ranges_of(alloc, field.as_bytes()) {
@@ -87,9 +61,29 @@ fn tag_of_ranges(alloc: Global, field: &str) -> &'static str {
 }
 
 #[test]
-fn picks_the_same_by_its_ranges(rt: HostRuntime) {
+fn finds_the_language_that_is_asked_for(rt: HostRuntime) {
     for (field, tag) in &ASKED {
-        assert_eq!(rt; tag_of_ranges(rt.alloc(), field), *tag);
+        assert!(rt;
+            tag_of(field) == *tag && tag_of_ranges(rt.alloc(), field) == *tag,
+            "{field}"
+        );
+    }
+}
+
+// Long fields that ask for no language, and how many bytes each has.
+static LONG: [(Long, usize); 2] = [
+    (
+        Long::Repeated("", (5461, "xx-yy;q=0.9,"), "", (0, ""), ""),
+        65532,
+    ),
+    (Long::Repeated("", (200, "l"), "", (0, ""), ""), 200),
+];
+
+#[test]
+fn reads_a_field_of_64_kib(rt: HostRuntime) {
+    for (field, length) in &LONG {
+        let field = field.text(rt.alloc()).or_end(&rt);
+        assert!(rt; field.len() == *length && tag_of(field.as_str()) == "");
     }
 }
 
@@ -108,14 +102,18 @@ static NAMED: [(&str, &str); 12] = [
     ("cs_CZ", ""),
 ];
 
+// The tag of the language of a tag, or nothing.
+fn tag_named(tag: &str) -> &'static str {
+    match Language::named(tag, &languages()) {
+        Some(language) => language.tag,
+        None => "",
+    }
+}
+
 #[test]
 fn finds_the_language_of_a_tag(rt: HostRuntime) {
     for (tag, known) in &NAMED {
-        let found = match Language::named(tag, &languages()) {
-            Some(language) => language.tag,
-            None => "",
-        };
-        assert_eq!(rt; found, *known);
+        assert!(rt; tag_named(tag) == *known, "{tag}");
     }
 }
 
@@ -129,8 +127,7 @@ fn is_in(alloc: Global, tag: &str, text: &str) -> bool {
 
 #[test]
 fn makes_the_catalog_of_a_tag(rt: HostRuntime) {
-    assert!(rt; is_in(rt.alloc(), "de-AT", "fehlt"));
-    assert!(rt; is_in(rt.alloc(), "tlh", "missing"));
+    assert!(rt; is_in(rt.alloc(), "de-AT", "fehlt") && is_in(rt.alloc(), "tlh", "missing"));
 }
 
 // Whether the catalogs answer a field by this tag and this text.
@@ -189,10 +186,7 @@ fn is_spoken(alloc: Global, words: &[&str], text: &str) -> bool {
     }
     match spoken.catalog(alloc, &offered[..2], &ENGLISH) {
         Ok(catalog) => catalog.word(Key::MemberMissing) == text,
-        Err(error) => match error.to_string(alloc) {
-            Ok(said) => said.as_str() == text,
-            Err(_) => false,
-        },
+        Err(error) => is_text(error.to_string(alloc), text),
     }
 }
 

@@ -1,5 +1,7 @@
 //! Tables that are written in files: read back, and with the faults that are reported.
 
+use crate::tests::long::Long;
+use crate::tests::{OrEnd, is_text};
 use garde::DefaultI18n;
 use garde_catalog::{Catalog, ENGLISH, Entry, KEYS, Key, Table, TableTexts, languages};
 use garde_schema::{Closed, Object, ReadError, Scratch, read_json};
@@ -38,10 +40,10 @@ fn written(
 }
 
 // Reads a table, with all keys or with some.
-fn read(alloc: Global, json: &str, texts: TableTexts) -> Result<Table, ReadError> {
+fn read(alloc: Global, json: &[u8], texts: TableTexts) -> Result<Table, ReadError> {
     let mut scratch = Scratch::new(alloc);
     let form = Object(Closed(texts));
-    read_json(alloc, json.as_bytes(), &mut scratch, &form, &DefaultI18n)
+    read_json(alloc, json, &mut scratch, &form, &DefaultI18n)
 }
 
 // Whether a catalog of these lines has the texts of this table.
@@ -59,7 +61,7 @@ fn is_spoken(alloc: Global, lines: &[Entry<'_>], table: &[Entry<'_>]) -> bool {
 
 // Whether a text in JSON is read, and its catalog has the texts of this table.
 fn is_read_as(alloc: Global, json: &str, texts: TableTexts, table: &[Entry<'_>]) -> bool {
-    match read(alloc, json, texts) {
+    match read(alloc, json.as_bytes(), texts) {
         Ok(read) => match read.lines(alloc) {
             Ok(lines) => is_spoken(alloc, lines.as_slice(), table),
             Err(_) => false,
@@ -68,18 +70,12 @@ fn is_read_as(alloc: Global, json: &str, texts: TableTexts, table: &[Entry<'_>])
     }
 }
 
-// Whether a table that is written and read back has the same texts.
-fn comes_back(alloc: Global, table: &[Entry<'_>]) -> bool {
-    match written(alloc, table, None, "") {
-        Ok(json) => is_read_as(alloc, json.as_str(), TableTexts::all(), table),
-        Err(_) => false,
-    }
-}
-
 #[test]
 fn reads_back_every_language(rt: HostRuntime) {
+    let alloc = rt.alloc();
     for language in languages() {
-        assert!(rt; comes_back(rt.alloc(), language.table));
+        let json = written(alloc, language.table, None, "").or_end(&rt);
+        assert!(rt; is_read_as(alloc, json.as_str(), TableTexts::all(), language.table));
     }
 }
 
@@ -90,111 +86,154 @@ fn takes_missing_keys_from_the_fallback(rt: HostRuntime) {
 
 // The report of a text in JSON, or why there is none.
 fn report_of(alloc: Global, json: &str, texts: TableTexts) -> Result<String, AllocError> {
-    match read(alloc, json, texts) {
+    match read(alloc, json.as_bytes(), texts) {
         Ok(_) => String::from_str(alloc, "a table"),
-        Err(error) => format!(in alloc; "{error}"),
+        Err(error) => error.to_string(alloc),
     }
 }
 
 // The report of a table in English with another line in the place of that of a key.
-fn report_with(alloc: Global, key: Key, instead: &str) -> Result<String, AllocError> {
-    let json = written(alloc, &ENGLISH, Some(key), instead)?;
+fn report_with(alloc: Global, key: Key, instead: &Long) -> Result<String, AllocError> {
+    let instead = instead.text(alloc)?;
+    let json = written(alloc, &ENGLISH, Some(key), instead.as_str())?;
     report_of(alloc, json.as_str(), TableTexts::all())
 }
 
 // A key, what stands in the place of its line, and what is reported.
-static FAULTS: [(Key, &str, &str); 20] = [
-    (Key::NotUrl, "", "not_url: missing\n"),
-    (Key::NotUrl, "\"not_url\":7,", "not_url: not a text\n"),
-    (Key::NotUrl, "\"not_url\":null,", "not_url: not a text\n"),
-    (Key::NotUrl, "\"not_url\":\"\",", "a table"),
-    (Key::NotUrl, "\"not_url\":\"\\u202e\\u0007\",", "a table"),
+static FAULTS: [(Key, Long, &str); 23] = [
+    (Key::NotUrl, Long::Text(""), "not_url: missing\n"),
     (
         Key::NotUrl,
-        "\"not_url\":\"a\",\"not_url\":\"a\",",
+        Long::Text("\"not_url\":7,"),
+        "not_url: not a text\n",
+    ),
+    (
+        Key::NotUrl,
+        Long::Text("\"not_url\":null,"),
+        "not_url: not a text\n",
+    ),
+    (Key::NotUrl, Long::Text("\"not_url\":\"\","), "a table"),
+    (
+        Key::NotUrl,
+        Long::Text("\"not_url\":\"\\u202e\\u0007\","),
+        "a table",
+    ),
+    (
+        Key::NotUrl,
+        Long::Text("\"not_url\":\"a\",\"not_url\":\"a\","),
         "not_url: repeated\n",
     ),
     (
         Key::NotUrl,
-        "\"NotUrl\":\"a\",",
+        Long::Text("\"NotUrl\":\"a\","),
         "not_url: missing\nNotUrl: not known here\n",
     ),
     (
         Key::NotUrl,
-        "\"\\u202e\":1,\"not_url\":\"a\",\"\":2,",
+        Long::Text("\"\\u202e\":1,\"not_url\":\"a\",\"\":2,"),
         "\u{202e}: not known here\n: not known here\n",
     ),
     (
         Key::NotUrl,
-        "\"not_url\":\"{}\",",
+        Long::Text("\"not_url\":\"{}\","),
         "not_url: has a name in braces that is no parameter of this text\n",
     ),
     (
         Key::NotUrl,
-        "\"not_url\":\"{min}\",",
+        Long::Text("\"not_url\":\"{min}\","),
         "not_url: has a name in braces that is no parameter of this text\n",
     ),
     (
         Key::NotUrl,
-        "\"not_url\":\"{\",",
+        Long::Text("\"not_url\":\"{\","),
         "not_url: has a brace that does not close or does not open\n",
     ),
     (
         Key::NotUrl,
-        "\"not_url\":\"}\",",
+        Long::Text("\"not_url\":\"}\","),
         "not_url: has a brace that does not close or does not open\n",
     ),
     (
         Key::LengthLowerThan,
-        "\"length_lower_than\":\"a {min\",",
+        Long::Text("\"length_lower_than\":\"a {min\","),
         "length_lower_than: has a brace that does not close or does not open\n",
     ),
     (
         Key::LengthLowerThan,
-        "\"length_lower_than\":\"a {{min}}\",",
+        Long::Text("\"length_lower_than\":\"a {{min}}\","),
         "length_lower_than: has a brace that does not close or does not open\n",
     ),
     (
         Key::LengthLowerThan,
-        "\"length_lower_than\":\"a {max}\",",
+        Long::Text("\"length_lower_than\":\"a {max}\","),
         "length_lower_than: has a name in braces that is no parameter of this text\n",
     ),
     (
         Key::LengthLowerThan,
-        "\"length_lower_than\":\"a { min}\",",
+        Long::Text("\"length_lower_than\":\"a { min}\","),
         "length_lower_than: has a name in braces that is no parameter of this text\n",
     ),
     (
         Key::LengthLowerThan,
-        "\"length_lower_than\":\"a\",",
+        Long::Text("\"length_lower_than\":\"a\","),
         "length_lower_than: lacks a parameter in braces\n",
     ),
     (
         Key::LengthLowerThan,
-        "\"length_lower_than\":\"{min}{min}\",",
+        Long::Text("\"length_lower_than\":\"{min}{min}\","),
         "a table",
     ),
     (
         Key::OutOfRange,
-        "\"out_of_range\":\"to {greatest}\",",
+        Long::Text("\"out_of_range\":\"to {greatest}\","),
         "out_of_range: lacks a parameter in braces\n",
     ),
     (
         Key::OutOfRange,
-        "\"out_of_range\":\"{greatest}, {least}\",",
+        Long::Text("\"out_of_range\":\"{greatest}, {least}\","),
         "a table",
+    ),
+    // Texts of a megabyte and more.
+    (
+        Key::LengthLowerThan,
+        Long::Repeated(
+            "\"length_lower_than\":\"",
+            (65536, "0123456789abcdef"),
+            "{min}\",",
+            (0, ""),
+            "",
+        ),
+        "a table",
+    ),
+    (
+        Key::LengthLowerThan,
+        Long::Repeated(
+            "\"length_lower_than\":\"",
+            (65536, "0123456789abcdef"),
+            "\",",
+            (0, ""),
+            "",
+        ),
+        "length_lower_than: lacks a parameter in braces\n",
+    ),
+    (
+        Key::LengthLowerThan,
+        Long::Repeated(
+            "\"length_lower_than\":\"",
+            (65536, "0123456789abcdef"),
+            "{min}}\",",
+            (0, ""),
+            "",
+        ),
+        "length_lower_than: has a brace that does not close or does not open\n",
     ),
 ];
 
 #[test]
 fn reports_each_fault_of_a_table(rt: HostRuntime) {
-    let alloc = rt.alloc();
-    for (key, instead, wanted) in &FAULTS {
-        let is_right = match report_with(alloc, *key, instead) {
-            Ok(report) => report.as_str() == *wanted,
-            Err(_) => false,
-        };
-        assert!(rt; is_right);
+    for (row, (key, instead, wanted)) in FAULTS.iter().enumerate() {
+        let report = report_with(rt.alloc(), *key, instead);
+        assert!(rt; is_text(report, wanted), "row {row}");
     }
 }
 
@@ -214,63 +253,26 @@ static OTHERS: [(&str, &str); 4] = [
 
 #[test]
 fn reports_all_faults_in_the_order_of_the_keys(rt: HostRuntime) {
-    let alloc = rt.alloc();
     for (json, wanted) in &OTHERS {
-        let is_right = match report_of(alloc, json, TableTexts::some()) {
-            Ok(report) => report.as_str() == *wanted,
-            Err(_) => false,
-        };
-        assert!(rt; is_right);
+        let report = report_of(rt.alloc(), json, TableTexts::some());
+        assert!(rt; is_text(report, wanted), "{json}");
     }
 }
 
-// How many lines the report of an object with so many unknown names has.
-fn lines_of_unknown(alloc: Global, count: usize) -> Result<usize, AllocError> {
-    let mut json = String::from_str(alloc, "{")?;
-    for number in 0..count {
-        write!(json, "\"{number}\":0,")?;
-    }
-    let _ = json.pop();
-    json.push('}')?;
+// An object with a thousand unknown names.
+static UNKNOWN: Long = Long::Numbered("{\"0", (1, 1000), ("\":0,\"", ""), "\":0}");
+
+// How many lines the report of an object with a thousand unknown names has.
+fn lines_of_unknown(alloc: Global) -> Result<usize, AllocError> {
+    let json = UNKNOWN.text(alloc)?;
     let report = report_of(alloc, json.as_str(), TableTexts::all())?;
     Ok(report.as_str().lines().count())
 }
 
 #[test]
 fn reports_a_thousand_unknown_names(rt: HostRuntime) {
-    let lines = lines_of_unknown(rt.alloc(), 1000);
+    let lines = lines_of_unknown(rt.alloc());
     assert!(rt; lines == Ok(KEYS.len() + 1000));
-}
-
-// What is reported of a text of a megabyte with this behind it.
-fn report_of_megabyte(alloc: Global, end: &str) -> Result<String, AllocError> {
-    let mut line = String::from_str(alloc, "\"length_lower_than\":\"")?;
-    for _ in 0..65536 {
-        line.push_str("0123456789abcdef")?;
-    }
-    line.push_str(end)?;
-    line.push_str("\",")?;
-    report_with(alloc, Key::LengthLowerThan, line.as_str())
-}
-
-static ENDS: [(&str, &str); 3] = [
-    ("{min}", "a table"),
-    ("", "length_lower_than: lacks a parameter in braces\n"),
-    (
-        "{min}}",
-        "length_lower_than: has a brace that does not close or does not open\n",
-    ),
-];
-
-#[test]
-fn reads_a_text_of_a_megabyte(rt: HostRuntime) {
-    for (end, wanted) in &ENDS {
-        let is_right = match report_of_megabyte(rt.alloc(), end) {
-            Ok(report) => report.as_str() == *wanted,
-            Err(_) => false,
-        };
-        assert!(rt; is_right);
-    }
 }
 
 // Bytes that are no JSON.
@@ -281,17 +283,10 @@ static NO_JSON: [&[u8]; 4] = [
     b"{\"not_url\":\"a\"",
 ];
 
-// Whether bytes are not read as JSON.
-fn is_no_json(alloc: Global, bytes: &[u8]) -> bool {
-    let mut scratch = Scratch::new(alloc);
-    let form = Object(Closed(TableTexts::some()));
-    let read = read_json(alloc, bytes, &mut scratch, &form, &DefaultI18n);
-    matches!(read, Err(ReadError::Parse(_)))
-}
-
 #[test]
 fn reads_no_table_of_what_is_no_json(rt: HostRuntime) {
     for bytes in &NO_JSON {
-        assert!(rt; is_no_json(rt.alloc(), bytes));
+        let read = read(rt.alloc(), bytes, TableTexts::some());
+        assert!(rt; matches!(read, Err(ReadError::Parse(_))));
     }
 }

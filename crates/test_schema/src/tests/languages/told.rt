@@ -3,9 +3,10 @@ ghost use Rattle.std.specs.Prelude.{Some};
 ghost use Rattle.garde.specs.Fields.{rule};
 ghost use Rattle.garde_i18n.specs.DatumOf.{datum_of};
 
+use crate::tests::is_handed;
 use garde::fields::{Is, Rule};
 use garde::{I18n, RuleError};
-use garde_catalog::{Catalog, Entry, Key, languages};
+use garde_catalog::{CZECH, Catalog, CatalogError, Entry, GERMAN, Key, languages};
 use garde_i18n::{
     Code, Datum, InvalidCreditCard, InvalidPhoneNumber, InvalidUrl, IpKind, Named, Texts, Value,
 };
@@ -28,7 +29,6 @@ impl<'a> Rule<TextRef<'a>> for Finds {
 }
 
 /// What stands in the place of a text.
-#[derive(Clone, Copy)]
 enum Put {
     Nothing,
     This(&'static str),
@@ -344,19 +344,17 @@ fn is_placed_behind(told: &str, between: &str, after: &str) -> bool {
     }
 }
 
-// How many of the messages of what is not read as JSON are not those of the table.
-fn wrong_parses(alloc: Global, h: &Catalog<'_>, table: &[Entry<'_>]) -> usize {
-    let mut wrong: usize = 0;
+// Whether the messages of what is not read as JSON are those of the table.
+fn are_parses(alloc: Global, h: &Catalog<'_>, table: &[Entry<'_>]) -> bool {
+    let mut all = true;
     for (error, key) in PARSE {
         let is_told = match h.parse_error(alloc, error) {
             Ok(told) => is_placed(told.as_str(), text_under(table, *key)),
             Err(_) => false,
         };
-        if !is_told {
-            wrong = wrong.saturating_add(1);
-        }
+        all = all && is_told;
     }
-    wrong
+    all
 }
 
 // Whether a text that breaks a rule is reported by this text.
@@ -375,100 +373,93 @@ fn tells(alloc: Global, h: &Catalog<'_>, datum: Datum<'static>, text: &str, valu
     }
 }
 
-// How many of the messages of rules are not those of the table.
-fn wrong_messages(alloc: Global, h: &Catalog<'_>, table: &[Entry<'_>]) -> usize {
-    let mut wrong: usize = 0;
+// Whether the messages of rules are those of the table.
+fn are_messages(alloc: Global, h: &Catalog<'_>, table: &[Entry<'_>]) -> bool {
+    let mut all = true;
     for (datum, key, put) in FOUND {
         let value = match put {
             Put::Nothing => "",
             Put::This(value) => value,
             Put::Reason(reason) => text_under(table, *reason),
         };
-        if !tells(alloc, h, *datum, text_under(table, *key), value) {
-            wrong = wrong.saturating_add(1);
-        }
+        all = all && tells(alloc, h, *datum, text_under(table, *key), value);
     }
-    wrong
+    all
 }
 
-// How many of the messages of form are not those of the table.
-fn wrong_forms(alloc: Global, h: &Catalog<'_>, table: &[Entry<'_>]) -> usize {
-    let mut wrong: usize = 0;
+// Whether the messages of form are those of the table.
+fn are_forms(alloc: Global, h: &Catalog<'_>, table: &[Entry<'_>]) -> bool {
+    let mut all = true;
     for (fault, key) in FORM {
-        let is_told = match h.form_fault(alloc, *fault) {
-            Ok(told) => told.as_str() == text_under(table, *key),
-            Err(_) => false,
-        };
-        if !is_told {
-            wrong = wrong.saturating_add(1);
-        }
+        all = all && is_handed(h.form_fault(alloc, *fault), text_under(table, *key));
     }
-    wrong
+    all
 }
 
-// How many messages of a catalog are not those of its table.
-fn wrong_by(alloc: Global, h: &Catalog<'_>, table: &[Entry<'_>]) -> usize {
-    let wrong = wrong_messages(alloc, h, table);
-    let wrong = wrong.saturating_add(wrong_forms(alloc, h, table));
-    wrong.saturating_add(wrong_parses(alloc, h, table))
-}
-
-// How many messages of a language are not those of its table, or `None` where that makes no catalog.
-fn wrong_in(alloc: Global, table: &'static [Entry<'static>]) -> Option<usize> {
-    match Catalog::new(alloc, table) {
-        Ok(h) => Some(wrong_by(alloc, &h, table)),
-        Err(_) => None,
+// Whether a catalog was made, and all its messages are those of this table.
+fn is_catalog_of(
+    alloc: Global,
+    made: Result<Catalog<'_>, CatalogError>,
+    table: &[Entry<'_>],
+) -> bool {
+    match made {
+        Ok(h) => {
+            are_messages(alloc, &h, table)
+                && are_forms(alloc, &h, table)
+                && are_parses(alloc, &h, table)
+        }
+        Err(_) => false,
     }
 }
 
 #[test]
 fn tells_each_message_of_every_language(rt: HostRuntime) {
+    let alloc = rt.alloc();
     for language in languages() {
-        assert_eq!(rt; wrong_in(rt.alloc(), language.table), Some(0));
+        let made = Catalog::new(alloc, language.table);
+        assert!(rt;
+            is_catalog_of(alloc, made, language.table),
+            "{}",
+            language.tag
+        );
     }
 }
 
 #[test]
 fn tells_each_message_of_a_lent_table(rt: HostRuntime) {
-    let wrong = match Catalog::lent(rt.alloc(), &garde_catalog::GERMAN, &[]) {
-        Ok(h) => Some(wrong_by(rt.alloc(), &h, &garde_catalog::GERMAN)),
-        Err(_) => None,
-    };
-    assert_eq!(rt; wrong, Some(0));
+    let made = Catalog::lent(rt.alloc(), &GERMAN, &[]);
+    assert!(rt; is_catalog_of(rt.alloc(), made, &GERMAN));
 }
 
 #[test]
 fn names_the_numbers_of_a_type(rt: HostRuntime) {
     let alloc = rt.alloc();
-    let is_told = match Catalog::new(alloc, &garde_catalog::GERMAN) {
-        Ok(h) => match h.form_fault(alloc, FormFault::OutOfRange(Integer::I8)) {
-            Ok(told) => told.as_str() == "außerhalb des Bereichs: -128 bis 127",
-            Err(_) => false,
-        },
+    let is_told = match Catalog::new(alloc, &GERMAN) {
+        Ok(h) => is_handed(
+            h.form_fault(alloc, FormFault::OutOfRange(Integer::I8)),
+            "außerhalb des Bereichs: -128 bis 127",
+        ),
         Err(_) => false,
     };
     assert!(rt; is_told);
 }
 
-// The message of what is not read as JSON, or nothing.
+// Whether this is the message of what is not read as JSON, in Czech.
 fn is_told(alloc: Global, bytes: &[u8], text: &str) -> bool {
-    let (Ok(h), mut scratch) = (
-        Catalog::new(alloc, &garde_catalog::CZECH),
-        Scratch::new(alloc),
-    ) else {
+    let Ok(h) = Catalog::new(alloc, &CZECH) else {
         return false;
     };
+    let mut scratch = Scratch::new(alloc);
     match read_json(alloc, bytes, &mut scratch, &Text(()), &h) {
-        Err(ReadError::Parse(error)) => match h.parse_error(alloc, &error) {
-            Ok(told) => told.as_str() == text,
-            Err(_) => false,
-        },
+        Err(ReadError::Parse(error)) => is_handed(h.parse_error(alloc, &error), text),
         _ => false,
     }
 }
 
 #[test]
 fn tells_why_a_text_is_no_json(rt: HostRuntime) {
-    assert!(rt; is_told(rt.alloc(), b"[\n1", "není JSON: řádek 2, sloupec 1"));
-    assert!(rt; is_told(rt.alloc(), b"\xff", "není UTF-8: řádek 1, sloupec 1"));
+    assert!(rt;
+        is_told(rt.alloc(), b"[\n1", "není JSON: řádek 2, sloupec 1")
+            && is_told(rt.alloc(), b"\xff", "není UTF-8: řádek 1, sloupec 1")
+    );
 }

@@ -1,5 +1,6 @@
 //! What is wrong with a text in a file of texts, as handlers word it.
 
+use crate::tests::is_text;
 use garde::I18n;
 use garde_catalog::{Catalog, GERMAN, TableTexts};
 use garde_i18n::CodeI18n;
@@ -31,10 +32,7 @@ fn is_reported<H: I18n + FormI18n>(alloc: Global, json: &str, h: &H, wanted: &st
     let form = Object(TableTexts::some());
     match read_json(alloc, json.as_bytes(), &mut scratch, &form, h) {
         Ok(_) => false,
-        Err(error) => match error.to_string(alloc) {
-            Ok(report) => report.as_str() == wanted,
-            Err(_) => false,
-        },
+        Err(error) => is_text(error.to_string(alloc), wanted),
     }
 }
 
