@@ -1,9 +1,7 @@
 //! Paths, errors and reports.
 
-use crate::tests::OrEnd;
-use crate::tests::report::samples::{
-    are_in_order, has_text, is_kept, path_of, path_to, printed, report_of, shows,
-};
+use crate::tests::report::samples::{are_in_order, is_kept, path_of, path_to, report_of};
+use crate::tests::{OrEnd, has_text, printed, shows};
 use garde_report::{Kind, NoKey, Path, PathComponentKind, Report, RuleError, select};
 use std::alloc::Global;
 use std::borrow::CowStr;
@@ -22,13 +20,13 @@ const ONE: (Kind, &str) = (Kind::Index, "1");
 
 const UNNAMED: (Kind, &str) = (Kind::None, "");
 
-/// Whether a walk of `[0].a[1]` gives its components from the front, from the back, and twice from
-/// the front.
+/// Whether a walk of `[0].a[1]`, which begins at the last component, gives one from the front, one from
+/// the back, and twice from the front what is left.
 fn is_walked(rt: &impl Abort, alloc: Global, path: &Path) -> bool {
     let mut walk = path.iter(alloc).or_end(rt);
     let length = walk.len();
     let given = [walk.next(), walk.next_back(), walk.next(), walk.next()];
-    length == 3 && given == [Some(ZERO), Some(ONE), Some(A), None]
+    length == 3 && given == [Some(ONE), Some(ZERO), Some(A), None]
 }
 
 /// Whether a path without its last component is another one.

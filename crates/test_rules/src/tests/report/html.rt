@@ -1,7 +1,7 @@
 //! Texts within HTML, and the faults of fields, beside what was written by hand.
 
-use crate::tests::OrEnd;
-use crate::tests::report::samples::{has_text, path_of, report_of};
+use crate::tests::report::samples::{path_of, report_of};
+use crate::tests::{OrEnd, has_text};
 use garde_html::{
     Control, Field, Form, HtmlText, Page, Piece, field_faults, field_of, form_page, laws,
     other_faults,

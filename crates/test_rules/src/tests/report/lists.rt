@@ -1,7 +1,7 @@
 //! Lists of letters, and a long list.
 
-use crate::tests::OrEnd;
-use crate::tests::report::samples::{are_in_order, shown, shows};
+use crate::tests::report::samples::are_in_order;
+use crate::tests::{OrEnd, shown, shows};
 use garde_report::rc_list::List;
 use std::alloc::Global;
 use std::cmp::Ordering;

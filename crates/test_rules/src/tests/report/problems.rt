@@ -1,7 +1,7 @@
 //! Pointers, escaped reports and problem details, beside texts written by hand.
 
-use crate::tests::OrEnd;
-use crate::tests::report::samples::{has_text, path_of, printed, report_of};
+use crate::tests::report::samples::{path_of, report_of};
+use crate::tests::{OrEnd, has_text, printed};
 use garde_problem::{
     Coded, Escaped, JsonPointer, Problem, coded_message, laws, problem_to_json_text,
 };
@@ -70,7 +70,7 @@ static PATHS: [(Components<'_>, &str, &str); 20] = [
         "/~01/~1~00~1",
         "~1./~0/",
     ),
-    (&[(Kind::None, ""), (Kind::None, "")], "//", "."),
+    (&[(Kind::None, ""), (Kind::None, "")], "//", ""),
     (
         &[(Kind::Key, "\0\u{1b}\n\u{202e}"), (Kind::Index, "-1")],
         "/\0\u{1b}\n\u{202e}/-1",

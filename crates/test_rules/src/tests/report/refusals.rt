@@ -1,7 +1,6 @@
 //! What each error prints.
 
-use crate::tests::OrEnd;
-use crate::tests::report::samples::has_text;
+use crate::tests::{OrEnd, has_text};
 use garde_json::JsonRefused;
 use garde_report::rc_list::JoinError;
 use garde_report::{Error, RuleError};

@@ -4,7 +4,6 @@ use crate::tests::OrEnd;
 use garde_report::{Component, Error, Kind, Path, Report, RuleError, Trail};
 use std::alloc::Global;
 use std::cmp::Ordering;
-use std::fmt::{Debug, Display};
 use std::hash::{DefaultHasher, Hash, Hasher};
 use std::process::Abort;
 
@@ -40,31 +39,6 @@ pub fn report_of(rt: &impl Abort, alloc: Global, faults: &[(&[(Kind, &str)], &st
         append(rt, alloc, &mut report, path, message);
     }
     report
-}
-
-/// The text of a value.
-pub fn printed<T: Display>(rt: &impl Abort, alloc: Global, value: &T) -> String {
-    format!(in alloc; "{value}").or_end(rt)
-}
-
-/// Whether a value prints this text.
-pub fn has_text<T: Display>(rt: &impl Abort, alloc: Global, value: &T, text: &str) -> bool {
-    printed(rt, alloc, value).as_str() == text
-}
-
-/// The text of a value for a programmer.
-pub fn shown<T: Debug>(rt: &impl Abort, alloc: Global, value: &T) -> String {
-    format!(in alloc; "{value:?}").or_end(rt)
-}
-
-/// Whether a value shows a programmer this text.
-pub fn shows<T: Debug>(rt: &impl Abort, alloc: Global, value: &T, text: &str) -> bool {
-    shown(rt, alloc, value).as_str() == text
-}
-
-/// Whether the path of a trail prints this text.
-pub fn is_at(rt: &impl Abort, alloc: Global, trail: &mut Trail<'_>, text: &str) -> bool {
-    has_text(rt, alloc, &trail.path().or_end(rt), text)
 }
 
 /// What a hasher gives of a value.

@@ -1,7 +1,6 @@
 //! Ways down and up, with the paths that are asked for and the nodes made so far.
 
-use crate::tests::OrEnd;
-use crate::tests::report::samples::{has_text, is_at};
+use crate::tests::{OrEnd, has_text, is_at};
 use garde_report::{Component, Error, Report, RuleError, Trail};
 use std::alloc::Global;
 use std::process::Abort;

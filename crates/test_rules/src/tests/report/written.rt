@@ -1,7 +1,6 @@
 //! Reports that are written in JSON and read back, by trees and by texts.
 
-use crate::tests::OrEnd;
-use crate::tests::report::samples::has_text;
+use crate::tests::{OrEnd, has_text};
 use garde_json::{
     JsonRefused, report_from_json, report_from_json_text, report_to_json, report_to_json_text,
 };
