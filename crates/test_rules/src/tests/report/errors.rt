@@ -37,7 +37,7 @@ fn is_beneath(rt: &impl Abort, path: &Path, above: &Path) -> bool {
     }
 }
 
-/// Whether `[0].a[1]`, by joins, has its length and its texts, is walked, and is beneath `[0].a`.
+/// Whether `[0].a[1]`, by joins, has its length and its texts, is walked, and is under `[0].a`.
 fn is_joined(rt: &impl Abort, alloc: Global) -> bool {
     let path = path_to(rt, alloc, 1);
     let path = path.join(alloc, "a").or_end(rt);
