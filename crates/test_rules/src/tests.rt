@@ -15,7 +15,11 @@ mod texts;
 mod urls;
 mod values;
 
-use garde_report::RuleError;
+use garde_i18n::DefaultI18n;
+use garde_report::{RuleError, Trail};
+use garde_rules::Rule;
+use std::alloc::Global;
+use std::fmt::{Debug, Display};
 use std::process::Abort;
 
 /// The value of an Ok, where a test asks nothing of the error.
@@ -40,4 +44,34 @@ fn tells(answer: Result<(), RuleError>, wanted: Option<&str>) -> bool {
         Err(RuleError::Fault(error)) => wanted == Some(error.message()),
         Err(RuleError::Memory) => wanted == Some("out of memory"),
     }
+}
+
+/// Whether a rule as a value finds this.
+fn finds<T, R: Rule<T>>(alloc: Global, rule: &R, value: &T, fault: Option<&str>) -> bool {
+    tells(rule.find(alloc, value, &DefaultI18n), fault)
+}
+
+/// The text of a value.
+fn printed<T: Display>(rt: &impl Abort, alloc: Global, value: &T) -> String {
+    format!(in alloc; "{value}").or_end(rt)
+}
+
+/// Whether a value prints this text.
+fn has_text<T: Display>(rt: &impl Abort, alloc: Global, value: &T, text: &str) -> bool {
+    printed(rt, alloc, value).as_str() == text
+}
+
+/// The text of a value for a programmer.
+fn shown<T: Debug>(rt: &impl Abort, alloc: Global, value: &T) -> String {
+    format!(in alloc; "{value:?}").or_end(rt)
+}
+
+/// Whether a value shows a programmer this text.
+fn shows<T: Debug>(rt: &impl Abort, alloc: Global, value: &T, text: &str) -> bool {
+    shown(rt, alloc, value).as_str() == text
+}
+
+/// Whether the path of a trail prints this text.
+fn is_at(rt: &impl Abort, alloc: Global, trail: &mut Trail<'_>, text: &str) -> bool {
+    has_text(rt, alloc, &trail.path().or_end(rt), text)
 }

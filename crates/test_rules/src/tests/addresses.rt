@@ -1,8 +1,7 @@
 //! Tests of IP addresses, on a table of texts.
-use crate::tests::OrEnd;
+use crate::tests::{has_text, shows};
 use garde_rules::ip::{Ip, IpKind, is_ipv4, is_ipv6};
 use std::alloc::Global;
-use std::fmt::Display;
 use std::process::Abort;
 
 // The texts of the tables below are made from the text forms and the examples of RFC 4291, sections
@@ -279,104 +278,67 @@ static NEAR_V6: [&str; 97] = [
     "1.2.3.4::",
 ];
 
-/// Whether a text is an address of this version alone, or none where the version is `-`.
-fn is_of_version(text: &str, version: char) -> bool {
-    is_ipv4(text) == (version == '4') && is_ipv6(text) == (version == '6')
-}
-
-/// The first of these texts that is of another version.
-fn first_other<'t>(texts: &[&'t str], version: char) -> Option<&'t str> {
+/// Asserts that each of these texts is an address of this version alone, or none where the version is `-`.
+fn assert_version(rt: &impl Abort, texts: &[&str], version: char) {
     for text in texts {
-        if !is_of_version(text, version) {
-            return Some(text);
-        }
+        assert!(rt;
+            is_ipv4(text) == (version == '4') && is_ipv6(text) == (version == '6'),
+            "{text}"
+        );
     }
-    None
 }
 
 #[test]
 fn tells_addresses_by_their_version(rt: HostRuntime) {
-    assert_eq!(rt; first_other(&V4, '4'), None);
-    assert_eq!(rt; first_other(&NEAR_V4, '-'), None);
-    assert_eq!(rt; first_other(&V6, '6'), None);
-    assert_eq!(rt; first_other(&NEAR_V6, '-'), None);
+    assert_version(&rt, &V4, '4');
+    assert_version(&rt, &NEAR_V4, '-');
+    assert_version(&rt, &V6, '6');
+    assert_version(&rt, &NEAR_V6, '-');
 }
 
-/// Whether an error prints this.
-fn prints<E: Display>(rt: &impl Abort, alloc: Global, refusal: &E, printed: &str) -> bool {
-    refusal.to_string(alloc).or_end(rt).as_str() == printed
-}
+/// The kind that is asked for, a text, and what the error prints and shows.
+type Row = (IpKind, &'static str, &'static str, &'static str);
 
-/// Whether a text is rejected that is asked for an address of a kind, and the error shows this.
-fn refusal_shows(rt: &impl Abort, alloc: Global, text: &str, kind: IpKind, wanted: &str) -> bool {
-    match text.validate_ip(kind) {
-        Ok(()) => false,
-        Err(refusal) => format!(in alloc; "{refusal:?}").or_end(rt).as_str() == wanted,
-    }
-}
+const NO_IP: &str = "invalid IP address syntax";
 
-/// Whether a value is rejected that is asked for an address of a kind, and the error prints this.
-fn refusal_prints<T: Ip>(
-    rt: &impl Abort,
-    alloc: Global,
-    value: &T,
-    kind: IpKind,
-    printed: &str,
-) -> bool {
-    match value.validate_ip(kind) {
-        Ok(()) => false,
-        Err(refusal) => prints(rt, alloc, &refusal, printed),
-    }
-}
+const NO_IPV4: &str = "invalid IPv4 address syntax";
 
-/// The kind that is asked for, and what an error prints and shows.
-static KINDS: [(IpKind, &str, &str); 3] = [
-    (
-        IpKind::Any,
-        "invalid IP address syntax",
-        "AddrParseError(IP)",
-    ),
-    (
-        IpKind::V4,
-        "invalid IPv4 address syntax",
-        "AddrParseError(IPv4)",
-    ),
-    (
-        IpKind::V6,
-        "invalid IPv6 address syntax",
-        "AddrParseError(IPv6)",
-    ),
+const NO_IPV6: &str = "invalid IPv6 address syntax";
+
+static REFUSED: [Row; 8] = [
+    (IpKind::Any, "1.2.3", NO_IP, "AddrParseError(IP)"),
+    (IpKind::V4, "1.2.3", NO_IPV4, "AddrParseError(IPv4)"),
+    (IpKind::V6, "1.2.3", NO_IPV6, "AddrParseError(IPv6)"),
+    (IpKind::Any, "zzz", NO_IP, "AddrParseError(IP)"),
+    (IpKind::V4, "zzz", NO_IPV4, "AddrParseError(IPv4)"),
+    (IpKind::V6, "zzz", NO_IPV6, "AddrParseError(IPv6)"),
+    (IpKind::V4, "::", NO_IPV4, "AddrParseError(IPv4)"),
+    (IpKind::V6, "0.0.0.0", NO_IPV6, "AddrParseError(IPv6)"),
 ];
+
+/// Whether a value with the text of a row is rejected, and the error prints what the row says.
+fn prints<T: Ip>(rt: &impl Abort, alloc: Global, value: &T, row: &Row) -> bool {
+    match value.validate_ip(row.0) {
+        Ok(()) => false,
+        Err(refusal) => has_text(rt, alloc, &refusal, row.2),
+    }
+}
 
 #[test]
 fn prints_the_kind_that_was_asked_for(rt: HostRuntime) {
-    for (kind, printed, shown) in &KINDS {
+    let alloc = rt.alloc();
+    for row in &REFUSED {
+        let is_shown = match row.1.validate_ip(row.0) {
+            Ok(()) => false,
+            Err(refusal) => shows(&rt, alloc, &refusal, row.3),
+        };
         assert!(rt;
-            refusal_prints(&rt, rt.alloc(), &"1.2.3", *kind, printed),
-            "{printed}"
-        );
-        assert!(rt;
-            refusal_shows(&rt, rt.alloc(), "1.2.3", *kind, shown),
-            "{shown}"
-        );
-    }
-}
-
-/// The kind that is asked for, the text of an option, and what its error prints.
-static REFUSED: [(IpKind, &str, &str); 5] = [
-    (IpKind::Any, "zzz", "invalid IP address syntax"),
-    (IpKind::V4, "zzz", "invalid IPv4 address syntax"),
-    (IpKind::V6, "zzz", "invalid IPv6 address syntax"),
-    (IpKind::V4, "::", "invalid IPv4 address syntax"),
-    (IpKind::V6, "0.0.0.0", "invalid IPv6 address syntax"),
-];
-
-#[test]
-fn prints_the_kind_through_an_option(rt: HostRuntime) {
-    for (kind, text, printed) in &REFUSED {
-        assert!(rt;
-            refusal_prints(&rt, rt.alloc(), &Some(Some(*text)), *kind, printed),
-            "{text}: {printed}"
+            is_shown
+                && prints(&rt, alloc, &row.1, row)
+                && prints(&rt, alloc, &Some(Some(row.1)), row),
+            "{}: {}",
+            row.1,
+            row.2
         );
     }
 }

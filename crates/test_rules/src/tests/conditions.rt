@@ -6,12 +6,11 @@ ghost use Rattle.garde_rules.specs.Holds.{fault_when, unless};
 ghost use Rattle.garde_rules.specs.Text.{has_prefix, is_ascii_text};
 
 use super::tells;
-use crate::tests::OrEnd;
+use crate::tests::{OrEnd, has_text};
 use garde_i18n::{DefaultI18n, I18n};
 use garde_report::{Component, Report, RuleError, Trail};
 use garde_rules::{adapt, ascii, inner, prefix, when};
 use std::alloc::{AllocError, Global};
-use std::process::Abort;
 
 /// The rule of ASCII, where it is asked for: the contract of `when` alone gives its datum.
 fn ascii_when<H: I18n>(alloc: Global, cond: bool, text: &str, h: &H) -> Result<(), RuleError>
@@ -43,18 +42,6 @@ fn label_prefix<H: I18n>(
     )
 }
 
-/// Whether this is found in a text that is asked for ASCII under a condition.
-fn finds(alloc: Global, cond: bool, text: &str, fault: Option<&str>) -> bool {
-    tells(ascii_when(alloc, cond, text, &DefaultI18n), fault)
-}
-
-#[test]
-fn asks_where_the_condition_holds(rt: HostRuntime) {
-    assert!(rt; finds(rt.alloc(), true, "é", Some("not ascii")));
-    assert!(rt; finds(rt.alloc(), true, "e", None));
-    assert!(rt; finds(rt.alloc(), false, "é", None));
-}
-
 /// Whether a rule that passes is called so often under a condition, and the answer is Ok.
 fn is_called(cond: bool, times: u8) -> bool {
     let mut calls = 0u8;
@@ -66,28 +53,28 @@ fn is_called(cond: bool, times: u8) -> bool {
 }
 
 #[test]
-fn calls_the_rule_once_or_never(rt: HostRuntime) {
-    assert!(rt; is_called(false, 0));
-    assert!(rt; is_called(true, 1));
-}
-
-/// Whether this is found in the label `t-1` that is asked for its beginning.
-fn finds_in_label(rt: &impl Abort, alloc: Global, pattern: &str, fault: Option<&str>) -> bool {
-    let text = String::from_str(alloc, "t-1").or_end(rt);
-    let answer = label_prefix(alloc, &Label { text }, pattern, &DefaultI18n);
-    tells(answer, fault)
+fn asks_where_the_condition_holds(rt: HostRuntime) {
+    let alloc = rt.alloc();
+    let h = DefaultI18n;
+    assert!(rt;
+        tells(ascii_when(alloc, true, "é", &h), Some("not ascii"))
+            && tells(ascii_when(alloc, true, "e", &h), None)
+            && tells(ascii_when(alloc, false, "é", &h), None)
+            && is_called(false, 0)
+            && is_called(true, 1)
+    );
 }
 
 #[test]
 fn asks_of_the_view(rt: HostRuntime) {
+    let alloc = rt.alloc();
+    let text = String::from_str(alloc, "t-1").or_end(&rt);
+    let label = Label { text };
     let fault = Some("value does not begin with \"x\"");
-    assert!(rt; finds_in_label(&rt, rt.alloc(), "t-", None));
-    assert!(rt; finds_in_label(&rt, rt.alloc(), "x", fault));
-}
-
-/// What is found in a word of less than three bytes that is asked for ASCII.
-fn word_answer(alloc: Global, word: &str) -> Result<(), RuleError> {
-    ascii_when(alloc, word.len() < 3, word, &DefaultI18n)
+    assert!(rt;
+        tells(label_prefix(alloc, &label, "t-", &DefaultI18n), None)
+            && tells(label_prefix(alloc, &label, "x", &DefaultI18n), fault)
+    );
 }
 
 /// Asks a word of less than three bytes for ASCII, under its component.
@@ -99,27 +86,23 @@ fn check_word<'a>(
     report: &mut Report,
 ) -> Result<(), AllocError> {
     trail.push(component)?;
-    let put = trail.put(report, word_answer(alloc, word));
+    let answer = ascii_when(alloc, word.len() < 3, word, &DefaultI18n);
+    let put = trail.put(report, answer);
     trail.pop();
     put
 }
 
-/// Whether a walk of three words finds faults that print this.
-fn walk_prints(rt: &impl Abort, alloc: Global, words: &[&str; 3], text: &str) -> bool {
+#[test]
+fn asks_in_a_walk(rt: HostRuntime) {
+    let alloc = rt.alloc();
     let mut trail = Trail::new(alloc);
     let mut report = Report::new(alloc);
     inner::apply(
-        words,
+        &["é", "ué", "ü"],
         &mut trail,
         &mut report,
         |word: &&str, component, trail, report| check_word(alloc, word, component, trail, report),
     )
-    .or_end(rt);
-    report.to_string(alloc).or_end(rt).as_str() == text
-}
-
-#[test]
-fn asks_in_a_walk(rt: HostRuntime) {
-    let text = "[0]: not ascii\n[2]: not ascii\n";
-    assert!(rt; walk_prints(&rt, rt.alloc(), &["é", "ué", "ü"], text));
+    .or_end(&rt);
+    assert!(rt; has_text(&rt, alloc, &report, "[0]: not ascii\n[2]: not ascii\n"));
 }

@@ -6,10 +6,10 @@ use garde_i18n::InvalidUrl;
 use std::alloc::Global;
 use std::process::Abort;
 
-/// Whether the pattern of this source matches in the text.
-fn is_found(rt: &impl Abort, alloc: Global, source: &str, text: &str) -> bool {
+/// Whether the pattern of this source keeps it, and matches in the text or not, as it is said.
+fn is_found(rt: &impl Abort, alloc: Global, source: &str, text: &str, found: bool) -> bool {
     let pattern = Regex::new(alloc, source).or_end(rt);
-    pattern.is_match(alloc, text).or_end(rt)
+    pattern.as_str() == source && pattern.is_match(alloc, text).or_end(rt) == found
 }
 
 /// A pattern, a text, and whether it is found there.
@@ -27,31 +27,15 @@ static FOUND: [(&str, &str, bool); 7] = [
 fn matches_anywhere_in_a_text(rt: HostRuntime) {
     for (source, text, found) in &FOUND {
         assert!(rt;
-            is_found(&rt, rt.alloc(), source, text) == *found,
+            is_found(&rt, rt.alloc(), source, text, *found),
             "{source}: {text}"
         );
     }
 }
 
-/// Whether the pattern of this source keeps it.
-fn keeps(rt: &impl Abort, alloc: Global, source: &str) -> bool {
-    let pattern = Regex::new(alloc, source).or_end(rt);
-    pattern.as_str() == source
-}
-
-#[test]
-fn keeps_the_source_of_a_pattern(rt: HostRuntime) {
-    assert!(rt; keeps(&rt, rt.alloc(), "^[0-9]{5}$"));
-}
-
 /// A text of a hundred bytes and more, with the match of `b+c$` at its end.
 const LONG: &str =
     "abbc abbc abbc abbc abbc abbc abbc abbc abbc abbc abbc abbc abbc abbc abbc abbc abbc abbc abbc abbc abbbbc";
-
-/// Whether a searcher of a pattern keeps this source.
-fn searcher_keeps(rt: &impl Abort, alloc: Global, pattern: &Regex, source: &str) -> bool {
-    pattern.searcher(alloc).or_end(rt).as_str() == source
-}
 
 /// How many of these texts, from the first on, a searcher answers as it is said beside them.
 fn answered(
@@ -68,16 +52,6 @@ fn answered(
     rows.len()
 }
 
-/// How many of these texts one searcher of a pattern answers so.
-fn answered_in_turn(
-    rt: &impl Abort,
-    alloc: Global,
-    pattern: &Regex,
-    rows: &[(&str, bool)],
-) -> usize {
-    answered(rt, alloc, &pattern.searcher(alloc).or_end(rt), rows)
-}
-
 /// Texts, and whether the pattern `b+c$` is found there.
 static IN_TURN: [(&str, bool); 5] = [
     ("abbc", true),
@@ -90,16 +64,8 @@ static IN_TURN: [(&str, bool); 5] = [
 #[test]
 fn searches_again_by_one_searcher(rt: HostRuntime) {
     let pattern = Regex::new(rt.alloc(), "b+c$").or_end(&rt);
-    assert!(rt; searcher_keeps(&rt, rt.alloc(), &pattern, "b+c$"));
-    assert_eq!(rt; answered_in_turn(&rt, rt.alloc(), &pattern, &IN_TURN), 5);
-}
-
-/// Whether a source is rejected as a pattern for this reason.
-fn is_refused(alloc: Global, source: &str, refused: PatternRefused) -> bool {
-    match Regex::new(alloc, source) {
-        Ok(_) => false,
-        Err(reason) => reason == refused,
-    }
+    let searcher = pattern.searcher(rt.alloc()).or_end(&rt);
+    assert!(rt; searcher.as_str() == "b+c$" && answered(&rt, rt.alloc(), &searcher, &IN_TURN) == 5);
 }
 
 /// A source, and why it is rejected.
@@ -113,17 +79,15 @@ static REFUSED: [(&str, PatternRefused); 4] = [
 #[test]
 fn says_why_a_pattern_is_refused(rt: HostRuntime) {
     for (source, refused) in &REFUSED {
-        assert!(rt; is_refused(rt.alloc(), source, *refused), "/{source}/");
+        assert!(rt;
+            Regex::new(rt.alloc(), source).err() == Some(*refused),
+            "/{source}/"
+        );
     }
 }
 
-/// Whether a text is a URL, or rejected for this reason, as it is said.
-fn is_checked(rt: &impl Abort, alloc: Global, text: &str, wanted: Result<(), InvalidUrl>) -> bool {
-    check_url(alloc, text).or_end(rt) == wanted
-}
-
 /// A text, and what is said of it as a URL.
-static LINKS: [(&str, Result<(), InvalidUrl>); 15] = [
+static LINKS: [(&str, Result<(), InvalidUrl>); 39] = [
     ("https://example.com/", Ok(())),
     ("https://example.com", Ok(())),
     ("https://example.com?q", Ok(())),
@@ -139,17 +103,7 @@ static LINKS: [(&str, Result<(), InvalidUrl>); 15] = [
     ("x://@", Err(InvalidUrl::EmptyHost)),
     ("ssh://a b/", Err(InvalidUrl::InvalidDomainCharacter)),
     ("https://\u{FFFD}/", Err(InvalidUrl::IdnaError)),
-];
-
-#[test]
-fn says_why_a_text_is_no_url(rt: HostRuntime) {
-    for (text, answer) in &LINKS {
-        assert!(rt; is_checked(&rt, rt.alloc(), text, *answer), "{text}");
-    }
-}
-
-/// Texts at the border of what is plainly a URL, and what is said of them.
-static PLAIN: [(&str, Result<(), InvalidUrl>); 24] = [
+    // At the border of what is plainly a URL.
     ("http://a", Ok(())),
     ("http://a/", Ok(())),
     ("http://a/ b\t", Ok(())),
@@ -177,52 +131,38 @@ static PLAIN: [(&str, Result<(), InvalidUrl>); 24] = [
 ];
 
 #[test]
-fn answers_at_the_border_of_plain_urls(rt: HostRuntime) {
-    for (text, answer) in &PLAIN {
-        assert!(rt; is_checked(&rt, rt.alloc(), text, *answer), "{text}");
+fn says_why_a_text_is_no_url(rt: HostRuntime) {
+    for (text, answer) in &LINKS {
+        assert!(rt;
+            check_url(rt.alloc(), text).or_end(&rt) == *answer,
+            "{text}"
+        );
     }
 }
-
-/// Texts, and whether each is plainly a URL.
-static PLAINLY: [(&str, bool); 8] = [
-    ("https://example.com", true),
-    ("http://example.com/a b", true),
-    ("https://1.b2-/", true),
-    ("https://example.com?q", false),
-    ("https://Example.com/", false),
-    ("https://example.1/", false),
-    ("ftp://example.com/", false),
-    ("", false),
-];
 
 #[test]
 fn knows_a_plain_url(rt: HostRuntime) {
-    for (text, plain) in &PLAINLY {
-        assert!(rt; is_plain_url(text) == *plain, "{text}");
-    }
+    assert!(rt;
+        is_plain_url("https://example.com")
+            && is_plain_url("http://example.com/a b")
+            && is_plain_url("https://1.b2-/")
+            && !is_plain_url("https://example.com?q")
+            && !is_plain_url("https://Example.com/")
+            && !is_plain_url("https://example.1/")
+            && !is_plain_url("ftp://example.com/")
+            && !is_plain_url("")
+    );
 }
-
-/// Whether an error has this reason.
-fn has_reason(error: &ParseError, wanted: Option<InvalidUrl>) -> bool {
-    reason(error) == wanted
-}
-
-/// An error of parsing, and its name here.
-static REASONS: [(ParseError, Option<InvalidUrl>); 6] = [
-    (ParseError::EmptyHost, Some(InvalidUrl::EmptyHost)),
-    (ParseError::InvalidPort, Some(InvalidUrl::InvalidPort)),
-    (
-        ParseError::SetHostOnCannotBeABaseUrl,
-        Some(InvalidUrl::SetHostOnCannotBeABaseUrl),
-    ),
-    (ParseError::CannotSet, Some(InvalidUrl::Other)),
-    (ParseError::Overflow, None),
-    (ParseError::OutOfMemory, None),
-];
 
 #[test]
 fn keeps_the_name_of_an_error(rt: HostRuntime) {
-    for (row, (error, kept)) in REASONS.iter().enumerate() {
-        assert!(rt; has_reason(error, *kept), "row {row}");
-    }
+    let no_base = InvalidUrl::SetHostOnCannotBeABaseUrl;
+    assert!(rt;
+        reason(&ParseError::EmptyHost) == Some(InvalidUrl::EmptyHost)
+            && reason(&ParseError::InvalidPort) == Some(InvalidUrl::InvalidPort)
+            && reason(&ParseError::SetHostOnCannotBeABaseUrl) == Some(no_base)
+            && reason(&ParseError::CannotSet) == Some(InvalidUrl::Other)
+            && reason(&ParseError::Overflow).is_none()
+            && reason(&ParseError::OutOfMemory).is_none()
+    );
 }

@@ -1,17 +1,12 @@
 //! Tests of walks over items.
 ghost use Rattle.std.specs.Prelude.{◌<◌};
 
-use crate::tests::OrEnd;
-use garde_report::{Component, Path, Report, Trail};
+use crate::tests::{OrEnd, is_at};
+use garde_report::{Component, Report, Trail};
 use garde_rules::inner::{self, Inner};
 use std::alloc::{AllocError, Global};
 use std::collections::BTreeMap;
 use std::process::Abort;
-
-/// Pushes a component.
-fn push<'a>(trail: &mut Trail<'a>, component: Component<'a>) -> Result<(), AllocError> {
-    trail.push(component)
-}
 
 /// Pushes the component of an item. Returns `Err` at the item 9.
 fn push_unless_9<'a>(
@@ -22,7 +17,7 @@ fn push_unless_9<'a>(
     if item == 9 {
         return Err(AllocError);
     }
-    push(trail, component)
+    trail.push(component)
 }
 
 /// Pushes the component of each item, and so leaves it on the trail. Returns `Err` at the item 9.
@@ -37,16 +32,6 @@ fn push_all<'a, C: Inner<u8>>(
         report,
         |item: &u8, component, trail, _report| push_unless_9(trail, component, *item),
     )
-}
-
-/// Whether a path prints this text.
-fn prints(rt: &impl Abort, alloc: Global, path: &Path, text: &str) -> bool {
-    path.to_string(alloc).or_end(rt).as_str() == text
-}
-
-/// Whether a trail is at this path.
-fn is_at(rt: &impl Abort, alloc: Global, trail: &mut Trail<'_>, path: &str) -> bool {
-    prints(rt, alloc, &trail.path().or_end(rt), path)
 }
 
 /// Whether the walk comes to its end or not, as it is said, and leaves this path.
@@ -71,49 +56,6 @@ fn each_item_until_a_refusal(rt: HostRuntime) {
     }
 }
 
-/// Whether the walk of a vector of two items comes to its end, and leaves this path.
-fn vector_leaves(rt: &impl Abort, alloc: Global, path: &str) -> bool {
-    let items = vec![in alloc; 1u8, 2].or_end(rt);
-    leaves(rt, alloc, &items, true, path)
-}
-
-/// Whether the walk of a boxed slice of two items comes to its end, and leaves this path.
-fn box_leaves(rt: &impl Abort, alloc: Global, path: &str) -> bool {
-    let items = vec![in alloc; 1u8, 2].or_end(rt).into_boxed_slice();
-    leaves(rt, alloc, &items, true, path)
-}
-
-/// Whether the walk of an array of one item comes to its end, and leaves this path.
-fn array_leaves(rt: &impl Abort, alloc: Global, path: &str) -> bool {
-    leaves(rt, alloc, &[1u8], true, path)
-}
-
-/// Whether the walk of an option comes to its end or not, as it is said, and leaves nothing.
-fn option_leaves(rt: &impl Abort, alloc: Global, option: Option<u8>, done: bool) -> bool {
-    leaves(rt, alloc, &option, done, "")
-}
-
-#[test]
-fn vectors_arrays_boxes_and_options(rt: HostRuntime) {
-    let alloc = rt.alloc();
-    assert!(rt; vector_leaves(&rt, alloc, "[0][1]"));
-    assert!(rt; box_leaves(&rt, alloc, "[0][1]"));
-    assert!(rt; array_leaves(&rt, alloc, "[0]"));
-    assert!(rt; option_leaves(&rt, alloc, Some(9), false));
-    assert!(rt; option_leaves(&rt, alloc, None, true));
-}
-
-/// Pushes the component of each item, by the method.
-fn push_all_by_the_method<'a, C: Inner<u8>>(
-    field: &'a C,
-    trail: &mut Trail<'a>,
-    report: &mut Report,
-) -> Result<(), AllocError> {
-    field.validate_inner(trail, report, |_item: &u8, component, trail, _report| {
-        push(trail, component)
-    })
-}
-
 /// Whether a walk by the method leaves this path.
 fn leaves_by_the_method<C: Inner<u8>>(
     rt: &impl Abort,
@@ -123,29 +65,27 @@ fn leaves_by_the_method<C: Inner<u8>>(
 ) -> bool {
     let mut trail = Trail::new(alloc);
     let mut report = Report::new(alloc);
-    push_all_by_the_method(field, &mut trail, &mut report).or_end(rt);
+    field
+        .validate_inner(
+            &mut trail,
+            &mut report,
+            |item: &u8, component, trail, _report| push_unless_9(trail, component, *item),
+        )
+        .or_end(rt);
     is_at(rt, alloc, &mut trail, path)
 }
 
-#[test]
-fn the_method_walks_as_the_function(rt: HostRuntime) {
-    assert!(rt; leaves_by_the_method(&rt, rt.alloc(), &[1u8, 2], "[0][1]"));
-}
-
-/// Whether the walk of a map, whose third item fails, ends there and leaves this path.
-fn map_leaves(rt: &impl Abort, alloc: Global, path: &str) -> bool {
-    let mut items = BTreeMap::new(alloc);
-    for (key, item) in [("b", 1u8), ("c", 9), ("a", 2), ("d", 3)] {
-        items
-            .insert(String::from_str(alloc, key).or_end(rt), item)
-            .or_end(rt);
-    }
-    leaves(rt, alloc, &items, false, path)
-}
+/// The items of a map, the third of which fails.
+static ITEMS: [(&str, u8); 4] = [("b", 1), ("c", 9), ("a", 2), ("d", 3)];
 
 #[test]
 fn a_map_under_its_keys(rt: HostRuntime) {
-    assert!(rt; map_leaves(&rt, rt.alloc(), "a.b"));
+    let mut items = BTreeMap::new(rt.alloc());
+    for (key, item) in &ITEMS {
+        let key = String::from_str(rt.alloc(), key).or_end(&rt);
+        items.insert(key, *item).or_end(&rt);
+    }
+    assert!(rt; leaves(&rt, rt.alloc(), &items, false, "a.b"));
 }
 
 /// Whether a walk of 1 and 2 leaves this path. Its closure divides by each item, so it asks that
@@ -162,7 +102,7 @@ fn leaves_and_divides(rt: &impl Abort, alloc: Global, path: &str) -> bool {
             requires { 0 < item.now }
         {
             let _share = 100 / *item;
-            push(trail, component)
+            trail.push(component)
         },
     )
     .or_end(rt);
@@ -170,6 +110,17 @@ fn leaves_and_divides(rt: &impl Abort, alloc: Global, path: &str) -> bool {
 }
 
 #[test]
-fn a_closure_that_asks_something_of_each_item(rt: HostRuntime) {
-    assert!(rt; leaves_and_divides(&rt, rt.alloc(), "[0][1]"));
+fn vectors_arrays_boxes_and_options(rt: HostRuntime) {
+    let alloc = rt.alloc();
+    let items = vec![in alloc; 1u8, 2].or_end(&rt);
+    let boxed = vec![in alloc; 1u8, 2].or_end(&rt).into_boxed_slice();
+    assert!(rt;
+        leaves(&rt, alloc, &items, true, "[0][1]")
+            && leaves(&rt, alloc, &boxed, true, "[0][1]")
+            && leaves(&rt, alloc, &[1u8], true, "[0]")
+            && leaves(&rt, alloc, &Some(9u8), false, "")
+            && leaves(&rt, alloc, &None::<u8>, true, "")
+            && leaves_by_the_method(&rt, alloc, &[1u8, 2], "[0][1]")
+            && leaves_and_divides(&rt, alloc, "[0][1]")
+    );
 }

@@ -1,13 +1,12 @@
 //! Tests of credit card and phone numbers, on values that keep their answer.
 ghost use Rattle.std.specs.Prelude.{Result};
 
-use super::tells;
+use super::{finds, tells};
 use garde_i18n::DefaultI18n;
 use garde_rules::credit_card::{self, CreditCard, InvalidCreditCard};
 use garde_rules::ip::IpKind;
 use garde_rules::phone_number::{self, InvalidPhoneNumber, PhoneNumber};
-use garde_rules::{Rule, values};
-use std::alloc::Global;
+use garde_rules::values;
 
 /// A value that gives this answer when it is asked for a credit card number.
 #[derive(Clone, Copy)]
@@ -33,57 +32,50 @@ impl PhoneNumber for Phone {
     }
 }
 
-/// Whether this is found in a value that is asked for a credit card number.
-fn card_tells<T: CreditCard>(alloc: Global, value: &T, fault: Option<&str>) -> bool {
-    tells(credit_card::apply(alloc, value, (), &DefaultI18n), fault)
-}
-
-/// Whether this is found in a value that is asked for a phone number.
-fn phone_tells<T: PhoneNumber>(alloc: Global, value: &T, fault: Option<&str>) -> bool {
-    tells(phone_number::apply(alloc, value, (), &DefaultI18n), fault)
-}
-
 #[test]
 fn asks_for_a_credit_card_number(rt: HostRuntime) {
+    let alloc = rt.alloc();
+    let h = DefaultI18n;
     let wrong = Card(Err(InvalidCreditCard::InvalidLength));
     let fault = Some("not a valid credit card number: invalid length");
     assert!(rt;
-        card_tells(rt.alloc(), &Card(Ok(())), None)
-            && card_tells(rt.alloc(), &wrong, fault)
-            && card_tells(rt.alloc(), &None::<Card>, None)
-            && card_tells(rt.alloc(), &Some(wrong), fault)
+        tells(credit_card::apply(alloc, &Card(Ok(())), (), &h), None)
+            && tells(credit_card::apply(alloc, &wrong, (), &h), fault)
+            && tells(credit_card::apply(alloc, &None::<Card>, (), &h), None)
+            && tells(credit_card::apply(alloc, &Some(wrong), (), &h), fault)
     );
 }
 
 #[test]
 fn asks_for_a_phone_number(rt: HostRuntime) {
+    let alloc = rt.alloc();
+    let h = DefaultI18n;
     let long = Phone(Err(InvalidPhoneNumber::TooLong));
     let fault = Some("not a valid phone number: the number is too long");
     let invalid = Phone(Err(InvalidPhoneNumber::Invalid));
+    let other = Some("not a valid phone number");
     assert!(rt;
-        phone_tells(rt.alloc(), &Phone(Ok(())), None)
-            && phone_tells(rt.alloc(), &long, fault)
-            && phone_tells(rt.alloc(), &invalid, Some("not a valid phone number"))
-            && phone_tells(rt.alloc(), &None::<Phone>, None)
-            && phone_tells(rt.alloc(), &Some(long), fault)
+        tells(phone_number::apply(alloc, &Phone(Ok(())), (), &h), None)
+            && tells(phone_number::apply(alloc, &long, (), &h), fault)
+            && tells(phone_number::apply(alloc, &invalid, (), &h), other)
+            && tells(phone_number::apply(alloc, &None::<Phone>, (), &h), None)
+            && tells(phone_number::apply(alloc, &Some(long), (), &h), fault)
     );
-}
-
-/// Whether a rule as a value finds this in a value.
-fn finds<T, R: Rule<T>>(alloc: Global, rule: &R, value: &T, fault: Option<&str>) -> bool {
-    tells(rule.find(alloc, value, &DefaultI18n), fault)
 }
 
 #[test]
 fn finds_the_same_by_rules_as_values(rt: HostRuntime) {
     let alloc = rt.alloc();
     let card = Card(Err(InvalidCreditCard::InvalidLuhn));
-    let fault = Some("not a valid credit card number: invalid luhn");
-    assert!(rt; finds(alloc, &values::CreditCard, &card, fault));
+    let luhn = Some("not a valid credit card number: invalid luhn");
     let phone = Phone(Err(InvalidPhoneNumber::Invalid));
-    let fault = Some("not a valid phone number");
-    assert!(rt; finds(alloc, &values::PhoneNumber, &phone, fault));
-    let rule = values::Ip(IpKind::V6);
-    let fault = Some("not a valid IPv6 address");
-    assert!(rt; finds(alloc, &rule, &"1.2.3.4", fault) && finds(alloc, &rule, &"::1", None));
+    let invalid = Some("not a valid phone number");
+    let version = values::Ip(IpKind::V6);
+    let other = Some("not a valid IPv6 address");
+    assert!(rt;
+        finds(alloc, &values::CreditCard, &card, luhn)
+            && finds(alloc, &values::PhoneNumber, &phone, invalid)
+            && finds(alloc, &version, &"1.2.3.4", other)
+            && finds(alloc, &version, &"::1", None)
+    );
 }

@@ -17,27 +17,16 @@ fn finds<T: Bounds>(
     tells(range::apply(alloc, value, bounds, &DefaultI18n), fault)
 }
 
-/// A number, its bounds, and what is found.
-static BOUNDED: [(u8, Option<u8>, Option<u8>, Option<&str>); 4] = [
-    (5, Some(10), Some(3), Some("lower than 10")),
-    (20, Some(10), Some(3), Some("greater than 3")),
-    (10, Some(10), Some(10), None),
-    (255, None, None, None),
-];
-
-#[test]
-fn asks_the_lower_bound_first(rt: HostRuntime) {
-    for (value, lo, hi, fault) in &BOUNDED {
-        assert!(rt; finds(rt.alloc(), value, (*lo, *hi), *fault), "{value}");
-    }
-}
-
 #[test]
 fn asks_numbers_without_a_sign(rt: HostRuntime) {
     let alloc = rt.alloc();
     let high = Some("greater than 0");
     assert!(rt;
-        finds(alloc, &u16::MAX, (None, Some(0)), high)
+        finds(alloc, &5u8, (Some(10), Some(3)), Some("lower than 10"))
+            && finds(alloc, &20u8, (Some(10), Some(3)), Some("greater than 3"))
+            && finds(alloc, &10u8, (Some(10), Some(10)), None)
+            && finds(alloc, &255u8, (None, None), None)
+            && finds(alloc, &u16::MAX, (None, Some(0)), high)
             && finds(alloc, &u32::MAX, (None, Some(0)), high)
             && finds(alloc, &u64::MAX, (None, Some(0)), high)
             && finds(alloc, &u128::MAX, (None, Some(0)), high)
@@ -152,23 +141,15 @@ fn asks_the_value_of_an_option_for_multiples(rt: HostRuntime) {
     let alloc = rt.alloc();
     let five = Some("multiple_of_mismatch divisor=5");
     let none: Option<u8> = None;
+    let rule = MultipleOf(5u8);
     assert!(rt;
         multiple_finds(alloc, &Some(16u8), 5, &CodeI18n, five)
             && multiple_finds(alloc, &Some(15u8), 5, &CodeI18n, None)
             && multiple_finds(alloc, &none, 5, &CodeI18n, None)
             && none.validate_multiple_of(5)
             && !Some(16u8).validate_multiple_of(5)
-    );
-}
-
-#[test]
-fn finds_the_same_as_a_value(rt: HostRuntime) {
-    let rule = MultipleOf(5u8);
-    assert!(rt;
-        tells(
-            rule.find(rt.alloc(), &16u8, &DefaultI18n),
-            Some("not a multiple of 5")
-        ) && rule.holds(&15u8)
+            && super::finds(alloc, &rule, &16u8, Some("not a multiple of 5"))
+            && rule.holds(&15u8)
             && !rule.holds(&16u8)
     );
 }

@@ -8,7 +8,6 @@ mod errors;
 mod html;
 mod json;
 mod json_read;
-mod json_text;
 mod lists;
 mod numbers;
 mod places;

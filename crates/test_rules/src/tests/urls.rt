@@ -4,7 +4,6 @@ use crate::tests::OrEnd;
 use garde_i18n::DefaultI18n;
 use garde_rules::url::{self, InvalidUrl, ParseError, Url, reason};
 use std::alloc::Global;
-use std::process::Abort;
 
 /// Whether this is found in a value that is asked for a URL.
 fn finds<T: Url>(alloc: Global, value: &T, fault: Option<&str>) -> bool {
@@ -25,27 +24,22 @@ static ASKED: [(&str, Option<&str>); 4] = [
 #[test]
 fn asks_for_a_url(rt: HostRuntime) {
     for (text, fault) in &ASKED {
-        assert!(rt; finds(rt.alloc(), text, *fault), "{text}");
-        assert!(rt; finds(rt.alloc(), &Some(*text), *fault), "{text}");
+        assert!(rt;
+            finds(rt.alloc(), text, *fault) && finds(rt.alloc(), &Some(*text), *fault),
+            "{text}"
+        );
     }
     assert!(rt; finds(rt.alloc(), &None::<&str>, None));
 }
 
-/// Whether a text is a URL, or rejected for this reason, as it is said.
-fn is_checked(rt: &impl Abort, alloc: Global, text: &str, wanted: Result<(), InvalidUrl>) -> bool {
-    text.validate_url(alloc).or_end(rt) == wanted
-}
-
-/// Whether an error has this reason.
-fn has_reason(error: &ParseError, wanted: Option<InvalidUrl>) -> bool {
-    reason(error) == wanted
-}
-
 #[test]
 fn says_why_a_text_is_no_url(rt: HostRuntime) {
+    let alloc = rt.alloc();
     let relative = Err(InvalidUrl::RelativeUrlWithoutBase);
-    assert!(rt; is_checked(&rt, rt.alloc(), "https://example.com/", Ok(())));
-    assert!(rt; is_checked(&rt, rt.alloc(), "abc", relative));
-    assert!(rt; has_reason(&ParseError::InvalidPort, Some(InvalidUrl::InvalidPort)));
-    assert!(rt; has_reason(&ParseError::OutOfMemory, None));
+    assert!(rt;
+        "https://example.com/".validate_url(alloc).or_end(&rt) == Ok(())
+            && "abc".validate_url(alloc).or_end(&rt) == relative
+            && reason(&ParseError::InvalidPort) == Some(InvalidUrl::InvalidPort)
+            && reason(&ParseError::OutOfMemory).is_none()
+    );
 }

@@ -12,13 +12,7 @@ use garde_i18n::{
     Named, Texts, Value,
 };
 use std::alloc::Global;
-use std::borrow::CowStr;
 use std::process::Abort;
-
-/// Whether a text that a handler gave is this one.
-fn is_text(given: &CowStr<'static>, text: &str) -> bool {
-    given.as_str() == text
-}
 
 /// Whether the handler returns this text. A reference to it asks the method of the kind.
 fn says<H: I18n>(
@@ -28,7 +22,7 @@ fn says<H: I18n>(
     asked: Datum<'_>,
     text: &str,
 ) -> bool {
-    is_text(&(&handler).text_of(alloc, asked).or_end(rt), text)
+    (&handler).text_of(alloc, asked).or_end(rt).as_str() == text
 }
 
 /// Asserts that the handler, and a reference to it, return each row's text.
@@ -39,8 +33,10 @@ fn assert_answers<H: I18n>(
     rows: &[(Datum<'_>, &str)],
 ) {
     for (asked, text) in rows {
-        assert!(rt; says(rt, alloc, handler, *asked, text), "{text}");
-        assert!(rt; says(rt, alloc, &handler, *asked, text), "{text}");
+        assert!(rt;
+            says(rt, alloc, handler, *asked, text) && says(rt, alloc, &handler, *asked, text),
+            "{text}"
+        );
     }
 }
 

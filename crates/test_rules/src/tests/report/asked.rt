@@ -2,49 +2,43 @@
 
 use crate::tests::OrEnd;
 use crate::tests::report::samples::report_of;
-use garde_places::{
-    Asked, Fault, Format, Place, Printed, faults_of, listed_faults_of, stop_of_utf8,
-};
+use garde_places::{Asked, Format, Place, Printed, faults_of, listed_faults_of, stop_of_utf8};
 use garde_report::{Kind, Path, Report};
 use std::alloc::Global;
 use std::process::Abort;
 
-/// Words, the file that they ask for, and the format and the name in what is printed.
-static ASKED: [(&[&str], Option<&str>, Option<(Format, &str)>); 9] = [
-    (&[], None, None),
-    (&["-"], None, Some((Format::Short, "<stdin>"))),
-    (&["a"], Some("a"), Some((Format::Short, "a"))),
-    (&["./20"], Some("./20"), Some((Format::Short, "./20"))),
-    (&["--format", "plain"], None, None),
-    (&["--format", "plain", "a"], Some("a"), None),
+/// What words ask for: a file, and the format and the name in what is printed.
+type Answer = (Option<&'static str>, Option<(Format, &'static str)>);
+
+/// Words, and what they ask for: nothing where they cannot be followed.
+static ASKED: [(&[&str], Option<Answer>); 14] = [
+    (&[], Some((None, None))),
+    (&["-"], Some((None, Some((Format::Short, "<stdin>"))))),
+    (&["a"], Some((Some("a"), Some((Format::Short, "a"))))),
+    (
+        &["./20"],
+        Some((Some("./20"), Some((Format::Short, "./20")))),
+    ),
+    (&["--format", "plain"], Some((None, None))),
+    (&["--format", "plain", "a"], Some((Some("a"), None))),
     (
         &["a", "--format", "json"],
-        Some("a"),
-        Some((Format::Json, "a")),
+        Some((Some("a"), Some((Format::Json, "a")))),
     ),
     (
         &["--format", "github"],
-        None,
-        Some((Format::GitHub, "<stdin>")),
+        Some((None, Some((Format::GitHub, "<stdin>")))),
     ),
     (
         &["--format", "short", "json"],
-        Some("json"),
-        Some((Format::Short, "json")),
+        Some((Some("json"), Some((Format::Short, "json")))),
     ),
+    (&["--format"], None),
+    (&["--format", "xml"], None),
+    (&["--format", "-"], None),
+    (&["--format", "json", "--format", "json"], None),
+    (&["-", "a"], None),
 ];
-
-/// Words that cannot be followed.
-static REJECTED: [&[&str]; 5] = [
-    &["--format"],
-    &["--format", "xml"],
-    &["--format", "-"],
-    &["--format", "json", "--format", "json"],
-    &["-", "a"],
-];
-
-/// Words that are for the program itself.
-static LEFT: [&str; 5] = ["", "20", "-1", "--", "--help"];
 
 // What words ask for, if all of them are taken.
 fn asked_by<'w>(words: &[&'w str]) -> Option<Asked<'w>> {
@@ -69,24 +63,30 @@ fn is_printed(printed: Option<Printed<'_>>, wanted: Option<(Format, &str)>) -> b
     }
 }
 
-#[test]
-fn words_ask_for_a_file_and_a_format(rt: HostRuntime) {
-    for (words, file, printed) in &ASKED {
-        let Some(asked) = asked_by(words) else {
-            rt.abort()
-        };
-        assert!(rt; asked.file() == *file && is_printed(asked.printed(), *printed));
+// Whether words ask for this.
+fn ask_for(words: &[&str], wanted: Option<Answer>) -> bool {
+    match (asked_by(words), wanted) {
+        (Some(asked), Some((file, printed))) => {
+            asked.file() == file && is_printed(asked.printed(), printed)
+        }
+        (None, None) => true,
+        _ => false,
     }
 }
 
 #[test]
-fn other_words_are_rejected_or_left(rt: HostRuntime) {
-    for words in &REJECTED {
-        assert!(rt; asked_by(words).is_none());
+fn words_ask_for_a_file_and_a_format(rt: HostRuntime) {
+    for (words, wanted) in &ASKED {
+        assert!(rt; ask_for(words, *wanted));
     }
-    for word in &LEFT {
-        assert!(rt; Asked::new().take(word) == Ok(false));
-    }
+    // Words that are for the program itself.
+    assert!(rt;
+        Asked::new().take("") == Ok(false)
+            && Asked::new().take("20") == Ok(false)
+            && Asked::new().take("-1") == Ok(false)
+            && Asked::new().take("--") == Ok(false)
+            && Asked::new().take("--help") == Ok(false)
+    );
 }
 
 /// A text whose members do not stand in the order of the faults.
@@ -104,33 +104,15 @@ const FOR_PROGRAMS: &str = "\
 {\"file\":\"f\",\"path\":\"b\",\"pointer\":\"/b\",\"line\":1,\"column\":6,\"detail\":\"higher\",\"code\":\"custom\",\"params\":{}}
 ";
 
-// Whether faults are printed as this text.
-fn print_as(
-    rt: &impl Abort,
-    alloc: Global,
-    format: Format,
-    faults: &mut Vec<Fault<'_>>,
-    text: &str,
-) -> bool {
-    let printed = Printed { format, file: "f" };
-    printed.lines(alloc, faults).or_end(rt).as_str() == text
-}
-
-// The faults of a report of the text.
-fn faults<'r>(rt: &impl Abort, alloc: Global, report: &'r Report) -> Vec<Fault<'r>> {
+// Whether the faults of a report of the text are printed so in a format.
+fn print_as(rt: &impl Abort, alloc: Global, report: &Report, format: Format, text: &str) -> bool {
     match faults_of(alloc, TEXT, report) {
-        Ok(faults) => faults,
-        Err(_) => rt.abort(),
+        Ok(mut faults) => {
+            let printed = Printed { format, file: "f" };
+            printed.lines(alloc, &mut faults).or_end(rt).as_str() == text
+        }
+        Err(_) => false,
     }
-}
-
-#[test]
-fn faults_are_sorted_for_people(rt: HostRuntime) {
-    let alloc = rt.alloc();
-    let report = report_of(&rt, alloc, &FAULTS);
-    let mut found = faults(&rt, alloc, &report);
-    assert!(rt; print_as(&rt, alloc, Format::Json, &mut found, FOR_PROGRAMS));
-    assert!(rt; print_as(&rt, alloc, Format::Short, &mut found, FOR_PEOPLE));
 }
 
 // The line of the second fault, by a list of places whose lines count the tokens of the text.
@@ -149,10 +131,14 @@ fn listed_line(rt: &impl Abort, alloc: Global, report: &Report) -> Option<usize>
 }
 
 #[test]
-fn listed_faults_have_the_places_of_a_list(rt: HostRuntime) {
+fn faults_are_sorted_for_people(rt: HostRuntime) {
     let alloc = rt.alloc();
     let report = report_of(&rt, alloc, &FAULTS);
-    assert!(rt; listed_line(&rt, alloc, &report) == Some(12));
+    assert!(rt;
+        print_as(&rt, alloc, &report, Format::Json, FOR_PROGRAMS)
+            && print_as(&rt, alloc, &report, Format::Short, FOR_PEOPLE)
+            && listed_line(&rt, alloc, &report) == Some(12)
+    );
 }
 
 #[test]

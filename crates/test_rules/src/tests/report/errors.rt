@@ -1,11 +1,8 @@
 //! Paths, errors and reports.
 
-use crate::tests::OrEnd;
-use crate::tests::report::samples::{
-    compared, four_faults, has_text, hash_of, path_of, path_of_one, path_to, printed, report_of,
-    shows,
-};
-use garde_report::{Error, Kind, NoKey, Path, PathComponentKind, Report, RuleError, select};
+use crate::tests::report::samples::{are_in_order, is_kept, path_of, path_to, report_of};
+use crate::tests::{OrEnd, has_text, printed, shows};
+use garde_report::{Kind, NoKey, Path, PathComponentKind, Report, RuleError, select};
 use std::alloc::Global;
 use std::borrow::CowStr;
 use std::cmp::Ordering;
@@ -15,27 +12,21 @@ const A: (Kind, &str) = (Kind::Key, "a");
 
 const B: (Kind, &str) = (Kind::Key, "b");
 
+const C: (Kind, &str) = (Kind::Key, "c");
+
 const ZERO: (Kind, &str) = (Kind::Index, "0");
 
 const ONE: (Kind, &str) = (Kind::Index, "1");
 
 const UNNAMED: (Kind, &str) = (Kind::None, "");
 
-/// A path with a key more.
-fn with_key(rt: &impl Abort, alloc: Global, above: &Path, key: &str) -> Path {
-    above.join(alloc, key).or_end(rt)
-}
-
-/// A path with an index more.
-fn with_index(rt: &impl Abort, alloc: Global, above: &Path, index: usize) -> Path {
-    above.join(alloc, index).or_end(rt)
-}
-
-/// The path `[0].a[1]`, by joins.
-fn joined(rt: &impl Abort, alloc: Global) -> Path {
-    let path = path_to(rt, alloc, 1);
-    let path = with_key(rt, alloc, &path, "a");
-    with_index(rt, alloc, &path, 1)
+/// Whether a walk of `[0].a[1]`, which begins at the last component, gives one from the front, one from
+/// the back, and twice from the front what is left.
+fn is_walked(rt: &impl Abort, alloc: Global, path: &Path) -> bool {
+    let mut walk = path.iter(alloc).or_end(rt);
+    let length = walk.len();
+    let given = [walk.next(), walk.next_back(), walk.next(), walk.next()];
+    length == 3 && given == [Some(ONE), Some(ZERO), Some(A), None]
 }
 
 /// Whether a path without its last component is another one.
@@ -46,279 +37,212 @@ fn is_beneath(rt: &impl Abort, path: &Path, above: &Path) -> bool {
     }
 }
 
-/// A component as a walk gives it, or none at its end.
-type Given<'p> = Option<(Kind, &'p str)>;
-
-/// How many components a walk has, and what it gives from the front, from the back, and twice from
-/// the front.
-fn walked<'p>(rt: &impl Abort, alloc: Global, path: &'p Path) -> (usize, [Given<'p>; 4]) {
-    let mut walk = path.iter(alloc).or_end(rt);
-    let length = walk.len();
-    let first = walk.next();
-    let last = walk.next_back();
-    let middle = walk.next();
-    let end = walk.next();
-    (length, [first, last, middle, end])
-}
-
-/// Whether the joined path has its length and its text.
+/// Whether `[0].a[1]`, by joins, has its length and its texts, is walked, and is under `[0].a`.
 fn is_joined(rt: &impl Abort, alloc: Global) -> bool {
-    let path = joined(rt, alloc);
-    path.len() == 3 && has_text(rt, alloc, &path, "[0].a[1]")
-}
-
-/// Whether the joined path without its last component is `[0].a`.
-fn is_cut(rt: &impl Abort, alloc: Global) -> bool {
-    is_beneath(rt, &joined(rt, alloc), &path_of(rt, alloc, &[ZERO, A]))
-}
-
-/// Whether a walk of the joined path gives its components, from both ends.
-fn is_walked(rt: &impl Abort, alloc: Global) -> bool {
-    let path = joined(rt, alloc);
-    let (length, given) = walked(rt, alloc, &path);
-    length == 3 && given == [Some(ONE), Some(ZERO), Some(A), None]
+    let path = path_to(rt, alloc, 1);
+    let path = path.join(alloc, "a").or_end(rt);
+    let path = path.join(alloc, 1usize).or_end(rt);
+    let shown = "Path { components: [(Index, \"0\"), (Key, \"a\"), (Index, \"1\")] }";
+    path.len() == 3
+        && has_text(rt, alloc, &path, "[0].a[1]")
+        && shows(rt, alloc, &path, shown)
+        && is_walked(rt, alloc, &path)
+        && is_beneath(rt, &path, &path_of(rt, alloc, &[ZERO, A]))
 }
 
 #[test]
 fn a_path_is_joined_walked_and_cut(rt: HostRuntime) {
-    assert!(rt; is_joined(&rt, rt.alloc()));
-    assert!(rt; is_cut(&rt, rt.alloc()) && is_walked(&rt, rt.alloc()));
+    let root = Path::default();
+    assert!(rt;
+        is_joined(&rt, rt.alloc())
+            && root.is_empty()
+            && root.parent().or_end(&rt).is_none()
+            && has_text(&rt, rt.alloc(), &root, "")
+    );
 }
 
-/// Whether the root is empty, has no parent and no text.
-fn is_root(rt: &impl Abort, alloc: Global, root: &Path) -> bool {
-    root.is_empty() && root.parent().or_end(rt).is_none() && has_text(rt, alloc, root, "")
-}
+/// Components of a path and its text, those of another path and its text, and the order of both.
+type Row = (
+    &'static [(Kind, &'static str)],
+    &'static str,
+    &'static [(Kind, &'static str)],
+    &'static str,
+    Ordering,
+);
 
-#[test]
-fn the_root_has_no_parent(rt: HostRuntime) {
-    assert!(rt; is_root(&rt, rt.alloc(), &Path::default()));
-}
-
-/// Components, and the text of their path.
-static PRINTED: [(&[(Kind, &str)], &str); 8] = [
-    (&[A, B], "a.b"),
+static PATHS: [Row; 17] = [
+    (&[A, B], "a.b", &[A, B], "a.b", Ordering::Equal),
     // A text of 22 bytes, and one of 23.
     (
         &[(Kind::Key, "abcdefghijklmnopqrstuv"), B],
         "abcdefghijklmnopqrstuv.b",
-    ),
-    (
         &[(Kind::Index, "abcdefghijklmnopqrstuvw")],
         "[abcdefghijklmnopqrstuvw]",
-    ),
-    (&[(Kind::Key, "a.b")], "a.b"),
-    (&[UNNAMED, (Kind::Key, "k")], ".k"),
-    (&[A, UNNAMED, B], "a.b"),
-    (&[ZERO, ZERO, A], "[0][0].a"),
-    (&[(Kind::None, "x"), ZERO], "x[0]"),
-];
-
-#[test]
-fn each_component_prints_after_those_above(rt: HostRuntime) {
-    for (components, text) in &PRINTED {
-        assert!(rt; prints(&rt, rt.alloc(), components, text), "at {text}");
-    }
-}
-
-/// Whether the path of these components has this text.
-fn prints(rt: &impl Abort, alloc: Global, components: &[(Kind, &str)], text: &str) -> bool {
-    has_text(rt, alloc, &path_of(rt, alloc, components), text)
-}
-
-/// Whether two paths are in this order, equal only where that is equality, and of one hash then.
-fn is_order(path: &Path, other: &Path, order: Ordering) -> bool {
-    let same = order == Ordering::Equal;
-    let is_hashed = !same || hash_of(path) == hash_of(other);
-    compared(path, other) == (order, same) && is_hashed
-}
-
-/// The same of the paths of these components.
-fn are_in_order(
-    rt: &impl Abort,
-    alloc: Global,
-    components: &[(Kind, &str)],
-    others: &[(Kind, &str)],
-    order: Ordering,
-) -> bool {
-    is_order(
-        &path_of(rt, alloc, components),
-        &path_of(rt, alloc, others),
-        order,
-    )
-}
-
-/// Whether two paths are equal, by order and by equality.
-fn are_equal(path: &Path, other: &Path) -> bool {
-    compared(path, other) == (Ordering::Equal, true)
-}
-
-/// Whether the paths of these components differ, and both print this text.
-fn are_alike(
-    rt: &impl Abort,
-    alloc: Global,
-    components: &[(Kind, &str)],
-    others: &[(Kind, &str)],
-    text: &str,
-) -> bool {
-    prints(rt, alloc, components, text)
-        && prints(rt, alloc, others, text)
-        && !are_equal(&path_of(rt, alloc, components), &path_of(rt, alloc, others))
-}
-
-/// Components of two paths, and the text of both.
-static ALIKE: [(&[(Kind, &str)], &[(Kind, &str)], &str); 5] = [
-    (&[(Kind::Key, "a.b")], &[A, B], "a.b"),
-    (&[(Kind::Key, "a[0]")], &[A, ZERO], "a[0]"),
-    (&[UNNAMED, A], &[(Kind::Key, ""), A], ".a"),
-    (&[(Kind::Key, "")], &[], ""),
-    (&[(Kind::Index, "0].a[1")], &[ZERO, A, ONE], "[0].a[1]"),
-];
-
-#[test]
-fn different_paths_can_print_one_text(rt: HostRuntime) {
-    for (components, others, text) in &ALIKE {
-        assert!(rt;
-            are_alike(&rt, rt.alloc(), components, others, text),
-            "at {text}"
-        );
-    }
-}
-
-/// Components of two paths, and their order.
-static ORDERED: [(&[(Kind, &str)], &[(Kind, &str)], Ordering); 6] = [
-    (&[(Kind::Key, "z")], &[A, B], Ordering::Less),
-    (&[A], &[ZERO], Ordering::Less),
-    (
-        &[(Kind::Index, "2")],
-        &[(Kind::Index, "10")],
         Ordering::Greater,
     ),
-    (&[B, A], &[A, B], Ordering::Greater),
-    (&[A, B], &[(Kind::Key, "a.b")], Ordering::Greater),
-    (&[A, B], &[A, B], Ordering::Equal),
+    (
+        &[UNNAMED, (Kind::Key, "k")],
+        ".k",
+        &[A],
+        "a",
+        Ordering::Greater,
+    ),
+    (&[ZERO, ZERO, A], "[0][0].a", &[], "", Ordering::Greater),
+    (
+        &[(Kind::None, "x"), ZERO],
+        "x[0]",
+        &[A, UNNAMED, B],
+        "a.b",
+        Ordering::Less,
+    ),
+    // Different paths of one text.
+    (&[(Kind::Key, "a.b")], "a.b", &[A, B], "a.b", Ordering::Less),
+    (
+        &[(Kind::Key, "a[0]")],
+        "a[0]",
+        &[A, ZERO],
+        "a[0]",
+        Ordering::Less,
+    ),
+    (
+        &[UNNAMED, A],
+        ".a",
+        &[(Kind::Key, ""), A],
+        ".a",
+        Ordering::Less,
+    ),
+    (&[(Kind::Key, "")], "", &[], "", Ordering::Greater),
+    (
+        &[(Kind::Index, "0].a[1")],
+        "[0].a[1]",
+        &[ZERO, A, ONE],
+        "[0].a[1]",
+        Ordering::Less,
+    ),
+    // Shorter paths come first.
+    (&[(Kind::Key, "z")], "z", &[A, B], "a.b", Ordering::Less),
+    (&[A], "a", &[ZERO], "[0]", Ordering::Less),
+    (
+        &[(Kind::Index, "2")],
+        "[2]",
+        &[(Kind::Index, "10")],
+        "[10]",
+        Ordering::Greater,
+    ),
+    (&[B, A], "b.a", &[A, B], "a.b", Ordering::Greater),
+    (
+        &[A, B],
+        "a.b",
+        &[(Kind::Key, "a.b")],
+        "a.b",
+        Ordering::Greater,
+    ),
+    (&[ZERO], "[0]", &[ZERO], "[0]", Ordering::Equal),
+    (&[], "", &[], "", Ordering::Equal),
 ];
 
+/// Whether two paths have their texts, and are in their order.
+fn is_row(rt: &impl Abort, alloc: Global, row: &Row) -> bool {
+    let path = path_of(rt, alloc, row.0);
+    let other = path_of(rt, alloc, row.2);
+    has_text(rt, alloc, &path, row.1)
+        && has_text(rt, alloc, &other, row.3)
+        && are_in_order(&path, &other, row.4)
+}
+
 #[test]
-fn shorter_paths_come_first(rt: HostRuntime) {
-    for (components, others, order) in &ORDERED {
-        assert!(rt; are_in_order(&rt, rt.alloc(), components, others, *order));
+fn paths_have_their_texts_and_their_order(rt: HostRuntime) {
+    for (number, row) in PATHS.iter().enumerate() {
+        assert!(rt; is_row(&rt, rt.alloc(), row), "row {number}");
     }
 }
 
 /// Whether the path of a component is that of this kind and text.
-fn is_path_of<K: PathComponentKind + Drop>(
+pub fn is_path_of<K: PathComponentKind + Drop>(
     rt: &impl Abort,
     alloc: Global,
     made: K,
     component: (Kind, &str),
 ) -> bool {
-    are_equal(
-        &path_of_one(rt, alloc, made),
+    are_in_order(
+        &Path::new(alloc, made).or_end(rt),
         &path_of(rt, alloc, &[component]),
+        Ordering::Equal,
     )
-}
-
-/// Whether the component of a shared number has the kind and the text of the number's.
-fn is_shared_index(rt: &impl Abort, alloc: Global, number: &usize, text: &str) -> bool {
-    let shared = number.component();
-    let of_type = <&usize as PathComponentKind>::component_kind();
-    let given = format!(in alloc; "{shared}{}", NoKey::default()).or_end(rt);
-    shared.kind() == of_type && given.as_str() == text
-}
-
-/// Whether each type of text is the key with this text.
-fn are_keys(rt: &impl Abort, alloc: Global) -> bool {
-    let owned = String::from_str(alloc, "a").or_end(rt);
-    is_path_of(rt, alloc, owned, A)
-        && is_path_of(rt, alloc, CowStr::Borrowed("a"), A)
-        && is_path_of(rt, alloc, "a", A)
 }
 
 #[test]
 fn each_type_of_component_has_its_kind(rt: HostRuntime) {
-    assert!(rt; are_keys(&rt, rt.alloc()));
-    assert!(rt; is_path_of(&rt, rt.alloc(), NoKey::default(), UNNAMED));
-    assert!(rt; is_shared_index(&rt, rt.alloc(), &7, "7"));
+    let alloc = rt.alloc();
+    let shared = (&7usize).component();
+    assert!(rt;
+        is_path_of(&rt, alloc, String::from_str(alloc, "a").or_end(&rt), A)
+            && is_path_of(&rt, alloc, CowStr::Borrowed("a"), A)
+            && is_path_of(&rt, alloc, "a", A)
+            && is_path_of(&rt, alloc, NoKey::default(), UNNAMED)
+            && has_text(&rt, alloc, &NoKey::default(), "")
+            && shared.kind() == <&usize as PathComponentKind>::component_kind()
+            && has_text(&rt, alloc, &shared, "7")
+    );
 }
 
-/// Whether the parts of the path of these components are shown so.
-fn is_path_shown(rt: &impl Abort, alloc: Global, parts: &[(Kind, &str)], wanted: &str) -> bool {
-    shows(rt, alloc, &path_of(rt, alloc, parts), wanted)
-}
+/// Faults: the components of the path of each, and its message.
+type Faults = &'static [(&'static [(Kind, &'static str)], &'static str)];
 
-/// Whether the parts of a report of one fault at the root are shown so.
-fn is_report_shown(rt: &impl Abort, alloc: Global, message: &str, wanted: &str) -> bool {
-    shows(rt, alloc, &report_of(rt, alloc, &[(&[], message)]), wanted)
-}
-
-/// The message of a fault at the root, and its report as it is shown.
-static SHOWN: [(&str, &str); 2] = [
+/// Faults, what their report prints, and what it shows a programmer.
+static REPORTS: [(Faults, &str, &str); 5] = [
+    (&[], "", "Report { errors: [] }"),
     (
-        "x",
+        &[(&[(Kind::Key, "content_fingerprints"), ZERO], "x")],
+        "content_fingerprints[0]: x\n",
+        "Report { errors: [(Path { components: [(Key, \"content_fingerprints\"), (Index, \"0\")] }, Error { message: \"x\" })] }",
+    ),
+    (
+        &[(&[UNNAMED], "x"), (&[], "x"), (&[A, B], "y\nz")],
+        ": x\nx\na.b: y\nz\n",
+        "Report { errors: [(Path { components: [(None, \"\")] }, Error { message: \"x\" }), (Path { components: [] }, Error { message: \"x\" }), (Path { components: [(Key, \"a\"), (Key, \"b\")] }, Error { message: \"y\\nz\" })] }",
+    ),
+    (
+        &[(&[], "x")],
+        "x\n",
         "Report { errors: [(Path { components: [] }, Error { message: \"x\" })] }",
     ),
     (
-        "a message of more than 30 bytes",
+        &[(&[], "a message of more than 30 bytes")],
+        "a message of more than 30 bytes\n",
         "Report { errors: [(Path { components: [] }, Error { message: \"a message of more than 30 bytes\" })] }",
     ),
 ];
 
-#[test]
-fn debug_shows_the_parts(rt: HostRuntime) {
-    let parts = [(Kind::Key, "content_fingerprints"), ZERO];
-    let wanted = "Path { components: [(Key, \"content_fingerprints\"), (Index, \"0\")] }";
-    assert!(rt; is_path_shown(&rt, rt.alloc(), &parts, wanted));
-    for (message, wanted) in &SHOWN {
-        assert!(rt; is_report_shown(&rt, rt.alloc(), message, wanted));
-    }
-}
-
-/// Whether the report of these faults has one entry for each, and this text.
-fn is_printed(
-    rt: &impl Abort,
-    alloc: Global,
-    faults: &[(&[(Kind, &str)], &str)],
-    text: &str,
-) -> bool {
+/// Whether the report of these faults has one entry for each, and these texts.
+fn is_report(rt: &impl Abort, alloc: Global, faults: Faults, text: &str, wanted: &str) -> bool {
     let report = report_of(rt, alloc, faults);
-    let is_full = report.len() == faults.len() && report.is_empty() == faults.is_empty();
-    is_full && has_text(rt, alloc, &report, text)
+    report.len() == faults.len()
+        && report.is_empty() == faults.is_empty()
+        && has_text(rt, alloc, &report, text)
+        && shows(rt, alloc, &report, wanted)
 }
-
-/// Faults: the components of the path of each, and its message.
-static FAULTS: [(&[(Kind, &str)], &str); 3] = [(&[UNNAMED], "x"), (&[], "x"), (&[A, B], "y\nz")];
 
 #[test]
 fn only_the_root_has_no_colon(rt: HostRuntime) {
-    assert!(rt; is_printed(&rt, rt.alloc(), &[], ""));
-    assert!(rt; is_printed(&rt, rt.alloc(), &FAULTS, ": x\nx\na.b: y\nz\n"));
-}
-
-/// Whether a clone of an error equals it.
-fn is_cloned(rt: &impl Abort, error: &Error) -> bool {
-    compared(&error.clone().or_end(rt), error) == (Ordering::Equal, true)
-}
-
-/// Whether these are the faults of a report, each equal to its own clone.
-fn are_its_faults(rt: &impl Abort, report: &Report, faults: &[(Path, Error)]) -> bool {
-    for (fault, like) in report.iter().zip(faults) {
-        if fault != like || !is_cloned(rt, &fault.1) {
-            return false;
-        }
+    for (faults, text, wanted) in &REPORTS {
+        assert!(rt; is_report(&rt, rt.alloc(), faults, text, wanted), "{text}");
     }
-    faults.len() == report.len()
 }
 
-/// Whether a report has so many faults, and its clone has the same.
-fn is_report_cloned(rt: &impl Abort, report: &Report, count: usize) -> bool {
-    let is_cloned = are_its_faults(rt, report, &report.clone().or_end(rt).into_inner());
-    is_cloned && report.len() == count
-}
+/// Four faults, two of them at one path.
+static FOUR: [(&[(Kind, &str)], &str); 4] = [
+    (&[A, B], "lol"),
+    (&[A, B, C], "that seems wrong"),
+    (&[A, B, C], "pog"),
+    (&[(Kind::Key, "array"), (Kind::Key, "0"), C], "pog"),
+];
 
 #[test]
 fn a_clone_is_equal(rt: HostRuntime) {
-    assert!(rt; is_report_cloned(&rt, &four_faults(&rt, rt.alloc()), 4));
+    let report = report_of(&rt, rt.alloc(), &FOUR);
+    let faults = report.clone().or_end(&rt).into_inner();
+    assert!(rt; report.len() == 4 && report.iter().eq(faults.iter()));
 }
 
 /// Whether these messages are selected of a report.
@@ -338,28 +262,10 @@ static SELECTED: [(&[&str], &[&str]); 5] = [
 
 #[test]
 fn select_takes_what_stands_beneath(rt: HostRuntime) {
+    let report = report_of(&rt, rt.alloc(), &FOUR);
     for (way, messages) in &SELECTED {
-        assert!(rt; is_selected(&four_faults(&rt, rt.alloc()), way, messages));
+        assert!(rt; is_selected(&report, way, messages));
     }
-}
-
-/// Whether the fault of a text has it as its message, and equals its clone.
-fn is_kept(rt: &impl Abort, alloc: Global, handed: CowStr<'static>, text: &str) -> bool {
-    match RuleError::of(alloc, Ok(handed)) {
-        RuleError::Fault(error) => error.message() == text && is_cloned(rt, &error),
-        RuleError::Memory => false,
-    }
-}
-
-/// The same of a text that the fault owns.
-fn is_owned_kept(rt: &impl Abort, alloc: Global, text: &str) -> bool {
-    let owned = String::from_str(alloc, text).or_end(rt);
-    is_kept(rt, alloc, CowStr::Owned(owned), text)
-}
-
-/// The same of a text that is lent, and of one that is handed over.
-fn is_kept_twice(rt: &impl Abort, alloc: Global, text: &'static str) -> bool {
-    is_kept(rt, alloc, CowStr::Borrowed(text), text) && is_owned_kept(rt, alloc, text)
 }
 
 /// Texts of a fault. The last three have 30, 31 and 31 bytes.
@@ -371,33 +277,27 @@ static KEPT: [&str; 5] = [
     "abcdefghijklmnopqrstuvwxyz012\u{e9}",
 ];
 
+/// Whether the fault of a text has it as its message, where it is lent and where it is handed over.
+fn is_kept_twice(rt: &impl Abort, alloc: Global, text: &'static str) -> bool {
+    let owned = CowStr::Owned(String::from_str(alloc, text).or_end(rt));
+    is_kept(rt, RuleError::of(alloc, Ok(owned)), text)
+        && is_kept(rt, RuleError::of(alloc, Ok(CowStr::Borrowed(text))), text)
+}
+
 #[test]
 fn a_rule_error_keeps_the_text(rt: HostRuntime) {
-    // The last three have 30, 31 and 31 bytes.
     for text in &KEPT {
         assert!(rt; is_kept_twice(&rt, rt.alloc(), text), "{text}");
     }
 }
 
-/// The last component that a walk gives.
-fn last_of<'p>(rt: &impl Abort, alloc: Global, path: &'p Path) -> Given<'p> {
-    path.iter(alloc).or_end(rt).last()
-}
-
-/// Whether the clone of a path equals it, in order and hash.
-fn is_path_cloned(rt: &impl Abort, path: &Path) -> bool {
-    is_order(path, &path.clone().or_end(rt), Ordering::Equal)
-}
-
-/// Whether the path of so many components is cloned, walked to `[0]`, and printed in so many bytes.
-fn is_long(rt: &impl Abort, alloc: Global, size: usize, bytes: usize) -> bool {
-    let path = path_to(rt, alloc, size);
-    let is_walked = last_of(rt, alloc, &path) == Some(ZERO);
-    is_walked && is_path_cloned(rt, &path) && printed(rt, alloc, &path).len() == bytes
-}
-
 #[test]
 fn a_million_components_need_no_deep_stack(rt: HostRuntime) {
-    // The digits of all indices, and two brackets for each.
-    assert!(rt; is_long(&rt, rt.alloc(), 1_000_000, 7_888_890));
+    let path = path_to(&rt, rt.alloc(), 1_000_000);
+    // The text has the digits of all indices, and two brackets for each.
+    assert!(rt;
+        path.iter(rt.alloc()).or_end(&rt).last() == Some(ZERO)
+            && are_in_order(&path, &path.clone().or_end(&rt), Ordering::Equal)
+            && printed(&rt, rt.alloc(), &path).len() == 7_888_890
+    );
 }

@@ -1,12 +1,12 @@
 //! Texts within HTML, and the faults of fields, beside what was written by hand.
 
-use crate::tests::OrEnd;
-use crate::tests::report::samples::{has_text, path_of, report_of};
+use crate::tests::report::samples::{path_of, report_of};
+use crate::tests::{OrEnd, has_text};
 use garde_html::{
     Control, Field, Form, HtmlText, Page, Piece, field_faults, field_of, form_page, laws,
     other_faults,
 };
-use garde_report::{Error, Kind, Path, Report};
+use garde_report::{Kind, Report};
 use std::alloc::Global;
 use std::process::Abort;
 
@@ -77,6 +77,14 @@ fn faults_stand_beside_their_fields(rt: HostRuntime) {
     }
 }
 
+#[test]
+fn faults_at_no_field_are_apart(rt: HostRuntime) {
+    let report = report_of(&rt, rt.alloc(), FAULTS);
+    let others = other_faults(rt.alloc(), &report, &FIELDS).or_end(&rt);
+    let found = others.iter().map(|fault| fault.1.message());
+    assert!(rt; found.eq(["wrong", "unknown", "deep"]));
+}
+
 /// Components of a path, and the field at which it stands.
 static PLACES: [(&[(Kind, &str)], Option<&str>); 7] = [
     (&[(Kind::Key, "name")], Some("name")),
@@ -104,22 +112,6 @@ fn paths_stand_at_fields(rt: HostRuntime) {
     for (components, field) in &PLACES {
         assert!(rt; stands_at(&rt, rt.alloc(), components, *field));
     }
-}
-
-// Whether a fault has this message.
-fn says(fault: &(Path, Error), message: &str) -> bool {
-    fault.1.message() == message
-}
-
-#[test]
-fn faults_at_no_field_are_apart(rt: HostRuntime) {
-    let report = report_of(&rt, rt.alloc(), FAULTS);
-    let others = other_faults(rt.alloc(), &report, &FIELDS).or_end(&rt);
-    let found = others.as_slice();
-    assert!(rt;
-        matches!(found, [root, unknown, deep]
-        if says(root, "wrong") && says(unknown, "unknown") && says(deep, "deep"))
-    );
 }
 
 /// A form of each kind of field.
@@ -233,22 +225,18 @@ fn has_page(rt: &impl Abort, alloc: Global, report: &Report, title: &str, body: 
 
 #[test]
 fn a_form_is_a_page(rt: HostRuntime) {
-    let report = report_of(&rt, rt.alloc(), &[]);
+    let alloc = rt.alloc();
+    let title = "<title>Sign &amp; up</title>";
     assert!(rt;
-        has_page(
-            &rt,
-            rt.alloc(),
-            &report,
-            "<title>Sign &amp; up</title>",
-            PLAIN
-        )
+        has_page(&rt, alloc, &Report::new(alloc), title, PLAIN)
+            && has_page(
+                &rt,
+                alloc,
+                &report_of(&rt, alloc, FAULTS),
+                "<title>Faults</title>",
+                FAULTY
+            )
     );
-}
-
-#[test]
-fn faults_stand_on_the_page(rt: HostRuntime) {
-    let report = report_of(&rt, rt.alloc(), FAULTS);
-    assert!(rt; has_page(&rt, rt.alloc(), &report, "<title>Faults</title>", FAULTY));
 }
 
 #[test]

@@ -1,10 +1,10 @@
 //! Reports that are read from a text with no tree of `serde_json`.
 
 use crate::tests::OrEnd;
-use crate::tests::report::samples::{append, keys, path_to};
-use crate::tests::report::written::{has_lines, is_form, is_read_back};
+use crate::tests::report::samples::{append, path_of, path_to};
+use crate::tests::report::written::{is_answer, is_read_back};
 use garde_json::{report_from_json_text, report_from_tree, report_to_json_text};
-use garde_report::Report;
+use garde_report::{Kind, Report};
 use garde_tape::{Scratch, Tree, parse};
 use std::alloc::Global;
 use std::process::Abort;
@@ -14,39 +14,24 @@ const LONG_KEY: &str = "a key that has more bytes than lie in a node";
 const LONG: &str =
     "a message that has more bytes than lie in an error, and \u{e9}, \", \\ and \u{1f}";
 
-// Whether a text is rejected for its form.
-fn is_refused(alloc: Global, text: &str) -> bool {
-    is_form(report_from_json_text(alloc, text))
-}
-
-// Whether the report that is read from a tree of the text prints these lines.
-fn is_read(rt: &impl Abort, text: &str, scratch: &mut Scratch, lines: &str, alloc: Global) -> bool {
-    let tape = parse(alloc, text, scratch).or_end(rt);
-    has_lines(
-        rt,
-        alloc,
-        report_from_tree(alloc, &Tree::root(&tape)),
-        lines,
-    )
-}
-
 // Adds two faults: one at a short path and one at a long one, with texts that lie on the heap.
 fn add_faults(rt: &impl Abort, alloc: Global, report: &mut Report, index: usize) {
-    let list = keys(rt, alloc, &["list", LONG_KEY]);
+    let list = path_of(rt, alloc, &[(Kind::Key, "list"), (Kind::Key, LONG_KEY)]);
     append(rt, alloc, report, list.join(alloc, index).or_end(rt), LONG);
     append(rt, alloc, report, path_to(rt, alloc, index % 40), "short");
 }
 
 // Whether the text of a report is rejected without its last brace, and with a value behind it.
 fn is_refused_at_its_end(rt: &impl Abort, alloc: Global, report: &Report) -> bool {
-    let text = report_to_json_text(alloc, report).or_end(rt);
+    let mut text = report_to_json_text(alloc, report).or_end(rt);
     let cut = text.as_str().strip_suffix("}").unwrap_or("{\"errors\":[]}");
-    let longer = format!(in alloc; "{text}[]").or_end(rt);
-    is_refused(alloc, cut) && is_refused(alloc, longer.as_str())
+    let is_refused = is_answer(rt, alloc, report_from_json_text(alloc, cut), None);
+    text.push_str("[]").or_end(rt);
+    is_refused && is_answer(rt, alloc, report_from_json_text(alloc, text.as_str()), None)
 }
 
-/// Texts that are no JSON.
-static NO_JSON: [&str; 13] = [
+/// Texts that are no JSON, and texts of reports with a member twice.
+static NO_JSON: [&str; 17] = [
     "",
     " ",
     "{",
@@ -60,17 +45,6 @@ static NO_JSON: [&str; 13] = [
     "{\"errors\":[[[],{\"message\":\"\\ud800\"}]]}",
     "{\"errors\":[[[],{\"message\":\"\\x\"}]]}",
     "{\"errors\":[[[],{\"message\":\"a\nb\"}]]}",
-];
-
-#[test]
-fn what_is_no_json_is_refused(rt: HostRuntime) {
-    for text in &NO_JSON {
-        assert!(rt; is_refused(rt.alloc(), text), "at {text}");
-    }
-}
-
-/// Texts of reports with a member twice.
-static REPEATED: [&str; 4] = [
     "{\"errors\":[],\"errors\":[]}",
     "{\"errors\":[],\"\\u0065rrors\":[]}",
     "{\"errors\":[[[],{\"message\":\"x\",\"message\":\"x\"}]]}",
@@ -78,9 +52,11 @@ static REPEATED: [&str; 4] = [
 ];
 
 #[test]
-fn a_repeated_member_is_refused(rt: HostRuntime) {
-    for text in &REPEATED {
-        assert!(rt; is_refused(rt.alloc(), text), "at {text}");
+fn what_is_no_json_is_refused(rt: HostRuntime) {
+    let alloc = rt.alloc();
+    for text in &NO_JSON {
+        let read = report_from_json_text(alloc, text);
+        assert!(rt; is_answer(&rt, alloc, read, None), "at {text}");
     }
 }
 
@@ -90,9 +66,11 @@ fn ten_thousand_faults_are_read_back(rt: HostRuntime) {
     for index in 0..5000usize {
         add_faults(&rt, rt.alloc(), &mut report, index);
     }
-    assert!(rt; report.len() == 10_000);
-    assert!(rt; is_read_back(&rt, rt.alloc(), &report));
-    assert!(rt; is_refused_at_its_end(&rt, rt.alloc(), &report));
+    assert!(rt;
+        report.len() == 10_000
+            && is_read_back(&rt, rt.alloc(), &report)
+            && is_refused_at_its_end(&rt, rt.alloc(), &report)
+    );
 }
 
 /// The text of a report, and its lines.
@@ -109,9 +87,8 @@ static IN_TURN: [(&str, &str); 3] = [
 fn one_scratch_serves_many_texts(rt: HostRuntime) {
     let mut scratch = Scratch::new(rt.alloc());
     for (text, lines) in &IN_TURN {
-        assert!(rt;
-            is_read(&rt, text, &mut scratch, lines, rt.alloc()),
-            "at {text}"
-        );
+        let tape = parse(rt.alloc(), text, &mut scratch).or_end(&rt);
+        let read = report_from_tree(rt.alloc(), &Tree::root(&tape));
+        assert!(rt; is_answer(&rt, rt.alloc(), read, Some(lines)), "at {text}");
     }
 }

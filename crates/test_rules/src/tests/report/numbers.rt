@@ -1,58 +1,29 @@
-//! Whole numbers as components.
+//! Whole numbers as components: the largest or the least of each size.
 
-use crate::tests::OrEnd;
-use crate::tests::report::samples::path_of;
-use garde_report::{Kind, Path, PathComponentKind};
-use std::alloc::Global;
-use std::process::Abort;
+use crate::tests::report::errors::is_path_of;
+use garde_report::Kind;
 
-/// Whether the path of a number is that of the index with this text.
-fn is_index<K: PathComponentKind + Drop>(
-    rt: &impl Abort,
-    alloc: Global,
-    number: K,
-    text: &str,
-) -> bool {
-    Path::new(alloc, number).or_end(rt) == path_of(rt, alloc, &[(Kind::Index, text)])
-}
+const LARGEST: &str = "340282366920938463463374607431768211455";
 
-/// Whether the path of the largest number of each size is its index.
-fn are_unsigned(rt: &impl Abort, alloc: Global) -> bool {
-    is_index(rt, alloc, u8::MAX, "255")
-        && is_index(rt, alloc, u16::MAX, "65535")
-        && is_index(rt, alloc, u32::MAX, "4294967295")
-        && is_index(rt, alloc, u64::MAX, "18446744073709551615")
-        && is_index(
-            rt,
-            alloc,
-            u128::MAX,
-            "340282366920938463463374607431768211455",
-        )
-        && is_index(rt, alloc, 7u128, "7")
-}
+const LEAST: &str = "-170141183460469231731687303715884105728";
 
 #[test]
-fn each_number_without_a_sign_is_an_index(rt: HostRuntime) {
-    assert!(rt; are_unsigned(&rt, rt.alloc()));
-}
-
-/// Whether the path of the least number of each size is its index.
-fn are_signed(rt: &impl Abort, alloc: Global) -> bool {
-    is_index(rt, alloc, i8::MIN, "-128")
-        && is_index(rt, alloc, i16::MIN, "-32768")
-        && is_index(rt, alloc, i32::MIN, "-2147483648")
-        && is_index(rt, alloc, i64::MIN, "-9223372036854775808")
-        && is_index(rt, alloc, isize::MAX, "9223372036854775807")
-        && is_index(
-            rt,
-            alloc,
-            i128::MIN,
-            "-170141183460469231731687303715884105728",
-        )
-        && is_index(rt, alloc, 7i128, "7")
-}
-
-#[test]
-fn each_number_with_a_sign_is_an_index(rt: HostRuntime) {
-    assert!(rt; are_signed(&rt, rt.alloc()));
+fn each_number_is_an_index(rt: HostRuntime) {
+    let alloc = rt.alloc();
+    let kind = Kind::Index;
+    assert!(rt;
+        is_path_of(&rt, alloc, u8::MAX, (kind, "255"))
+            && is_path_of(&rt, alloc, u16::MAX, (kind, "65535"))
+            && is_path_of(&rt, alloc, u32::MAX, (kind, "4294967295"))
+            && is_path_of(&rt, alloc, u64::MAX, (kind, "18446744073709551615"))
+            && is_path_of(&rt, alloc, u128::MAX, (kind, LARGEST))
+            && is_path_of(&rt, alloc, 7u128, (kind, "7"))
+            && is_path_of(&rt, alloc, i8::MIN, (kind, "-128"))
+            && is_path_of(&rt, alloc, i16::MIN, (kind, "-32768"))
+            && is_path_of(&rt, alloc, i32::MIN, (kind, "-2147483648"))
+            && is_path_of(&rt, alloc, i64::MIN, (kind, "-9223372036854775808"))
+            && is_path_of(&rt, alloc, isize::MAX, (kind, "9223372036854775807"))
+            && is_path_of(&rt, alloc, i128::MIN, (kind, LEAST))
+            && is_path_of(&rt, alloc, 7i128, (kind, "7"))
+    );
 }

@@ -34,7 +34,9 @@ const EIGHT: (Kind, &str) = (Kind::Index, "8");
 const NO_KEY: (Kind, &str) = (Kind::None, "");
 
 /// A path, the place of its value, and that of its name: each a line and a column.
-static PLACES: [(Components<'_>, (usize, usize), (usize, usize)); 16] = [
+type Row = (Components<'static>, (usize, usize), (usize, usize));
+
+static PLACES: [Row; 16] = [
     (&[], (1, 1), (1, 1)),
     (&[NO_KEY], (1, 1), (1, 1)),
     (
@@ -58,42 +60,21 @@ static PLACES: [(Components<'_>, (usize, usize), (usize, usize)); 16] = [
 ];
 
 // Whether a path leads to a value and a name at these places.
-fn stands(
-    rt: &impl Abort,
-    alloc: Global,
-    places: &mut Places<'_, '_>,
-    row: &(Components<'_>, (usize, usize), (usize, usize)),
-) -> bool {
+fn stands(rt: &impl Abort, alloc: Global, places: &mut Places<'_, '_>, row: &Row) -> bool {
     let path = path_of(rt, alloc, row.0);
     let value = places.locate(alloc, &path).or_end(rt);
     let name = places.locate_name(alloc, &path).or_end(rt);
     (value.line, value.column) == row.1 && (name.line, name.column) == row.2
 }
 
-#[test]
-fn values_and_names_stand_where_they_are_counted(rt: HostRuntime) {
-    let alloc = rt.alloc();
-    let mut scratch = Scratch::new(alloc);
-    let Ok(tape) = parse(alloc, SETTINGS, &mut scratch) else {
-        rt.abort()
-    };
-    let mut places = Places::of(alloc, SETTINGS, &tape).or_end(&rt);
-    for row in &PLACES {
-        assert!(rt; stands(&rt, alloc, &mut places, row));
-    }
-    for row in PLACES.iter().rev() {
-        assert!(rt; stands(&rt, alloc, &mut places, row));
-    }
-}
-
-/// Names of a wide object, the places of their values, and those of the names themselves.
-static WIDE: [(&str, (usize, usize), (usize, usize)); 6] = [
-    ("k7", (301, 6), (301, 1)),
-    ("k0", (1, 7), (1, 2)),
-    ("k7", (301, 6), (301, 1)),
-    ("k299", (300, 8), (300, 1)),
-    ("k300", (1, 1), (1, 1)),
-    ("k8", (9, 6), (9, 1)),
+/// Members of a wide object, in the same way.
+static WIDE: [Row; 6] = [
+    (&[(Kind::Key, "k7")], (301, 6), (301, 1)),
+    (&[(Kind::Key, "k0")], (1, 7), (1, 2)),
+    (&[(Kind::Key, "k7")], (301, 6), (301, 1)),
+    (&[(Kind::Key, "k299")], (300, 8), (300, 1)),
+    (&[(Kind::Key, "k300")], (1, 1), (1, 1)),
+    (&[(Kind::Key, "k8")], (9, 6), (9, 1)),
 ];
 
 // An object of 300 members, each in a line of its own, and another of the name of the eighth.
@@ -107,19 +88,31 @@ fn wide_text(rt: &impl Abort, alloc: Global) -> String {
     text
 }
 
-#[test]
-fn members_of_a_wide_object_stand_where_they_are_counted(rt: HostRuntime) {
-    let alloc = rt.alloc();
-    let text = wide_text(&rt, alloc);
+// How many rows, asked in their order and then backwards, hold of a text before the first that does not.
+fn standing(rt: &impl Abort, alloc: Global, text: &str, rows: &[Row]) -> usize {
     let mut scratch = Scratch::new(alloc);
-    let Ok(tape) = parse(alloc, text.as_str(), &mut scratch) else {
+    let Ok(tape) = parse(alloc, text, &mut scratch) else {
         rt.abort()
     };
-    let mut places = Places::of(alloc, text.as_str(), &tape).or_end(&rt);
-    for (name, value, key) in &WIDE {
-        let way = [(Kind::Key, *name)];
-        assert!(rt; stands(&rt, alloc, &mut places, &(way.as_slice(), *value, *key)));
+    let mut places = Places::of(alloc, text, &tape).or_end(rt);
+    let mut count = 0usize;
+    for row in rows.iter().chain(rows.iter().rev()) {
+        if !stands(rt, alloc, &mut places, row) {
+            return count;
+        }
+        count = count.wrapping_add(1);
     }
+    count
+}
+
+#[test]
+fn values_and_names_stand_where_they_are_counted(rt: HostRuntime) {
+    let alloc = rt.alloc();
+    assert_eq!(rt; standing(&rt, alloc, SETTINGS, &PLACES), 32);
+    assert_eq!(rt;
+        standing(&rt, alloc, wide_text(&rt, alloc).as_str(), &WIDE),
+        12
+    );
 }
 
 /// Faults with and without a code, two of them at the root's place.
@@ -174,19 +167,6 @@ const OBJECTS: &str = "\
 {\"file\":\"a:b,%\\n.json\",\"path\":\"routes[1].extra\",\"pointer\":\"/routes/1/extra\",\"line\":5,\"column\":34,\"detail\":\"not known here\",\"code\":\"member_unknown\",\"params\":{}}
 ";
 
-// Whether the place of a fault is the one that it has among all.
-fn stands_alone(
-    rt: &impl Abort,
-    alloc: Global,
-    places: &mut Places<'_, '_>,
-    fault: &Fault<'_>,
-) -> bool {
-    places
-        .locate_fault(alloc, fault.path, fault.error)
-        .or_end(rt)
-        == fault.place
-}
-
 // The faults of a report by their places.
 fn placed<'r>(rt: &impl Abort, alloc: Global, report: &'r Report) -> Vec<Fault<'r>> {
     let mut scratch = Scratch::new(alloc);
@@ -197,7 +177,10 @@ fn placed<'r>(rt: &impl Abort, alloc: Global, report: &'r Report) -> Vec<Fault<'
     let mut faults = places.locate_all(alloc, report).or_end(rt);
     sort_by_place(&mut faults).or_end(rt);
     for fault in &faults {
-        assert!(rt; stands_alone(rt, alloc, &mut places, fault));
+        let place = places
+            .locate_fault(alloc, fault.path, fault.error)
+            .or_end(rt);
+        assert!(rt; place == fault.place);
     }
     faults
 }
@@ -220,33 +203,27 @@ fn annotations(rt: &impl Abort, alloc: Global, faults: &[Fault<'_>]) -> String {
     text
 }
 
-// What they print in the format of a name.
-fn in_format(rt: &impl Abort, alloc: Global, name: &str, faults: &[Fault<'_>]) -> String {
-    let Some(format) = Format::of(name) else {
-        rt.abort()
-    };
-    format.lines(alloc, FILE, faults).or_end(rt)
-}
+/// The name of a format, and what they print in it.
+static FORMATS: [(&str, &str); 3] = [("short", SHORT), ("github", ANNOTATIONS), ("json", OBJECTS)];
 
 #[test]
 fn faults_are_printed_in_each_format(rt: HostRuntime) {
     let alloc = rt.alloc();
     let report = report_of(&rt, alloc, &FAULTS);
     let faults = placed(&rt, alloc, &report);
-    for (name, text) in [("short", SHORT), ("github", ANNOTATIONS), ("json", OBJECTS)] {
-        assert!(rt; in_format(&rt, alloc, name, faults.as_slice()).as_str() == text);
-    }
-    assert!(rt; Format::of("plain").is_none());
-}
-
-#[test]
-fn faults_are_printed_by_their_places(rt: HostRuntime) {
-    let alloc = rt.alloc();
-    let report = report_of(&rt, alloc, &FAULTS);
-    let faults = placed(&rt, alloc, &report);
-    assert_eq!(rt; lines(&rt, alloc, faults.as_slice()).as_str(), SHORT);
-    assert_eq!(rt;
-        annotations(&rt, alloc, faults.as_slice()).as_str(),
-        ANNOTATIONS
+    let faults = faults.as_slice();
+    assert!(rt;
+        lines(&rt, alloc, faults).as_str() == SHORT
+            && annotations(&rt, alloc, faults).as_str() == ANNOTATIONS
+            && Format::of("plain").is_none()
     );
+    for (name, text) in &FORMATS {
+        let Some(format) = Format::of(name) else {
+            rt.abort()
+        };
+        assert!(rt;
+            format.lines(alloc, FILE, faults).or_end(&rt).as_str() == *text,
+            "{name}"
+        );
+    }
 }

@@ -1,22 +1,11 @@
 //! Values of the tests.
 
 use crate::tests::OrEnd;
-use garde_report::rc_list::List;
-use garde_report::{Component, Error, Kind, Path, PathComponentKind, Report, Trail};
+use garde_report::{Component, Error, Kind, Path, Report, RuleError, Trail};
 use std::alloc::Global;
 use std::cmp::Ordering;
-use std::fmt::{Debug, Display};
 use std::hash::{DefaultHasher, Hash, Hasher};
 use std::process::Abort;
-
-/// The list of these items, the first of them appended first.
-pub fn list_of(rt: &impl Abort, alloc: Global, items: &[char]) -> List<char> {
-    let mut list = List::new();
-    for item in items {
-        list = list.append(alloc, *item).or_end(rt);
-    }
-    list
-}
 
 /// The path of components of these kinds and texts.
 pub fn path_of(rt: &impl Abort, alloc: Global, components: &[(Kind, &str)]) -> Path {
@@ -27,29 +16,11 @@ pub fn path_of(rt: &impl Abort, alloc: Global, components: &[(Kind, &str)]) -> P
     trail.path().or_end(rt)
 }
 
-/// The path of one component.
-pub fn path_of_one<C: PathComponentKind + Drop>(
-    rt: &impl Abort,
-    alloc: Global,
-    component: C,
-) -> Path {
-    Path::new(alloc, component).or_end(rt)
-}
-
 /// The path of the indexes below this number, by joins.
 pub fn path_to(rt: &impl Abort, alloc: Global, size: usize) -> Path {
     let mut path = Path::empty();
     for index in 0..size {
         path = path.join(alloc, index).or_end(rt);
-    }
-    path
-}
-
-/// The path of these keys.
-pub fn keys(rt: &impl Abort, alloc: Global, keys: &[&str]) -> Path {
-    let mut path = Path::empty();
-    for key in keys {
-        path = path.join(alloc, *key).or_end(rt);
     }
     path
 }
@@ -70,51 +41,28 @@ pub fn report_of(rt: &impl Abort, alloc: Global, faults: &[(&[(Kind, &str)], &st
     report
 }
 
-/// The keys of four faults, two of them at one path, and their messages.
-static FOUR: [(&[&str], &str); 4] = [
-    (&["a", "b"], "lol"),
-    (&["a", "b", "c"], "that seems wrong"),
-    (&["a", "b", "c"], "pog"),
-    (&["array", "0", "c"], "pog"),
-];
-
-/// The report of four faults, two of them at one path.
-pub fn four_faults(rt: &impl Abort, alloc: Global) -> Report {
-    let mut report = Report::new(alloc);
-    for (path, message) in &FOUR {
-        append(rt, alloc, &mut report, keys(rt, alloc, path), message);
-    }
-    report
-}
-
-/// The text of a value.
-pub fn printed<T: Display>(rt: &impl Abort, alloc: Global, value: &T) -> String {
-    format!(in alloc; "{value}").or_end(rt)
-}
-
-/// The text of a value for a programmer.
-pub fn shown<T: Debug>(rt: &impl Abort, alloc: Global, value: &T) -> String {
-    format!(in alloc; "{value:?}").or_end(rt)
-}
-
-/// Whether a value prints this text.
-pub fn has_text<T: Display>(rt: &impl Abort, alloc: Global, value: &T, text: &str) -> bool {
-    printed(rt, alloc, value).as_str() == text
-}
-
-/// Whether a value shows a programmer this text.
-pub fn shows<T: Debug>(rt: &impl Abort, alloc: Global, value: &T, text: &str) -> bool {
-    shown(rt, alloc, value).as_str() == text
-}
-
-/// How a value compares with another, and whether it equals it.
-pub fn compared<T: Ord>(value: &T, other: &T) -> (Ordering, bool) {
-    (value.cmp(other), value == other)
-}
-
 /// What a hasher gives of a value.
-pub fn hash_of<T: Hash>(value: &T) -> u64 {
+fn hash_of<T: Hash>(value: &T) -> u64 {
     let mut state = DefaultHasher::new();
     value.hash(&mut state);
     state.finish()
+}
+
+/// Whether two values are in this order, equal only where that is equality, and of one hash then.
+pub fn are_in_order<T: Ord + Hash>(value: &T, other: &T, order: Ordering) -> bool {
+    let same = order == Ordering::Equal;
+    let is_hashed = !same || hash_of(value) == hash_of(other);
+    is_hashed && value.cmp(other) == order && (value == other) == same
+}
+
+/// Whether what a rule found is a fault with this text, equal to its clone.
+pub fn is_kept(rt: &impl Abort, found: RuleError, text: &str) -> bool {
+    match found {
+        RuleError::Fault(error) => {
+            let clone = error.clone().or_end(rt);
+            let is_equal = clone.cmp(&error) == Ordering::Equal && clone == error;
+            is_equal && error.message() == text && clone.message() == text
+        }
+        RuleError::Memory => false,
+    }
 }

@@ -8,8 +8,8 @@ use garde_tape::{Scratch, parse};
 use std::alloc::Global;
 use std::process::Abort;
 
-/// A text, the line and the column where it stops, and why.
-static STOPS: [(&[u8], usize, usize, &str); 28] = [
+/// A text, the line and the column where it stops, and why: 0, 0 and nothing for one that is JSON.
+static STOPS: [(&[u8], usize, usize, &str); 34] = [
     (b"", 1, 1, "expected a value"),
     (b" \n\t", 2, 2, "expected a value"),
     (b"{\"a\": 1", 1, 8, "expected , or } after a member"),
@@ -63,6 +63,22 @@ static STOPS: [(&[u8], usize, usize, &str); 28] = [
         17,
         "expected , or ] after an item",
     ),
+    (
+        b"[[[[[[[[[[[[[[[[[[[[[[[[[[[[[[[[[[[[[[[[[[[[[[[[[[[[[[[[[[[[[[[[[[[[[[[[[[[[[[[[[[[[[[[[[[[[[[[[[[[[[[[[[[[[[[[[[[[[[[[[[[[[[[[[[[[[[[[[[[[[[[[[[[[[[[[[[[[[[[[[[[[[[[[[[[[[[[[[[[[[[[[[[[[[[[[[[[[[[[[[",
+        1,
+        129,
+        "nested deeper than 128",
+    ),
+    (b"0", 0, 0, ""),
+    (b" -1.5e-7 ", 0, 0, ""),
+    (b"\"\\ud83d\\ude00\\\"\\/\\u00e4\"", 0, 0, ""),
+    (
+        b"{\"a\":[],\"b\":{},\"c\":[true,false,null,{\"d\":[1,-0.0]}]}\n",
+        0,
+        0,
+        "",
+    ),
+    (b"[[],[[]], \"\" ]", 0, 0, ""),
 ];
 
 // Whether a text stops there.
@@ -71,7 +87,7 @@ fn stops(rt: &impl Abort, alloc: Global, row: &(&[u8], usize, usize, &str)) -> b
         Some(stop) => {
             stop.place.line == row.1 && stop.place.column == row.2 && stop.why == row.3
         }
-        None => false,
+        None => row.3.is_empty(),
     }
 }
 
@@ -83,46 +99,20 @@ fn texts_stop_where_no_json_goes_on(rt: HostRuntime) {
     }
 }
 
-/// Texts that are JSON.
-static JSON: [&str; 5] = [
-    "0",
-    " -1.5e-7 ",
-    "\"\\ud83d\\ude00\\\"\\/\\u00e4\"",
-    "{\"a\":[],\"b\":{},\"c\":[true,false,null,{\"d\":[1,-0.0]}]}\n",
-    "[[],[[]], \"\" ]",
+/// Bytes of a text, and the place of each.
+static BYTES: [(usize, Place); 6] = [
+    (0, Place { line: 1, column: 1 }),
+    (2, Place { line: 1, column: 2 }),
+    (5, Place { line: 2, column: 1 }),
+    (9, Place { line: 2, column: 2 }),
+    (10, Place { line: 2, column: 3 }),
+    (99, Place { line: 2, column: 3 }),
 ];
 
 #[test]
-fn json_stops_nowhere(rt: HostRuntime) {
-    let alloc = rt.alloc();
-    for text in &JSON {
-        assert!(rt; stop_of(alloc, text.as_bytes()).or_end(&rt).is_none());
-    }
-}
-
-#[test]
-fn the_129th_bracket_stops_a_text(rt: HostRuntime) {
-    let alloc = rt.alloc();
-    let mut text = String::new(alloc);
-    for _ in 0..200 {
-        text.push('[').or_end(&rt);
-    }
-    let row = (text.as_bytes(), 1, 129, "nested deeper than 128");
-    assert!(rt; stops(&rt, alloc, &row));
-}
-
-#[test]
 fn bytes_are_counted_by_lines_and_characters(rt: HostRuntime) {
-    let text = "\u{e4}\t\r\n\u{1f600}x".as_bytes();
-    for (offset, line, column) in [
-        (0, 1, 1),
-        (2, 1, 2),
-        (5, 2, 1),
-        (9, 2, 2),
-        (10, 2, 3),
-        (99, 2, 3),
-    ] {
-        assert!(rt; place_of_byte(text, offset) == Place { line, column });
+    for (offset, place) in &BYTES {
+        assert!(rt; place_of_byte("\u{e4}\t\r\n\u{1f600}x".as_bytes(), *offset) == *place);
     }
 }
 

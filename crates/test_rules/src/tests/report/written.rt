@@ -1,7 +1,6 @@
 //! Reports that are written in JSON and read back, by trees and by texts.
 
-use crate::tests::OrEnd;
-use crate::tests::report::samples::has_text;
+use crate::tests::{OrEnd, has_text};
 use garde_json::{
     JsonRefused, report_from_json, report_from_json_text, report_to_json, report_to_json_text,
 };
@@ -18,22 +17,25 @@ fn is_report(read: Result<Report, JsonRefused>, report: &Report) -> bool {
     }
 }
 
-/// Whether a report was read, and prints these lines.
-pub fn has_lines(
+/// Whether a report was read that prints these lines, or the form was rejected where there are none.
+pub fn is_answer(
     rt: &impl Abort,
     alloc: Global,
     read: Result<Report, JsonRefused>,
-    lines: &str,
+    wanted: Option<&str>,
 ) -> bool {
-    match read {
-        Ok(read) => has_text(rt, alloc, &read, lines),
-        Err(_) => false,
+    match (read, wanted) {
+        (Ok(read), Some(lines)) => has_text(rt, alloc, &read, lines),
+        (Err(JsonRefused::Form), None) => true,
+        _ => false,
     }
 }
 
-/// Whether the form was rejected in place of a report.
-pub fn is_form(read: Result<Report, JsonRefused>) -> bool {
-    read.err() == Some(JsonRefused::Form)
+/// Whether this is read from a text, and from the tree of the text.
+pub fn is_read(rt: &impl Abort, alloc: Global, text: &str, wanted: Option<&str>) -> bool {
+    let tree = Value::from_str(alloc, text).or_end(rt);
+    is_answer(rt, alloc, report_from_json(alloc, &tree), wanted)
+        && is_answer(rt, alloc, report_from_json_text(alloc, text), wanted)
 }
 
 /// Whether the tree of a report is written as this text, and the report is read back from it.
@@ -43,22 +45,18 @@ fn has_tree(rt: &impl Abort, alloc: Global, report: &Report, text: &str) -> bool
         && tree.to_string(alloc).or_end(rt).as_str() == text
 }
 
-/// Whether a report is read from a text, and from the tree of the text.
-fn is_read_of(rt: &impl Abort, alloc: Global, report: &Report, text: &str) -> bool {
+/// Whether both writers give this text of a report, and each reader the report again: from its tree, from
+/// the text, and from the tree of the text.
+pub fn is_there_and_back(rt: &impl Abort, alloc: Global, report: &Report, text: &str) -> bool {
     let tree = Value::from_str(alloc, text).or_end(rt);
     is_report(report_from_json(alloc, &tree), report)
         && is_report(report_from_json_text(alloc, text), report)
-}
-
-/// Whether both writers give this text of a report, and each reader the report again.
-pub fn is_there_and_back(rt: &impl Abort, alloc: Global, report: &Report, text: &str) -> bool {
-    has_tree(rt, alloc, report, text)
-        && is_read_of(rt, alloc, report, text)
+        && has_tree(rt, alloc, report, text)
         && report_to_json_text(alloc, report).or_end(rt).as_str() == text
 }
 
 /// Whether each reader gives a report of its text again, which is that of its tree.
 pub fn is_read_back(rt: &impl Abort, alloc: Global, report: &Report) -> bool {
     let text = report_to_json_text(alloc, report).or_end(rt);
-    has_tree(rt, alloc, report, text.as_str()) && is_read_of(rt, alloc, report, text.as_str())
+    is_there_and_back(rt, alloc, report, text.as_str())
 }

@@ -1,25 +1,17 @@
 //! What the reasons and the IP kinds print.
-use crate::tests::OrEnd;
+use crate::tests::{has_text, shows};
 use garde_i18n::{InvalidCreditCard, InvalidPhoneNumber, InvalidUrl, IpKind};
 use std::alloc::Global;
 use std::fmt::{Debug, Display};
 use std::process::Abort;
 
-/// Whether a value prints this text by `{}`.
-fn is_printed<T: Display>(rt: &impl Abort, alloc: Global, value: &T, text: &str) -> bool {
-    format!(in alloc; "{value}").or_end(rt).as_str() == text
-}
-
-/// Whether a value prints this text by `{:?}`.
-fn is_shown<T: Debug>(rt: &impl Abort, alloc: Global, value: &T, text: &str) -> bool {
-    format!(in alloc; "{value:?}").or_end(rt).as_str() == text
-}
-
 /// Asserts that each row's reason prints that text by `{}` and that name by `{:?}`.
 fn assert_prints<T: Display + Debug>(rt: &impl Abort, alloc: Global, rows: &[(T, &str, &str)]) {
     for (reason, text, name) in rows {
-        assert!(rt; is_printed(rt, alloc, reason, text), "{text}");
-        assert!(rt; is_shown(rt, alloc, reason, name), "{name}");
+        assert!(rt;
+            has_text(rt, alloc, reason, text) && shows(rt, alloc, reason, name),
+            "{name}"
+        );
     }
 }
 
@@ -74,12 +66,6 @@ static URLS: [(InvalidUrl, &str, &str); 11] = [
     (InvalidUrl::Other, "invalid url", "Other"),
 ];
 
-#[test]
-fn prints_the_reasons_of_urls(rt: HostRuntime) {
-    assert_prints(&rt, rt.alloc(), &URLS);
-    assert_ne!(rt; InvalidUrl::EmptyHost, InvalidUrl::IdnaError);
-}
-
 /// The reasons of credit cards, with their texts and their names.
 static CARDS: [(InvalidCreditCard, &str, &str); 5] = [
     (
@@ -104,15 +90,6 @@ static CARDS: [(InvalidCreditCard, &str, &str); 5] = [
     ),
     (InvalidCreditCard::Other, "invalid credit card", "Other"),
 ];
-
-#[test]
-fn prints_the_reasons_of_credit_cards(rt: HostRuntime) {
-    assert_prints(&rt, rt.alloc(), &CARDS);
-    assert_ne!(rt;
-        InvalidCreditCard::InvalidFormat,
-        InvalidCreditCard::InvalidLength
-    );
-}
 
 /// The reasons of phone numbers, with their texts and their names.
 static PHONES: [(InvalidPhoneNumber, &str, &str); 8] = [
@@ -151,21 +128,17 @@ static PHONES: [(InvalidPhoneNumber, &str, &str); 8] = [
 ];
 
 #[test]
-fn prints_the_reasons_of_phone_numbers(rt: HostRuntime) {
-    assert_prints(&rt, rt.alloc(), &PHONES);
-    assert_ne!(rt; InvalidPhoneNumber::Invalid, InvalidPhoneNumber::NotANumber);
-}
-
-/// The IP kinds, with their texts.
-static KINDS: [(IpKind, &str); 3] = [
-    (IpKind::Any, "IP"),
-    (IpKind::V4, "IPv4"),
-    (IpKind::V6, "IPv6"),
-];
-
-#[test]
-fn prints_the_ip_kinds(rt: HostRuntime) {
-    for (kind, text) in &KINDS {
-        assert!(rt; is_printed(&rt, rt.alloc(), kind, text), "{text}");
-    }
+fn prints_the_reasons_and_the_ip_kinds(rt: HostRuntime) {
+    let alloc = rt.alloc();
+    assert_prints(&rt, alloc, &URLS);
+    assert_prints(&rt, alloc, &CARDS);
+    assert_prints(&rt, alloc, &PHONES);
+    assert!(rt;
+        InvalidUrl::EmptyHost != InvalidUrl::IdnaError
+            && InvalidCreditCard::InvalidFormat != InvalidCreditCard::InvalidLength
+            && InvalidPhoneNumber::Invalid != InvalidPhoneNumber::NotANumber
+            && has_text(&rt, alloc, &IpKind::Any, "IP")
+            && has_text(&rt, alloc, &IpKind::V4, "IPv4")
+            && has_text(&rt, alloc, &IpKind::V6, "IPv6")
+    );
 }

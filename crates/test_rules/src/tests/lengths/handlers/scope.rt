@@ -8,7 +8,6 @@ use crate::tests::OrEnd;
 use garde_i18n::{DefaultI18n, I18n, with_i18n};
 use std::alloc::{AllocError, Global};
 use std::borrow::CowStr;
-use std::process::Abort;
 
 /// The text of a length below `min`, asked under `handler`.
 fn length_text_under<H: I18n + Drop>(
@@ -21,23 +20,17 @@ fn length_text_under<H: I18n + Drop>(
     with_i18n(handler, |given| given.length_lower_than(alloc, min))
 }
 
-/// The same under the default handler, within work under another one.
-fn length_text_within(alloc: Global, min: usize) -> Result<CowStr<'static>, AllocError> {
-    with_i18n(Czech, |_| length_text_under(alloc, DefaultI18n, min))
-}
-
-/// Whether a handler gave this text.
-fn is_text(rt: &impl Abort, given: Result<CowStr<'static>, AllocError>, text: &str) -> bool {
-    given.or_end(rt).as_str() == text
-}
-
 #[test]
 fn hands_on_the_handler(rt: HostRuntime) {
     let alloc = rt.alloc();
     let few = "délka je menší než 3 znaky";
-    assert!(rt; is_text(&rt, length_text_under(alloc, Czech, 3), few));
     let one = "délka je menší než 1 znak";
-    assert!(rt; is_text(&rt, length_text_under(alloc, &Czech, 1), one));
     let inner = "length is lower than 3";
-    assert!(rt; is_text(&rt, length_text_within(alloc, 3), inner));
+    // The default handler, within work under another one.
+    let within = with_i18n(Czech, |_| length_text_under(alloc, DefaultI18n, 3)).or_end(&rt);
+    assert!(rt;
+        length_text_under(alloc, Czech, 3).or_end(&rt).as_str() == few
+            && length_text_under(alloc, &Czech, 1).or_end(&rt).as_str() == one
+            && within.as_str() == inner
+    );
 }
