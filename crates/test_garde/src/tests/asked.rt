@@ -1,5 +1,4 @@
 //! What a handler is asked for, and what it returns.
-use crate::tests::OrEnd;
 use garde::I18n;
 use garde_i18n::{Datum, Texts};
 use std::alloc::{AllocError, Global};
@@ -18,14 +17,13 @@ pub fn said<H: I18n>(
     (&h).text_of(alloc, asked)
 }
 
-/// Whether a handler returns this text.
-fn says<H: I18n>(rt: &impl Abort, alloc: Global, h: &H, asked: Datum<'_>, text: &str) -> bool {
-    said(alloc, h, asked).or_end(rt).as_str() == text
-}
-
 /// Asserts each text of a handler.
 pub fn assert_says<H: I18n>(rt: &impl Abort, alloc: Global, h: &H, rows: &[Row]) {
     for (asked, text) in rows {
-        assert!(rt; says(rt, alloc, h, *asked, text), "at {text}");
+        let answer = said(alloc, h, *asked);
+        assert!(rt;
+            matches!(&answer, Ok(told) if told.as_str() == *text),
+            "at {text}"
+        );
     }
 }
