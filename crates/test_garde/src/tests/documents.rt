@@ -29,6 +29,7 @@ pub fn document(
 /// A document's switches, content and tag, what is reported for it, and the nodes of that.
 type Row<'a> = ((bool, bool), Option<&'a str>, &'a str, (&'a str, usize));
 
+/// Documents, and what is reported for each.
 static ROWS: [Row<'static>; 4] = [
     (
         (true, true),

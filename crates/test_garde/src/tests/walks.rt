@@ -17,10 +17,13 @@ pub fn user(alloc: Global, name: &str) -> Result<User, AllocError> {
     })
 }
 
+/// What a report has before a walk.
 const OLD: &[&str] = &["old"];
 
+/// What is found of a user.
 const FOUND: &[&str] = &["not ascii", "length is lower than 3"];
 
+/// Both, one after the other.
 const FAULTS: &[&str] = &["old", "not ascii", "length is lower than 3"];
 
 // Whether a report has the first of the faults, and after it none or some of the others in turn.
@@ -80,6 +83,7 @@ pub fn twelve(alloc: Global, name: &str) -> Result<Four<Four<Four<User>>>, Alloc
     four(alloc, four(alloc, four(alloc, user(alloc, name)?)?)?)
 }
 
+/// What is reported of a user in twelve lists.
 const NESTED: &str = "[0][0][0][0][0][0][0][0][0][0][0][0].username: length is lower than 3\n";
 
 /// A walk of twelve lists.

@@ -44,6 +44,7 @@ enum Made {
     Refused,
 }
 
+/// Each kind, with its name.
 static KINDS: [(&str, Made); 11] = [
     ("lists", Made::Lists),
     ("paths", Made::Paths),
