@@ -17,13 +17,14 @@ pub fn said<H: I18n>(
     (&h).text_of(alloc, asked)
 }
 
+/// Whether a handler returns this text.
+fn says<H: I18n>(alloc: Global, h: &H, asked: Datum<'_>, text: &str) -> bool {
+    matches!(&said(alloc, h, asked), Ok(told) if told.as_str() == text)
+}
+
 /// Asserts each text of a handler.
 pub fn assert_says<H: I18n>(rt: &impl Abort, alloc: Global, h: &H, rows: &[Row]) {
     for (asked, text) in rows {
-        let answer = said(alloc, h, *asked);
-        assert!(rt;
-            matches!(&answer, Ok(told) if told.as_str() == *text),
-            "at {text}"
-        );
+        assert!(rt; says(alloc, h, *asked, text), "at {text}");
     }
 }
