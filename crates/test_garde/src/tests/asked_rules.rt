@@ -1,34 +1,21 @@
 //! Rules that are asked of a value which lives shorter than the trail, and what a list includes.
 use crate::tests::OrEnd;
+use crate::tests::told::reads;
 use garde::fields::{Ascii, Each, Equal, IfSome, Is, Rules, Unique, ask_under, includes};
 use garde::{Component, DefaultI18n, Report, Trail};
 use std::alloc::Global;
-use std::process::Abort;
 
 /// Whether this is reported of a value under these rules, which stands under `v`.
-fn is_told<T, R: Rules<T>>(
-    rt: &impl Abort,
-    alloc: Global,
-    rules: &R,
-    value: &T,
-    text: &str,
-) -> bool {
+fn is_told<T, R: Rules<T>>(alloc: Global, rules: &R, value: &T, text: &str) -> bool {
     let mut report = Report::new(alloc);
     let mut trail = Trail::new(alloc);
-    let place = Component::key("v");
-    ask_under(
-        alloc,
-        place,
-        rules,
-        value,
-        &mut trail,
-        &mut report,
-        &DefaultI18n,
-    )
-    .or_end(rt);
-    report.to_string(alloc).or_end(rt).as_str() == text
+    let v = Component::key("v");
+    let h = &DefaultI18n;
+    let answer = ask_under(alloc, v, rules, value, &mut trail, &mut report, h);
+    answer.is_ok() && reads(alloc, &report, text) == Ok(true)
 }
 
+/// The rule that items differ.
 const APART: Unique<'static, Equal> = Unique("stands before", Equal);
 
 /// Numbers, and what is reported of them where they have to differ.
@@ -40,22 +27,12 @@ static NUMBERS: [(&[u8], &str); 4] = [
 ];
 
 #[test]
-fn items_of_a_slice_that_stand_before(rt: HostRuntime) {
+fn items_that_stand_before(rt: HostRuntime) {
     for (numbers, text) in &NUMBERS {
-        assert!(rt; is_told(&rt, rt.alloc(), &APART, numbers, text));
-    }
-}
-
-/// Whether this is reported of a vector of these numbers.
-fn is_told_of_a_vec(rt: &impl Abort, alloc: Global, numbers: &[u8], text: &str) -> bool {
-    let numbers = Vec::from_slice(alloc, numbers).or_end(rt);
-    is_told(rt, alloc, &APART, &numbers, text)
-}
-
-#[test]
-fn items_of_a_vec_that_stand_before(rt: HostRuntime) {
-    for (numbers, text) in &NUMBERS {
-        assert!(rt; is_told_of_a_vec(&rt, rt.alloc(), numbers, text));
+        let list = Vec::from_slice(rt.alloc(), numbers).or_end(&rt);
+        assert!(rt;
+            is_told(rt.alloc(), &APART, numbers, text) && is_told(rt.alloc(), &APART, &list, text)
+        );
     }
 }
 
@@ -66,17 +43,14 @@ static TEXTS: [(&[&str], &str); 3] = [
     (&["é", "a", "ü"], "v[0]: not ascii\nv[2]: not ascii\n"),
 ];
 
-/// Whether this is reported of a vector of these texts.
-fn is_told_of_texts(rt: &impl Abort, alloc: Global, texts: &[&'static str], text: &str) -> bool {
-    let texts = Vec::from_slice(alloc, texts).or_end(rt);
-    is_told(rt, alloc, &Each(Is(Ascii)), &texts, text)
-}
-
 #[test]
 fn each_item_under_its_index(rt: HostRuntime) {
     for (texts, text) in &TEXTS {
-        assert!(rt; is_told(&rt, rt.alloc(), &Each(Is(Ascii)), texts, text));
-        assert!(rt; is_told_of_texts(&rt, rt.alloc(), texts, text));
+        let list = Vec::from_slice(rt.alloc(), texts).or_end(&rt);
+        assert!(rt;
+            is_told(rt.alloc(), &Each(Is(Ascii)), texts, text)
+                && is_told(rt.alloc(), &Each(Is(Ascii)), &list, text)
+        );
     }
 }
 
@@ -91,8 +65,10 @@ static OPTIONS: [(Option<&str>, &str); 3] = [
 #[test]
 fn what_an_option_holds(rt: HostRuntime) {
     for (option, text) in &OPTIONS {
-        assert!(rt; is_told(&rt, rt.alloc(), &Each(Is(Ascii)), option, text));
-        assert!(rt; is_told(&rt, rt.alloc(), &IfSome(Is(Ascii)), option, text));
+        assert!(rt;
+            is_told(rt.alloc(), &Each(Is(Ascii)), option, text)
+                && is_told(rt.alloc(), &IfSome(Is(Ascii)), option, text)
+        );
     }
 }
 

@@ -1,9 +1,11 @@
 //! What is reported for values that hold other values.
+use super::told::is_told;
+use super::{text_of, user_of};
 use crate::tests::OrEnd;
 use crate::tests::item::Identifier;
 use crate::tests::names::Names;
 use crate::tests::user::User;
-use garde::{DefaultI18n, Report, Trail, Validate, ValidateError};
+use garde::{DefaultI18n, Report, Validate, ValidateError};
 use std::alloc::Global;
 use std::borrow::Cow;
 use std::collections::{BTreeMap, BTreeSet, BinaryHeap, HashMap, HashSet, LinkedList, VecDeque};
@@ -11,238 +13,126 @@ use std::fmt::Write;
 use std::process::Abort;
 use std::rc::Rc;
 
-/// What is reported for one item of a container, which is too short a name.
-const FIRST_TOO_SHORT: &str = "[0].username: length is lower than 3\nnodes: 2";
+/// What is reported for one item of a container, which is too short a name, and the nodes of it.
+const FIRST_TOO_SHORT: (&str, usize) = ("[0].username: length is lower than 3\n", 2);
 
-/// What is reported for a value that is too short a name, and no more than that.
-const TOO_SHORT: &str = "username: length is lower than 3\nnodes: 1";
-
-/// A user of this name.
-pub fn user(rt: &impl Abort, alloc: Global, name: &str) -> User {
-    User {
-        username: String::from_str(alloc, name).or_end(rt),
-    }
-}
-
-/// The report's text, and this number of nodes.
-fn told_of(
-    rt: &impl Abort,
-    alloc: Global,
-    answer: Result<(), ValidateError>,
-    nodes: usize,
-) -> String {
-    match answer {
-        Ok(()) => format!(in alloc; "nodes: {nodes}").or_end(rt),
-        Err(ValidateError::Report(report)) => {
-            format!(in alloc; "{report}nodes: {nodes}").or_end(rt)
-        }
-        Err(ValidateError::Memory) => rt.abort(),
-    }
-}
-
-/// The report's text, and the number of nodes that it took.
-fn told<V: Validate<Context = ()>>(rt: &impl Abort, alloc: Global, value: &V) -> String {
-    let mut trail = Trail::new(alloc);
-    let answer = value.validate_on(alloc, &(), &mut trail, &DefaultI18n);
-    told_of(rt, alloc, answer, trail.nodes())
-}
-
-/// Whether just this is reported of a value, and of the number of nodes that it took.
-pub fn is_told<V: Validate<Context = ()>>(
-    rt: &impl Abort,
-    alloc: Global,
-    value: &V,
-    text: &str,
-) -> bool {
-    told(rt, alloc, value).as_str() == text
-}
-
-fn is_told_of_a_slice(rt: &impl Abort, alloc: Global, text: &str) -> bool {
-    let user = user(rt, alloc, "ab");
-    is_told(rt, alloc, &[&user].as_slice(), text)
-}
-
-fn is_told_of_an_array(rt: &impl Abort, alloc: Global, text: &str) -> bool {
-    let user = user(rt, alloc, "ab");
-    is_told(rt, alloc, &[&user], text)
-}
-
-fn is_told_of_a_deque(rt: &impl Abort, alloc: Global, text: &str) -> bool {
-    let mut users = VecDeque::new(alloc);
-    users.push_back(user(rt, alloc, "ab")).or_end(rt);
-    is_told(rt, alloc, &users, text)
-}
-
-fn is_told_of_a_linked_list(rt: &impl Abort, alloc: Global, text: &str) -> bool {
-    let mut users = LinkedList::new(alloc);
-    users.push_back(user(rt, alloc, "ab")).or_end(rt);
-    is_told(rt, alloc, &users, text)
-}
+/// What is reported for a value that is too short a name, and the nodes of it.
+const TOO_SHORT: (&str, usize) = ("username: length is lower than 3\n", 1);
 
 #[test]
 fn sequences_under_indexes(rt: HostRuntime) {
+    let alloc = rt.alloc();
+    let named = user_of(&rt, alloc, "ab");
+    let mut deque = VecDeque::new(alloc);
+    deque.push_back(&named).or_end(&rt);
+    let mut linked = LinkedList::new(alloc);
+    linked.push_back(&named).or_end(&rt);
     assert!(rt;
-        is_told_of_a_slice(&rt, rt.alloc(), FIRST_TOO_SHORT)
-            && is_told_of_an_array(&rt, rt.alloc(), FIRST_TOO_SHORT)
-            && is_told_of_a_deque(&rt, rt.alloc(), FIRST_TOO_SHORT)
-            && is_told_of_a_linked_list(&rt, rt.alloc(), FIRST_TOO_SHORT)
+        is_told(
+            alloc,
+            &[&named].as_slice(),
+            &(),
+            &DefaultI18n,
+            FIRST_TOO_SHORT
+        ) && is_told(alloc, &[&named], &(), &DefaultI18n, FIRST_TOO_SHORT)
+            && is_told(alloc, &deque, &(), &DefaultI18n, FIRST_TOO_SHORT)
+            && is_told(alloc, &linked, &(), &DefaultI18n, FIRST_TOO_SHORT)
     );
-}
-
-fn is_told_of_an_ordered_set(rt: &impl Abort, alloc: Global, text: &str) -> bool {
-    let mut users = BTreeSet::new(alloc);
-    users.insert(user(rt, alloc, "ab")).or_end(rt);
-    is_told(rt, alloc, &users, text)
-}
-
-fn is_told_of_a_heap(rt: &impl Abort, alloc: Global, text: &str) -> bool {
-    let mut users = BinaryHeap::new(alloc);
-    users.push(user(rt, alloc, "ab")).or_end(rt);
-    is_told(rt, alloc, &users, text)
 }
 
 #[test]
 fn sets_and_heaps_under_indexes(rt: HostRuntime) {
+    let alloc = rt.alloc();
+    let mut set = BTreeSet::new(alloc);
+    set.insert(user_of(&rt, alloc, "ab")).or_end(&rt);
+    let mut heap = BinaryHeap::new(alloc);
+    heap.push(user_of(&rt, alloc, "ab")).or_end(&rt);
     assert!(rt;
-        is_told_of_an_ordered_set(&rt, rt.alloc(), FIRST_TOO_SHORT)
-            && is_told_of_a_heap(&rt, rt.alloc(), FIRST_TOO_SHORT)
+        is_told(alloc, &set, &(), &DefaultI18n, FIRST_TOO_SHORT)
+            && is_told(alloc, &heap, &(), &DefaultI18n, FIRST_TOO_SHORT)
     );
 }
 
-/// Puts a user of this name into a set.
-fn put(rt: &impl Abort, alloc: Global, users: &mut HashSet<User>, name: &str) {
-    users.insert(user(rt, alloc, name)).or_end(rt);
-}
-
-fn hash_set(rt: &impl Abort, alloc: Global) -> HashSet<User> {
-    let mut users = HashSet::new(alloc);
-    put(rt, alloc, &mut users, "ab");
-    put(rt, alloc, &mut users, "test");
-    put(rt, alloc, &mut users, "é");
-    users
-}
-
 /// What the hash set reports, by the places at which `ab` and `é` stand in its order.
-const ORDERS: &[&str] = &[
-    "[0].username: length is lower than 3\n[1].username: not ascii\n[1].username: length is lower than 3\nnodes: 4",
-    "[0].username: length is lower than 3\n[2].username: not ascii\n[2].username: length is lower than 3\nnodes: 4",
-    "[0].username: not ascii\n[0].username: length is lower than 3\n[1].username: length is lower than 3\nnodes: 4",
-    "[1].username: length is lower than 3\n[2].username: not ascii\n[2].username: length is lower than 3\nnodes: 4",
-    "[0].username: not ascii\n[0].username: length is lower than 3\n[2].username: length is lower than 3\nnodes: 4",
-    "[1].username: not ascii\n[1].username: length is lower than 3\n[2].username: length is lower than 3\nnodes: 4",
+static ORDERS: [&str; 6] = [
+    "[0].username: length is lower than 3\n[1].username: not ascii\n[1].username: length is lower than 3\n",
+    "[0].username: length is lower than 3\n[2].username: not ascii\n[2].username: length is lower than 3\n",
+    "[0].username: not ascii\n[0].username: length is lower than 3\n[1].username: length is lower than 3\n",
+    "[1].username: length is lower than 3\n[2].username: not ascii\n[2].username: length is lower than 3\n",
+    "[0].username: not ascii\n[0].username: length is lower than 3\n[2].username: length is lower than 3\n",
+    "[1].username: not ascii\n[1].username: length is lower than 3\n[2].username: length is lower than 3\n",
 ];
 
-/// Whether a text is what the hash set reports in some order.
-fn is_told_in_some_order(text: &str) -> bool {
-    for told in ORDERS {
-        if *told == text {
+/// Whether each fault of the hash set is reported at the place at which its item came.
+fn is_told_in_some_order(alloc: Global, users: &HashSet<User>) -> bool {
+    for text in &ORDERS {
+        if is_told(alloc, users, &(), &DefaultI18n, (*text, 4)) {
             return true;
         }
     }
     false
 }
 
-/// Whether each fault of the hash set is reported at the place at which its item came.
-fn is_told_of_a_hash_set(rt: &impl Abort, alloc: Global) -> bool {
-    is_told_in_some_order(told(rt, alloc, &hash_set(rt, alloc)).as_str())
-}
-
 #[test]
 fn a_hash_set_numbers_its_items_as_they_come(rt: HostRuntime) {
-    assert!(rt; is_told_of_a_hash_set(&rt, rt.alloc()));
-}
-
-fn is_told_of_a_hash_map(rt: &impl Abort, alloc: Global, text: &str) -> bool {
-    let mut users = HashMap::new(alloc);
-    users
-        .insert(
-            String::from_str(alloc, "x.y").or_end(rt),
-            user(rt, alloc, "ab"),
-        )
-        .or_end(rt);
-    is_told(rt, alloc, &users, text)
-}
-
-/// Puts a user of too short a name under this key of a map.
-fn put_under(rt: &impl Abort, alloc: Global, users: &mut BTreeMap<String, User>, key: &str) {
-    users
-        .insert(
-            String::from_str(alloc, key).or_end(rt),
-            user(rt, alloc, "ab"),
-        )
-        .or_end(rt);
-}
-
-fn is_told_of_an_ordered_map(rt: &impl Abort, alloc: Global, text: &str) -> bool {
-    let mut users = BTreeMap::new(alloc);
-    put_under(rt, alloc, &mut users, "b");
-    put_under(rt, alloc, &mut users, "a");
-    is_told(rt, alloc, &users, text)
+    let mut users = HashSet::new(rt.alloc());
+    for name in ["ab", "test", "é"] {
+        users.insert(user_of(&rt, rt.alloc(), name)).or_end(&rt);
+    }
+    assert!(rt; is_told_in_some_order(rt.alloc(), &users));
 }
 
 #[test]
 fn values_of_maps_under_their_keys(rt: HostRuntime) {
-    let hashed = "x.y.username: length is lower than 3\nnodes: 2";
-    let ordered =
-        "a.username: length is lower than 3\nb.username: length is lower than 3\nnodes: 4";
+    let alloc = rt.alloc();
+    let mut hashed = HashMap::new(alloc);
+    hashed
+        .insert(text_of(&rt, alloc, "x.y"), user_of(&rt, alloc, "ab"))
+        .or_end(&rt);
+    let mut ordered = BTreeMap::new(alloc);
+    for key in ["b", "a"] {
+        ordered
+            .insert(text_of(&rt, alloc, key), user_of(&rt, alloc, "ab"))
+            .or_end(&rt);
+    }
+    let told = ("x.y.username: length is lower than 3\n", 2);
+    let both = "a.username: length is lower than 3\nb.username: length is lower than 3\n";
     assert!(rt;
-        is_told_of_a_hash_map(&rt, rt.alloc(), hashed)
-            && is_told_of_an_ordered_map(&rt, rt.alloc(), ordered)
+        is_told(alloc, &hashed, &(), &DefaultI18n, told)
+            && is_told(alloc, &ordered, &(), &DefaultI18n, (both, 4))
     );
-}
-
-fn is_told_of_references(rt: &impl Abort, alloc: Global, text: &str) -> bool {
-    let mut named = user(rt, alloc, "ab");
-    is_told(rt, alloc, &&named, text) && is_told(rt, alloc, &&mut named, text)
-}
-
-fn is_told_of_a_box(rt: &impl Abort, alloc: Global, text: &str) -> bool {
-    is_told(
-        rt,
-        alloc,
-        &Box::new(alloc, user(rt, alloc, "ab")).or_end(rt),
-        text,
-    )
 }
 
 #[test]
 fn wrappers_add_nothing(rt: HostRuntime) {
+    let alloc = rt.alloc();
+    let mut named = user_of(&rt, alloc, "ab");
+    let lent = is_told(alloc, &&mut named, &(), &DefaultI18n, TOO_SHORT);
+    let boxed = Box::new(alloc, &named).or_end(&rt);
     assert!(rt;
-        is_told_of_references(&rt, rt.alloc(), TOO_SHORT)
-            && is_told_of_a_box(&rt, rt.alloc(), TOO_SHORT)
-            && is_told(&rt, rt.alloc(), &(), "nodes: 0")
+        lent && is_told(alloc, &&named, &(), &DefaultI18n, TOO_SHORT)
+            && is_told(alloc, &boxed, &(), &DefaultI18n, TOO_SHORT)
+            && is_told(alloc, &(), &(), &DefaultI18n, ("", 0))
     );
-}
-
-fn is_told_of_a_shared_value(rt: &impl Abort, alloc: Global, text: &str) -> bool {
-    is_told(
-        rt,
-        alloc,
-        &Rc::new(alloc, user(rt, alloc, "ab")).or_end(rt),
-        text,
-    )
-}
-
-fn is_told_of_borrowed_and_owned(rt: &impl Abort, alloc: Global, text: &str) -> bool {
-    let numbered = Identifier { id: 10 };
-    is_told(rt, alloc, &Cow::Borrowed(&numbered), text)
-        && is_told(rt, alloc, &Cow::<Identifier>::Owned(numbered), text)
 }
 
 #[test]
 fn shared_and_borrowed_values_add_nothing(rt: HostRuntime) {
-    let too_great = "id: greater than 4\nnodes: 1";
+    let alloc = rt.alloc();
+    let numbered = Identifier { id: 10 };
+    let shared = Rc::new(alloc, user_of(&rt, alloc, "ab")).or_end(&rt);
+    let told = ("id: greater than 4\n", 1);
     assert!(rt;
-        is_told_of_a_shared_value(&rt, rt.alloc(), TOO_SHORT)
-            && is_told_of_borrowed_and_owned(&rt, rt.alloc(), too_great)
+        is_told(alloc, &shared, &(), &DefaultI18n, TOO_SHORT)
+            && is_told(alloc, &Cow::Borrowed(&numbered), &(), &DefaultI18n, told)
+            && is_told(
+                alloc,
+                &Cow::<Identifier>::Owned(numbered),
+                &(),
+                &DefaultI18n,
+                told
+            )
     );
-}
-
-/// A name that is not set, one that is not ASCII, and an empty one.
-fn names(rt: &impl Abort, alloc: Global) -> Names {
-    let accented = String::from_str(alloc, "é").or_end(rt);
-    let items = vec![in alloc; None, Some(accented), Some(String::new(alloc))].or_end(rt);
-    Names { items }
 }
 
 /// The paths of a report, a line each.
@@ -254,17 +144,17 @@ fn paths_of(rt: &impl Abort, alloc: Global, report: &Report) -> String {
     paths
 }
 
-/// Whether these are the paths of the report of the names.
-fn are_paths_of_names(rt: &impl Abort, alloc: Global, paths: &str) -> bool {
-    match names(rt, alloc).validate(alloc) {
-        Err(ValidateError::Report(report)) => paths_of(rt, alloc, &report).as_str() == paths,
-        _ => false,
-    }
-}
-
+// A name that is not set, one that is not ASCII, and an empty one.
 #[test]
 fn a_walk_of_an_option_adds_a_component_without_a_name(rt: HostRuntime) {
+    let alloc = rt.alloc();
+    let accented = text_of(&rt, alloc, "é");
+    let items = vec![in alloc; None, Some(accented), Some(String::new(alloc))].or_end(&rt);
+    let answer = Names { items }.validate(alloc);
     let paths =
         "Path { components: [(Key, \"items\"), (Index, \"0\")] }\nPath { components: [(Key, \"items\"), (Index, \"1\"), (None, \"\")] }\nPath { components: [(Key, \"items\"), (Index, \"2\"), (None, \"\")] }\n";
-    assert!(rt; are_paths_of_names(&rt, rt.alloc(), paths));
+    assert!(rt;
+        matches!(&answer, Err(ValidateError::Report(report))
+            if paths_of(&rt, alloc, report).as_str() == paths)
+    );
 }

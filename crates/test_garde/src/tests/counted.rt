@@ -7,7 +7,6 @@ use garde::{DefaultI18n, I18n, Report, RuleError, Stated, Trail, Validate};
 use std::alloc::{AllocError, Global};
 use std::borrow::CowStr;
 use std::cell::Cell;
-use std::process::Abort;
 
 /// The rule that no mark keeps, which counts how often it is asked.
 #[derive(Clone, Copy)]
@@ -45,30 +44,19 @@ impl Validate for Marks {
     }
 }
 
-/// Nine marks.
-fn nine(rt: &impl Abort, alloc: Global) -> Marks {
-    Marks(vec![in alloc; 0u8, 1, 2, 3, 4, 5, 6, 7, 8].or_end(rt))
-}
-
-/// How many of nine marks are asked whether they are valid.
-fn asked_by_is_valid(rt: &impl Abort, alloc: Global) -> usize {
-    let asked = Cell::new(0);
-    let answer = nine(rt, alloc).is_valid(alloc, &asked);
-    if answer == Ok(false) { asked.get() } else { 0 }
-}
-
-/// How many of nine marks are asked for at most so many faults.
-fn asked_by_first(rt: &impl Abort, alloc: Global, most: usize) -> usize {
-    let asked = Cell::new(0);
-    let answer = nine(rt, alloc).validate_first(alloc, &asked, most, &DefaultI18n);
-    if answer.is_err() { asked.get() } else { 0 }
-}
+/// How many faults are asked for, and how many of nine marks are asked.
+static ASKED: [(usize, usize); 5] = [(0, 2), (2, 4), (6, 8), (7, 9), (20, 9)];
 
 // The report is full with one fault more than is asked for. The fault behind it ends the walk.
 #[test]
 fn a_walk_ends_at_the_fault_behind_a_full_report(rt: HostRuntime) {
-    assert!(rt; asked_by_is_valid(&rt, rt.alloc()) == 2);
-    for (most, asked) in [(0, 2), (2, 4), (6, 8), (7, 9), (20, 9)] {
-        assert!(rt; asked_by_first(&rt, rt.alloc(), most) == asked);
+    let marks = Marks(vec![in rt.alloc(); 0u8, 1, 2, 3, 4, 5, 6, 7, 8].or_end(&rt));
+    let asked = Cell::new(0);
+    let valid = marks.is_valid(rt.alloc(), &asked);
+    assert!(rt; valid == Ok(false) && asked.get() == 2);
+    for (most, wanted) in &ASKED {
+        asked.set(0);
+        let answer = marks.validate_first(rt.alloc(), &asked, *most, &DefaultI18n);
+        assert!(rt; answer.is_err() && asked.get() == *wanted);
     }
 }

@@ -6,9 +6,7 @@ ghost use Rattle.garde_i18n.specs.Datum as datum;
 ghost use Rattle.garde_i18n.specs.Reasons.{card_name, url_name, phone_name, ip_kind_text};
 
 use super::asked::{Row, assert_says};
-use garde::I18n;
-use garde::i18n::{InvalidCreditCard, InvalidPhoneNumber, InvalidUrl, IpKind, Named};
-use garde_i18n::Datum;
+use garde::i18n::{Datum, InvalidCreditCard, InvalidPhoneNumber, InvalidUrl, IpKind, Texts};
 use std::alloc::{AllocError, Global};
 use std::borrow::CowStr;
 
@@ -16,13 +14,6 @@ use std::borrow::CowStr;
 #[derive(Drop)]
 pub struct Custom {
     pub weight: Vec<u8>,
-}
-
-/// The handler, with no bytes.
-pub fn weightless(alloc: Global) -> Custom {
-    Custom {
-        weight: Vec::new(alloc),
-    }
 }
 
 // A text with what stands around it.
@@ -44,8 +35,36 @@ fn with_number(alloc: Global, text: &str, number: usize) -> Result<CowStr<'stati
     Ok(CowStr::Owned(format!(in alloc; "{text}{number}")?))
 }
 
-impl I18n for Custom {
-    ghost text = { λ _ asked. elim asked [
+// The text of a credit card number with this fault.
+fn card(alloc: Global, reason: InvalidCreditCard) -> Result<CowStr<'static>, AllocError>
+    ensures { IfOk result (λ s. cow_str_bytes s ≡ codes "custom: invalid credit card - " ++ card_name reason) }
+{
+    Ok(CowStr::Owned(format!(in alloc; "custom: invalid credit card - {reason:?}")?))
+}
+
+// The text of a URL with this fault.
+fn url(alloc: Global, reason: InvalidUrl) -> Result<CowStr<'static>, AllocError>
+    ensures { IfOk result (λ s. cow_str_bytes s ≡ codes "custom: bad URL - " ++ url_name reason) }
+{
+    Ok(CowStr::Owned(format!(in alloc; "custom: bad URL - {reason:?}")?))
+}
+
+// The text of a phone number with this fault.
+fn phone(alloc: Global, reason: InvalidPhoneNumber) -> Result<CowStr<'static>, AllocError>
+    ensures { IfOk result (λ s. cow_str_bytes s ≡ codes "custom: phone number error - " ++ phone_name reason) }
+{
+    Ok(CowStr::Owned(format!(in alloc; "custom: phone number error - {reason:?}")?))
+}
+
+// The text of no address of this kind.
+fn address(alloc: Global, kind: IpKind) -> Result<CowStr<'static>, AllocError>
+    ensures { IfOk result (λ s. cow_str_bytes s ≡ codes "custom: not a valid " ++ (ip_kind_text kind ++ codes " IP")) }
+{
+    Ok(CowStr::Owned(format!(in alloc; "custom: not a valid {kind} IP")?))
+}
+
+impl Texts for Custom {
+    ghost texts = { λ _ asked. elim asked [
       | datum.length_lower min ↦ codes "custom: too short, need at least " ++ decimal min
       | datum.length_greater max ↦ codes "custom: too long, maximum is " ++ decimal max
       | datum.range_lower min ↦ codes "custom: value too small, minimum is " ++ min
@@ -66,100 +85,43 @@ impl I18n for Custom {
       | datum.named _ english ↦ codes "custom: " ++ (english ++ codes "")
     ] };
 
-    fn length_lower_than(&self, alloc: Global, min: usize) -> Result<CowStr<'static>, AllocError> {
-        with_number(alloc, "custom: too short, need at least ", min)
-    }
-
-    fn length_greater_than(
-        &self,
-        alloc: Global,
-        max: usize,
-    ) -> Result<CowStr<'static>, AllocError> {
-        with_number(alloc, "custom: too long, maximum is ", max)
-    }
-
-    fn range_lower_than(&self, alloc: Global, min: &str) -> Result<CowStr<'static>, AllocError> {
-        around(alloc, "custom: value too small, minimum is ", min, "")
-    }
-
-    fn range_greater_than(&self, alloc: Global, max: &str) -> Result<CowStr<'static>, AllocError> {
-        around(alloc, "custom: value too large, maximum is ", max, "")
-    }
-
-    fn credit_card_invalid(
-        &self,
-        alloc: Global,
-        reason: InvalidCreditCard,
-    ) -> Result<CowStr<'static>, AllocError> {
-        Ok(CowStr::Owned(format!(in alloc; "custom: invalid credit card - {reason:?}")?))
-    }
-
-    fn pattern_no_match(
-        &self,
-        alloc: Global,
-        pattern: &str,
-    ) -> Result<CowStr<'static>, AllocError> {
-        around(alloc, "custom: doesn't match /", pattern, "/")
-    }
-
-    fn contains_missing(
-        &self,
-        alloc: Global,
-        pattern: &str,
-    ) -> Result<CowStr<'static>, AllocError> {
-        around(alloc, "custom: missing required text '", pattern, "'")
-    }
-
-    fn url_invalid(
-        &self,
-        alloc: Global,
-        reason: InvalidUrl,
-    ) -> Result<CowStr<'static>, AllocError> {
-        Ok(CowStr::Owned(format!(in alloc; "custom: bad URL - {reason:?}")?))
-    }
-
-    fn prefix_missing(&self, alloc: Global, pattern: &str) -> Result<CowStr<'static>, AllocError> {
-        around(alloc, "custom: must start with '", pattern, "'")
-    }
-
-    fn suffix_missing(&self, alloc: Global, pattern: &str) -> Result<CowStr<'static>, AllocError> {
-        around(alloc, "custom: must end with '", pattern, "'")
-    }
-
-    fn phone_number_invalid(
-        &self,
-        alloc: Global,
-        reason: InvalidPhoneNumber,
-    ) -> Result<CowStr<'static>, AllocError> {
-        Ok(CowStr::Owned(format!(in alloc; "custom: phone number error - {reason:?}")?))
-    }
-
-    fn ip_invalid(&self, alloc: Global, kind: IpKind) -> Result<CowStr<'static>, AllocError> {
-        Ok(CowStr::Owned(format!(in alloc; "custom: not a valid {kind} IP")?))
-    }
-
-    fn matches_field_mismatch(
-        &self,
-        alloc: Global,
-        field: &str,
-    ) -> Result<CowStr<'static>, AllocError> {
-        around(alloc, "custom: must match ", field, "")
-    }
-
-    fn ascii_invalid(&self, _alloc: Global) -> Result<CowStr<'static>, AllocError> {
-        Ok(CowStr::Borrowed("custom: contains non-ASCII characters"))
-    }
-
-    fn alphanumeric_invalid(&self, _alloc: Global) -> Result<CowStr<'static>, AllocError> {
-        Ok(CowStr::Borrowed("custom: only letters and numbers allowed"))
-    }
-
-    fn required_not_set(&self, _alloc: Global) -> Result<CowStr<'static>, AllocError> {
-        Ok(CowStr::Borrowed("custom: this field is required"))
-    }
-
-    fn named(&self, alloc: Global, fault: Named<'_>) -> Result<CowStr<'static>, AllocError> {
-        around(alloc, "custom: ", fault.english, "")
+    fn text_of(&self, alloc: Global, datum: Datum<'_>) -> Result<CowStr<'static>, AllocError> {
+        match datum {
+            Datum::LengthLowerThan(n) => with_number(alloc, "custom: too short, need at least ", n),
+            Datum::LengthGreaterThan(n) => with_number(alloc, "custom: too long, maximum is ", n),
+            Datum::RangeLowerThan(min) => around(
+                alloc,
+                "custom: value too small, minimum is ",
+                min,
+                "",
+            ),
+            Datum::RangeGreaterThan(max) => around(
+                alloc,
+                "custom: value too large, maximum is ",
+                max,
+                "",
+            ),
+            Datum::CreditCardInvalid(reason) => card(alloc, reason),
+            Datum::PatternNoMatch(text) => around(alloc, "custom: doesn't match /", text, "/"),
+            Datum::ContainsMissing(text) => around(
+                alloc,
+                "custom: missing required text '",
+                text,
+                "'",
+            ),
+            Datum::UrlInvalid(reason) => url(alloc, reason),
+            Datum::PrefixMissing(text) => around(alloc, "custom: must start with '", text, "'"),
+            Datum::SuffixMissing(text) => around(alloc, "custom: must end with '", text, "'"),
+            Datum::PhoneNumberInvalid(reason) => phone(alloc, reason),
+            Datum::IpInvalid(kind) => address(alloc, kind),
+            Datum::MatchesFieldMismatch(field) => around(alloc, "custom: must match ", field, ""),
+            Datum::AsciiInvalid => Ok(CowStr::Borrowed("custom: contains non-ASCII characters")),
+            Datum::AlphanumericInvalid => {
+                Ok(CowStr::Borrowed("custom: only letters and numbers allowed"))
+            }
+            Datum::RequiredNotSet => Ok(CowStr::Borrowed("custom: this field is required")),
+            Datum::Named(fault) => around(alloc, "custom: ", fault.english, ""),
+        }
     }
 }
 
@@ -225,12 +187,9 @@ static TEXTS: [Row; 17] = [
 
 #[test]
 fn says_its_own_texts(rt: HostRuntime) {
-    let h = weightless(rt.alloc());
+    let h = Custom {
+        weight: Vec::new(rt.alloc()),
+    };
     assert_says(&rt, rt.alloc(), &h, &TEXTS);
-}
-
-#[test]
-fn says_them_through_a_reference(rt: HostRuntime) {
-    let h = weightless(rt.alloc());
     assert_says(&rt, rt.alloc(), &&h, &TEXTS);
 }

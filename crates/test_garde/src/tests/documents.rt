@@ -1,6 +1,7 @@
 //! A document, of which it depends on its switches what is asked.
-use crate::tests::OrEnd;
-use crate::tests::containers::is_told;
+use super::text_of;
+use super::told::is_told;
+use garde::DefaultI18n;
 use garde::samples::{Document, Tag};
 use std::alloc::Global;
 use std::process::Abort;
@@ -14,50 +15,49 @@ pub fn document(
     tag: &str,
 ) -> Document {
     let content = match content {
-        Some(text) => Some(String::from_str(alloc, text).or_end(rt)),
+        Some(text) => Some(text_of(rt, alloc, text)),
         None => None,
     };
     Document {
         check_format,
         check_length,
         content,
-        tag: Tag(String::from_str(alloc, tag).or_end(rt)),
+        tag: Tag(text_of(rt, alloc, tag)),
     }
 }
 
-/// A document's switches, content and tag, and what is reported for it.
-type Row<'a> = ((bool, bool), Option<&'a str>, &'a str, &'a str);
+/// A document's switches, content and tag, what is reported for it, and the nodes of that.
+type Row<'a> = ((bool, bool), Option<&'a str>, &'a str, (&'a str, usize));
 
-const ROWS: &[Row<'static>] = &[
+/// Documents, and what is reported for each.
+static ROWS: [Row<'static>; 4] = [
     (
         (true, true),
         Some("é"),
         "t-1",
-        "content: not ascii\ncontent: length is lower than 10\nnodes: 1",
+        ("content: not ascii\ncontent: length is lower than 10\n", 1),
     ),
-    ((false, false), Some("é"), "t-1", "nodes: 0"),
-    ((true, true), None, "t-1", "content: not set\nnodes: 1"),
+    ((false, false), Some("é"), "t-1", ("", 0)),
+    ((true, true), None, "t-1", ("content: not set\n", 1)),
     (
         (false, true),
         Some("é"),
         "x",
-        "content: length is lower than 10\ntag: value does not begin with \"t-\"\nnodes: 2",
+        (
+            "content: length is lower than 10\ntag: value does not begin with \"t-\"\n",
+            2,
+        ),
     ),
 ];
 
-/// Whether just that is reported for a row's document.
-fn is_row(rt: &impl Abort, alloc: Global, &(switches, content, tag, text): &Row<'_>) -> bool {
-    is_told(
-        rt,
-        alloc,
-        &document(rt, alloc, switches, content, tag),
-        text,
-    )
-}
-
 #[test]
 fn each_rule_under_its_condition(rt: HostRuntime) {
-    for row in ROWS {
-        assert!(rt; is_row(&rt, rt.alloc(), row), "at {}", row.3);
+    for (switches, content, tag, told) in &ROWS {
+        let document = document(&rt, rt.alloc(), *switches, *content, tag);
+        assert!(rt;
+            is_told(rt.alloc(), &document, &(), &DefaultI18n, *told),
+            "at {}",
+            told.0
+        );
     }
 }

@@ -1,11 +1,11 @@
 //! At most so many faults of a value, and whether it has one.
-use super::wrong_form;
+use super::told::reads;
+use super::{user_of, wrong_form};
 use crate::tests::OrEnd;
-use crate::tests::containers::user;
 use crate::tests::signup::Limits;
 use crate::tests::user::User;
-use garde::{DefaultI18n, Error, FirstError, Path, Report, Trail, Validate, ValidateError};
-use std::alloc::{AllocError, Global};
+use garde::{DefaultI18n, FirstError, Report, Trail, Validate};
+use std::alloc::Global;
 use std::collections::BTreeMap;
 use std::process::Abort;
 
@@ -17,81 +17,69 @@ static MOST: [usize; 12] = [0, 1, 2, 3, 4, 7, 8, 9, 10, 11, usize::MAX - 1, usiz
 
 /// What is reported for five users named `é` in a list.
 static USERS: [Line<'static>; 10] = [
-    ("[0].username: not ascii", 2),
-    ("[0].username: length is lower than 3", 2),
-    ("[1].username: not ascii", 4),
-    ("[1].username: length is lower than 3", 4),
-    ("[2].username: not ascii", 6),
-    ("[2].username: length is lower than 3", 6),
-    ("[3].username: not ascii", 8),
-    ("[3].username: length is lower than 3", 8),
-    ("[4].username: not ascii", 10),
-    ("[4].username: length is lower than 3", 10),
+    ("[0].username: not ascii\n", 2),
+    ("[0].username: length is lower than 3\n", 2),
+    ("[1].username: not ascii\n", 4),
+    ("[1].username: length is lower than 3\n", 4),
+    ("[2].username: not ascii\n", 6),
+    ("[2].username: length is lower than 3\n", 6),
+    ("[3].username: not ascii\n", 8),
+    ("[3].username: length is lower than 3\n", 8),
+    ("[4].username: not ascii\n", 10),
+    ("[4].username: length is lower than 3\n", 10),
 ];
 
 /// What is reported for them in a map.
 static NAMED: [Line<'static>; 10] = [
-    ("a.username: not ascii", 2),
-    ("a.username: length is lower than 3", 2),
-    ("b.username: not ascii", 4),
-    ("b.username: length is lower than 3", 4),
-    ("c.username: not ascii", 6),
-    ("c.username: length is lower than 3", 6),
-    ("d.username: not ascii", 8),
-    ("d.username: length is lower than 3", 8),
-    ("e.username: not ascii", 10),
-    ("e.username: length is lower than 3", 10),
+    ("a.username: not ascii\n", 2),
+    ("a.username: length is lower than 3\n", 2),
+    ("b.username: not ascii\n", 4),
+    ("b.username: length is lower than 3\n", 4),
+    ("c.username: not ascii\n", 6),
+    ("c.username: length is lower than 3\n", 6),
+    ("d.username: not ascii\n", 8),
+    ("d.username: length is lower than 3\n", 8),
+    ("e.username: not ascii\n", 10),
+    ("e.username: length is lower than 3\n", 10),
 ];
 
 /// What is reported for a form with five tags, of which it may have one.
 static FORM: [Line<'static>; 10] = [
-    ("name: not ascii", 1),
-    ("name: length is lower than 3", 1),
-    ("password: weak", 2),
-    ("tags: length is greater than 1", 3),
-    ("tags[0]: not ascii", 4),
-    ("tags[1]: not ascii", 5),
-    ("tags[2]: not ascii", 6),
-    ("tags[3]: not ascii", 7),
-    ("tags[4]: not ascii", 8),
-    ("address.city: length is lower than 1", 10),
+    ("name: not ascii\n", 1),
+    ("name: length is lower than 3\n", 1),
+    ("password: weak\n", 2),
+    ("tags: length is greater than 1\n", 3),
+    ("tags[0]: not ascii\n", 4),
+    ("tags[1]: not ascii\n", 5),
+    ("tags[2]: not ascii\n", 6),
+    ("tags[3]: not ascii\n", 7),
+    ("tags[4]: not ascii\n", 8),
+    ("address.city: length is lower than 1\n", 10),
 ];
 
-/// Whether a fault is this line.
-fn is_line(rt: &impl Abort, alloc: Global, path: &Path, error: &Error, line: &str) -> bool {
-    format!(in alloc; "{path}: {error}").or_end(rt).as_str() == line
-}
-
-/// Whether a report has just these lines.
-fn has(rt: &impl Abort, alloc: Global, report: &Report, lines: &[Line<'_>]) -> bool {
-    let mut same = report.len() == lines.len();
-    for ((path, error), (line, _)) in report.iter().zip(lines) {
-        same = same && is_line(rt, alloc, path, error, line);
+/// What is printed of the first of these lines, at most so many, and of whether there are more.
+fn first_of(rt: &impl Abort, alloc: Global, most: usize, lines: &[Line<'_>]) -> String {
+    let mut text = String::new(alloc);
+    for (line, _) in lines.iter().take(most) {
+        text.push_str(line).or_end(rt);
     }
-    same
+    if most < lines.len() {
+        text.push_str("there are more\n").or_end(rt);
+    }
+    text
 }
 
-/// Whether an answer has the first of these lines, at most so many, and says whether there are
-/// more.
-fn is_first(
-    rt: &impl Abort,
-    alloc: Global,
-    answer: Result<(), FirstError>,
-    most: usize,
-    lines: &[Line<'_>],
-) -> bool {
+/// Whether an answer prints this.
+fn prints(alloc: Global, answer: Result<(), FirstError>, text: &str) -> bool {
     match answer {
-        Ok(()) => lines.is_empty(),
-        Err(FirstError::All(report)) => report.len() <= most && has(rt, alloc, &report, lines),
-        Err(FirstError::First(report)) => {
-            most < lines.len() && has(rt, alloc, &report, &lines[..most])
-        }
-        Err(FirstError::Memory) => false,
+        Ok(()) => text.is_empty(),
+        Err(error) => reads(alloc, &error, text) == Ok(true),
     }
 }
 
-/// Whether the walk to at most so many of these faults makes the nodes of one fault more.
-fn walks_to<V: Validate>(
+/// Whether both calls answer the first of these lines, at most so many, and say whether there are
+/// more, and the walk to them makes the nodes of one fault more.
+fn is_first<V: Validate>(
     rt: &impl Abort,
     alloc: Global,
     value: &V,
@@ -99,31 +87,18 @@ fn walks_to<V: Validate>(
     most: usize,
     lines: &[Line<'_>],
 ) -> bool {
+    let text = first_of(rt, alloc, most, lines);
     let mut trail = Trail::new(alloc);
     let answer = value.validate_first_on(alloc, ctx, most, &mut trail, &DefaultI18n);
     let nodes = match lines.get(most).or(lines.last()) {
         Some((_, nodes)) => *nodes,
         None => 0,
     };
-    trail.nodes() == nodes && trail.depth() == 0 && is_first(rt, alloc, answer, most, lines)
-}
-
-/// How many of the numbers are answered before the first that is not.
-fn numbers_answered<V: Validate>(
-    rt: &impl Abort,
-    alloc: Global,
-    value: &V,
-    ctx: &V::Context,
-    lines: &[Line<'_>],
-) -> usize {
-    for (place, most) in MOST.iter().enumerate() {
-        let answer = value.validate_first(alloc, ctx, *most, &DefaultI18n);
-        let same = is_first(rt, alloc, answer, *most, lines);
-        if !same || !walks_to(rt, alloc, value, ctx, *most, lines) {
-            return place;
-        }
-    }
-    MOST.len()
+    let again = value.validate_first(alloc, ctx, most, &DefaultI18n);
+    trail.nodes() == nodes
+        && trail.depth() == 0
+        && prints(alloc, answer, text.as_str())
+        && prints(alloc, again, text.as_str())
 }
 
 /// Whether each number is answered for a value, and whether it is valid.
@@ -134,49 +109,43 @@ fn is_answered<V: Validate>(
     ctx: &V::Context,
     lines: &[Line<'_>],
 ) -> bool {
-    let valid = value.is_valid(alloc, ctx) == Ok(lines.is_empty());
-    valid && numbers_answered(rt, alloc, value, ctx, lines) == MOST.len()
+    for most in &MOST {
+        if !is_first(rt, alloc, value, ctx, *most, lines) {
+            return false;
+        }
+    }
+    value.is_valid(alloc, ctx) == Ok(lines.is_empty())
 }
 
 /// Five users of a name.
 fn users(rt: &impl Abort, alloc: Global, name: &str) -> Vec<User> {
     let mut users = Vec::new(alloc);
     for _ in 0..5 {
-        users.push(user(rt, alloc, name)).or_end(rt);
+        users.push(user_of(rt, alloc, name)).or_end(rt);
     }
     users
 }
 
-/// Five users named `é`, each under a letter.
-fn named(rt: &impl Abort, alloc: Global) -> BTreeMap<&'static str, User> {
-    let mut named = BTreeMap::new(alloc);
-    for letter in ["e", "b", "a", "d", "c"] {
-        named.insert(letter, user(rt, alloc, "é")).or_end(rt);
-    }
-    named
-}
-
-/// Whether each number is answered for five users of a name.
-fn is_answered_for_users(rt: &impl Abort, alloc: Global, name: &str, lines: &[Line<'_>]) -> bool {
-    is_answered(rt, alloc, &users(rt, alloc, name), &(), lines)
-}
-
-/// Whether each number is answered for the form.
-fn is_answered_for_a_form(rt: &impl Abort, alloc: Global) -> bool {
-    let form = wrong_form(rt, alloc, &["ü", "ü", "ü", "ü", "ü"], "");
-    is_answered(rt, alloc, &form, &Limits { most: 1 }, &FORM)
-}
-
+// Five users of a name, five named `é` that stand each under a letter, and a form.
 #[test]
 fn the_first_faults_of_each_value(rt: HostRuntime) {
-    assert!(rt; is_answered_for_users(&rt, rt.alloc(), "é", &USERS));
-    assert!(rt; is_answered_for_users(&rt, rt.alloc(), "test", &[]));
-    assert!(rt; is_answered(&rt, rt.alloc(), &named(&rt, rt.alloc()), &(), &NAMED));
-    assert!(rt; is_answered_for_a_form(&rt, rt.alloc()));
+    let alloc = rt.alloc();
+    let mut named = BTreeMap::new(alloc);
+    for letter in ["e", "b", "a", "d", "c"] {
+        named.insert(letter, user_of(&rt, alloc, "é")).or_end(&rt);
+    }
+    let form = wrong_form(&rt, alloc, &["ü", "ü", "ü", "ü", "ü"], "");
+    assert!(rt;
+        is_answered(&rt, alloc, &named, &(), &NAMED)
+            && is_answered(&rt, alloc, &form, &Limits { most: 1 }, &FORM)
+            && is_answered(&rt, alloc, &users(&rt, alloc, "é"), &(), &USERS)
+            && is_answered(&rt, alloc, &users(&rt, alloc, "test"), &(), &[])
+    );
 }
 
-/// What a walk of five users finds into a report of one fault, on a trail with a limit.
-fn walked(rt: &impl Abort, alloc: Global, most: usize) -> (Result<(), AllocError>, usize) {
+/// Whether a walk of five users into a report of one fault, on a trail with this limit, ends so or
+/// fails, and leaves so many faults.
+fn is_walked(rt: &impl Abort, alloc: Global, most: usize, ends: bool, count: usize) -> bool {
     let users = users(rt, alloc, "é");
     let mut report = Report::new(alloc);
     let mut trail = Trail::new(alloc);
@@ -186,58 +155,44 @@ fn walked(rt: &impl Abort, alloc: Global, most: usize) -> (Result<(), AllocError
     report.truncate(1);
     trail.limit(most);
     let answer = users.validate_into(alloc, &(), &mut trail, &mut report, &DefaultI18n);
-    (answer, report.len())
+    answer.is_ok() == ends && report.len() == count
 }
 
 // A limit is that of the report, with what it held before.
 #[test]
 fn a_walk_ends_where_its_report_is_full(rt: HostRuntime) {
-    assert!(rt; walked(&rt, rt.alloc(), 0) == (Err(AllocError), 1));
-    assert!(rt; walked(&rt, rt.alloc(), 1) == (Err(AllocError), 1));
-    assert!(rt; walked(&rt, rt.alloc(), 10) == (Err(AllocError), 10));
-    assert!(rt; walked(&rt, rt.alloc(), 11) == (Ok(()), 11));
+    assert!(rt;
+        is_walked(&rt, rt.alloc(), 0, false, 1)
+            && is_walked(&rt, rt.alloc(), 1, false, 1)
+            && is_walked(&rt, rt.alloc(), 10, false, 10)
+            && is_walked(&rt, rt.alloc(), 11, true, 11)
+    );
 }
 
-/// Whether an answer prints this.
-fn prints(rt: &impl Abort, alloc: Global, answer: Result<(), FirstError>, text: &str) -> bool {
+/// Whether an answer prints this as the answer of a call that asks for all faults.
+fn prints_whole(alloc: Global, answer: Result<(), FirstError>, text: &str) -> bool {
     match answer {
         Ok(()) => text.is_empty(),
-        Err(error) => error.to_string(alloc).or_end(rt).as_str() == text,
-    }
-}
-
-/// Whether at most so many faults of five users print this.
-fn users_print(rt: &impl Abort, alloc: Global, most: usize, text: &str) -> bool {
-    let answer = users(rt, alloc, "é").validate_first(alloc, &(), most, &DefaultI18n);
-    prints(rt, alloc, answer, text)
-}
-
-#[test]
-fn the_first_faults_print_that_there_are_more(rt: HostRuntime) {
-    assert!(rt; users_print(&rt, rt.alloc(), 0, "there are more\n"));
-    assert!(rt;
-        users_print(
-            &rt,
-            rt.alloc(),
-            1,
-            "[0].username: not ascii\nthere are more\n"
-        )
-    );
-    assert!(rt; prints(&rt, rt.alloc(), Err(FirstError::Memory), "out of memory"));
-}
-
-/// Whether at most so many faults of five users print this as all of them.
-fn users_print_whole(rt: &impl Abort, alloc: Global, most: usize, text: &str) -> bool {
-    match users(rt, alloc, "é").validate_first(alloc, &(), most, &DefaultI18n) {
-        Ok(()) => text.is_empty(),
-        Err(error) => error.into_whole().to_string(alloc).or_end(rt).as_str() == text,
+        Err(error) => reads(alloc, &error.into_whole(), text) == Ok(true),
     }
 }
 
 #[test]
 fn an_error_of_a_call_that_asks_for_all_faults(rt: HostRuntime) {
-    assert!(rt; users_print_whole(&rt, rt.alloc(), 0, ""));
-    assert!(rt; users_print_whole(&rt, rt.alloc(), 1, "[0].username: not ascii\n"));
-    let memory = FirstError::Memory.into_whole();
-    assert!(rt; matches!(memory, ValidateError::Memory));
+    let alloc = rt.alloc();
+    let users = users(&rt, alloc, "é");
+    let h = &DefaultI18n;
+    let more = "[0].username: not ascii\nthere are more\n";
+    let whole = "[0].username: not ascii\n";
+    assert!(rt;
+        prints(
+            alloc,
+            users.validate_first(alloc, &(), 0, h),
+            "there are more\n"
+        ) && prints(alloc, users.validate_first(alloc, &(), 1, h), more)
+            && prints(alloc, Err(FirstError::Memory), "out of memory")
+            && prints_whole(alloc, users.validate_first(alloc, &(), 0, h), "")
+            && prints_whole(alloc, users.validate_first(alloc, &(), 1, h), whole)
+            && prints_whole(alloc, Err(FirstError::Memory), "out of memory")
+    );
 }

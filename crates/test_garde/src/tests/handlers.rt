@@ -4,8 +4,7 @@ ghost use Rattle.std.specs.Cow.{cow_str_bytes};
 ghost use Rattle.std.specs.Fmt.{decimal};
 ghost use Rattle.garde_i18n.specs.Datum as datum;
 
-use garde::I18n;
-use garde::i18n::{InvalidCreditCard, InvalidPhoneNumber, InvalidUrl, IpKind, Named};
+use garde::i18n::{Datum, Texts};
 use std::alloc::{AllocError, Global};
 use std::borrow::CowStr;
 
@@ -23,23 +22,15 @@ pub const SILENT: Labelled<'static> = Labelled {
     tells_bounds: false,
 };
 
-impl<'l> Labelled<'l> {
-    /// The handler of a label that prints bounds.
-    pub fn of(label: &'l str) -> Labelled<'l> {
-        Labelled {
-            label,
-            tells_bounds: true,
-        }
-    }
-}
-
 impl Labelled<'_> {
+    // The label.
     fn label(&self, alloc: Global) -> Result<CowStr<'static>, AllocError>
         ensures { IfOk result (λ s. cow_str_bytes s ≡ self.now.label.now) }
     {
         Ok(CowStr::Owned(String::from_str(alloc, self.label)?))
     }
 
+    // The label, and behind it the bound, where it prints bounds.
     fn bound(&self, alloc: Global, bound: usize) -> Result<CowStr<'static>, AllocError>
         ensures { IfOk result (λ s. cow_str_bytes s ≡
             (if self.now.tells_bounds then self.now.label.now ++ decimal bound else self.now.label.now)) }
@@ -52,8 +43,8 @@ impl Labelled<'_> {
     }
 }
 
-impl I18n for Labelled<'_> {
-    ghost text = { λ labelled asked. elim asked [
+impl Texts for Labelled<'_> {
+    ghost texts = { λ labelled asked. elim asked [
       | datum.length_lower min ↦ if labelled.tells_bounds then labelled.label.now ++ decimal min else labelled.label.now
       | datum.length_greater max ↦ if labelled.tells_bounds then labelled.label.now ++ decimal max else labelled.label.now
       | datum.range_lower _ ↦ labelled.label.now
@@ -73,99 +64,25 @@ impl I18n for Labelled<'_> {
       | datum.named _ _ ↦ labelled.label.now
     ] };
 
-    fn length_lower_than(&self, alloc: Global, min: usize) -> Result<CowStr<'static>, AllocError> {
-        self.bound(alloc, min)
-    }
-
-    fn length_greater_than(
-        &self,
-        alloc: Global,
-        max: usize,
-    ) -> Result<CowStr<'static>, AllocError> {
-        self.bound(alloc, max)
-    }
-
-    fn range_lower_than(&self, alloc: Global, _min: &str) -> Result<CowStr<'static>, AllocError> {
-        self.label(alloc)
-    }
-
-    fn range_greater_than(&self, alloc: Global, _max: &str) -> Result<CowStr<'static>, AllocError> {
-        self.label(alloc)
-    }
-
-    fn credit_card_invalid(
-        &self,
-        alloc: Global,
-        _reason: InvalidCreditCard,
-    ) -> Result<CowStr<'static>, AllocError> {
-        self.label(alloc)
-    }
-
-    fn pattern_no_match(
-        &self,
-        alloc: Global,
-        _pattern: &str,
-    ) -> Result<CowStr<'static>, AllocError> {
-        self.label(alloc)
-    }
-
-    fn contains_missing(
-        &self,
-        alloc: Global,
-        _pattern: &str,
-    ) -> Result<CowStr<'static>, AllocError> {
-        self.label(alloc)
-    }
-
-    fn url_invalid(
-        &self,
-        alloc: Global,
-        _reason: InvalidUrl,
-    ) -> Result<CowStr<'static>, AllocError> {
-        self.label(alloc)
-    }
-
-    fn prefix_missing(&self, alloc: Global, _pattern: &str) -> Result<CowStr<'static>, AllocError> {
-        self.label(alloc)
-    }
-
-    fn suffix_missing(&self, alloc: Global, _pattern: &str) -> Result<CowStr<'static>, AllocError> {
-        self.label(alloc)
-    }
-
-    fn phone_number_invalid(
-        &self,
-        alloc: Global,
-        _reason: InvalidPhoneNumber,
-    ) -> Result<CowStr<'static>, AllocError> {
-        self.label(alloc)
-    }
-
-    fn ip_invalid(&self, alloc: Global, _kind: IpKind) -> Result<CowStr<'static>, AllocError> {
-        self.label(alloc)
-    }
-
-    fn matches_field_mismatch(
-        &self,
-        alloc: Global,
-        _field: &str,
-    ) -> Result<CowStr<'static>, AllocError> {
-        self.label(alloc)
-    }
-
-    fn ascii_invalid(&self, alloc: Global) -> Result<CowStr<'static>, AllocError> {
-        self.label(alloc)
-    }
-
-    fn alphanumeric_invalid(&self, alloc: Global) -> Result<CowStr<'static>, AllocError> {
-        self.label(alloc)
-    }
-
-    fn required_not_set(&self, alloc: Global) -> Result<CowStr<'static>, AllocError> {
-        self.label(alloc)
-    }
-
-    fn named(&self, alloc: Global, _fault: Named<'_>) -> Result<CowStr<'static>, AllocError> {
-        self.label(alloc)
+    fn text_of(&self, alloc: Global, datum: Datum<'_>) -> Result<CowStr<'static>, AllocError> {
+        match datum {
+            Datum::LengthLowerThan(bound) => self.bound(alloc, bound),
+            Datum::LengthGreaterThan(bound) => self.bound(alloc, bound),
+            Datum::RangeLowerThan(_)
+            | Datum::RangeGreaterThan(_)
+            | Datum::CreditCardInvalid(_)
+            | Datum::PatternNoMatch(_)
+            | Datum::ContainsMissing(_)
+            | Datum::UrlInvalid(_)
+            | Datum::PrefixMissing(_)
+            | Datum::SuffixMissing(_)
+            | Datum::PhoneNumberInvalid(_)
+            | Datum::IpInvalid(_)
+            | Datum::MatchesFieldMismatch(_)
+            | Datum::AsciiInvalid
+            | Datum::AlphanumericInvalid
+            | Datum::RequiredNotSet
+            | Datum::Named(_) => self.label(alloc),
+        }
     }
 }

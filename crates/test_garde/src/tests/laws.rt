@@ -13,8 +13,8 @@ ghost use Rattle.garde.specs.Select.{messages};
 ghost use Rattle.garde.specs.Tree.{Tree, flat};
 ghost use Rattle.garde.specs.declared.validate_error.ValidateError.TheVariants as errors;
 
-use crate::tests::OrEnd;
-use crate::tests::told::tells_all;
+use super::{text_of, user_of};
+use crate::tests::told::{tells, tells_all};
 use crate::tests::user::User;
 use garde::fields::{Ascii, Discreet, Is, Length, Prefix, Rule, Url};
 use garde::laws::{
@@ -25,7 +25,6 @@ use garde::rules::values::MemoryRule;
 use garde::{DefaultI18n, I18n, RuleError, Validate, ValidateError};
 use std::alloc::Global;
 use std::borrow::CowStr;
-use std::process::Abort;
 
 /// Wherever a tree is read, its report has the same messages.
 fn messages_stay()
@@ -53,23 +52,20 @@ fn validate_in_secret(alloc: Global, user: &User) -> Result<(), ValidateError>
     user.validate(alloc)
 }
 
-/// Whether a user of this name has a report of one line, which is this.
-fn is_kept_secret(rt: &impl Abort, alloc: Global, name: &str, line: &str) -> bool {
-    let username = String::from_str(alloc, name).or_end(rt);
-    tells_all(
-        rt,
-        alloc,
-        validate_in_secret(alloc, &User { username }),
-        line,
-    )
-}
-
 #[test]
 fn messages_hold_no_part_of_a_name(rt: HostRuntime) {
-    let long = "a name of more than 25 bytes";
+    let alloc = rt.alloc();
+    let long = user_of(&rt, alloc, "a name of more than 25 bytes");
+    let short = user_of(&rt, alloc, "ab");
     let line = "username: length is greater than 25\n";
-    assert!(rt; is_kept_secret(&rt, rt.alloc(), long, line));
-    assert!(rt; is_kept_secret(&rt, rt.alloc(), "ab", "username: length is lower than 3\n"));
+    assert!(rt;
+        tells_all(alloc, validate_in_secret(alloc, &long), line)
+            && tells_all(
+                alloc,
+                validate_in_secret(alloc, &short),
+                "username: length is lower than 3\n"
+            )
+    );
 }
 
 /// Asks of a code whether it begins with a prefix. The message is one text, whatever the code is.
@@ -118,28 +114,20 @@ fn url_in_secret(alloc: Global, text: &&str) -> Result<(), RuleError>
     Url.find_in_memory(alloc, text, &DefaultI18n)
 }
 
-/// Whether this is said.
-fn says(answer: Result<(), RuleError>, message: &str) -> bool {
-    match answer {
-        Err(RuleError::Fault(error)) => error.message() == message,
-        _ => false,
-    }
-}
-
+// It calls each law of trees too, which does nothing.
 #[test]
 fn messages_hold_no_part_of_a_text(rt: HostRuntime) {
-    let line = "value does not begin with \"P\"";
-    assert!(rt; says(code_in_secret(rt.alloc(), "P", &"a secret"), line));
-    assert!(rt; says(code_in_secret(rt.alloc(), "P", &"another"), line));
-    let text = String::from_str(rt.alloc(), "a secret").or_end(&rt);
-    assert!(rt; says(text_in_secret(rt.alloc(), &text), "too long"));
-    let line = "not a valid url: relative URL without a base";
-    assert!(rt; says(url_in_secret(rt.alloc(), &"a secret"), line));
-}
-
-#[test]
-fn each_law_of_trees_is_called(_rt: HostRuntime) {
     messages_stay();
     paths_stay();
     select_part();
+    let alloc = rt.alloc();
+    let text = text_of(&rt, alloc, "a secret");
+    let line = Some("value does not begin with \"P\"");
+    let no_url = Some("not a valid url: relative URL without a base");
+    assert!(rt;
+        tells(code_in_secret(alloc, "P", &"a secret"), line)
+            && tells(code_in_secret(alloc, "P", &"another"), line)
+            && tells(text_in_secret(alloc, &text), Some("too long"))
+            && tells(url_in_secret(alloc, &"a secret"), no_url)
+    );
 }

@@ -5,14 +5,14 @@ ghost use Rattle.garde.specs.Fields.{each, each_value, index_part};
 ghost use Rattle.garde.specs.Tree.{Tree, flat};
 ghost use Rattle.garde.specs.Words.{default_text};
 
+use super::user_of;
 use crate::tests::OrEnd;
-use crate::tests::told::tells_all;
+use crate::tests::told::{reads, tells_all};
 use crate::tests::user::User;
 use garde::fields::{Dive, check_part};
 use garde::laws::items_in_parts;
 use garde::{DefaultI18n, Report, Stated, Trail, Validate};
 use std::alloc::{AllocError, Global};
-use std::process::Abort;
 
 /// The report of a part, whose first user has the index `first` in the whole list.
 fn report_of_part(alloc: Global, first: usize, part: &[User]) -> Result<Report, AllocError>
@@ -59,38 +59,33 @@ fn report_of_parts(alloc: Global, first: &[User], second: &[User]) -> Result<Rep
     joined(one, other)
 }
 
-/// Four users, of whom the second, the third and the last have faults.
-fn users(rt: &impl Abort, alloc: Global) -> Vec<User> {
-    let mut users = Vec::new(alloc);
-    for name in ["test", "é", "ab", "a name of more than 25 bytes"] {
-        let username = String::from_str(alloc, name).or_end(rt);
-        users.push(User { username }).or_end(rt);
-    }
-    users
-}
-
 /// Whether a list that is cut here has this report, as a text.
-fn is_told_in_parts(
-    rt: &impl Abort,
-    alloc: Global,
-    users: &Vec<User>,
-    cut: usize,
-    text: &str,
-) -> bool {
+fn is_told_in_parts(alloc: Global, users: &Vec<User>, cut: usize, text: &str) -> bool {
     let Some((first, second)) = users.split_at_checked(cut) else {
         return false;
     };
-    let report = report_of_parts(alloc, first, second).or_end(rt);
-    report.to_string(alloc).or_end(rt).as_str() == text
+    match report_of_parts(alloc, first, second) {
+        Ok(report) => reads(alloc, &report, text) == Ok(true),
+        Err(AllocError) => false,
+    }
 }
 
+// Four users, of whom the second, the third and the last have faults.
 #[test]
 fn parts_have_the_report_of_the_whole(rt: HostRuntime) {
-    let users = users(&rt, rt.alloc());
+    let alloc = rt.alloc();
+    let mut users = Vec::new(alloc);
+    for name in ["test", "é", "ab", "a name of more than 25 bytes"] {
+        users.push(user_of(&rt, alloc, name)).or_end(&rt);
+    }
     let text =
         "[1].username: not ascii\n[1].username: length is lower than 3\n[2].username: length is lower than 3\n[3].username: length is greater than 25\n";
-    assert!(rt; tells_all(&rt, rt.alloc(), users.validate(rt.alloc()), text));
-    for cut in 0..=4 {
-        assert!(rt; is_told_in_parts(&rt, rt.alloc(), &users, cut, text));
-    }
+    assert!(rt;
+        tells_all(alloc, users.validate(alloc), text)
+            && is_told_in_parts(alloc, &users, 0, text)
+            && is_told_in_parts(alloc, &users, 1, text)
+            && is_told_in_parts(alloc, &users, 2, text)
+            && is_told_in_parts(alloc, &users, 3, text)
+            && is_told_in_parts(alloc, &users, 4, text)
+    );
 }

@@ -1,12 +1,11 @@
 //! Lists and paths, also where memory runs out, and what paths print.
 
 use super::OrEnd;
-use super::told::{prints, shows};
+use super::told::{reads, shows};
 use garde::Path;
 use garde::error::PathComponentKind;
 use garde::rc_list::{JoinError, List};
 use std::alloc::{AllocError, Global};
-use std::process::Abort;
 use test_memory::{Met, Scarce};
 
 /// The list with one item more.
@@ -17,17 +16,12 @@ pub fn longer<T: Drop>(alloc: Global, list: &List<T>, item: T) -> Result<List<T>
     }
 }
 
-// The list of `a`, `c` and `d`.
-fn letters(alloc: Global) -> Result<List<char>, AllocError> {
+/// A list with one item more.
+pub fn append(alloc: Global, memory: &mut Scarce) -> Result<Met, AllocError> {
     let mut list = List::new();
     for letter in ['a', 'c', 'd'] {
         list = longer(alloc, &list, letter)?;
     }
-    Ok(list)
-}
-
-pub fn append(alloc: Global, memory: &mut Scarce) -> Result<Met, AllocError> {
-    let list = letters(alloc)?;
     memory.begin();
     let answer = list.append(alloc, 'e');
     memory.end();
@@ -69,11 +63,7 @@ pub fn indexes(alloc: Global, count: usize) -> Result<Path, AllocError> {
     Ok(path)
 }
 
-// Whether two paths are equal.
-fn are_equal(path: &Path, other: &Path) -> bool {
-    path == other
-}
-
+/// A path with one component more.
 pub fn join(alloc: Global, memory: &mut Scarce) -> Result<Met, AllocError> {
     let path = indexes(alloc, 2)?;
     let like = indexes(alloc, 2)?;
@@ -81,14 +71,15 @@ pub fn join(alloc: Global, memory: &mut Scarce) -> Result<Met, AllocError> {
     memory.begin();
     let answer = path.join(alloc, 2usize);
     memory.end();
-    let stands = are_equal(&path, &like);
+    let stands = path == like;
     Ok(match answer {
-        Ok(longer) if stands && are_equal(&longer, &longer_like) => Met::Ample,
+        Ok(longer) if stands && longer == longer_like => Met::Ample,
         Err(JoinError::Memory) if stands => Met::Want,
         _ => Met::Wrong,
     })
 }
 
+/// A walk of a path.
 pub fn iter(alloc: Global, memory: &mut Scarce) -> Result<Met, AllocError> {
     let path = indexes(alloc, 9)?;
     let like = indexes(alloc, 9)?;
@@ -99,15 +90,7 @@ pub fn iter(alloc: Global, memory: &mut Scarce) -> Result<Met, AllocError> {
         Err(AllocError) => Met::Want,
     };
     memory.end();
-    Ok(answer.when(are_equal(&path, &like)))
-}
-
-// Whether the path of these keys has as many components, and prints these texts.
-fn keys_print(rt: &impl Abort, alloc: Global, texts: &[&str], text: &str, shown: &str) -> bool {
-    let path = keys(alloc, texts).or_end(rt);
-    path.len() == texts.len()
-        && prints(rt, alloc, &path, text)
-        && shows(alloc, &path, shown).or_end(rt)
+    Ok(answer.when(path == like))
 }
 
 /// Keys, what their path prints, and what it prints for a programmer.
@@ -128,6 +111,12 @@ static KEYED: [(&[&str], &str, &str); 3] = [
 #[test]
 fn a_key_that_is_a_number_is_a_key(rt: HostRuntime) {
     for (texts, text, shown) in &KEYED {
-        assert!(rt; keys_print(&rt, rt.alloc(), texts, text, shown), "{text}");
+        let path = keys(rt.alloc(), texts).or_end(&rt);
+        assert!(rt;
+            path.len() == texts.len()
+                && reads(rt.alloc(), &path, text) == Ok(true)
+                && shows(rt.alloc(), &path, shown) == Ok(true),
+            "{text}"
+        );
     }
 }

@@ -67,16 +67,15 @@ static ALL: [(&str, Scenario); 15] = [
     ("typed", Scenario::Typed),
 ];
 
-// Whether a scenario ends well under budgets of memory that grow from nothing.
-fn is_ample_in_turn(alloc: Global, calls: Scenario) -> Result<bool, AllocError> {
-    let mut memory = Scarce::taken(alloc)?;
-    Ok(calls.in_turn(alloc, &mut memory)? == Met::Ample)
-}
-
+// Each scenario ends well under budgets of memory that grow from nothing.
 #[test]
 fn each_budget_of_memory(rt: HostRuntime) -> Result<(), Fail> {
     for (name, calls) in &ALL {
-        assert!(rt; is_ample_in_turn(rt.alloc(), *calls)?, "at {name}");
+        let mut memory = Scarce::taken(rt.alloc())?;
+        assert!(rt;
+            calls.in_turn(rt.alloc(), &mut memory)? == Met::Ample,
+            "at {name}"
+        );
     }
     Ok(())
 }

@@ -1,52 +1,36 @@
 //! Reports and their written form, also where memory runs out.
 
 use super::told::reads;
-use garde::error::PathComponentKind;
 use garde::{Error, Path, Report};
 use garde_json::{JsonRefused, report_from_json, report_from_json_text, report_to_json};
 use serde_json::Value;
 use std::alloc::{AllocError, Global};
 use test_memory::{Met, Scarce};
 
-/// Adds a fault with this message at a component.
-pub fn add<K: PathComponentKind + Drop>(
-    alloc: Global,
-    report: &mut Report,
-    component: K,
-    message: &str,
-) -> Result<(), AllocError> {
-    let error = Error::new(alloc, message)?;
-    report.append(Path::new(alloc, component)?, error)
-}
-
-/// A report of these messages at the key `a`.
-pub fn report_of(alloc: Global, messages: &[&str]) -> Result<Report, AllocError> {
+/// A report of these messages at a key.
+pub fn report_of(alloc: Global, key: &str, messages: &[&str]) -> Result<Report, AllocError> {
     let mut report = Report::new(alloc);
     for message in messages {
-        add(alloc, &mut report, "a", message)?;
+        report.append(Path::new(alloc, key)?, Error::new(alloc, message)?)?;
     }
     Ok(report)
 }
 
 /// Whether a report has these messages and no others.
 pub fn has(report: &Report, messages: &[&str]) -> bool {
-    if report.iter().count() != messages.len() {
-        return false;
-    }
-    for ((_, error), message) in report.iter().zip(messages) {
-        if error.message() != *message {
-            return false;
-        }
-    }
-    true
+    let found = report.iter().map(|(_, error)| error.message());
+    found.eq(messages.iter().copied())
 }
 
+/// The messages of a report.
 const FOUR: &[&str] = &["v", "w", "x", "y"];
 
+/// These messages, and one more.
 const FIVE: &[&str] = &["v", "w", "x", "y", "z"];
 
+/// A fault more in a report.
 pub fn append(alloc: Global, memory: &mut Scarce) -> Result<Met, AllocError> {
-    let mut report = report_of(alloc, FOUR)?;
+    let mut report = report_of(alloc, "a", FOUR)?;
     let path = Path::new(alloc, "a")?;
     let error = Error::new(alloc, "z")?;
     memory.begin();
@@ -59,8 +43,9 @@ pub fn append(alloc: Global, memory: &mut Scarce) -> Result<Met, AllocError> {
     })
 }
 
+/// The copy of a report.
 pub fn copy(alloc: Global, memory: &mut Scarce) -> Result<Met, AllocError> {
-    let report = report_of(alloc, FOUR)?;
+    let report = report_of(alloc, "a", FOUR)?;
     memory.begin();
     let answer: Result<Report, AllocError> = report.clone();
     memory.end();
@@ -72,19 +57,13 @@ pub fn copy(alloc: Global, memory: &mut Scarce) -> Result<Met, AllocError> {
     })
 }
 
+/// A report as a tree.
 const FORM: &str =
     r#"{"errors":[[[["key","a"]],{"message":"lorem"}],[[["key","a"]],{"message":"dolor"}]]}"#;
 
-/// The tree of this text.
-pub fn tree(alloc: Global, form: &str) -> Result<Value, AllocError> {
-    match Value::from_str(alloc, form) {
-        Ok(tree) => Ok(tree),
-        Err(_) => Err(AllocError),
-    }
-}
-
+/// The tree of a report.
 pub fn write(alloc: Global, memory: &mut Scarce) -> Result<Met, AllocError> {
-    let report = report_of(alloc, &["lorem", "dolor"])?;
+    let report = report_of(alloc, "a", &["lorem", "dolor"])?;
     memory.begin();
     let answer = report_to_json(alloc, &report);
     memory.end();
@@ -97,8 +76,11 @@ pub fn write(alloc: Global, memory: &mut Scarce) -> Result<Met, AllocError> {
     }
 }
 
+/// The report of a tree.
 pub fn read(alloc: Global, memory: &mut Scarce) -> Result<Met, AllocError> {
-    let tree = tree(alloc, FORM)?;
+    let Ok(tree) = Value::from_str(alloc, FORM) else {
+        return Err(AllocError);
+    };
     memory.begin();
     let answer = report_from_json(alloc, &tree);
     memory.end();
@@ -112,6 +94,7 @@ pub fn read(alloc: Global, memory: &mut Scarce) -> Result<Met, AllocError> {
     })
 }
 
+/// The report of the text of a tree.
 pub fn read_text(alloc: Global, memory: &mut Scarce) -> Result<Met, AllocError> {
     memory.begin();
     let answer = report_from_json_text(alloc, FORM);

@@ -94,6 +94,7 @@ pub fn regex(alloc: Global, text: &str) -> Result<Regex, AllocError> {
     }
 }
 
+/// Each rule that does not hold.
 pub fn rules(alloc: Global, memory: &mut Scarce) -> Result<Met, AllocError> {
     let code = regex(alloc, "^[0-9]{5}$")?;
     let mut met = Met::Ample;
@@ -110,6 +111,7 @@ pub fn rules(alloc: Global, memory: &mut Scarce) -> Result<Met, AllocError> {
     Ok(met)
 }
 
+/// A pattern that is compiled.
 pub fn compile(alloc: Global, memory: &mut Scarce) -> Result<Met, AllocError> {
     memory.begin();
     let answer = Regex::new(alloc, "^[0-9]{5}$");

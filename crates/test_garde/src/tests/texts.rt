@@ -42,6 +42,7 @@ static TEXTS: [Row; 13] = [
     ),
 ];
 
+/// Each of these texts.
 pub fn texts(alloc: Global, memory: &mut Scarce) -> Result<Met, AllocError> {
     let mut met = Met::Ample;
     for (asked, wanted) in &TEXTS {

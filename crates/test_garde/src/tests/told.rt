@@ -1,26 +1,37 @@
 //! What answers print, and what values print.
-use crate::tests::OrEnd;
-use garde::{RuleError, ValidateError};
+use garde::{I18n, RuleError, Trail, Validate, ValidateError};
 use std::alloc::{AllocError, Global};
 use std::fmt::{Debug, Display};
-use std::process::Abort;
 
-/// What an answer prints. That of a valid value prints nothing.
-pub fn told(rt: &impl Abort, alloc: Global, answer: Result<(), ValidateError>) -> String {
+/// Whether the text of a value is this.
+pub fn reads<T: Display>(alloc: Global, value: &T, text: &str) -> Result<bool, AllocError> {
+    Ok(value.to_string(alloc)?.as_str() == text)
+}
+
+/// Whether a value prints this text for a programmer.
+pub fn shows<T: Debug>(alloc: Global, value: &T, text: &str) -> Result<bool, AllocError> {
+    Ok(format!(in alloc; "{value:?}")?.as_str() == text)
+}
+
+/// Whether an answer prints just this. That of a valid value prints nothing.
+pub fn tells_all(alloc: Global, answer: Result<(), ValidateError>, text: &str) -> bool {
     match answer {
-        Ok(()) => String::new(alloc),
-        Err(refusal) => refusal.to_string(alloc).or_end(rt),
+        Ok(()) => text.is_empty(),
+        Err(refusal) => reads(alloc, &refusal, text) == Ok(true),
     }
 }
 
-/// Whether an answer prints just this.
-pub fn tells_all(
-    rt: &impl Abort,
+/// Whether a walk on a new trail reports just this, and makes so many nodes.
+pub fn is_told<T: Validate, H: I18n>(
     alloc: Global,
-    answer: Result<(), ValidateError>,
-    text: &str,
+    value: &T,
+    ctx: &T::Context,
+    h: &H,
+    (text, nodes): (&str, usize),
 ) -> bool {
-    told(rt, alloc, answer).as_str() == text
+    let mut trail = Trail::new(alloc);
+    let answer = value.validate_on(alloc, ctx, &mut trail, h);
+    trail.nodes() == nodes && tells_all(alloc, answer, text)
 }
 
 /// Whether the answer of a rule prints this: nothing where it is Ok, and else the text of its
@@ -31,19 +42,4 @@ pub fn tells(answer: Result<(), RuleError>, wanted: Option<&str>) -> bool {
         Err(RuleError::Fault(error)) => wanted == Some(error.message()),
         Err(RuleError::Memory) => wanted == Some("out of memory"),
     }
-}
-
-/// Whether a value prints this text.
-pub fn prints<T: Display>(rt: &impl Abort, alloc: Global, value: &T, text: &str) -> bool {
-    value.to_string(alloc).or_end(rt).as_str() == text
-}
-
-/// Whether the text of a value is this.
-pub fn reads<T: Display>(alloc: Global, value: &T, text: &str) -> Result<bool, AllocError> {
-    Ok(value.to_string(alloc)?.as_str() == text)
-}
-
-/// Whether a value prints this text for a programmer.
-pub fn shows<T: Debug>(alloc: Global, value: &T, text: &str) -> Result<bool, AllocError> {
-    Ok(format!(in alloc; "{value:?}")?.as_str() == text)
 }

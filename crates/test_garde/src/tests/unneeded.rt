@@ -1,5 +1,6 @@
 //! Calls that need no memory, and one that does, while each request for memory fails.
 
+use super::OrEnd;
 use super::asked::{Row, said};
 use super::paths::keys;
 use super::rules::regex;
@@ -20,30 +21,26 @@ const LONG: &str = "^(one|two|three|four|five|six|seven|eight|nine|ten|eleven|mo
 /// Texts, and whether that pattern matches them.
 static SEARCHED: [(&str, bool); 3] = [("seven", true), ("zero", false), ("more", true)];
 
-// Whether a searcher answers each of these.
-fn answers_each(alloc: Global, searcher: &Searcher<'_>) -> bool {
-    let mut all = true;
-    for (text, wanted) in &SEARCHED {
-        all = all && searcher.is_match(alloc, text) == Ok(*wanted);
-    }
-    all
-}
-
 // Whether a searcher that was made before answers each search.
 fn searches_without_memory(alloc: Global, pattern: &str) -> Result<bool, AllocError> {
     let code = regex(alloc, pattern)?;
     let searcher = code.searcher(alloc)?;
     let mut memory = Scarce::taken(alloc)?;
+    let mut all = true;
     memory.begin();
-    let answer = answers_each(alloc, &searcher);
+    for (text, wanted) in &SEARCHED {
+        all = all && searcher.is_match(alloc, text) == Ok(*wanted);
+    }
     memory.end();
-    Ok(answer)
+    Ok(all)
 }
 
 #[test]
 fn a_searcher_searches_without_memory(rt: HostRuntime) {
-    assert!(rt; searches_without_memory(rt.alloc(), LONG) == Ok(true));
-    assert!(rt; searches_without_memory(rt.alloc(), "^(seven|more)$") == Ok(true));
+    assert!(rt;
+        searches_without_memory(rt.alloc(), LONG) == Ok(true)
+            && searches_without_memory(rt.alloc(), "^(seven|more)$") == Ok(true)
+    );
 }
 
 /// The texts that the default handler has without memory.
@@ -57,61 +54,41 @@ static STORED: [Row; 4] = [
     ),
 ];
 
-// Whether a reference to the handler hands on each of these texts.
-fn hands_on_each(alloc: Global) -> bool {
-    let mut all = true;
-    for (asked, wanted) in &STORED {
-        all = all
-            && matches!(&said(alloc, &&DefaultI18n, *asked), Ok(text) if text.as_str() == *wanted);
-    }
-    all
-}
-
-// Whether it does so without memory.
-fn hands_on_without_memory(alloc: Global) -> Result<bool, AllocError> {
-    let mut memory = Scarce::taken(alloc)?;
-    memory.begin();
-    let answer = hands_on_each(alloc);
-    memory.end();
-    Ok(answer)
-}
-
 #[test]
 fn a_reference_to_a_handler_copies_no_text(rt: HostRuntime) {
-    assert!(rt; hands_on_without_memory(rt.alloc()) == Ok(true));
-}
-
-// Whether a rule with a message is out of memory where its handler is.
-fn message_needs_the_handler(alloc: Global) -> Result<bool, AllocError> {
-    let rule = WithMessage(Length { min: 5, max: 9 }, "too short");
-    let mut memory = Scarce::taken(alloc)?;
+    let mut memory = Scarce::taken(rt.alloc()).or_end(&rt);
+    let mut all = true;
     memory.begin();
-    let answer = rule.find(alloc, &"four", &DefaultI18n);
+    for (asked, wanted) in &STORED {
+        let answer = said(rt.alloc(), &&DefaultI18n, *asked);
+        all = all && matches!(&answer, Ok(text) if text.as_str() == *wanted);
+    }
     memory.end();
-    Ok(matches!(answer, Err(RuleError::Memory)))
+    assert!(rt; all);
 }
 
 #[test]
 fn a_message_is_out_of_memory_where_the_handler_is(rt: HostRuntime) {
-    assert!(rt; message_needs_the_handler(rt.alloc()) == Ok(true));
+    let rule = WithMessage(Length { min: 5, max: 9 }, "too short");
+    let mut memory = Scarce::taken(rt.alloc()).or_end(&rt);
+    memory.begin();
+    let answer = rule.find(rt.alloc(), &"four", &DefaultI18n);
+    memory.end();
+    assert!(rt; matches!(answer, Err(RuleError::Memory)));
 }
 
 /// What a path of eight keys prints as a pointer, and escaped.
 const PRINTED: &str = "/a~1\n/b/b/b/b/b/b/b a/\\n.b.b.b.b.b.b.b";
 
-// Whether it prints both with no memory but the room of a text that was made before.
-fn prints_without_memory(alloc: Global) -> Result<bool, AllocError> {
-    let path = keys(alloc, &["a/\n", "b", "b", "b", "b", "b", "b", "b"])?;
-    let mut out = String::with_capacity(alloc, 64)?;
-    let mut memory = Scarce::taken(alloc)?;
+#[test]
+fn a_path_of_eight_components_prints_without_memory(rt: HostRuntime) {
+    let alloc = rt.alloc();
+    let path = keys(alloc, &["a/\n", "b", "b", "b", "b", "b", "b", "b"]).or_end(&rt);
+    let mut out = String::with_capacity(alloc, 64).or_end(&rt);
+    let mut memory = Scarce::taken(alloc).or_end(&rt);
     memory.begin();
     let (pointer, escaped) = (JsonPointer(alloc, &path), Escaped(alloc, &path));
     let printed = write!(out, "{pointer} {escaped}");
     memory.end();
-    Ok(printed.is_ok() && out.as_str() == PRINTED)
-}
-
-#[test]
-fn a_path_of_eight_components_prints_without_memory(rt: HostRuntime) {
-    assert!(rt; prints_without_memory(rt.alloc()) == Ok(true));
+    assert!(rt; printed.is_ok() && out.as_str() == PRINTED);
 }

@@ -1,14 +1,13 @@
 //! Walks of users, also of nests of lists, where memory runs out.
 
 use super::reports::{has, report_of};
-use super::told::{reads, shows, told};
+use super::told::{reads, shows};
 use super::user::User;
 use garde::{
-    Component, DefaultI18n, FirstError, I18n, IntoValidError, Report, Trail, Unvalidated, Validate,
+    Component, DefaultI18n, FirstError, IntoValidError, Report, Trail, Unvalidated, Validate,
     ValidateError,
 };
 use std::alloc::{AllocError, Global};
-use std::process::Abort;
 use test_memory::{Met, Scarce};
 
 /// One user of this name.
@@ -18,56 +17,18 @@ pub fn user(alloc: Global, name: &str) -> Result<User, AllocError> {
     })
 }
 
-/// What a walk on a new trail reports, and the nodes that it made.
-pub fn walked<T: Validate, H: I18n>(
-    rt: &impl Abort,
-    alloc: Global,
-    value: &T,
-    ctx: &T::Context,
-    h: &H,
-) -> (String, usize) {
-    let mut trail = Trail::new(alloc);
-    let answer = value.validate_on(alloc, ctx, &mut trail, h);
-    let nodes = trail.nodes();
-    (told(rt, alloc, answer), nodes)
-}
-
-/// Whether a walk on a new trail reports just this, and makes so many nodes.
-pub fn is_told<T: Validate, H: I18n>(
-    rt: &impl Abort,
-    alloc: Global,
-    value: &T,
-    ctx: &T::Context,
-    h: &H,
-    (text, nodes): (&str, usize),
-) -> bool {
-    let (told, made) = walked(rt, alloc, value, ctx, h);
-    told.as_str() == text && made == nodes
-}
-
+/// What a report has before a walk.
 const OLD: &[&str] = &["old"];
 
+/// What is found of a user.
 const FOUND: &[&str] = &["not ascii", "length is lower than 3"];
 
+/// Both, one after the other.
 const FAULTS: &[&str] = &["old", "not ascii", "length is lower than 3"];
 
 // Whether a report has the first of the faults, and after it none or some of the others in turn.
 fn begins(report: &Report) -> bool {
     has(report, OLD) || has(report, &["old", "not ascii"]) || has(report, FAULTS)
-}
-
-// What a walk of users answers while memory may run out.
-fn walk<'a>(
-    alloc: Global,
-    memory: &mut Scarce,
-    users: &'a Vec<Option<User>>,
-    trail: &mut Trail<'a>,
-    report: &mut Report,
-) -> Result<(), AllocError> {
-    memory.begin();
-    let answer = users.validate_into(alloc, &(), trail, report, &DefaultI18n);
-    memory.end();
-    answer
 }
 
 // Whether the trail stands where it stood, so that a walk with ample memory reports each fault at its place.
@@ -83,23 +44,21 @@ fn stands<'a>(
     Ok(trail.depth() == 1 && has(&again, FOUND) && same_place)
 }
 
-// What the memory did, by the answer and the report of a walk behind which the trail stands or not.
-fn met(answer: Result<(), AllocError>, stands: bool, report: &Report) -> Met {
-    match answer {
-        Ok(()) if stands && has(report, FAULTS) => Met::Ample,
-        Err(AllocError) if stands && begins(report) => Met::Want,
-        _ => Met::Wrong,
-    }
-}
-
+/// A walk of users into a report that has a fault.
 pub fn on_users(alloc: Global, memory: &mut Scarce) -> Result<Met, AllocError> {
     let users = one(alloc, Some(user(alloc, "é")?))?;
-    let mut report = report_of(alloc, OLD)?;
+    let mut report = report_of(alloc, "a", OLD)?;
     let mut trail = Trail::new(alloc);
     trail.push(Component::key("users"))?;
-    let answer = walk(alloc, memory, &users, &mut trail, &mut report);
+    memory.begin();
+    let answer = users.validate_into(alloc, &(), &mut trail, &mut report, &DefaultI18n);
+    memory.end();
     let stands = stands(alloc, &users, &mut trail)?;
-    Ok(met(answer, stands, &report))
+    Ok(match answer {
+        Ok(()) if stands && has(&report, FAULTS) => Met::Ample,
+        Err(AllocError) if stands && begins(&report) => Met::Want,
+        _ => Met::Wrong,
+    })
 }
 
 /// Lists in lists, four deep.
@@ -114,29 +73,20 @@ pub fn one<T: Drop>(alloc: Global, value: T) -> Result<Vec<T>, AllocError> {
     }
 }
 
-/// A value in lists, two deep.
-pub fn two<T: Drop>(alloc: Global, value: T) -> Result<Vec<Vec<T>>, AllocError> {
-    one(alloc, one(alloc, value)?)
-}
-
 /// A value in lists, four deep.
 pub fn four<T: Drop>(alloc: Global, value: T) -> Result<Four<T>, AllocError> {
-    two(alloc, two(alloc, value)?)
-}
-
-/// A value in lists, eight deep.
-pub fn eight<T: Drop>(alloc: Global, value: T) -> Result<Four<Four<T>>, AllocError> {
-    four(alloc, four(alloc, value)?)
+    one(alloc, one(alloc, one(alloc, one(alloc, value)?)?)?)
 }
 
 /// A user of this name in twelve lists, one in the other.
 pub fn twelve(alloc: Global, name: &str) -> Result<Four<Four<Four<User>>>, AllocError> {
-    let user = user(alloc, name)?;
-    eight(alloc, four(alloc, user)?)
+    four(alloc, four(alloc, four(alloc, user(alloc, name)?)?)?)
 }
 
+/// What is reported of a user in twelve lists.
 const NESTED: &str = "[0][0][0][0][0][0][0][0][0][0][0][0].username: length is lower than 3\n";
 
+/// A walk of twelve lists.
 pub fn nest(alloc: Global, memory: &mut Scarce) -> Result<Met, AllocError> {
     let lists = twelve(alloc, "ab")?;
     let mut trail = Trail::new(alloc);
@@ -173,6 +123,7 @@ pub fn first(alloc: Global, memory: &mut Scarce) -> Result<Met, AllocError> {
     }
 }
 
+/// A value that becomes a valid one.
 pub fn typed(alloc: Global, memory: &mut Scarce) -> Result<Met, AllocError> {
     let users = Unvalidated::new(one(alloc, Some(user(alloc, "é")?))?);
     memory.begin();

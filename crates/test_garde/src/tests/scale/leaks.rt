@@ -2,7 +2,7 @@
 //! than 32 KiB are left. What leaks a byte of each object runs out of memory.
 use crate::tests::custom::Custom;
 use crate::tests::paths::{keys, longer};
-use crate::tests::reports::add;
+use crate::tests::reports::report_of;
 use crate::tests::rules::regex;
 use garde::rc_list::List;
 use garde::rules::ascii;
@@ -44,6 +44,7 @@ enum Made {
     Refused,
 }
 
+/// Each kind, with its name.
 static KINDS: [(&str, Made); 11] = [
     ("lists", Made::Lists),
     ("paths", Made::Paths),
@@ -58,31 +59,20 @@ static KINDS: [(&str, Made); 11] = [
     ("refused", Made::Refused),
 ];
 
-// A list of long texts.
-fn list(alloc: Global) -> Result<List<String>, AllocError> {
+// A list of long texts, its clone, and the list before it.
+fn lists(alloc: Global) -> Result<(), AllocError> {
     let mut list = List::new();
     for _ in 0..9usize {
         list = longer(alloc, &list, String::from_str(alloc, LONG)?)?;
     }
-    Ok(list)
-}
-
-// The list before a list.
-fn before(list: &List<String>) -> Result<(), AllocError> {
-    let _before = list.before()?;
+    let copy = list.clone()?;
+    let _before = copy.before()?;
     Ok(())
 }
 
-// A list, its clone, and the list before it.
-fn lists(alloc: Global) -> Result<(), AllocError> {
-    let list = list(alloc)?;
-    let copy = list.clone()?;
-    before(&copy)
-}
-
-// The parent of a path.
-fn parent(path: &Path) -> Result<(), AllocError> {
-    let _parent = path.parent()?;
+// The text of a value.
+fn text<T: Display>(alloc: Global, value: &T) -> Result<(), AllocError> {
+    let _text = value.to_string(alloc)?;
     Ok(())
 }
 
@@ -93,18 +83,13 @@ fn walk(alloc: Global, path: &Path) -> Result<(), AllocError> {
     Ok(())
 }
 
-// The text of a value.
-fn text<T: Display>(alloc: Global, value: &T) -> Result<(), AllocError> {
-    let _text = value.to_string(alloc)?;
-    Ok(())
-}
-
-// A path, its parent, a walk of it, and its text.
+// A path, a walk of it, its text, and its parent.
 fn paths(alloc: Global) -> Result<(), AllocError> {
     let path = keys(alloc, &[LONG; 9])?;
-    parent(&path)?;
     walk(alloc, &path)?;
-    text(alloc, &path)
+    text(alloc, &path)?;
+    let _parent = path.parent()?;
+    Ok(())
 }
 
 // So many steps down.
@@ -124,23 +109,6 @@ fn go_up(trail: &mut Trail<'static>, steps: usize) {
     }
 }
 
-// The path of a trail.
-fn path(trail: &mut Trail<'static>) -> Result<(), AllocError> {
-    let _path = trail.path()?;
-    Ok(())
-}
-
-// A trail after so many steps down, with its path or without it, and so many steps up.
-fn way(alloc: Global, (down, asked, up): (usize, bool, usize)) -> Result<(), AllocError> {
-    let mut trail = Trail::new(alloc);
-    go_down(&mut trail, down)?;
-    if asked {
-        path(&mut trail)?;
-    }
-    go_up(&mut trail, up);
-    Ok(())
-}
-
 /// Steps down, whether the path is asked for, and steps up.
 static WAYS: [(usize, bool, usize); 8] = [
     (0, true, 0),
@@ -153,37 +121,26 @@ static WAYS: [(usize, bool, usize); 8] = [
     (12, true, 12),
 ];
 
-// Trails in each state.
+// A trail in each state: after so many steps down, with its path or without it, and so many steps up.
 fn ways(alloc: Global) -> Result<(), AllocError> {
-    for steps in &WAYS {
-        way(alloc, *steps)?;
+    for (down, asked, up) in &WAYS {
+        let mut trail = Trail::new(alloc);
+        go_down(&mut trail, *down)?;
+        if *asked {
+            let _path = trail.path()?;
+        }
+        go_up(&mut trail, *up);
     }
     Ok(())
-}
-
-// A report of so many faults.
-fn report_of(alloc: Global, count: usize) -> Result<Report, AllocError> {
-    let mut report = Report::new(alloc);
-    for _ in 0..count {
-        add(alloc, &mut report, LONG, LONG)?;
-    }
-    Ok(report)
 }
 
 // A report, its text, its clone, and its faults.
 fn reports(alloc: Global) -> Result<(), AllocError> {
-    let report = report_of(alloc, 9)?;
+    let report = report_of(alloc, LONG, &[LONG; 9])?;
     text(alloc, &report)?;
     let copy = report.clone()?;
     let _found = select(&copy, &[LONG]).count();
     let _faults = report.into_inner();
-    Ok(())
-}
-
-// An error, and its clone.
-fn error(alloc: Global) -> Result<(), AllocError> {
-    let error = Error::new(alloc, LONG)?;
-    let _copy = error.clone()?;
     Ok(())
 }
 
@@ -196,11 +153,13 @@ fn found(alloc: Global) -> Result<(), AllocError> {
     Ok(())
 }
 
-// Errors, what rules find, and `Memory`.
+// What rules find, `Memory`, an error, and its clone.
 fn errors(alloc: Global) -> Result<(), AllocError> {
-    error(alloc)?;
     found(alloc)?;
-    text(alloc, &ValidateError::Memory)
+    text(alloc, &ValidateError::Memory)?;
+    let error = Error::new(alloc, LONG)?;
+    let _copy = error.clone()?;
+    Ok(())
 }
 
 // The tree of a report, and the report of the tree.
@@ -212,17 +171,12 @@ fn tree(alloc: Global, report: &Report) -> Result<(), AllocError> {
     }
 }
 
-// The text of a tree of a report.
-fn tree_text(alloc: Global, report: &Report) -> Result<(), AllocError> {
-    let _text = report_to_json_text(alloc, report)?;
-    Ok(())
-}
-
-// The tree of a report, its text, and the report of the tree.
+// The tree of a report, the report of the tree, and its text.
 fn trees(alloc: Global) -> Result<(), AllocError> {
-    let report = report_of(alloc, 2)?;
+    let report = report_of(alloc, LONG, &[LONG; 2])?;
     tree(alloc, &report)?;
-    tree_text(alloc, &report)
+    let _text = report_to_json_text(alloc, &report)?;
+    Ok(())
 }
 
 // Work under a handler that holds memory.
@@ -250,21 +204,17 @@ fn patterns(alloc: Global) -> Result<(), AllocError> {
     search(alloc, &pattern)
 }
 
-// The text, where there is one.
-fn owned(alloc: Global, text: Option<&str>) -> Result<Option<String>, AllocError> {
-    match text {
-        Some(text) => Ok(Some(String::from_str(alloc, text)?)),
-        None => Ok(None),
-    }
-}
-
 // A document with this content and this tag, of whose content no format and no length is asked.
 fn document(alloc: Global, content: Option<&str>, tag: &str) -> Result<Document, AllocError> {
     let tag = Tag(String::from_str(alloc, tag)?);
+    let content = match content {
+        Some(text) => Some(String::from_str(alloc, text)?),
+        None => None,
+    };
     Ok(Document {
         check_format: false,
         check_length: false,
-        content: owned(alloc, content)?,
+        content,
         tag,
     })
 }
@@ -286,15 +236,6 @@ fn invalid(alloc: Global) -> Result<(), AllocError> {
         Err(IntoValidError::Report(report)) => text(alloc, &report),
         _ => Err(AllocError),
     }
-}
-
-// So many documents, each with two faults.
-fn crowd(alloc: Global, count: usize) -> Result<Vec<Document>, AllocError> {
-    let mut crowd = Vec::new(alloc);
-    for _ in 0..count {
-        crowd.push(document(alloc, None, LONG)?)?;
-    }
-    Ok(crowd)
 }
 
 // A walk that fails before its end.
@@ -332,9 +273,13 @@ fn times_made(alloc: Global, kind: Made, crowd: &Vec<Document>) -> usize {
     TIMES
 }
 
-// How often objects of a kind could be made in turn while little memory is left.
+// How often objects of a kind could be made in turn while little memory is left. There are 300
+// documents, each with two faults.
 fn times_given_back(alloc: Global, kind: Made) -> Result<usize, AllocError> {
-    let crowd = crowd(alloc, 300)?;
+    let mut crowd = Vec::new(alloc);
+    for _ in 0..300 {
+        crowd.push(document(alloc, None, LONG)?)?;
+    }
     let mut hog = Hog::new(alloc)?;
     hog.leave(BUDGET);
     let times = times_made(alloc, kind, &crowd);

@@ -8,7 +8,7 @@ use garde::rules::pattern::regex::Regex;
 use garde::rules::values::MemoryRule;
 use garde::rules::{pattern, url};
 use garde::{DefaultI18n, RuleError};
-use std::alloc::{AllocError, Global};
+use std::alloc::Global;
 use std::process::Abort;
 
 // The answer for a label that may be a URL, or have a code, by a function or a value.
@@ -25,37 +25,33 @@ fn answer(alloc: Global, way: usize, label: &Label, code: &Regex) -> Result<(), 
     }
 }
 
+/// What is found of a text that is no URL.
 const NO_URL: Option<&str> = Some("not a valid url: relative URL without a base");
 
+/// What is found of a text that has no code.
 const NO_CODE: Option<&str> = Some("does not match pattern /^[0-9]+$/");
 
 /// A beginning, what comes again after it, and how often.
 type Parts<'t> = (&'t str, &'t str, usize);
 
-// A text of these parts.
-fn text(alloc: Global, (front, again, times): Parts<'_>) -> Result<String, AllocError> {
-    let rest = again.repeat(alloc, times)?;
-    format!(in alloc; "{front}{rest}")
-}
-
-// A label of a text of these parts.
-fn label(rt: &impl Abort, alloc: Global, parts: Parts<'_>) -> Label {
-    Label {
-        text: text(alloc, parts).or_end(rt),
-    }
-}
-
-// Whether this is the answer for a label of these parts, by a function or a value.
+// Whether this is the answer for a label of these parts in each of these ways.
 fn is_answered(
     rt: &impl Abort,
     alloc: Global,
-    way: usize,
-    parts: Parts<'_>,
+    ways: [usize; 3],
+    (front, again, times): Parts<'_>,
     wanted: Option<&str>,
 ) -> bool {
     let code = regex(alloc, "^[0-9]+$").or_end(rt);
-    let answer = answer(alloc, way, &label(rt, alloc, parts), &code);
-    tells(answer, wanted)
+    let rest = again.repeat(alloc, times).or_end(rt);
+    let text = format!(in alloc; "{front}{rest}").or_end(rt);
+    let label = Label { text };
+    for way in ways {
+        if !tells(answer(alloc, way, &label, &code), wanted) {
+            return false;
+        }
+    }
+    true
 }
 
 /// The parts of a label, and what is found where it has to be a URL, and where it has to have a code.
@@ -66,27 +62,15 @@ static ROWS: [(Parts<'static>, Option<&str>, Option<&str>); 4] = [
     (("x", "01234567", 1024), NO_URL, NO_CODE),
 ];
 
-// Asserts the answer for a label of these parts in each of these ways.
-fn assert_answered(
-    rt: &impl Abort,
-    alloc: Global,
-    ways: [usize; 3],
-    parts: Parts<'_>,
-    wanted: Option<&str>,
-) {
-    let (front, again, _) = parts;
-    for way in ways {
-        assert!(rt;
-            is_answered(rt, alloc, way, parts, wanted),
-            "{front}{again} by {way}"
-        );
-    }
-}
-
 #[test]
 fn links_of_four_and_codes_of_eight_kilobytes(rt: HostRuntime) {
     for (parts, link, number) in &ROWS {
-        assert_answered(&rt, rt.alloc(), [0, 1, 2], *parts, *link);
-        assert_answered(&rt, rt.alloc(), [3, 4, 5], *parts, *number);
+        assert!(rt;
+            is_answered(&rt, rt.alloc(), [0, 1, 2], *parts, *link)
+                && is_answered(&rt, rt.alloc(), [3, 4, 5], *parts, *number),
+            "{}{}",
+            parts.0,
+            parts.1
+        );
     }
 }

@@ -4,15 +4,14 @@ ghost use Rattle.std.specs.Prelude.{if◌then◌else◌};
 ghost use Rattle.garde.specs.Fields.{◌and◌, between, byte_count, codes, count, field, is, matches, nat_lt, None, own, Some, str, text_eq};
 
 use super::label::Label;
-use crate::tests::OrEnd;
-use crate::tests::told::{prints, tells_all};
+use crate::tests::told::{reads, tells_all};
+use crate::tests::{OrEnd, text_of};
 use garde::fields::{Field, Fields, Is, Length, Matches, Rule};
 use garde::rules::length::HasSimpleLength;
 use garde::rules::{adapt, inner, prefix};
 use garde::{Component, DefaultI18n, I18n, Report, RuleError, Stated, Trail, Validate};
 use std::alloc::{AllocError, Global};
 use std::borrow::CowStr;
-use std::process::Abort;
 
 /// A purse, whose length is the number of its coins.
 #[derive(Clone, Copy)]
@@ -96,28 +95,6 @@ impl Validate for Account {
     }
 }
 
-// An account of so many coins.
-fn account_of(rt: &impl Abort, alloc: Global, coins: usize, again: &str) -> Account {
-    let password = String::from_str(alloc, "secret").or_end(rt);
-    Account {
-        purse: Purse { coins },
-        password,
-        again: String::from_str(alloc, again).or_end(rt),
-    }
-}
-
-// Whether this is reported for an account under a bank that asks for so many bytes.
-fn is_told(
-    rt: &impl Abort,
-    alloc: Global,
-    coins: usize,
-    (again, least): (&str, usize),
-    text: &str,
-) -> bool {
-    let answer = account_of(rt, alloc, coins, again).validate_with(alloc, &Bank { least });
-    tells_all(rt, alloc, answer, text)
-}
-
 /// Coins, a second password, what a bank asks for, and what is reported.
 static ACCOUNTS: [(usize, &str, usize, &str); 7] = [
     (1, "secret", 6, ""),
@@ -137,8 +114,13 @@ static ACCOUNTS: [(usize, &str, usize, &str); 7] = [
 #[test]
 fn a_length_a_context_and_a_match(rt: HostRuntime) {
     for (coins, again, least, text) in &ACCOUNTS {
-        let asked = (*again, *least);
-        assert!(rt; is_told(&rt, rt.alloc(), *coins, asked, text), "{text}");
+        let account = Account {
+            purse: Purse { coins: *coins },
+            password: text_of(&rt, rt.alloc(), "secret"),
+            again: text_of(&rt, rt.alloc(), again),
+        };
+        let answer = account.validate_with(rt.alloc(), &Bank { least: *least });
+        assert!(rt; tells_all(rt.alloc(), answer, text), "{text}");
     }
 }
 
@@ -161,39 +143,26 @@ fn check_label<'a>(
     put
 }
 
-// The labels of these texts.
-fn labels(rt: &impl Abort, alloc: Global, texts: &[&str]) -> Vec<Label> {
+// Each of four labels.
+#[test]
+fn a_view_of_each_item(rt: HostRuntime) {
+    let alloc = rt.alloc();
     let mut labels = Vec::new(alloc);
-    for text in texts {
-        let text = String::from_str(alloc, text).or_end(rt);
-        labels.push(Label { text }).or_end(rt);
+    for text in ["t-1", "1", "t-", ""] {
+        let text = text_of(&rt, alloc, text);
+        labels.push(Label { text }).or_end(&rt);
     }
-    labels
-}
-
-// Asks the text of each label for its beginning.
-fn check_labels(rt: &impl Abort, alloc: Global, labels: &Vec<Label>, report: &mut Report) {
+    let mut report = Report::new(alloc);
     let mut trail = Trail::new(alloc);
     inner::apply(
-        labels,
+        &labels,
         &mut trail,
-        report,
+        &mut report,
         |label: &Label, component, trail, report| {
             check_label(alloc, label, component, trail, report)
         },
     )
-    .or_end(rt)
-}
-
-// Whether this is reported for labels of these texts.
-fn is_told_of_labels(rt: &impl Abort, alloc: Global, texts: &[&str], text: &str) -> bool {
-    let mut report = Report::new(alloc);
-    check_labels(rt, alloc, &labels(rt, alloc, texts), &mut report);
-    prints(rt, alloc, &report, text)
-}
-
-#[test]
-fn a_view_of_each_item(rt: HostRuntime) {
+    .or_end(&rt);
     let text = "[1]: value does not begin with \"t-\"\n[3]: value does not begin with \"t-\"\n";
-    assert!(rt; is_told_of_labels(&rt, rt.alloc(), &["t-1", "1", "t-", ""], text));
+    assert!(rt; reads(alloc, &report, text) == Ok(true));
 }
