@@ -9,7 +9,7 @@ use sqlite::{Alter, Connection, Error, Row};
 use std::fmt;
 
 /// Why a database has no table that rows can be put into.
-#[derive(Clone, Copy)]
+#[derive(Clone, Copy, Debug)]
 pub enum OpenError {
     /// The database has another table, or this one with other columns or under other rules.
     OtherTable,
