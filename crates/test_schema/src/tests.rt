@@ -10,7 +10,7 @@ mod examples;
 mod first;
 mod form;
 mod forms;
-mod json;
+mod json_texts;
 mod languages;
 mod list_rules;
 mod lists;
