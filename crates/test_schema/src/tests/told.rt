@@ -1,7 +1,7 @@
 //! What a body reads as by a form: its value, as it prints for debugging, or its whole report.
 
 use super::{
-    OrEnd, checked, enums, forms, json, list_rules, lists, maps, nested, nulls, only_members,
+    OrEnd, checked, enums, forms, json_texts, list_rules, lists, maps, nested, nulls, only_members,
     signup, tuples, unions, wide_numbers,
 };
 use garde::{CodeI18n, DefaultI18n, I18n};
@@ -62,7 +62,7 @@ fn told_by<H: I18n + FormI18n>(
         Case::Checked(case) => checked::told_by(alloc, tree, case, h),
         Case::Enums => enums::order(alloc, tree, h),
         Case::Forms => forms::person(alloc, tree, h),
-        Case::Json => json::person(alloc, tree, h),
+        Case::Json => json_texts::person(alloc, tree, h),
         Case::Lists(case) => lists::told_by(alloc, tree, case, h),
         Case::ListRules(case) => list_rules::told_by(alloc, tree, case, h),
         Case::Maps(case) => maps::told_by(alloc, tree, case, h),
