@@ -118,62 +118,176 @@ fn compare_codes(rt: &impl Abort, alloc: Global, case: &Case, rows: &[(&str, &st
     }
 }
 
-// The forms whose bodies are read in English, and the bodies.
-static ENGLISH: [(Case, &[(&str, &str)]); 20] = [
-    (Case::Lists(lists::Case::Tags), lists::TAGS),
-    (Case::Lists(lists::Case::Few), lists::FEW),
-    (Case::Lists(lists::Case::Deep), lists::DEEP),
-    (
-        Case::ListRules(list_rules::Case::Several),
-        list_rules::SEVERAL,
-    ),
-    (Case::ListRules(list_rules::Case::Apart), list_rules::APART),
-    (Case::ListRules(list_rules::Case::Many), list_rules::MANY),
-    (Case::ListRules(list_rules::Case::Each), list_rules::EACH),
-    (
-        Case::ListRules(list_rules::Case::MaybeApart),
-        list_rules::MAYBE_APART,
-    ),
-    (Case::ListRules(list_rules::Case::Rush), list_rules::RUSH),
-    (Case::Maps(maps::Case::Labels), maps::LABELS),
-    (Case::Maps(maps::Case::FewLabels), maps::FEW_LABELS),
-    (Case::Maps(maps::Case::Named), maps::NAMED),
-    (Case::Maps(maps::Case::Many), maps::MANY),
-    (Case::Maps(maps::Case::Nested), maps::NESTED),
-    (Case::Nested(nested::Case::Closed), nested::CLOSED),
-    (Case::Nested(nested::Case::Open), nested::OPEN),
-    (Case::Checked(checked::Case::Lines), checked::LINES),
-    (Case::Checked(checked::Case::Span), checked::SPANS),
-    (Case::Checked(checked::Case::Ends), checked::ENDS),
-    (Case::Nulls(nulls::Case::Defaults), nulls::DEFAULTS),
-];
-
 #[test]
-fn reads_bodies_in_english(rt: HostRuntime) {
-    for (case, rows) in &ENGLISH {
-        compare(&rt, rt.alloc(), case, rows);
-    }
+fn reads_lists(rt: HostRuntime) {
+    compare(
+        &rt,
+        rt.alloc(),
+        &Case::Lists(lists::Case::Tags),
+        lists::TAGS,
+    );
+    compare(&rt, rt.alloc(), &Case::Lists(lists::Case::Few), lists::FEW);
+    compare(
+        &rt,
+        rt.alloc(),
+        &Case::Lists(lists::Case::Deep),
+        lists::DEEP,
+    );
 }
 
-// The forms whose bodies are read in English and as codes, and the bodies.
-static IN_CODES: [(Case, &[(&str, &str, &str)]); 6] = [
-    (Case::Enums, enums::ORDERS),
-    (Case::Signup, signup::SIGNUPS),
-    (Case::Unions, unions::PAYMENTS),
-    (
-        Case::OnlyMembers(only_members::Case::Payment),
-        only_members::PAYMENTS,
-    ),
-    (
-        Case::OnlyMembers(only_members::Case::Mixed),
-        only_members::MIXED,
-    ),
-    (Case::Nulls(nulls::Case::Texts), nulls::TEXTS),
-];
+#[test]
+fn reads_lists_under_several_rules(rt: HostRuntime) {
+    compare(
+        &rt,
+        rt.alloc(),
+        &Case::ListRules(list_rules::Case::Several),
+        list_rules::SEVERAL,
+    );
+    compare(
+        &rt,
+        rt.alloc(),
+        &Case::ListRules(list_rules::Case::Apart),
+        list_rules::APART,
+    );
+    compare(
+        &rt,
+        rt.alloc(),
+        &Case::ListRules(list_rules::Case::Many),
+        list_rules::MANY,
+    );
+}
 
 #[test]
-fn reads_bodies_in_english_and_as_codes(rt: HostRuntime) {
-    for (case, rows) in &IN_CODES {
-        compare_codes(&rt, rt.alloc(), case, rows);
-    }
+fn reads_lists_under_rules_of_items(rt: HostRuntime) {
+    compare(
+        &rt,
+        rt.alloc(),
+        &Case::ListRules(list_rules::Case::Each),
+        list_rules::EACH,
+    );
+    compare(
+        &rt,
+        rt.alloc(),
+        &Case::ListRules(list_rules::Case::MaybeApart),
+        list_rules::MAYBE_APART,
+    );
+    compare(
+        &rt,
+        rt.alloc(),
+        &Case::ListRules(list_rules::Case::Rush),
+        list_rules::RUSH,
+    );
+}
+
+#[test]
+fn reads_maps_of_labels(rt: HostRuntime) {
+    compare(
+        &rt,
+        rt.alloc(),
+        &Case::Maps(maps::Case::Labels),
+        maps::LABELS,
+    );
+    compare(
+        &rt,
+        rt.alloc(),
+        &Case::Maps(maps::Case::FewLabels),
+        maps::FEW_LABELS,
+    );
+}
+
+#[test]
+fn reads_maps_under_rules(rt: HostRuntime) {
+    compare(&rt, rt.alloc(), &Case::Maps(maps::Case::Named), maps::NAMED);
+    compare(&rt, rt.alloc(), &Case::Maps(maps::Case::Many), maps::MANY);
+    compare(
+        &rt,
+        rt.alloc(),
+        &Case::Maps(maps::Case::Nested),
+        maps::NESTED,
+    );
+}
+
+#[test]
+fn reads_objects_in_objects(rt: HostRuntime) {
+    compare(
+        &rt,
+        rt.alloc(),
+        &Case::Nested(nested::Case::Closed),
+        nested::CLOSED,
+    );
+    compare(
+        &rt,
+        rt.alloc(),
+        &Case::Nested(nested::Case::Open),
+        nested::OPEN,
+    );
+}
+
+#[test]
+fn reads_forms_under_rules(rt: HostRuntime) {
+    compare(
+        &rt,
+        rt.alloc(),
+        &Case::Checked(checked::Case::Lines),
+        checked::LINES,
+    );
+    compare(
+        &rt,
+        rt.alloc(),
+        &Case::Checked(checked::Case::Span),
+        checked::SPANS,
+    );
+    compare(
+        &rt,
+        rt.alloc(),
+        &Case::Checked(checked::Case::Ends),
+        checked::ENDS,
+    );
+}
+
+#[test]
+fn reads_defaults(rt: HostRuntime) {
+    compare(
+        &rt,
+        rt.alloc(),
+        &Case::Nulls(nulls::Case::Defaults),
+        nulls::DEFAULTS,
+    );
+}
+
+#[test]
+fn reads_enums(rt: HostRuntime) {
+    compare_codes(&rt, rt.alloc(), &Case::Enums, enums::ORDERS);
+    compare_codes(&rt, rt.alloc(), &Case::Unions, unions::PAYMENTS);
+}
+
+#[test]
+fn reads_a_sign_up(rt: HostRuntime) {
+    compare_codes(&rt, rt.alloc(), &Case::Signup, signup::SIGNUPS);
+}
+
+#[test]
+fn reads_objects_of_one_member(rt: HostRuntime) {
+    compare_codes(
+        &rt,
+        rt.alloc(),
+        &Case::OnlyMembers(only_members::Case::Payment),
+        only_members::PAYMENTS,
+    );
+    compare_codes(
+        &rt,
+        rt.alloc(),
+        &Case::OnlyMembers(only_members::Case::Mixed),
+        only_members::MIXED,
+    );
+}
+
+#[test]
+fn reads_nulls(rt: HostRuntime) {
+    compare_codes(
+        &rt,
+        rt.alloc(),
+        &Case::Nulls(nulls::Case::Texts),
+        nulls::TEXTS,
+    );
 }

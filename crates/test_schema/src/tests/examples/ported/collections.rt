@@ -71,26 +71,38 @@ fn each_collection_of_a_shop(rt: HostRuntime) {
     );
 }
 
-/// The nickname, the site and the motto of a guest.
-type Named = [Option<&'static str>; 3];
+/// The age of a guest, its nickname, its site and its motto, its seats, and what is reported.
+type Told = (
+    Option<u8>,
+    Option<&'static str>,
+    Option<&'static str>,
+    Option<&'static str>,
+    &'static [Option<u8>],
+    &'static str,
+);
 
-/// Guests of an age, and what is reported for each.
-static GUESTS: [(Option<u8>, Named, &[Option<u8>], &str); 3] = [
+static GUESTS: [Told; 3] = [
     (
         Some(18),
-        [Some("ab"), Some("https://a.org"), Some("c")],
+        Some("ab"),
+        Some("https://a.org"),
+        Some("c"),
         &[None, Some(9)],
         "",
     ),
     (
         Some(121),
-        [Some("é"), Some("abc"), Some("é")],
+        Some("é"),
+        Some("abc"),
+        Some("é"),
         &[None, Some(10), Some(11)],
         "age: greater than 120\nnickname: not ascii\nsite: not a valid url: relative URL without a base\nmotto: not ascii\nseats: length is greater than 2\nseats[1]: greater than 9\nseats[2]: greater than 9\n",
     ),
     (
         None,
-        [None, None, None],
+        None,
+        None,
+        None,
         &[],
         "age: not set\nnickname: not set\n",
     ),
@@ -101,7 +113,9 @@ fn is_told_of_a_guest(
     rt: &impl Abort,
     alloc: Global,
     age: Option<u8>,
-    [nickname, site, motto]: Named,
+    nickname: Option<&str>,
+    site: Option<&str>,
+    motto: Option<&str>,
     seats: &[Option<u8>],
     told: &str,
 ) -> bool {
@@ -117,9 +131,9 @@ fn is_told_of_a_guest(
 
 #[test]
 fn options_with_and_without_a_value(rt: HostRuntime) {
-    for (age, named, seats, told) in &GUESTS {
+    for (age, nickname, site, motto, seats, told) in &GUESTS {
         assert!(rt;
-            is_told_of_a_guest(&rt, rt.alloc(), *age, *named, *seats, told),
+            is_told_of_a_guest(&rt, rt.alloc(), *age, *nickname, *site, *motto, seats, told),
             "{told}"
         );
     }
