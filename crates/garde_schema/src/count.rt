@@ -9,7 +9,7 @@ use std::marker::Model;
 
 /// How many items a list has, or members an object, which the rules of a list or of a map ask. A
 /// contract sees the number. It is the simple length, so `length!` asks it.
-#[derive(Clone, Copy)]
+#[derive(Debug, Clone, Copy)]
 pub struct Count(usize);
 
 impl Model for Count {

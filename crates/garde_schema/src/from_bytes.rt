@@ -31,10 +31,9 @@ pub fn read_json<'a, F: Form<'a>, H: I18n + FormI18n>(
     ensures value { IfOk result (λ out. OfDocument (without_mark input.now) (λ j. F.value form.now j ≡ Some out)) }
     ensures keeps { IfOk result (λ out. F.keeps form.now out) }
 {
-    let tape = parse_bytes(alloc, input, scratch)?;
-    match read_first(alloc, form, &Tree::root(&tape), usize::MAX, h) {
+    match read_json_first(alloc, input, scratch, form, usize::MAX, h) {
         Ok(out) => Ok(out),
-        Err(error) => Err(FirstReadError::from(error).into_whole()),
+        Err(error) => Err(error.into_whole()),
     }
 }
 

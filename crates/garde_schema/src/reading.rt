@@ -45,11 +45,13 @@ pub fn read_first<'t, 'a, F: Form<'a>, H: I18n + FormI18n>(
     ensures keeps { IfOk result (λ out. F.keeps form.now out) }
     ensures whole { IsFirst (forget result) → most < 2 ^ 64 - 1 }
 {
-    let mut trail = Trail::new(alloc);
     let mut report = Report::new(alloc);
-    // A report has fewer than `usize::MAX` faults, so that many are all.
-    trail.limit(most.saturating_add(1));
-    let taken = form.read(alloc, tree, &mut trail, &mut report, h);
+    let taken = {
+        let mut trail = Trail::new(alloc);
+        // A report has fewer than `usize::MAX` faults, so that many are all.
+        trail.limit(most.saturating_add(1));
+        form.read(alloc, tree, &mut trail, &mut report, h)
+    };
     if report.len() > most {
         report.truncate(most);
         return Err(FirstError::First(report));
