@@ -67,8 +67,8 @@ impl fmt::Display for FirstReadError {
 
     fn fmt<W: fmt::Write>(&self, f: &mut fmt::Formatter<W>) -> fmt::Result {
         match self {
-            FirstReadError::Parse(error) => write!(f, "{error}"),
-            FirstReadError::All(report) => write!(f, "{report}"),
+            FirstReadError::Parse(error) => error.fmt(f),
+            FirstReadError::All(report) => report.fmt(f),
             FirstReadError::First(report) => writeln!(f, "{report}there are more"),
             FirstReadError::Memory => f.write_str("out of memory"),
         }

@@ -4,7 +4,7 @@ ghost use Rattle.garde_schema.specs.FormCode.{form_message};
 use crate::code::name_of_kind;
 use crate::fault::FormFault;
 use crate::handler::FormI18n;
-use garde_problem::WithCodes;
+use garde_problem::{WithCodes, coded_message};
 use std::alloc::{AllocError, Global};
 use std::borrow::CowStr;
 
@@ -15,20 +15,17 @@ impl<H: FormI18n> FormI18n for WithCodes<H> {
 
     fn form_fault(&self, alloc: Global, fault: FormFault) -> Result<CowStr<'static>, AllocError> {
         let detail = self.0.form_fault(alloc, fault)?;
-        let name = fault.code();
-        Ok(CowStr::Owned(match fault {
-            FormFault::Wrong(wanted, found) => {
-                let wanted = wanted.code();
-                let found = name_of_kind(found);
-                format!(in alloc;
-                    "\u{1f}{name}\u{1f}{detail}\u{1f}wanted\u{1f}{wanted}\u{1f}found\u{1f}{found}\u{1f}"
-                )?
-            }
-            FormFault::OutOfRange(of) => {
-                let of = of.code();
-                format!(in alloc; "\u{1f}{name}\u{1f}{detail}\u{1f}of\u{1f}{of}\u{1f}")?
-            }
-            _ => format!(in alloc; "\u{1f}{name}\u{1f}{detail}\u{1f}")?,
-        }))
+        let code = fault.code();
+        let message = match fault {
+            FormFault::Wrong(wanted, found) => coded_message(
+                alloc,
+                code,
+                &detail,
+                &[("wanted", wanted.code()), ("found", name_of_kind(found))],
+            ),
+            FormFault::OutOfRange(of) => coded_message(alloc, code, &detail, &[("of", of.code())]),
+            _ => coded_message(alloc, code, &detail, &[]),
+        };
+        Ok(CowStr::Owned(message?))
     }
 }
