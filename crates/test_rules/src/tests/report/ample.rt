@@ -10,7 +10,7 @@ use std::borrow::CowStr;
 use std::fmt::Display;
 use std::process::Abort;
 
-const SIZES: [usize; 6] = [0, 1, 8, 9, 12, 1000];
+static SIZES: [usize; 6] = [0, 1, 8, 9, 12, 1000];
 
 /// A text of 120 bytes that is there as long as the program is.
 const LONG: &str =
@@ -57,12 +57,12 @@ fn is_walked(rt: &impl Abort, alloc: Global, size: usize) -> bool {
 
 #[test]
 fn lists_paths_and_ways_of_each_size(rt: HostRuntime) {
-    for size in SIZES {
+    for size in &SIZES {
         let above = size.checked_sub(1);
         assert!(rt;
-            items_before(&rt, rt.alloc(), size) == above
-                && is_path_cut(&rt, rt.alloc(), size, above)
-                && is_walked(&rt, rt.alloc(), size),
+            items_before(&rt, rt.alloc(), *size) == above
+                && is_path_cut(&rt, rt.alloc(), *size, above)
+                && is_walked(&rt, rt.alloc(), *size),
             "of {size}"
         );
     }
@@ -98,16 +98,21 @@ fn is_text_kept(rt: &impl Abort, alloc: Global, letter: &str, times: usize) -> b
         )
 }
 
+static TIMES: [usize; 10] = [0, 1, 11, 15, 16, 22, 23, 30, 31, 1000];
+
+// Asserts that a letter is kept each of these times.
+fn assert_kept(rt: &impl Abort, alloc: Global, letter: &str) {
+    for times in &TIMES {
+        assert!(rt; is_text_kept(rt, alloc, letter, *times), "{times} times");
+    }
+}
+
 #[test]
 fn texts_of_each_length_are_kept(rt: HostRuntime) {
-    for letter in ["a", "\u{0}", "\u{1f}", "\u{e9}"] {
-        for times in [0usize, 1, 11, 15, 16, 22, 23, 30, 31, 1000] {
-            assert!(rt;
-                is_text_kept(&rt, rt.alloc(), letter, times),
-                "{times} times"
-            );
-        }
-    }
+    assert_kept(&rt, rt.alloc(), "a");
+    assert_kept(&rt, rt.alloc(), "\u{0}");
+    assert_kept(&rt, rt.alloc(), "\u{1f}");
+    assert_kept(&rt, rt.alloc(), "\u{e9}");
 }
 
 // So many faults with this key and message, each so many components deep.
@@ -126,18 +131,14 @@ fn are_read_back(rt: &impl Abort, alloc: Global, count: usize, depth: usize, tex
     report.clone().or_end(rt).iter().eq(report.iter()) && is_read_back(rt, alloc, &report)
 }
 
+/// How many faults a report has, and how many components deep each of them is.
+static REPORTS: [(usize, usize); 6] = [(0, 0), (1, 0), (1, 12), (1, 1000), (100, 2), (1000, 2)];
+
 #[test]
 fn reports_of_each_size_are_read_back(rt: HostRuntime) {
-    for (count, depth) in [
-        (0usize, 0usize),
-        (1, 0),
-        (1, 12),
-        (1, 1000),
-        (100, 2),
-        (1000, 2),
-    ] {
+    for (count, depth) in &REPORTS {
         assert!(rt;
-            are_read_back(&rt, rt.alloc(), count, depth, LONG),
+            are_read_back(&rt, rt.alloc(), *count, *depth, LONG),
             "{count}, {depth} deep"
         );
     }

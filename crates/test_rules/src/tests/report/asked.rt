@@ -74,18 +74,18 @@ fn ask_for(words: &[&str], wanted: Option<Answer>) -> bool {
     }
 }
 
+// Whether a word is for the program itself.
+fn is_left(word: &str) -> bool {
+    Asked::new().take(word) == Ok(false)
+}
+
 #[test]
 fn words_ask_for_a_file_and_a_format(rt: HostRuntime) {
     for (words, wanted) in &ASKED {
         assert!(rt; ask_for(words, *wanted));
     }
-    // Words that are for the program itself.
     assert!(rt;
-        Asked::new().take("") == Ok(false)
-            && Asked::new().take("20") == Ok(false)
-            && Asked::new().take("-1") == Ok(false)
-            && Asked::new().take("--") == Ok(false)
-            && Asked::new().take("--help") == Ok(false)
+        is_left("") && is_left("20") && is_left("-1") && is_left("--") && is_left("--help")
     );
 }
 
