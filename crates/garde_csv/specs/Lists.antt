@@ -1,5 +1,5 @@
 -- What is left of a list, and what reading a record does to it.
-use Rattle.std.specs.Prelude.{◌≡◌, ℕ, List, [], take, drop, Bool, Option, Some, None, ⊤}
+use Rattle.std.specs.Prelude.{◌≡◌, ℕ, List, [], take, drop, Bool, true, false, Option, Some, None, ⊤}
 use Rattle.std.specs.Io.KnownBytes.{prepend_known}
 use Rattle.csv.specs.Machine.{Read, next_record}
 use Rattle.csv.specs.Reading.{default_config}
@@ -10,6 +10,8 @@ use Rattle.garde_csv.specs.Quotes.{Seen, seen_in, seen_of, unbegun}
 use Rattle.garde_csv.specs.declared.bytes.Bytes.{Bytes}
 use Rattle.garde_csv.specs.declared.fault.Fault.{Fault}
 use Rattle.garde_csv.specs.declared.fault.Fault.TheVariants as fault
+use Rattle.garde_csv.specs.declared.list_error.ListError.{ListError}
+use Rattle.garde_csv.specs.declared.list_error.ListError.TheVariants as stop
 use Rattle.garde_csv.specs.declared.records.Next.{Next}
 use Rattle.garde_csv.specs.declared.records.Next.TheVariants as next
 use Rattle.garde_csv.specs.declared.records.Records.{Records}
@@ -36,6 +38,12 @@ next_line list = list.line
 -- the line in which the record begins that was read last
 abbrev pub row_line : {R : Type 0} → Records R → ℕ
 row_line list = list.start
+
+-- whether an error says itself what went wrong: the source failed, or memory ran out
+abbrev pub is_cause : ListError → Bool
+is_cause (stop.Io error) = true
+is_cause stop.Memory = true
+is_cause stop.Stopped = false
 
 -- an earlier call failed
 abbrev pub has_stopped : {R : Type 0} → Records R → Bool

@@ -1,8 +1,8 @@
 //! The bytes of a list, as many at a time as lie in a buffer.
-ghost use Rattle.std.specs.Prelude.{◌≡◌, [], ◌+◌, ◌<◌, ◌≤◌, drop, length, true, false, IfOk, OnOk, option_map};
+ghost use Rattle.std.specs.Prelude.{◌≡◌, [], ◌+◌, ◌<◌, ◌≤◌, drop, length, true, false, IfErr, IfOk, OnOk, option_map};
 ghost use Rattle.std.specs.Io.KnownBytes.{IsAtEnd, Keeps};
 ghost use Rattle.csv.specs.Reading.{is_bom, strip_bom};
-ghost use Rattle.garde_csv.specs.Lists.{buffered, unread_of};
+ghost use Rattle.garde_csv.specs.Lists.{buffered, is_cause, unread_of};
 
 use crate::list_error::ListError;
 use std::alloc::Global;
@@ -27,7 +27,8 @@ fn is_mark(a: u8, b: u8, c: u8) -> bool
 impl<R: Read + Drop> Bytes<R> {
     /// The bytes of a source, without a byte order mark at its beginning.
     pub(crate) fn new(alloc: Global, source: R) -> Result<Bytes<R>, ListError>
-        ensures { IfOk result (λ bytes. Keeps (option_map strip_bom (R.remaining source)) (unread_of R.remaining bytes)) }
+        ensures bytes { IfOk result (λ bytes. Keeps (option_map strip_bom (R.remaining source)) (unread_of R.remaining bytes)) }
+        ensures why { IfErr result (λ error. is_cause error ≡ true) }
     {
         let Ok(buffer) = Box::new(alloc, [0u8; 8192]) else {
             return Err(ListError::Memory);
@@ -51,6 +52,7 @@ impl<R: Read + Drop> Bytes<R> {
         ensures end { IfOk result (λ more. more ≡ false → IsAtEnd (R.remaining self.new.source)) }
         ensures filled { IfOk result (λ more. (more ≡ true → self.new.filled ≡ self.old.filled + 1) × (more ≡ false → self.new.filled ≡ self.old.filled)) }
         ensures at { self.new.at ≡ 0 }
+        ensures why { IfErr result (λ error. is_cause error ≡ true) }
     {
         let mut one = [0u8];
         match self.source.read(&mut one)? {
@@ -71,6 +73,7 @@ impl<R: Read + Drop> Bytes<R> {
         ensures end { OnOk result (self.new.filled < 3 → IsAtEnd (R.remaining self.new.source)) }
         ensures at { OnOk result (self.new.at ≡ 0) }
         ensures filled { OnOk result (self.new.filled ≤ 3) }
+        ensures why { IfErr result (λ error. is_cause error ≡ true) }
     {
         if !self.next_head()? {
             return Ok(());
@@ -101,6 +104,7 @@ impl<R: Read + Drop> Bytes<R> {
         requires { buffered self.old ≡ [] }
         ensures keeps { OnOk result (Keeps (unread_of R.remaining self.old) (unread_of R.remaining self.new)) }
         ensures end { OnOk result (buffered self.new ≡ [] → IsAtEnd (unread_of R.remaining self.new)) }
+        ensures why { IfErr result (λ error. is_cause error ≡ true) }
     {
         self.filled = self.source.read(&mut self.buffer[..])?;
         self.at = 0;
@@ -112,6 +116,7 @@ impl<R: Read + Drop> Bytes<R> {
     pub(crate) fn fill(&mut self) -> Result<(), ListError>
         ensures keeps { OnOk result (Keeps (unread_of R.remaining self.old) (unread_of R.remaining self.new)) }
         ensures end { OnOk result (buffered self.new ≡ [] → IsAtEnd (unread_of R.remaining self.new)) }
+        ensures why { IfErr result (λ error. is_cause error ≡ true) }
     {
         if self.ready().is_empty() {
             self.refill()?;

@@ -1,7 +1,8 @@
 //! The bytes of a record, a run at a time.
-ghost use Rattle.std.specs.Prelude.{◌≡◌, ◌≤◌, ◌<◌, ◌++◌, ◌∷◌, [], ℕ, List, drop, length, true, false, IfOk, OnOk};
+ghost use Rattle.std.specs.Prelude.{◌≡◌, ◌≤◌, ◌<◌, ◌++◌, ◌∷◌, [], ℕ, List, drop, length, true, false, IfErr, IfOk, OnOk};
 ghost use Rattle.csv.specs.Machine.{field_after, fields_after, is_end};
 ghost use Rattle.csv.specs.Records.{fields_of, partial_of};
+ghost use Rattle.garde_csv.specs.Lists.{is_cause};
 ghost use Rattle.garde_csv.specs.Places.{action_of};
 ghost use Rattle.garde_csv.specs.Quotes.{seen_of};
 ghost use Rattle.garde_csv.specs.Steps.{Reads};
@@ -28,6 +29,7 @@ fn push_cell(run: &[u8], cell: &mut Vec<u8>, cells: &mut ByteRecord) -> Result<(
     ensures fields { OnOk result (fields_of cells.new ≡ fields_of cells.old ++ (cell.old.items ++ run.now) ∷ []) }
     ensures field { OnOk result (cell.new.items ≡ []) }
     ensures partial { OnOk result (partial_of cells.new ≡ []) }
+    ensures why { IfErr result (λ error. is_cause error ≡ true) }
 {
     if cell.is_empty() {
         cells.push_field(run)?;
@@ -54,6 +56,7 @@ fn apply(
     ensures fields { OnOk result (fields_of cells.new ≡ fields_after (action_of action) (fields_of cells.old) (cell.old.items ++ run.now)) }
     ensures field { OnOk result (cell.new.items ≡ field_after (action_of action) byte (cell.old.items ++ run.now)) }
     ensures partial { OnOk result (partial_of cells.new ≡ []) }
+    ensures why { IfErr result (λ error. is_cause error ≡ true) }
 {
     match action {
         Action::EndCell | Action::EndRecord => {
@@ -86,6 +89,7 @@ fn part(
     ensures taken { IfOk result (λ fed. fed.taken ≤ length text.now) }
     ensures some { IfOk result (λ fed. 0 < length text.now → 0 < fed.taken) }
     ensures partial { OnOk result (partial_of cells.new ≡ []) }
+    ensures why { IfErr result (λ error. is_cause error ≡ true) }
     ensures reads { IfOk result (λ fed. Reads (seen_of walk.old) (fields_of cells.old) cell.old.items text.now
         (seen_of walk.new) (fields_of cells.new) cell.new.items (drop fed.taken text.now) fed.ended) }
 {
@@ -119,6 +123,7 @@ pub(crate) fn feed(
     requires { partial_of cells.old ≡ [] }
     ensures taken { IfOk result (λ fed. fed.taken ≤ length text.now) }
     ensures partial { OnOk result (partial_of cells.new ≡ []) }
+    ensures why { IfErr result (λ error. is_cause error ≡ true) }
     ensures reads { IfOk result (λ fed. Reads (seen_of walk.old) (fields_of cells.old) cell.old.items text.now
         (seen_of walk.new) (fields_of cells.new) cell.new.items (drop fed.taken text.now) fed.ended) }
 {

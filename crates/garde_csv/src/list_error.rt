@@ -1,4 +1,5 @@
 //! Why a list cannot be read on.
+ghost use Rattle.garde_csv.specs.Texts.{list_error_text};
 
 use std::alloc::AllocError;
 use std::{fmt, io};
@@ -15,12 +16,22 @@ pub enum ListError {
 }
 
 impl From<io::Error> for ListError {
+    ghost use Rattle.std.specs.Prelude.{◌≡◌};
+    ghost use Rattle.garde_csv.specs.declared.list_error.ListError.TheVariants.{Io};
+
+    ghost from_gives = { λ old error. error ≡ Io old };
+
     fn from(error: io::Error) -> ListError {
         ListError::Io(error)
     }
 }
 
 impl From<AllocError> for ListError {
+    ghost use Rattle.std.specs.Prelude.{◌≡◌};
+    ghost use Rattle.garde_csv.specs.declared.list_error.ListError.TheVariants.{Memory};
+
+    ghost from_gives = { λ _ error. error ≡ Memory };
+
     fn from(_: AllocError) -> ListError {
         ListError::Memory
     }
@@ -28,6 +39,8 @@ impl From<AllocError> for ListError {
 
 /// Prints the error of the source, or what went wrong.
 impl fmt::Display for ListError {
+    ghost output = { λ error. list_error_text error };
+
     fn fmt<W: fmt::Write>(&self, f: &mut fmt::Formatter<W>) -> fmt::Result {
         match self {
             ListError::Io(error) => write!(f, "{error}"),

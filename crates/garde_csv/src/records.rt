@@ -1,5 +1,5 @@
 //! The records of a list.
-ghost use Rattle.std.specs.Prelude.{◌≡◌, ◌++◌, ◌∷◌, [], MatchOption, true, false, Err, IfOk, OnErr, OnOk, option_map};
+ghost use Rattle.std.specs.Prelude.{◌≡◌, ◌++◌, ◌∷◌, [], MatchOption, true, false, Err, IfErr, IfOk, OnErr, OnOk, option_map};
 ghost use Rattle.std.specs.Io.KnownBytes.{Keeps};
 ghost use Rattle.csv.specs.Reading.{strip_bom};
 ghost use Rattle.csv.specs.Machine.{ends_at_end};
@@ -7,7 +7,7 @@ ghost use Rattle.csv.specs.Records.{fields_of, partial_of};
 ghost use Rattle.csv.specs.declared.parser.State.TheVariants as st;
 ghost use Rattle.garde_csv.specs.Places.{state_of};
 ghost use Rattle.garde_csv.specs.Quotes.{seen_at_end, seen_of, unbegun};
-ghost use Rattle.garde_csv.specs.Lists.{GivesNext, IsAnswer, TakesNext, has_stopped, list_state, next_line, rest_of, row_line};
+ghost use Rattle.garde_csv.specs.Lists.{GivesNext, IsAnswer, TakesNext, has_stopped, is_cause, list_state, next_line, rest_of, row_line};
 
 use crate::bytes::Bytes;
 use crate::fault::Fault;
@@ -34,9 +34,10 @@ pub enum Next {
 // What is known of the record at the end of the list, if there is one.
 fn finish(walk: Walk, cell: &Vec<u8>, cells: &mut ByteRecord) -> Result<Option<Walk>, ListError>
     requires { partial_of cells.old ≡ [] }
-    ensures { IfOk result (λ found. MatchOption found (ends_at_end (state_of walk.place) ≡ false)
+    ensures ends { IfOk result (λ found. MatchOption found (ends_at_end (state_of walk.place) ≡ false)
         (λ end. (ends_at_end (state_of walk.place) ≡ true) × (seen_of end ≡ seen_at_end (seen_of walk))
         × (fields_of cells.new ≡ fields_of cells.old ++ cell.now.items ∷ []))) }
+    ensures why { IfErr result (λ error. is_cause error ≡ true) }
 {
     if walk.is_before() {
         return Ok(None);
@@ -77,12 +78,14 @@ pub struct Records<R> {
 }
 
 impl<R: Read + Drop> Records<R> {
-    /// The records of these bytes. It allocates 8 KiB, and reads three bytes at most.
+    /// The records of these bytes. It allocates 8 KiB, and reads three bytes at most. It is never
+    /// `ListError::Stopped`.
     pub fn new(alloc: Global, source: R) -> Result<Records<R>, ListError>
         ensures bytes { IfOk result (λ list. Keeps (option_map strip_bom (R.remaining source)) (rest_of R.remaining list)) }
         ensures state { IfOk result (λ list. list_state list ≡ st.StartRecord) }
         ensures line { IfOk result (λ list. next_line list ≡ 1) }
         ensures goes { IfOk result (λ list. has_stopped list ≡ false) }
+        ensures why { IfErr result (λ error. is_cause error ≡ true) }
     {
         let bytes = Bytes::new(alloc, source)?;
         Ok(Records {
@@ -111,6 +114,7 @@ impl<R: Read + Drop> Records<R> {
         ensures takes { IfOk result (λ found. TakesNext (unbegun (list_state self.old) (next_line self.old))
             (rest_of R.remaining self.old) (rest_of R.remaining self.new) (fields_of cells.new) found) }
         ensures failed { self.new.failed ≡ self.old.failed }
+        ensures why { IfErr result (λ error. is_cause error ≡ true) }
     {
         self.cell.clear();
         let mut walk = Walk::new(self.place, self.line);
@@ -132,7 +136,8 @@ impl<R: Read + Drop> Records<R> {
     /// Reads the next record into `cells`, which is empty where there is none or where it has a fault.
     ///
     /// A record with a fault in its quotes ends where it would end in the toolchain's `csv`, and the
-    /// records behind it are read. After an error each further call is `ListError::Stopped`.
+    /// records behind it are read. After an error each further call is `ListError::Stopped`, and no other
+    /// call is.
     pub fn read(&mut self, cells: &mut StringRecord) -> Result<Next, ListError>
         ensures gives { IfOk result (λ next. GivesNext (rest_of R.remaining self.old) (rest_of R.remaining self.new)
             self.old self.new (fields_of cells.new) next) }
@@ -140,6 +145,7 @@ impl<R: Read + Drop> Records<R> {
         ensures stops { OnErr result (has_stopped self.new ≡ true) }
         ensures empty { OnErr result (fields_of cells.new ≡ []) }
         ensures stopped { has_stopped self.old ≡ true → result ≡ Err ListError.Stopped }
+        ensures why { has_stopped self.old ≡ false → IfErr result (λ error. is_cause error ≡ true) }
     {
         let mut raw = mem::replace(cells, StringRecord::new(self.alloc)).into_byte_record();
         raw.clear();
