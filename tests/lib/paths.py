@@ -47,7 +47,13 @@ def name_of_type(text, parameters):
     if text.startswith("'") or name in parameters:
         return ""
     inner, _ = behind_brackets(brackets + rest)
-    return name[:1].upper() + name[1:] + "".join(name_of_type(it, parameters) for it in split(inner))
+    return name[:1].upper() + name[1:] + "".join(name_of_argument(it, parameters) for it in split(inner))
+
+
+def name_of_argument(text, parameters):
+    """The name of a type in the brackets of another one, with the module that the code names it by: `IoError` of `io::Error`."""
+    module = re.match(r"(?:\w+::)*([a-z]\w*)::\w+\s*(?:<|$)", text)
+    return (module[1][:1].upper() + module[1][1:] if module else "") + name_of_type(text, parameters)
 
 
 def name_of_block(text, block):
