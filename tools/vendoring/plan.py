@@ -4,6 +4,8 @@ from dataclasses import dataclass
 
 from .origin import LICENCES, TOOL, Line, Refusal, is_product, names_of
 from .record import Record, hash_of
+from .sources import Crate
+from .trimmed import needed_of, own_crates
 
 NAMES = re.compile(r"[a-z][a-z0-9_]*$")
 
@@ -29,16 +31,19 @@ class Program:
 
 @dataclass(frozen=True)
 class Plan:
-    """What is to be copied: the crates, lowest first, their files by their paths, the record of it all, and a program."""
+    """What is to be copied: the crates, lowest first, their files by their paths, the record of it all, a program, and where what is
+    needed alone is copied, a sentence about it."""
 
     crates: tuple
     files: dict
     record: Record
     program: Program
+    told: str
 
 
-def plan_of(origin, folder, more, program, name):
-    """Reads what is to be copied, and refuses what cannot be."""
+def plan_of(origin, folder, more, program, name, is_whole):
+    """Reads what is to be copied, and refuses what cannot be. `is_whole` says whether all of the crates
+    of some names is."""
     for it in more:
         known(origin, it, f"{it} is no crate of the product")
     for it in folder.record.asked:
@@ -54,15 +59,27 @@ def plan_of(origin, folder, more, program, name):
     copied = program_of(origin, folder, sources, name or program) if program else None
     refuse_names(folder, crates, lines, [it.name for it in sources])
     folder.refuse_tool(tool)
-    files = {f"{it.name}/{path}": text for it in crates for path, text in origin.crate_files(it.name).items()}
+    files, told = files_of(origin, folder, crates, copied, set(asked) - set(listed) - {"garde"}, is_whole([it.name for it in crates]))
     files.update(zip((f"garde/{it}" for it in LICENCES), origin.texts(LICENCES)))
     files.update(tool)
-    record = Record(origin.commit, origin.date, asked)
+    record = Record(origin.commit, origin.date, asked, is_whole=not told)
     for it in crates:
         record.add(it)
     record.files = {path: [hash_of(text)] for path, text in files.items()}
     folder.refuse_changes(record)
-    return Plan(tuple(crates), files, record, copied)
+    return Plan(tuple(crates), files, record, copied, told)
+
+
+def files_of(origin, folder, lines, program, asked, is_whole):
+    """The files of libraries by their paths, and a sentence where they are what is needed alone. What was asked for by name, and
+    no crate of the folder lists, is whole."""
+    crates = {it.name: Crate(it.name, it.uses, origin.crate_files(it.name)) for it in lines}
+    own = [] if is_whole else own_crates(folder, program.copies if program else (), set(crates))
+    if not own:
+        return {f"{it.name}/{path}": text for it in crates.values() for path, text in it.files.items()}, ""
+    parts, kept, every = needed_of(list(crates.values()), own, asked & set(crates))
+    files = {f"{name}/{path}": text for name, part in parts.items() for path, text in part.items()}
+    return files, f"of their {every} functions the {kept} that {', '.join(it.name for it in own)} may need"
 
 
 def known(origin, name, told):

@@ -42,6 +42,17 @@ def brought(root, folder, names):
     return taken, f"none of these files is proved in {root}"
 
 
+def are_proved(root, names):
+    """Whether all of these crates are proved in this clone."""
+    rtlib = module_of_rt()
+    try:
+        with contextlib.redirect_stderr(io.StringIO()):
+            here = crates_of(rtlib, root, "crates/", names) if rtlib else {}
+    except SystemExit:
+        return False
+    return bool(here) and all(here[it].is_built() for it in names)
+
+
 def module_of_rt():
     """The module of the command `rt` by which it knows of what files a library was proved."""
     try:

@@ -14,13 +14,14 @@ def hash_of(content):
 
 @dataclass
 class Record:
-    """What was copied. `begun` is empty where the copy is complete. While one is written, a crate has its old line and its new
+    """What was copied, and whether it is all of the libraries, or what is needed of them. `begun` is empty where the copy is complete. While one is written, a crate has its old line and its new
     one, and a file its old hash and its new one; then `begun` is the program that is being copied, or `-`."""
 
     commit: str = ""
     date: str = ""
     asked: tuple = ()
     begun: str = ""
+    is_whole: bool = True
     lines: dict = field(default_factory=dict)
     files: dict = field(default_factory=dict)
 
@@ -29,6 +30,7 @@ class Record:
 
     def text(self):
         rows = [f"commit {self.commit} {self.date}", f"asked {' '.join(self.asked)}"]
+        rows += [] if self.is_whole else ["only needed"]
         rows += [f"begun {self.begun}"] if self.begun else []
         rows += [f"line {line}" for lines in self.lines.values() for line in dict.fromkeys(lines)]
         rows += [f"file {mark} {path}" for path in sorted(self.files) for mark in dict.fromkeys(self.files[path])]
@@ -36,7 +38,7 @@ class Record:
 
     def with_new(self, new, begun):
         """The record while a newer copy is written over this one."""
-        both = Record(new.commit, new.date, new.asked, begun or "-")
+        both = Record(new.commit, new.date, new.asked, begun or "-", new.is_whole)
         for old in (self, new):
             for name, lines in old.lines.items():
                 both.lines.setdefault(name, []).extend(lines)
@@ -57,6 +59,8 @@ def read_record(text):
                 record.asked = tuple(rest.split())
             elif word == "begun":
                 record.begun = rest
+            elif row == "only needed":
+                record.is_whole = False
             elif word == "line":
                 record.add(read_line(rest))
             elif word == "file":

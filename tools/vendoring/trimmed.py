@@ -1,0 +1,64 @@
+"""The files of libraries, and what of them the crates of a repository need."""
+import os
+import pathlib
+import subprocess
+import tempfile
+
+from .needed import Needed
+from .slices import Slice
+from .sources import Crate, Sources
+
+
+def own_crates(folder, copied, product):
+    """The crates of a folder that list a library, with those that are about to be copied there for the reader."""
+    files = {it.name: (it.uses, read_files(folder.place(it.name))) for it in folder.own_lines()}
+    files.update({it.name: (it.line.partition(":")[2].split(), it.files) for it in copied})
+    return [Crate(name, uses, these) for name, (uses, these) in files.items() if product.intersection(uses) and has_root(these)]
+
+
+def has_root(files):
+    return "src/lib.rt" in files or "src/main.rt" in files
+
+
+def read_files(top):
+    """The sources, definitions and proofs of a crate as they lie there."""
+    found = {}
+    for part in ("src", "specs", "proofs"):
+        for folder, _, names in os.walk(top / part):
+            for it in names:
+                place = os.path.join(folder, it)
+                if it.endswith((".rt", ".antt")) and os.path.isfile(place):
+                    with open(place, "rb") as file:
+                        found[os.path.relpath(place, top)] = file.read()
+    return found
+
+
+def needed_of(libraries, own, whole):
+    """The files of libraries by their names, with what is needed of them alone, and how many of their functions these have. `own` are
+    the crates that need them. Of the libraries in `whole` everything is."""
+    sources = Sources([*libraries, *own])
+    needed = Needed(sources, [*(it.name for it in own), *whole])
+    kept = sum(functions(it) for library in libraries for it in library.nodes() if it in needed.live)
+    every = sum(functions(it) for library in libraries for it in library.nodes())
+    files = {(it.name, path): text for it in libraries for path, text in Slice(sources, needed, it).files().items()}
+    files |= laid_out({key: text for key, text in files.items() if key[1].endswith(".rt") and text != sources.crates[key[0]].files[key[1]]})
+    return {it.name: {path: text for (name, path), text in files.items() if name == it.name} for it in libraries}, kept, every
+
+
+def laid_out(files):
+    """Sources in the layout that `rt ci` asks for, where the command `rt` is there to give it."""
+    with tempfile.TemporaryDirectory(prefix="vendor.") as top:
+        places = {key: pathlib.Path(top, "src", *key) for key in files}
+        for key, place in places.items():
+            place.parent.mkdir(parents=True, exist_ok=True)
+            place.write_bytes(files[key])
+        try:
+            subprocess.run(["rt", "fmt"], cwd=top, stdin=subprocess.DEVNULL, capture_output=True, check=False)
+        except OSError:
+            return files
+        return {key: place.read_bytes() for key, place in places.items()}
+
+
+def functions(node):
+    """How many functions a node has, those of its members not among them that are nodes themselves."""
+    return 1 if node.item.kind == "fn" else sum(it.kind == "fn" for it in node.item.members) if not node.is_own_block else 0
