@@ -47,7 +47,7 @@ class Cited:
         """Adds a file, and what it speaks of."""
         if path and not self.has(crate, path):
             self.files.add((crate, path))
-            self.read(self.sources.crates[crate].files[path].decode(), crate)
+            self.read(self.sources.crates[crate].files[path].decode(errors="surrogateescape"), crate)
 
     def read_lib(self, crate, names):
         """Reads the lines of a crate's list of definitions that hand on some of these names."""

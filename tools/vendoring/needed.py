@@ -193,7 +193,7 @@ class Needed:
         """Whether all types are in use that the head of an impl block names: those of these crates, and by their names those of
         others. Of a tuple the number of its parts is."""
         text = text[REFERENCE.match(text.strip()).end() :].strip() if text.strip().startswith("&") else text.strip()
-        if text.startswith("(") and len(paths.split(text[1 : text.rindex(")")])) not in self.counts:
+        if text.startswith("(") and len(paths.split(text[1 : text.rfind(")")])) not in self.counts:
             return False
         for found in TYPE.findall(text):
             way = way_of(found)

@@ -59,10 +59,11 @@ def plan_of(origin, folder, more, program, name, is_whole):
     copied = program_of(origin, folder, sources, name or program) if program else None
     refuse_names(folder, crates, lines, [it.name for it in sources])
     folder.refuse_tool(tool)
-    files, told = files_of(origin, folder, crates, copied, set(asked) - set(listed) - {"garde"}, is_whole([it.name for it in crates]))
+    whole = is_whole([it.name for it in crates])
+    files, told = files_of(origin, folder, crates, copied, set(asked) - set(listed) - {"garde"}, whole)
     files.update(zip((f"garde/{it}" for it in LICENCES), origin.texts(LICENCES)))
     files.update(tool)
-    record = Record(origin.commit, origin.date, asked, is_whole=not told)
+    record = Record(origin.commit, origin.date, asked, is_whole=whole)
     for it in crates:
         record.add(it)
     record.files = {path: [hash_of(text)] for path, text in files.items()}
@@ -74,12 +75,14 @@ def files_of(origin, folder, lines, program, asked, is_whole):
     """The files of libraries by their paths, and a sentence where they are what is needed alone. What was asked for by name, and
     no crate of the folder lists, is whole."""
     crates = {it.name: Crate(it.name, it.uses, origin.crate_files(it.name)) for it in lines}
-    own = [] if is_whole else own_crates(folder, program.copies if program else (), set(crates))
+    own, empty = ([], []) if is_whole else own_crates(folder, program.copies if program else (), set(crates))
     if not own:
-        return {f"{it.name}/{path}": text for it in crates.values() for path, text in it.files.items()}, ""
+        told = "" if is_whole else "all of them, since no source of yours says what it needs"
+        return {f"{it.name}/{path}": text for it in crates.values() for path, text in it.files.items()}, told
     parts, kept, every = needed_of(list(crates.values()), own, asked & set(crates))
     files = {f"{name}/{path}": text for name, part in parts.items() for path, text in part.items()}
-    return files, f"of their {every} functions the {kept} that {', '.join(it.name for it in own)} may need"
+    told = f"of their {every} functions the {kept} that {', '.join(it.name for it in own)} may need"
+    return files, f"{told} ({', '.join(empty)} has no sources yet)" if empty else told
 
 
 def known(origin, name, told):

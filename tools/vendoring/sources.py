@@ -34,7 +34,7 @@ def imports(tree):
         path, _, name = head.partition(" as ")
         way = way_of(path)
         way = way[:-1] if way[-1] == "self" else way
-        yield way, name.strip() or way[-1]
+        yield from [(way, name.strip() or way[-1])] if way else ()
         return
     for part in paths.split(rest.rstrip()[:-1]):
         yield from imports(head + part)
@@ -53,7 +53,7 @@ class Node:
         """Reads for what type an impl block is, and of what trait, if it is of one."""
         header = " ".join(self.module.source.header(self.item).split()).removeprefix("unsafe ").removeprefix("impl")
         inner, header = paths.behind_brackets(header)
-        self.parameters = {re.match(r"(?:const )?('?\w+)", it).group(1) for it in paths.split(inner)}
+        self.parameters = {found[1] for found in (re.search(r"(?:\bconst )?('?\w+)\s*(?::|=|$)", it) for it in paths.split(inner)) if found}
         self.trait, _, self.of = header.partition(" where ")[0].rpartition(" for ")
         if not self.trait:
             self.members = [Node(self.module, it, self) for it in self.item.members if it.kind == "fn"]

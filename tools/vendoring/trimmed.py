@@ -10,10 +10,15 @@ from .sources import Crate, Sources
 
 
 def own_crates(folder, copied, product):
-    """The crates of a folder that list a library, with those that are about to be copied there for the reader."""
+    """The crates of a folder that list a library, or a crate of the folder that does, with those that are about to be copied there
+    for the reader, and the names of those of them that have no sources yet."""
     files = {it.name: (it.uses, read_files(folder.place(it.name))) for it in folder.own_lines()}
     files.update({it.name: (it.line.partition(":")[2].split(), it.files) for it in copied})
-    return [Crate(name, uses, these) for name, (uses, these) in files.items() if product.intersection(uses) and has_root(these)]
+    above = set(product)
+    while more := {name for name, (uses, _) in files.items() if above.intersection(uses)} - above:
+        above |= more
+    users = {name: it for name, it in files.items() if name in above}
+    return [Crate(name, *it) for name, it in users.items() if has_root(it[1])], [name for name, it in users.items() if not has_root(it[1])]
 
 
 def has_root(files):
