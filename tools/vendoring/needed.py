@@ -1,6 +1,6 @@
 """What of some crates the code of others needs: the items that it leads to, and the definitions and proofs of these.
 
-What is found is never too little for names, which are read wherever they stand, and rather too much: a function of a type is
+Names are followed wherever they stand, and without types, so that what is found is rather too much: a function of a type is
 needed if the type is and if a function of that name is called of anything. An impl block of a trait is needed if the trait and all
 types that its head names are, and one for tuples if a tuple of as many parts stands somewhere.
 """

@@ -42,8 +42,7 @@ class Plan:
 
 
 def plan_of(origin, folder, more, program, name, is_whole):
-    """Reads what is to be copied, and refuses what cannot be. `is_whole` says whether all of the crates
-    of some names is."""
+    """Reads what is to be copied, and refuses what cannot be. `is_whole` says of the names of libraries whether all of them is."""
     for it in more:
         known(origin, it, f"{it} is no crate of the product")
     for it in folder.record.asked:

@@ -14,8 +14,9 @@ def hash_of(content):
 
 @dataclass
 class Record:
-    """What was copied, and whether it is all of the libraries, or what is needed of them. `begun` is empty where the copy is complete. While one is written, a crate has its old line and its new
-    one, and a file its old hash and its new one; then `begun` is the program that is being copied, or `-`."""
+    """What was copied, and whether it is all of the libraries, or what is needed of them. `begun` is empty where the copy is
+    complete. While one is written, a crate has its old line and its new one, and a file its old hash and its new one; then `begun`
+    is the program that is being copied, or `-`."""
 
     commit: str = ""
     date: str = ""

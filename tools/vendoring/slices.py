@@ -3,7 +3,7 @@ import re
 
 from lib import paths
 
-from .cited import CITED, LIB, names_in
+from .cited import CITED, LIB, Cited
 from .sources import IMPORT, NAME, Node, way_of
 
 LISTS = re.compile(r"(?:(?:pub )?mod \w+\s*|pub use [^\n]*\s*)+")
@@ -146,8 +146,7 @@ class Slice:
         if not place.startswith(("declared.", "contracts.")):
             return self.need.cited.has(crate, self.need.cited.file(crate, kind, place))
         shown = []
-        cited = type(self.need.cited)(self.sources, shown.append)
-        cited.read_declared(crate, place.rstrip(".").split(".")[1:])
+        Cited(self.sources, shown.append).read_declared(crate, place.rstrip(".").split(".")[1:])
         return any(map(self.need.has, shown))
 
 
