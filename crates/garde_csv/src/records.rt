@@ -78,8 +78,8 @@ pub struct Records<R> {
 }
 
 impl<R: Read + Drop> Records<R> {
-    /// The records of these bytes. It allocates 8 KiB, and reads three bytes at most. It is never
-    /// `ListError::Stopped`.
+    /// The records of these bytes. It allocates 8 KiB, and reads three bytes at most. An error is
+    /// never `ListError::Stopped`.
     pub fn new(alloc: Global, source: R) -> Result<Records<R>, ListError>
         ensures bytes { IfOk result (λ list. Keeps (option_map strip_bom (R.remaining source)) (rest_of R.remaining list)) }
         ensures state { IfOk result (λ list. list_state list ≡ st.StartRecord) }
