@@ -3,6 +3,7 @@ use Rattle.std.specs.Prelude.{◌≡◌, ◌==◌, ℕ, List, [], ◌∷◌, Boo
 use Rattle.std.specs.Str.{all_ascii_digits, bytes_eq}
 use Rattle.garde_places.specs.Format.{format_of}
 use Rattle.garde_places.specs.declared.asked.Asked.{Asked}
+use Rattle.garde_places.specs.declared.asked.TheConstants.{NO_FORMAT, TWO_FORMATS, TWO_INPUTS}
 use Rattle.garde_places.specs.declared.format.Format.{Format}
 use Rattle.garde_places.specs.declared.format.Format.TheVariants as format
 
@@ -58,6 +59,10 @@ IsWrongBy false false old word = (is_input word ≡ true) × IsSome (input_word 
 
 abbrev pub IsWrong : Asked → List ℕ → Type 0
 IsWrong old word = IsWrongBy old.is_open (is_format_option word) old word
+
+-- why a word cannot be followed
+abbrev pub why_wrong : Asked → List ℕ → List ℕ
+why_wrong old word = if old.is_open then NO_FORMAT.now else (if is_format_option word then TWO_FORMATS.now else TWO_INPUTS.now)
 
 -- the file of a word, none for standard input
 abbrev pub file_asked : Option (List ℕ) → Option (List ℕ)

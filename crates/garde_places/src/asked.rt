@@ -1,7 +1,8 @@
 //! What the words of a command line ask for: which input is read, and how its faults are printed.
-ghost use Rattle.std.specs.Prelude.{◌≡◌, IfOk, IsSome, MatchOption, None, OnErr, Some, false, option_map, true};
+ghost use Rattle.std.specs.Prelude.{◌≡◌, IfErr, IfOk, IsSome, MatchOption, None, OnErr, Some, false, option_map, true};
 ghost use Rattle.std.specs.Str.{all_ascii_digits};
-ghost use Rattle.garde_places.specs.Asked.{IsTaken, IsWrong, OpensFormat, TakesFormat, file_asked, format_asked, input_word, is_input, name_asked, named_format};
+ghost use Rattle.garde_places.specs.Asked.{IsTaken, IsWrong, OpensFormat, TakesFormat, file_asked, format_asked, input_word, is_input, name_asked, named_format, why_wrong};
+ghost use Rattle.garde_places.specs.declared.asked.TheConstants.{NO_FORMAT, TWO_FORMATS};
 
 use crate::format::Format;
 use crate::printed::Printed;
@@ -81,6 +82,7 @@ impl<'w> Asked<'w> {
     pub fn take(&mut self, word: &'w str) -> Result<bool, &'static str>
         ensures taken { IfOk result (λ is_taken. IsTaken is_taken self.old word.now self.new) }
         ensures wrong { OnErr result (IsWrong self.old word.now) }
+        ensures why { IfErr result (λ why. why.now ≡ why_wrong self.old word.now) }
     {
         if self.is_open {
             return self.take_format(word);
@@ -92,7 +94,7 @@ impl<'w> Asked<'w> {
             return Ok(false);
         }
         if self.input.is_some() {
-            return Err("there must be one file at most");
+            return Err(TWO_INPUTS);
         }
         self.input = Some(word);
         Ok(true)
@@ -102,6 +104,7 @@ impl<'w> Asked<'w> {
     fn take_format(&mut self, name: &str) -> Result<bool, &'static str>
         ensures taken { IfOk result (λ is_taken. (is_taken ≡ true) × TakesFormat self.old name.now self.new) }
         ensures wrong { OnErr result (named_format name.now ≡ None) }
+        ensures why { IfErr result (λ why. why.now ≡ NO_FORMAT.now) }
     {
         let Some(format) = named_format(name) else {
             return Err(NO_FORMAT);
@@ -115,9 +118,10 @@ impl<'w> Asked<'w> {
     fn take_option(&mut self) -> Result<bool, &'static str>
         ensures taken { IfOk result (λ is_taken. (is_taken ≡ true) × OpensFormat self.old self.new) }
         ensures wrong { OnErr result (IsSome self.old.format) }
+        ensures why { IfErr result (λ why. why.now ≡ TWO_FORMATS.now) }
     {
         if self.format.is_some() {
-            return Err("--format must stand once at most");
+            return Err(TWO_FORMATS);
         }
         self.is_open = true;
         Ok(true)
@@ -131,6 +135,7 @@ impl<'w> Asked<'w> {
     pub fn finish(self) -> Result<Asked<'w>, &'static str>
         ensures ok { IfOk result (λ asked. (asked ≡ self.entry) × (asked.is_open ≡ false)) }
         ensures err { OnErr result (self.entry.is_open ≡ true) }
+        ensures why { IfErr result (λ why. why.now ≡ NO_FORMAT.now) }
     {
         if self.is_open {
             return Err(NO_FORMAT);
@@ -171,5 +176,9 @@ impl<'w> Asked<'w> {
         }
     }
 }
+
+const TWO_INPUTS: &str = "there must be one file at most";
+
+const TWO_FORMATS: &str = "--format must stand once at most";
 
 const NO_FORMAT: &str = "--format must be followed by short, json, github or plain";

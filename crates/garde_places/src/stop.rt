@@ -1,5 +1,5 @@
 //! Where a text stops being JSON, and why.
-ghost use Rattle.std.specs.Prelude.{◌≡◌, IfOk, IfSome, IsUtf8, MatchOption};
+ghost use Rattle.std.specs.Prelude.{◌≡◌, IfOk, IsUtf8, MatchOption, Some, option_map};
 ghost use Rattle.std.specs.Str.Lossy.{utf8_valid_len};
 ghost use Rattle.garde_places.specs.Places.{place_at};
 ghost use Rattle.garde_places.specs.Stop.{IsStopIn};
@@ -21,10 +21,12 @@ pub struct Stop<'w> {
 /// Where the bytes stop being one JSON text (RFC 8259) nested no deeper than 128, and why; none where
 /// they are one. Bytes that are not UTF-8 stop at the first that is not.
 ///
-/// The place is that of a byte or of the end. That it is the first that can not stand there is tested
-/// alone.
+/// UTF-8 that is no JSON text stops at a byte, or at its end. That it is the first byte that can not
+/// stand there, and that one JSON text does not stop, is tested alone.
 pub fn stop_of(alloc: Global, bytes: &[u8]) -> Result<Option<Stop<'static>>, AllocError>
-    ensures { IfOk result (λ stop. IfSome stop (λ it. IsStopIn bytes.now it.place)) }
+    ensures place { IfOk result (λ stop. MatchOption stop (IsUtf8 bytes.now) (λ it. IsStopIn bytes.now it.place)) }
+    ensures utf8 { IfOk result (λ stop. ¬ IsUtf8 bytes.now
+        → option_map (λ it. it.place) stop ≡ Some (place_at bytes.now (utf8_valid_len bytes.now))) }
 {
     if let Some(stop) = stop_of_utf8(bytes) {
         return Ok(Some(stop));
