@@ -9,6 +9,7 @@ use garde_schema::{
     Text, Tree, U8, Whole, read_json,
 };
 use std::alloc::{AllocError, Global};
+use std::process::Abort;
 
 /// A name, perhaps an age, a town and whatever there is, and names that a path may confuse.
 pub fn person<H: I18n + FormI18n>(
@@ -33,7 +34,8 @@ pub fn person<H: I18n + FormI18n>(
     told(alloc, tree, &Object(person), h)
 }
 
-const BODIES: &[(&[u8], &str)] = &[
+// Bodies, and what each reads as.
+const VALUES: &[(&[u8], &str)] = &[
     (
         b"{\"name\":\"Ada\"}",
         "((TextRef(\"Ada\"), None), ((None, None), ((None, None), (None, None))))",
@@ -46,15 +48,18 @@ const BODIES: &[(&[u8], &str)] = &[
         b"{\"\\u0000\\n\":null,\"\":null,\"[0]\":null,\"a.b\":null,\"name\":\"Ada\"}",
         "((TextRef(\"Ada\"), None), ((None, None), ((Some(()), Some(())), (Some(()), Some(())))))",
     ),
-    (b"", "not JSON at line 1 column 0"),
-    (b" \n ", "not JSON at line 2 column 1"),
     (
         b"\xef\xbb\xbf{\"name\":\"Ada\"}",
         "((TextRef(\"Ada\"), None), ((None, None), ((None, None), (None, None))))",
     ),
-    (b"\xef\xbb\xbf\xef\xbb\xbf{}", "not JSON at line 1 column 1"),
-    (b"\xef\xbb\xbf", "not JSON at line 1 column 0"),
-    (b"\xef\xbb{}", "not UTF-8 at line 1 column 1"),
+    (
+        b"{\"name\":\"\\\\ud800\\ud83d\\ude00\"}",
+        "((TextRef(\"\\\\ud800\u{1f600}\"), None), ((None, None), ((None, None), (None, None))))",
+    ),
+];
+
+// Bytes that stop to be JSON, and where.
+const STOPS: &[(&[u8], &str)] = &[
     (
         b"\xef\xbb\xbf{\"name\":\xef\xbb\xbf\"Ada\"}",
         "not JSON at line 1 column 9",
@@ -71,14 +76,9 @@ const BODIES: &[(&[u8], &str)] = &[
         b"{\"a\\udbff\\u0041\":1}",
         "a lone surrogate at line 1 column 4",
     ),
-    (
-        b"{\"name\":\"\\\\ud800\\ud83d\\ude00\"}",
-        "((TextRef(\"\\\\ud800\u{1f600}\"), None), ((None, None), ((None, None), (None, None))))",
-    ),
     (b"{\"name\":\"\\ud8\"}", "not JSON at line 1 column 9"),
     (b"{\"name\":\"\xff\"}", "not UTF-8 at line 1 column 10"),
     (b"{\n\"name\":\n\"Ad\xc3", "not UTF-8 at line 3 column 4"),
-    (b"\xed\xa0\x80", "not UTF-8 at line 1 column 1"),
     (b"{\"name\":Ada}", "not JSON at line 1 column 9"),
     (b"{\"name\":\"Ada\"} {}", "not JSON at line 1 column 16"),
     (b"{\"name\":\"Ada\",}", "not JSON at line 1 column 15"),
@@ -107,6 +107,16 @@ const BODIES: &[(&[u8], &str)] = &[
     ),
     (b"{\"\\ud800\":1}", "a lone surrogate at line 1 column 3"),
     (b"{\"name\":\"A\nda\"}", "not JSON at line 1 column 9"),
+];
+
+// Bodies with faults, and the whole report of each.
+const FAULTS: &[(&[u8], &str)] = &[
+    (b"", "not JSON at line 1 column 0"),
+    (b" \n ", "not JSON at line 2 column 1"),
+    (b"\xef\xbb\xbf\xef\xbb\xbf{}", "not JSON at line 1 column 1"),
+    (b"\xef\xbb\xbf", "not JSON at line 1 column 0"),
+    (b"\xef\xbb{}", "not UTF-8 at line 1 column 1"),
+    (b"\xed\xa0\x80", "not UTF-8 at line 1 column 1"),
     (b"null", "not an object\n"),
     (b"[]", "not an object\n"),
     (b"[{\"name\":\"Ada\"}]", "not an object\n"),
@@ -151,11 +161,18 @@ const BODIES: &[(&[u8], &str)] = &[
     ),
 ];
 
+// Ends at the first of these bodies of which something else is told.
+fn check_bodies(rt: &impl Abort, alloc: Global, bodies: &[(&[u8], &str)]) {
+    for (body, expected) in bodies {
+        check(rt, alloc, &Case::Json, body, &DefaultI18n, expected);
+    }
+}
+
 #[test]
 fn reads_bytes_by_a_form(rt: HostRuntime) {
-    for (body, expected) in BODIES {
-        check(&rt, rt.alloc(), &Case::Json, body, &DefaultI18n, expected);
-    }
+    check_bodies(&rt, rt.alloc(), VALUES);
+    check_bodies(&rt, rt.alloc(), STOPS);
+    check_bodies(&rt, rt.alloc(), FAULTS);
 }
 
 // What is told of bytes with a name.

@@ -6,3 +6,15 @@ mod faulty;
 mod told;
 mod worded;
 mod written;
+
+use garde_catalog::{ENGLISH, Entry, GERMAN};
+
+// The texts in English. A proof looks at all of a table where it is named.
+fn english() -> &'static [Entry<'static>] {
+    &ENGLISH
+}
+
+// The texts in German.
+fn german() -> &'static [Entry<'static>] {
+    &GERMAN
+}

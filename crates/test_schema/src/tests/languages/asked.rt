@@ -1,8 +1,9 @@
 //! Fields `Accept-Language`, each with the language that it asks for.
 
+use super::english;
 use crate::tests::long::Long;
 use crate::tests::{OrEnd, is_text};
-use garde_catalog::{Catalog, Catalogs, ENGLISH, Key, Language, Spoken, languages, ranges_of};
+use garde_catalog::{Catalog, Catalogs, Key, Language, Spoken, languages, ranges_of};
 use std::alloc::Global;
 
 static ASKED: [(&str, &str); 33] = [
@@ -119,7 +120,7 @@ fn finds_the_language_of_a_tag(rt: HostRuntime) {
 
 // Whether the catalog of a tag has this text.
 fn is_in(alloc: Global, tag: &str, text: &str) -> bool {
-    match Catalog::in_language(alloc, tag, &languages(), &ENGLISH) {
+    match Catalog::in_language(alloc, tag, &languages(), english()) {
         Ok(catalog) => catalog.word(Key::MemberMissing) == text,
         Err(_) => false,
     }
@@ -184,7 +185,7 @@ fn is_spoken(alloc: Global, words: &[&str], text: &str) -> bool {
             return reason == text;
         }
     }
-    match spoken.catalog(alloc, &offered[..2], &ENGLISH) {
+    match spoken.catalog(alloc, &offered[..2], english()) {
         Ok(catalog) => catalog.word(Key::MemberMissing) == text,
         Err(error) => is_text(error.to_string(alloc), text),
     }

@@ -1,8 +1,7 @@
 //! Faulty tables, each with the faults that are reported.
 
-use garde_catalog::{
-    Catalog, CatalogError, CatalogFault, ENGLISH, Entry, KEYS, Key, TemplateFault, Wrong,
-};
+use super::english;
+use garde_catalog::{Catalog, CatalogError, CatalogFault, Entry, KEYS, Key, TemplateFault, Wrong};
 use std::alloc::Global;
 
 static TEXTS: [(Key, &str, TemplateFault); 9] = [
@@ -91,7 +90,7 @@ fn is_mixed(made: Result<Catalog<'_>, CatalogError>) -> bool {
 fn takes_missing_texts_from_the_fallback(rt: HostRuntime) {
     let table = [(Key::NotText, "kein Text")];
     assert!(rt;
-        is_mixed(Catalog::with_fallback(rt.alloc(), &ONE, &ENGLISH))
-            && is_mixed(Catalog::lent(rt.alloc(), &table, &ENGLISH))
+        is_mixed(Catalog::with_fallback(rt.alloc(), &ONE, english()))
+            && is_mixed(Catalog::lent(rt.alloc(), &table, english()))
     );
 }

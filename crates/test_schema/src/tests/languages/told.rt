@@ -3,10 +3,11 @@ ghost use Rattle.std.specs.Prelude.{Some};
 ghost use Rattle.garde.specs.Fields.{rule};
 ghost use Rattle.garde_i18n.specs.DatumOf.{datum_of};
 
+use super::german;
 use crate::tests::is_handed;
 use garde::fields::{Is, Rule};
 use garde::{I18n, RuleError};
-use garde_catalog::{CZECH, Catalog, CatalogError, Entry, GERMAN, Key, languages};
+use garde_catalog::{CZECH, Catalog, CatalogError, Entry, Key, languages};
 use garde_i18n::{
     Code, Datum, InvalidCreditCard, InvalidPhoneNumber, InvalidUrl, IpKind, Named, Texts, Value,
 };
@@ -427,14 +428,14 @@ fn tells_each_message_of_every_language(rt: HostRuntime) {
 
 #[test]
 fn tells_each_message_of_a_lent_table(rt: HostRuntime) {
-    let made = Catalog::lent(rt.alloc(), &GERMAN, &[]);
-    assert!(rt; is_catalog_of(rt.alloc(), made, &GERMAN));
+    let made = Catalog::lent(rt.alloc(), german(), &[]);
+    assert!(rt; is_catalog_of(rt.alloc(), made, german()));
 }
 
 #[test]
 fn names_the_numbers_of_a_type(rt: HostRuntime) {
     let alloc = rt.alloc();
-    let is_told = match Catalog::new(alloc, &GERMAN) {
+    let is_told = match Catalog::new(alloc, german()) {
         Ok(h) => is_handed(
             h.form_fault(alloc, FormFault::OutOfRange(Integer::I8)),
             "außerhalb des Bereichs: -128 bis 127",

@@ -1,8 +1,9 @@
 //! What is wrong with a text in a file of texts, as handlers word it.
 
+use super::german;
 use crate::tests::is_text;
 use garde::I18n;
-use garde_catalog::{Catalog, GERMAN, TableTexts};
+use garde_catalog::{Catalog, TableTexts};
 use garde_i18n::CodeI18n;
 use garde_schema::{FormI18n, Object, Scratch, read_json};
 use std::alloc::Global;
@@ -38,7 +39,7 @@ fn is_reported<H: I18n + FormI18n>(alloc: Global, json: &str, h: &H, wanted: &st
 
 // Whether codes and a catalog say this of a table.
 fn is_worded(alloc: Global, json: &str, code: &str, english: &str) -> bool {
-    let Ok(german) = Catalog::new(alloc, &GERMAN) else {
+    let Ok(german) = Catalog::new(alloc, german()) else {
         return false;
     };
     is_reported(alloc, json, &CodeI18n, code) && is_reported(alloc, json, &german, english)

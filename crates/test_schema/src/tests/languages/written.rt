@@ -1,9 +1,10 @@
 //! Tables that are written in files: read back, and with the faults that are reported.
 
+use super::english;
 use crate::tests::long::Long;
 use crate::tests::{OrEnd, is_text};
 use garde::DefaultI18n;
-use garde_catalog::{Catalog, ENGLISH, Entry, KEYS, Key, Table, TableTexts, languages};
+use garde_catalog::{Catalog, Entry, KEYS, Key, Table, TableTexts, languages};
 use garde_schema::{Closed, Object, ReadError, Scratch, read_json};
 use std::alloc::{AllocError, Global};
 
@@ -48,7 +49,7 @@ fn read(alloc: Global, json: &[u8], texts: TableTexts) -> Result<Table, ReadErro
 
 // Whether a catalog of these lines has the texts of this table.
 fn is_spoken(alloc: Global, lines: &[Entry<'_>], table: &[Entry<'_>]) -> bool {
-    let Ok(catalog) = Catalog::lent(alloc, lines, &ENGLISH) else {
+    let Ok(catalog) = Catalog::lent(alloc, lines, english()) else {
         return false;
     };
     for (key, text) in table {
@@ -81,7 +82,7 @@ fn reads_back_every_language(rt: HostRuntime) {
 
 #[test]
 fn takes_missing_keys_from_the_fallback(rt: HostRuntime) {
-    assert!(rt; is_read_as(rt.alloc(), "{}", TableTexts::some(), &ENGLISH));
+    assert!(rt; is_read_as(rt.alloc(), "{}", TableTexts::some(), english()));
 }
 
 // The report of a text in JSON, or why there is none.
@@ -95,7 +96,7 @@ fn report_of(alloc: Global, json: &str, texts: TableTexts) -> Result<String, All
 // The report of a table in English with another line in the place of that of a key.
 fn report_with(alloc: Global, key: Key, instead: &Long) -> Result<String, AllocError> {
     let instead = instead.text(alloc)?;
-    let json = written(alloc, &ENGLISH, Some(key), instead.as_str())?;
+    let json = written(alloc, english(), Some(key), instead.as_str())?;
     report_of(alloc, json.as_str(), TableTexts::all())
 }
 

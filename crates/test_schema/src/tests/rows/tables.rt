@@ -68,100 +68,91 @@ const SIX: &[&[&str]] = &[
     &["8", "P5"],
 ];
 
-// A header, rows, and what is told of them.
-static TABLES: [(&[&str], &[&[&str]], &str); 24] = [
-    (KNOWN, &[&["P1", "5", "x"]], "\"P1\" 5 Some(\"x\")\n"),
-    (KNOWN, &[&["P1", "+200", ""]], "\"P1\" 200 None\n"),
+// A row behind the header of all known columns, and what is told of it.
+static CELLS: [(&[&str], &str); 14] = [
+    (&["P1", "5", "x"], "\"P1\" 5 Some(\"x\")\n"),
+    (&["P1", "+200", ""], "\"P1\" 200 None\n"),
     (
-        KNOWN,
-        &[&["P\"\\,\n\u{1}é", "007", "{}"]],
+        &["P\"\\,\n\u{1}é", "007", "{}"],
         "\"P\\\"\\\\,\\n\\u{1}é\" 7 Some(\"{}\")\n",
     ),
     (
-        KNOWN,
-        &[&["Q1", "201", ""]],
+        &["Q1", "201", ""],
         "[0].code: value does not begin with \"P\"\n[0].price: greater than 200\n",
     ),
     (
-        KNOWN,
-        &[&["", "", ""]],
+        &["", "", ""],
         "[0].code: value does not begin with \"P\"\n[0].price: not a whole number\n",
     ),
+    (&["P1", "256", ""], "[0].price: greater than 200\n"),
+    (&["P1", "-1", ""], "[0].price: lower than 1\n"),
     (
-        KNOWN,
-        &[&["P1", "256", ""]],
+        &["P1", "5555555555555555555555555555555555555555", ""],
         "[0].price: greater than 200\n",
     ),
-    (KNOWN, &[&["P1", "-1", ""]], "[0].price: lower than 1\n"),
+    (&["P1", " 5", ""], "[0].price: not a whole number\n"),
+    (&["P1", "1_0", ""], "[0].price: not a whole number\n"),
+    (&["P1", "5.0", ""], "[0].price: not a whole number\n"),
+    (&["Q1", "x"], "[0]: not as many fields as in the header\n"),
     (
-        KNOWN,
-        &[&["P1", "5555555555555555555555555555555555555555", ""]],
-        "[0].price: greater than 200\n",
-    ),
-    (
-        KNOWN,
-        &[&["P1", " 5", ""]],
-        "[0].price: not a whole number\n",
-    ),
-    (
-        KNOWN,
-        &[&["P1", "1_0", ""]],
-        "[0].price: not a whole number\n",
-    ),
-    (
-        KNOWN,
-        &[&["P1", "5.0", ""]],
-        "[0].price: not a whole number\n",
-    ),
-    (
-        KNOWN,
-        &[&["Q1", "x"]],
+        &["P1", "5", "x", ""],
         "[0]: not as many fields as in the header\n",
     ),
-    (
-        KNOWN,
-        &[&["P1", "5", "x", ""]],
-        "[0]: not as many fields as in the header\n",
-    ),
-    (KNOWN, &[&[]], "[0]: not as many fields as in the header\n"),
-    (&["code", "price", "page"], ONE, "\"P1\" 7 Some(\"9\")\n"),
+    (&[], "[0]: not as many fields as in the header\n"),
+];
+
+// A header before one row, and what is told of it.
+static HEADERS: [(&[&str], &str); 9] = [
+    (&["code", "price", "page"], "\"P1\" 7 Some(\"9\")\n"),
     (
         &["page", "code", "price"],
-        ONE,
         "[0].code: value does not begin with \"P\"\n",
     ),
     (
         &["code", "price"],
-        ONE,
         "[0]: not as many fields as in the header\n",
     ),
-    (&["code", "page"], ONE, "price: missing\n"),
-    (&["code", "price", "code"], ONE, "code: repeated\n"),
-    (&["page", "price", "page", "code"], ONE, "page: repeated\n"),
+    (&["code", "page"], "price: missing\n"),
+    (&["code", "price", "code"], "code: repeated\n"),
+    (&["page", "price", "page", "code"], "page: repeated\n"),
     (
         &["note", "code", "price", "note", ""],
-        ONE,
         "note: not known here\nnote: not known here\n: not known here\n",
     ),
     (
         &["Code", "price", "price"],
-        ONE,
         "code: missing\nprice: repeated\nCode: not known here\n",
     ),
-    (&[], ONE, "code: missing\nprice: missing\n"),
-    (
-        &["price", "code"],
-        SIX,
-        "\"P1\" 7 None\n[1]: not as many fields as in the header\n[2].price: not a whole number\n[3]: not as many fields as in the header\n[4].code: value does not begin with \"P\"\n[4].price: greater than 200\n\"P5\" 8 None\n",
-    ),
+    (&[], "code: missing\nprice: missing\n"),
 ];
 
-#[test]
-fn tells_every_fault_of_a_table(rt: HostRuntime) {
-    for (header, rows, expected) in &TABLES {
+// What is told of the rows behind rows with a fault.
+const SIX_TOLD: &str =
+    "\"P1\" 7 None\n[1]: not as many fields as in the header\n[2].price: not a whole number\n[3]: not as many fields as in the header\n[4].code: value does not begin with \"P\"\n[4].price: greater than 200\n\"P5\" 8 None\n";
+
+// Ends at the first of these rows of which something else is told.
+fn check_cells(rt: &impl Abort, alloc: Global) {
+    for (row, expected) in &CELLS {
         assert!(rt;
-            told(&rt, rt.alloc(), header, rows).as_str() == *expected,
+            told(rt, alloc, KNOWN, &[*row]).as_str() == *expected,
             "{expected}"
         );
     }
+}
+
+// Ends at the first of these headers of which something else is told.
+fn check_headers(rt: &impl Abort, alloc: Global) {
+    for (header, expected) in &HEADERS {
+        assert!(rt;
+            told(rt, alloc, header, ONE).as_str() == *expected,
+            "{expected}"
+        );
+    }
+}
+
+#[test]
+fn tells_every_fault_of_a_table(rt: HostRuntime) {
+    check_cells(&rt, rt.alloc());
+    check_headers(&rt, rt.alloc());
+    assert!(rt; told(&rt, rt.alloc(), &["price", "code"], SIX).as_str() == SIX_TOLD);
 }
