@@ -14,13 +14,13 @@ def files_of(crate):
 
 def blanked(text, start, end):
     """A text with spaces between two places, and its lines as they are."""
-    return text[:start] + re.sub(r"[^\n]", " ", text[start:end]) + text[end:]
+    return text[:start] + source.spaces(text[start:end]) + text[end:]
 
 
 def lines_without(text, kinds, clauses=False):
     """The lines of a source without comments, without items of some kinds, and without clauses: the number of each, where it
     begins, and what is left of it."""
-    left = source.SKIPPED.sub(lambda it: blanked(it.group(), 0, len(it.group())) if it.group()[0] == "/" else it.group(), text.text)
+    left = source.SKIPPED.sub(lambda it: source.spaces(it.group()) if it.group()[0] == "/" else it.group(), text.text)
     for item in text.all_items():
         if item.kind in kinds and (item.kind != "use" or clauses or item.is_public):
             left = blanked(left, item.start, item.end)

@@ -4,6 +4,7 @@ Such a place is a line of a crate that states something which makes such an answ
 room of a size that the function chooses. `tests/memory-places.md` lists each with whose failure it hands on.
 """
 import collections
+import functools
 import re
 
 from lib import code, repository, source
@@ -44,22 +45,24 @@ def function_at(text, at):
     return "::".join([*(owner.groups() if owner else ()), inside[-1].name])
 
 
+@functools.cache
 def code_of(crate):
-    """The lines of a crate's code outside tests, without clauses and ghost items: the file, where it begins in it, and it."""
-    for name in code.files_of(crate):
-        text = source.read(repository.text_of(name))
-        for number, at, line in code.lines_without(text, ("ghost", "ghost use", "use", "enum"), clauses=True):
-            yield f"{name}:{number}", function_at(text, at), line
+    """The lines of a crate's code outside tests, without clauses and ghost items: the file, the number, where it begins and the line."""
+    left_out = ("ghost", "ghost use", "use", "enum")
+    return [
+        (name, *it) for name in code.files_of(crate)
+        for it in code.lines_without(source.read(repository.text_of(name)), left_out, clauses=True)
+    ]
 
 
 def made():
     """The lines that make such answers: the file, the function and the line, each with its places."""
     found = collections.defaultdict(list)
     for crate in repository.stating():
-        for place, function, line in code_of(crate):
+        for name, number, at, line in code_of(crate):
             if makes(line):
-                name = place.partition(":")[0].removeprefix("crates/")
-                found[name, function, line.strip().rstrip(",;")].append(place)
+                function = function_at(source.read(repository.text_of(name)), at)
+                found[name.removeprefix("crates/"), function, line.strip().rstrip(",;")].append(f"{name}:{number}")
     return found
 
 
@@ -85,10 +88,10 @@ def faults():
             yield f"{where[0]}: no such line makes a refusal: {key[2]}"
     for crate in repository.stating():
         for name in repository.files():
-            if name.startswith(f"crates/{crate}/src/"):
+            if name.startswith(f"crates/{crate}/src/") and re.search(RENAMES, repository.text_of(name)):
                 for number, line in repository.lines_of(name):
                     if re.search(RENAMES, line) and not re.match(r"\s*(//|ghost )", line):
                         yield f"{name}:{number}: a refusal under another name: {line.strip()}"
-        for place, _, line in code_of(crate):
+        for name, number, _, line in code_of(crate):
             if re.search(LEAKS, line):
-                yield f"{place}: a value is not dropped: {line.strip()}"
+                yield f"{name}:{number}: a value is not dropped: {line.strip()}"

@@ -18,12 +18,19 @@ SKIPPED = re.compile(
     r"|'(?:\\(?:u\{\w+\}|x\w\w|.)|[^\\'\n])'", re.S,
 )
 SPACE = re.compile(r"(?:\s+|#!?(?=\s*\[))*")
+SPACES = re.compile(r"\s*")
 HEAD = re.compile(
     r"(?P<public>pub\s+)?(?:pub\s*\([^)]*\)\s*)?(?:(?:final|const|unsafe|extern|default)\s+(?=(?:\w+\s+)*(?:fn|impl|trait)\b))*"
     r"(?P<kind>ghost\s+use|ghost|use|mod|fn|impl|trait|struct|enum|union|type|const|static|macro_rules!)(?:\s+(?P<name>\w+))?"
 )
 CLAUSE = re.compile(r"\b(?:ensures|requires|decreases)(?:\s+\w+)?\s*$")
 OPENING, CLOSING = "([{", ")]}"
+BRACKET, MARK = re.compile(r"[(\[{}\])]"), re.compile(r"[(\[{}\]);]")
+
+
+def spaces(text):
+    """A text with a space for each letter, and its lines as they are."""
+    return "\n".join(" " * len(line) for line in text.split("\n"))
 
 
 @dataclass
@@ -46,8 +53,8 @@ class Source:
 
     def __init__(self, text):
         self.text = text
-        self.blank = SKIPPED.sub(lambda found: re.sub(r"[^\n]", " ", found.group()), text)
-        self.lines = [0, *(at + 1 for at, letter in enumerate(text) if letter == "\n")]
+        self.blank = SKIPPED.sub(lambda found: spaces(found.group()), text)
+        self.lines = [0, *(found.end() for found in re.finditer("\n", text))]
         self.items = self.read(0, len(text), None)
 
     def line_of(self, at):
@@ -72,7 +79,7 @@ class Source:
         kind, name = " ".join(head.group("kind").split()), head.group("name") or ""
         is_block = kind in ("fn", "impl", "trait", "mod", "struct", "enum", "union", "macro_rules!")
         body, stop = self.ending(head.start(), end, is_block)
-        start += re.match(r"\s*", self.text[start:]).end()
+        start = SPACES.match(self.text, start).end()
         found = Item(kind, name, bool(head.group("public")), start, head.start(), body, stop, owner)
         if kind in ("impl", "trait", "mod") and self.blank[body : body + 1] == "{":
             found.members = self.read(body + 1, stop - 1, found)
@@ -81,24 +88,24 @@ class Source:
     def ending(self, at, end, is_block=False):
         """Where the body of what begins here stands, or its `;`, and where it ends."""
         first = at
-        while at < end:
-            letter = self.blank[at]
+        while found := MARK.search(self.blank, at, end):
+            at, letter = found.start(), found.group()
             if letter == "{" and is_block and not CLAUSE.search(self.blank, first, at):
                 return at, self.close(at)
             if letter == ";":
                 return at, at + 1
             if letter in CLOSING:
                 return at, at
-            at = self.close(at) if letter in OPENING else at + 1
+            at = self.close(at)
         return end, end
 
     def close(self, at):
         """The place behind the bracket that closes the one here."""
         depth = 0
-        for found in re.finditer(r"[(\[{}\])]", self.blank[at:]):
+        for found in BRACKET.finditer(self.blank, at):
             depth += 1 if found.group() in OPENING else -1
             if depth == 0:
-                return at + found.end()
+                return found.end()
         return len(self.blank)
 
     def all_items(self, items=None):

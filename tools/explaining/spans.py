@@ -3,6 +3,7 @@ import re
 from dataclasses import dataclass
 
 from lib import source
+from lib.source import spaces
 
 OPENING, CLOSING = "([{⟦", ")]}⟧"
 INSIDE = "\0"
@@ -29,11 +30,6 @@ class Plain:
 
     def line_of(self, at):
         return self.items.line_of(at)
-
-
-def spaces(text):
-    """A text with a space for each letter, and its lines as they are."""
-    return re.sub(r"[^\n]", " ", text)
 
 
 @dataclass(frozen=True)
