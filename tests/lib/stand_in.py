@@ -10,7 +10,7 @@ RT = """#!/bin/sh
 exit {lib}
 """
 RATTLE = """#!/bin/sh
-exec {python} {here} {stored} {own} "$@"
+exec {python} -S {here} {stored} {own} "$@"
 """
 
 

@@ -10,9 +10,10 @@ import tempfile
 import time
 
 from lib import stand_in
+from lib.forked import Command
 from lib.repository import ROOT
 
-WHY = ROOT / "tools/why"
+WHY = Command(ROOT / "tools/why")
 # the types of `example_valid`
 VALID = "basket::Basket, bill::Bill, level::Level, page::Page, panel::Reading, parcel::Parcel, seat::Seat, tariff::Tariff"
 # a library that was never built, and a type above it
@@ -35,18 +36,22 @@ class Run:
         path = stand_in.put(self.kit, self.stored, crate, lib)
         self.env = {**os.environ, "PATH": f"{path}:{os.environ['PATH']}", "TMPDIR": str(self.temporary)}
 
-    def start(self, *words):
-        out = {"stdin": subprocess.DEVNULL, "stdout": subprocess.PIPE, "stderr": subprocess.PIPE}
-        return subprocess.Popen([sys.executable, WHY, *words], env=self.env, cwd=self.temporary.parent, text=True, **out)
+    def enter(self):
+        """Gives the command its environment."""
+        os.environ.update(self.env)
+        tempfile.tempdir = None
+
+    def ended(self, *words):
+        """What the command answers to these words: its status, its output and what it says on standard error."""
+        ran = WHY.run(*words, cwd=self.temporary.parent, before=self.enter)
+        return ran.returncode, ran.stdout.decode(), ran.stderr.decode()
 
     def faults(self, words, status, says, complains=""):
         """What is wrong with the answer to these words, or left behind."""
         before = state_of(self.crate)
-        run = self.start(*words)
-        out, err = run.communicate(timeout=60)
-        wanted = (status, "".join(f"{it}\n" for it in says), complains)
-        if (run.returncode, out, err) != wanted:
-            yield f"tools/why {' '.join(words)}: {(run.returncode, out, err)}, and not {wanted}"
+        met, wanted = self.ended(*words), (status, "".join(f"{it}\n" for it in says), complains)
+        if met != wanted:
+            yield f"tools/why {' '.join(words)}: {met}, and not {wanted}"
         yield from self.left(before)
 
     def left(self, before):
@@ -64,7 +69,8 @@ class Run:
         """What is wrong where the command is ended while the prover works."""
         waits, waiting = pathlib.Path(f"{self.stored}.waits"), pathlib.Path(f"{self.stored}.waiting")
         waits.touch()
-        before, run = state_of(self.crate), self.start(*words)
+        out = {"stdin": subprocess.DEVNULL, "stdout": subprocess.PIPE, "stderr": subprocess.PIPE}
+        before, run = state_of(self.crate), subprocess.Popen([sys.executable, WHY.script, *words], env=self.env, cwd=self.temporary.parent, **out)
         end = time.monotonic() + 30
         while not waiting.exists() and time.monotonic() < end:
             time.sleep(0.01)
@@ -150,11 +156,10 @@ def faults_of_forms():
             run = Run(room, room / "crates/mine", "")
             if old:
                 pathlib.Path(f"{run.stored}.quick").write_text(f"{error}\n", encoding="utf-8")
-            ran = run.start(str(run.crate), "order::Line")
-            out, err = ran.communicate(timeout=60)
+            status, out, err = run.ended(str(run.crate), "order::Line")
             met = [re.sub(r"^src/order\.rt:\d+: | \(line \d+\)$", "", it) for it in out.splitlines()]
             wanted = [no_code.removeprefix("why: ")] if not old else says.split("\n") if says else ["order::Line: the crate does not compile:", error]
             wanted = [re.sub(r"^src/order\.rt:\d+: ", "", it) for it in wanted]
-            if old and text.count(old) < 1 or (met, err, ran.returncode) != (wanted, "", 1 if says else 2):
-                yield f"a form with `{new}`: {(met, err, ran.returncode)}, and not {wanted}"
+            if old and text.count(old) < 1 or (met, err, status) != (wanted, "", 1 if says else 2):
+                yield f"a form with `{new}`: {(met, err, status)}, and not {wanted}"
             yield from run.left(state_of(run.crate))
