@@ -1,42 +1,33 @@
-"""Answers cases as the description of a program says: those that come in on standard input, by `pickle`. `tests/random --beside` starts
-this file of a copy of tests/."""
+"""Answers cases as the description of a program in a copy of tests/ says, in a process of its own, for `tests/random --beside`."""
 import importlib
-import pathlib
-import pickle
-import subprocess
-import sys
+
+from lib.forked import FORK, import_from
 
 
 class Beside:
-    """The description of a program in a copy of tests/, in a process of its own."""
+    """The description of a program in a copy of tests/."""
 
     def __init__(self, folder, name):
-        words = [sys.executable, pathlib.Path(folder) / "lib" / "answering.py", name]
-        self.process = subprocess.Popen(words, stdin=subprocess.PIPE, stdout=subprocess.PIPE)
+        self.pipe, other = FORK.Pipe()
+        self.process = FORK.Process(target=answer, args=(folder, name, other))
+        self.process.start()
+        other.close()
 
     def met(self, case):
-        pickle.dump(case, self.process.stdin)
-        self.process.stdin.flush()
-        return pickle.load(self.process.stdout)
+        self.pipe.send(case)
+        return self.pipe.recv()
 
     def __enter__(self):
         return self
 
     def __exit__(self, *_):
-        self.process.communicate()
+        self.pipe.send(None)
+        self.process.join()
 
 
-def main():
-    sys.path.insert(0, str(pathlib.Path(__file__).resolve().parent.parent))
-    described = importlib.import_module(f"lib.described.{sys.argv[1]}")
-    while True:
-        try:
-            case = pickle.load(sys.stdin.buffer)
-        except EOFError:
-            return
-        pickle.dump(described.wanted(case), sys.stdout.buffer)
-        sys.stdout.buffer.flush()
-
-
-if __name__ == "__main__":
-    main()
+def answer(folder, name, pipe):
+    """Answers the cases that come in, up to one that is None."""
+    import_from(folder)
+    described = importlib.import_module(f"lib.described.{name}")
+    while (case := pipe.recv()) is not None:
+        pipe.send(described.wanted(case))

@@ -1,7 +1,7 @@
 """Where a text stops being JSON (RFC 8259): up to where some JSON text begins as it does. It asks Python's own reader of completions and shares
 nothing with the library."""
-import itertools
 import json
+import re
 
 DEEPEST = 128
 # What ends a value that is begun, so that a reader takes it; an escape and a surrogate pair among them.
@@ -9,6 +9,7 @@ ENDS = ("", '"', '\\"', "0", "00", "000", "0000", "0\\udc00", "00\\udc00", "dc00
 ENDS = tuple(dict.fromkeys(it + quote for it in ENDS for quote in ("", '"')))
 # What stands behind it, where a member or an item is begun.
 GOES_ON = ("", ":0", "0", '"":0')
+SURROGATE = re.compile(r"[\ud800-\udfff]")
 
 
 class Refused(ValueError):
@@ -16,7 +17,7 @@ class Refused(ValueError):
 
 
 def lone(text):
-    return any(0xD800 <= ord(it) < 0xE000 for it in text)
+    return SURROGATE.search(text) is not None
 
 
 def names_of(value):
@@ -36,7 +37,7 @@ def no_constant(word):
 
 
 def pairs_of(pairs):
-    if any(lone(name) for name, _ in pairs):
+    if lone("".join(name for name, _ in pairs)):
         raise Refused("a lone surrogate")
     return dict(enumerate(value for _, value in pairs))
 
@@ -53,6 +54,8 @@ def is_json(text):
     if text.strip(" \t\r\n") != text.strip():
         return False
     try:
+        # most texts are refused here, at once
+        json.loads(text, parse_int=str, parse_float=str)
         return text_ok(json.loads(text, parse_constant=no_constant, object_pairs_hook=pairs_of, parse_int=str, parse_float=str))
     except (ValueError, RecursionError):
         return False
@@ -80,14 +83,27 @@ def begins_json(text):
     return closing is not None and any(is_json(text + end + more + closing) for end in ENDS for more in GOES_ON)
 
 
+def told_of(text):
+    """The place that Python's reader tells of a text: often the one where it stops."""
+    try:
+        json.loads(text)
+    except json.JSONDecodeError as error:
+        return error.pos
+    except RecursionError:
+        pass
+    return len(text)
+
+
 def stop_of(text):
     """How many characters the longest beginning has that begins some JSON text; nothing where the whole text is one."""
     if is_json(text) and brackets(text) is not None:
         return None
-    low, high = 0, len(text)
+    low, high, told = 0, len(text), told_of(text)
+    ahead = [told + 1, told]
     while low < high:
-        middle = (low + high + 1) // 2
-        low, high = (middle, high) if begins_json(text[:middle]) else (low, middle - 1)
+        middle = ahead.pop() if ahead else (low + high + 1) // 2
+        if low < middle <= high:
+            low, high = (middle, high) if begins_json(text[:middle]) else (low, middle - 1)
     return low
 
 
