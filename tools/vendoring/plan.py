@@ -53,6 +53,7 @@ def plan_of(origin, folder, more, program, name, is_whole):
     asked = tuple(sorted({"garde", *folder.record.asked, *more, *listed}))
     crates = origin.closure(asked)
     lines = [*crates, *sources]
+    origin.load(lines)
     tool = origin.tool_files()
     origin.refuse_changes(["crates.txt", *LICENCES, *(f"crates/{it.name}" for it in lines), *(TOOL if tool else ())])
     copied = program_of(origin, folder, sources, name or program) if program else None
@@ -73,12 +74,12 @@ def plan_of(origin, folder, more, program, name, is_whole):
 def files_of(origin, folder, lines, program, asked, is_whole):
     """The files of libraries by their paths, and a sentence where they are what is needed alone. What was asked for by name, and
     no crate of the folder lists, is whole."""
-    crates = {it.name: Crate(it.name, it.uses, origin.crate_files(it.name)) for it in lines}
-    own, empty = ([], []) if is_whole else own_crates(folder, program.copies if program else (), set(crates))
+    texts = {it.name: origin.crate_files(it.name) for it in lines}
+    own, empty = ([], []) if is_whole else own_crates(folder, program.copies if program else (), set(texts))
     if not own:
         told = "" if is_whole else "all of them, since no source of yours says what it needs"
-        return {f"{it.name}/{path}": text for it in crates.values() for path, text in it.files.items()}, told
-    parts, kept, every = needed_of(list(crates.values()), own, asked & set(crates))
+        return {f"{name}/{path}": text for name, files in texts.items() for path, text in files.items()}, told
+    parts, kept, every = needed_of([Crate(it.name, it.uses, texts[it.name]) for it in lines], own, asked & set(texts))
     files = {f"{name}/{path}": text for name, part in parts.items() for path, text in part.items()}
     told = f"of their {every} functions the {kept} that {', '.join(it.name for it in own)} may need"
     return files, f"{told} ({', '.join(empty)} has no sources yet)" if empty else told
