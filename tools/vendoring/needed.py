@@ -4,12 +4,14 @@ Names are followed wherever they stand, and without types, so that what is found
 needed if the type is and if a function of that name is called of anything. An impl block of a trait is needed if the trait and all
 types that its head names are, and one for tuples if a tuple of as many parts stands somewhere.
 """
+import functools
 import re
 
 from lib import paths
+from lib.source import BRACKET
 
 from .cited import Cited
-from .sources import NAME, PATH, Node, way_of
+from .sources import NAME, Node, names_in, way_of, ways_in
 
 CALLED = re.compile(r"(?<!\.)\.\s*([A-Za-z_]\w*)|>\s*::\s*(\w+)")
 INLINE = re.compile(r"\{(\w+)")
@@ -23,17 +25,21 @@ NO_TYPES = ("mut", "const", "dyn", "Self")
 ANY_NUMBER = re.compile(r"\ball!")
 
 
+@functools.cache
 def counts(text):
     """How many parts the tuples of a text have: both where `<` opens a bracket and where it compares."""
-    for found in TUPLE.finditer(text):
-        start, depth = found.end(), 1
-        for brackets in re.finditer(r"[(\[{}\])]", text[start:]):
-            depth += 1 if brackets.group() in "([{" else -1
-            if depth == 0:
-                inner = text[start : start + brackets.start()]
-                yield len(paths.split(inner))
-                yield len(paths.split(re.sub(r"[<>]", " ", inner)))
-                break
+    found = [it for it in map(functools.partial(inner, text), TUPLE.finditer(text)) if it is not None]
+    return frozenset(len(paths.split(it)) for part in found for it in (part, re.sub(r"[<>]", " ", part)))
+
+
+def inner(text, opening):
+    """What stands behind an opening bracket of a text, up to the one that closes it; None where none does."""
+    depth = 1
+    for found in BRACKET.finditer(text, opening.end()):
+        depth += 1 if found.group() in "([{" else -1
+        if depth == 0:
+            return text[opening.end() : found.start()]
+    return None
 
 
 class Needed:
@@ -103,7 +109,7 @@ class Needed:
         self.read_names([module], whole, self.show, node)
         self.read_names([module], " ".join(INLINE.findall(node.text(module.source.text))), self.add if is_live else self.show, node)
         self.sources.passed = set()
-        self.read_definitions(node, set(NAME.findall(whole)))
+        self.read_definitions(node, names_in(whole))
 
     def texts(self, node, code):
         """The texts of an item: its own, and the bodies of the macros that it calls. With each stand the modules by whose scopes
@@ -125,7 +131,7 @@ class Needed:
 
     def read_names(self, modules, text, add, node):
         """Adds the items that the paths of a text lead to. A trait that a clause names is used."""
-        for way in {way_of(found) for found in PATH.findall(text)}:
+        for way in ways_in(text):
             for it in (it for module in modules for it in self.sources.items(module, way)):
                 if it is not node:
                     (self.add if it.item.kind == "trait" and node in self.live else add)(it)
@@ -133,10 +139,10 @@ class Needed:
     def note(self, module, text, node):
         """Notes the types, calls and tuples of a text, and adds the traits whose functions it calls."""
         called = {name for found in CALLED.findall(text) for name in found} | self.members(module, text)
-        self.words |= set(NAME.findall(text))
+        self.words |= names_in(text)
         self.called |= called
         if not node.of.strip().startswith("("):
-            self.counts |= set(range(17) if ANY_NUMBER.search(text) else counts(text))
+            self.counts |= set(range(17)) if ANY_NUMBER.search(text) else counts(text)
         for way in module.scope:
             for it in self.sources.items(module, (way,)):
                 if it.item.kind == "trait" and called & {one.name for one in it.item.members if one.kind == "fn"}:
@@ -145,7 +151,7 @@ class Needed:
     def members(self, module, text):
         """The names of a text's paths that stand behind something else than a module."""
         found = set()
-        for way in {way_of(it) for it in PATH.findall(text)}:
+        for way in ways_in(text):
             at = self.sources.lead(module, way[:-1]) if len(way) > 1 else ()
             if len(way) > 1 and (not at or any(isinstance(it, Node) for it in at)):
                 found.update(way[1:])
@@ -226,6 +232,7 @@ class Needed:
                     self.cited.add(crate.name, "/".join(path.split("/")[:count]) + ".antt")
 
 
+@functools.cache
 def imported(text):
     """The names that a `ghost use` brings in."""
     listed = re.search(r"\.\{(.*)\}", text, re.S)

@@ -4,7 +4,7 @@ import re
 from lib import paths
 
 from .cited import CITED, LIB, Cited
-from .sources import IMPORT, NAME, Node, way_of
+from .sources import IMPORT, NAME, Node, names_in, way_of
 
 LISTS = re.compile(r"(?:(?:pub )?mod \w+\s*|pub use [^\n]*\s*)+")
 MOD = re.compile(r"(?:pub )?mod (\w+)")
@@ -26,7 +26,7 @@ class Slice:
     """What is needed of a crate."""
 
     def __init__(self, sources, need, crate):
-        self.sources, self.need, self.crate = sources, need, crate
+        self.sources, self.need, self.crate, self.used = sources, need, crate, {}
 
     def files(self):
         """Its files. One that holds all that it held is as it was."""
@@ -110,12 +110,18 @@ class Slice:
 
     def names(self, module):
         """The names in what is needed of a module and of those below it."""
+        if module not in self.used:
+            self.used[module] = self.read_names(module)
+        return self.used[module]
+
+    def read_names(self, module):
+        """Reads these names."""
         nodes = [it for below in module.all() for one in below.nodes for it in (one, *one.members) if self.need.has(it)]
         found = set()
         for it in nodes:
-            found.update(NAME.findall(it.text(it.module.source.blank)), re.findall(r"\{(\w+)", it.text(it.module.source.text)))
+            found.update(names_in(it.text(it.module.source.blank)), re.findall(r"\{(\w+)", it.text(it.module.source.text)))
             for _, text in self.need.texts(it, it.module.code):
-                found.update(NAME.findall(text))
+                found.update(names_in(text))
         return found
 
     # Definitions and proofs.

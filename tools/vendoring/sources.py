@@ -12,6 +12,7 @@ IMPORT = re.compile(r"(?:pub(?:\s*\([^)]*\))?\s+)?use\s+")
 CALL = re.compile(r"(\$crate\s*::\s*)?\b(\w+)!\s*[(\[{]\s*(\w*)")
 
 
+@functools.lru_cache(maxsize=4096)
 def without_ghosts(text):
     """A source without comments, texts, clauses and ghost items: what is compiled of it."""
     left = text.blank
@@ -22,9 +23,28 @@ def without_ghosts(text):
     return left
 
 
+@functools.cache
 def way_of(text):
     """The names of a path."""
     return tuple(re.sub(r"\s+", "", text).split("::"))
+
+
+@functools.cache
+def ways_in(text):
+    """The paths in a text."""
+    return frozenset(way_of(found) for found in PATH.findall(text))
+
+
+@functools.cache
+def names_in(text):
+    """The names in a text."""
+    return frozenset(NAME.findall(text))
+
+
+@functools.cache
+def calls_in(text):
+    """The calls of macros in a text: whether `$crate` stands in front, the name, and the first word."""
+    return frozenset(found.groups() for found in CALL.finditer(text))
 
 
 def imports(tree):
@@ -82,7 +102,7 @@ class Module:
 
     def __init__(self, crate, path, file, text=None, block=None):
         self.crate, self.path, self.file = crate, path, file
-        self.source = text or source.Source(crate.files.get(file, b"").decode(errors="surrogateescape"))
+        self.source = text or source.read(crate.files.get(file, b"").decode(errors="surrogateescape"))
         self.code = without_ghosts(self.source)
         self.nodes, self.below, self.scope = [], {}, {}
         for it in block.members if block else self.source.items:
@@ -202,7 +222,7 @@ class Sources:
 
     def macros(self, module, text):
         """The macros of these crates that a text calls, each with the bodies of the arms that such a call may take."""
-        for crate, name, word in {found.groups() for found in CALL.finditer(text)}:
+        for crate, name, word in calls_in(text):
             for it in set(self.called(module.crate.root if crate else module, name)):
                 yield it, [body for pattern, body in arms_of(it) if takes(pattern, word)]
 
