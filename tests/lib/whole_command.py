@@ -70,7 +70,8 @@ class Run:
         waits, waiting = pathlib.Path(f"{self.stored}.waits"), pathlib.Path(f"{self.stored}.waiting")
         waits.touch()
         out = {"stdin": subprocess.DEVNULL, "stdout": subprocess.PIPE, "stderr": subprocess.PIPE}
-        before, run = state_of(self.crate), subprocess.Popen([sys.executable, WHY.script, *words], env=self.env, cwd=self.temporary.parent, **out)
+        before = state_of(self.crate)
+        run = subprocess.Popen([sys.executable, WHY.script, *words], env=self.env, cwd=self.temporary.parent, **out)
         end = time.monotonic() + 30
         while not waiting.exists() and time.monotonic() < end:
             time.sleep(0.01)
