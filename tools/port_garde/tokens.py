@@ -66,6 +66,7 @@ PATTERNS = {
 }
 PATTERN = re.compile("|".join(f"(?P<{kind}>{pattern})" for kind, pattern in PATTERNS.items()), re.S)
 OPEN = {"(": ")", "[": "]", "{": "}"}
+DEPTHS = {**dict.fromkeys(OPEN, 1), **dict.fromkeys(OPEN.values(), -1)}
 DEEPEST = 100
 
 
@@ -149,10 +150,10 @@ class Tokens:
 
     def takes(self, text):
         """Takes a name or a mark if it comes next, and says whether it did."""
-        if self.sees(text):
-            self.at += 1
-            return True
-        return False
+        token = self.first
+        is_next = token.text == text and token.kind in ("name", "mark")
+        self.at += is_next
+        return is_next
 
     def expect(self, text):
         if not self.takes(text):
@@ -172,13 +173,13 @@ class Tokens:
         opening = self.take()
         if opening.kind != "mark" or opening.text not in OPEN:
             raise Refusal(opening.line, f"a bracket is expected in place of `{opening.text}`")
-        depth, start = 1, self.at
+        depth, start, at = 1, self.at, self.at
         while depth:
-            token = self.take()
-            if token.kind == "mark":
-                depth += (token.text in OPEN) - (token.text in OPEN.values())
-        closing = self.tokens[self.at - 1]
-        inside = [*self.tokens[start : self.at - 1], Token("end", closing.text, closing.line, closing.at)]
+            token = self.tokens[at]
+            depth += DEPTHS.get(token.text, 0) if token.kind == "mark" else 0
+            at += 1
+        self.at = at
+        inside = [*self.tokens[start : at - 1], Token("end", token.text, token.line, token.at)]
         return Tokens(inside, self.text, self.notes)
 
     def source(self):
