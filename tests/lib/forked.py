@@ -10,14 +10,20 @@ import tempfile
 from lib.repository import ROOT
 
 FORK = multiprocessing.get_context("fork")
+# how long a run may take
+SECONDS = 600
 
 
 def ended(act, cwd=None):
-    """What comes of a function in a process of its own, which begins in this folder: its status, and the bytes that it writes."""
+    """What comes of a function in a process of its own, which begins in this folder: its status, and the bytes that it writes. One that
+    does not end is killed."""
     with tempfile.TemporaryFile() as out, tempfile.TemporaryFile() as err:
         process = FORK.Process(target=within, args=(act, cwd, out, err))
         process.start()
-        process.join()
+        process.join(SECONDS)
+        if process.is_alive():
+            process.kill()
+            process.join()
         written = [os.pread(it.fileno(), os.fstat(it.fileno()).st_size, 0) for it in (out, err)]
     return subprocess.CompletedProcess(act, process.exitcode, *written)
 
