@@ -1,4 +1,5 @@
 """Answers cases as the description of a program in a copy of tests/ says, in a process of its own, for `tests/random --beside`."""
+import contextlib
 import importlib
 
 from lib.forked import FORK, import_from
@@ -9,7 +10,7 @@ class Beside:
 
     def __init__(self, folder, name):
         self.pipe, other = FORK.Pipe()
-        self.process = FORK.Process(target=answer, args=(folder, name, other))
+        self.process = FORK.Process(target=answer, args=(folder, name, self.pipe, other))
         self.process.start()
         other.close()
 
@@ -21,13 +22,15 @@ class Beside:
         return self
 
     def __exit__(self, *_):
-        self.pipe.send(None)
+        self.pipe.close()
         self.process.join()
 
 
-def answer(folder, name, pipe):
-    """Answers the cases that come in, up to one that is None."""
+def answer(folder, name, other, pipe):
+    """Answers the cases that come in, until nobody has the other end of the pipe any more."""
+    other.close()
     import_from(folder)
     described = importlib.import_module(f"lib.described.{name}")
-    while (case := pipe.recv()) is not None:
-        pipe.send(described.wanted(case))
+    with contextlib.suppress(EOFError, BrokenPipeError):
+        while True:
+            pipe.send(described.wanted(pipe.recv()))

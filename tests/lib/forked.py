@@ -10,17 +10,17 @@ import tempfile
 from lib.repository import ROOT
 
 FORK = multiprocessing.get_context("fork")
-# how long a run may take
-SECONDS = 600
+# how long a test may take, and a command
+OF_A_TEST, OF_A_COMMAND = 600, 60
 
 
-def ended(act, cwd=None):
+def ended(act, cwd=None, seconds=OF_A_TEST):
     """What comes of a function in a process of its own, which begins in this folder: its status, and the bytes that it writes. One that
     does not end is killed."""
     with tempfile.TemporaryFile() as out, tempfile.TemporaryFile() as err:
         process = FORK.Process(target=within, args=(act, cwd, out, err))
         process.start()
-        process.join(SECONDS)
+        process.join(seconds)
         if process.is_alive():
             process.kill()
             process.join()
@@ -51,7 +51,7 @@ class Command:
             before()
             sys.exit(self.names["main"]())
 
-        return ended(act, cwd)
+        return ended(act, cwd, OF_A_COMMAND)
 
 
 def import_from(folder):

@@ -86,7 +86,7 @@ def begins_json(text):
 def told_of(text):
     """The place that Python's reader tells of a text: often the one where it stops."""
     try:
-        json.loads(text)
+        json.loads(text, parse_int=str, parse_float=str)
     except json.JSONDecodeError as error:
         return error.pos
     except RecursionError:
