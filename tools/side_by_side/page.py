@@ -10,7 +10,8 @@ ENTRY = re.compile(r'\(\s*Key::(\w+),\s*"((?:[^"\\]|\\.)*)",?\s*\)')
 KEY = re.compile(r"^    /// (.*)\n    (\w+),$", re.MULTILINE)
 PARAM = re.compile(r'Key::(\w+) => "(\w+)"')
 NAMES = CRATE + "key_name.rt"
-OFFERED = re.compile(r'tagged\("([\w-]+)", &(\w+)\)')
+OFFERED = re.compile(r'tagged\("([\w-]+)", &?(\w+)\)')
+NAMED = re.compile(r"let (\w+): &\[Entry<'_>\] = &(\w+);")
 TABLE = re.compile(r"pub static (\w+):")
 
 
@@ -35,9 +36,10 @@ def names():
 
 def offered():
     """The tables that are offered in their order, each with its first tag."""
-    tables = {}
-    for tag, table in OFFERED.findall(repository.text_of(CRATE + "language.rt")):
-        tables.setdefault(table, tag)
+    source, tables = repository.text_of(CRATE + "language.rt"), {}
+    named = dict(NAMED.findall(source))
+    for tag, table in OFFERED.findall(source):
+        tables.setdefault(named.get(table, table), tag)
     return tables
 
 
