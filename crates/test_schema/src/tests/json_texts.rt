@@ -58,7 +58,17 @@ const VALUES: &[(&[u8], &str)] = &[
     ),
 ];
 
-// Bytes that stop to be JSON, and where.
+// Bytes that stop being JSON before a value, and where.
+const NO_VALUE: &[(&[u8], &str)] = &[
+    (b"", "not JSON at line 1 column 0"),
+    (b" \n ", "not JSON at line 2 column 1"),
+    (b"\xef\xbb\xbf\xef\xbb\xbf{}", "not JSON at line 1 column 1"),
+    (b"\xef\xbb\xbf", "not JSON at line 1 column 0"),
+    (b"\xef\xbb{}", "not UTF-8 at line 1 column 1"),
+    (b"\xed\xa0\x80", "not UTF-8 at line 1 column 1"),
+];
+
+// Bytes that stop being JSON, and where.
 const STOPS: &[(&[u8], &str)] = &[
     (
         b"\xef\xbb\xbf{\"name\":\xef\xbb\xbf\"Ada\"}",
@@ -111,12 +121,6 @@ const STOPS: &[(&[u8], &str)] = &[
 
 // Bodies with faults, and the whole report of each.
 const FAULTS: &[(&[u8], &str)] = &[
-    (b"", "not JSON at line 1 column 0"),
-    (b" \n ", "not JSON at line 2 column 1"),
-    (b"\xef\xbb\xbf\xef\xbb\xbf{}", "not JSON at line 1 column 1"),
-    (b"\xef\xbb\xbf", "not JSON at line 1 column 0"),
-    (b"\xef\xbb{}", "not UTF-8 at line 1 column 1"),
-    (b"\xed\xa0\x80", "not UTF-8 at line 1 column 1"),
     (b"null", "not an object\n"),
     (b"[]", "not an object\n"),
     (b"[{\"name\":\"Ada\"}]", "not an object\n"),
@@ -171,6 +175,7 @@ fn check_bodies(rt: &impl Abort, alloc: Global, bodies: &[(&[u8], &str)]) {
 #[test]
 fn reads_bytes_by_a_form(rt: HostRuntime) {
     check_bodies(&rt, rt.alloc(), VALUES);
+    check_bodies(&rt, rt.alloc(), NO_VALUE);
     check_bodies(&rt, rt.alloc(), STOPS);
     check_bodies(&rt, rt.alloc(), FAULTS);
 }
