@@ -153,6 +153,11 @@ fn close<H: Handler, C: Clock, W: Write>(
     }
 }
 
+/// Drops what a connection holds. That `into_buffers` drops the most of it makes this cheap to prove.
+fn discard(connection: Connection) {
+    let (_, _) = connection.into_buffers();
+}
+
 /// Answers the requests that the reader gives, as the handler answers them, until the connection is
 /// done, and says how it stands. The clock dates the answers to requests that are rejected.
 /// What was read and written before an error is a conversation too.
@@ -174,8 +179,15 @@ pub fn answer_all<H: Handler, C: Clock, R: Read, W: Write>(
 {
     let mut connection = Connection::new(alloc, keys, config);
     let mut service = Served { handler };
-    talk(&mut connection, &mut service, reader, writer)?;
-    let stands = connection.state();
-    close(alloc, clock, handler, connection, writer)?;
-    Ok(stands)
+    match talk(&mut connection, &mut service, reader, writer) {
+        Ok(()) => {
+            let stands = connection.state();
+            close(alloc, clock, handler, connection, writer)?;
+            Ok(stands)
+        }
+        Err(error) => {
+            discard(connection);
+            Err(error)
+        }
+    }
 }

@@ -6,8 +6,8 @@ use Rattle.garde_service.proofs.Talk.{closed, ended_first, failed, failed_at_onc
 use Rattle.garde_service.proofs.wire.answer_all.Goals as goal
 
 -- where reading or writing failed while the connection was open
-pub returns-in_err-talk : goal.returns-in_err-talk
-returns-in_err-talk g c =
+pub returns-in-Err : goal.returns-in-Err
+returns-in-Err g c =
     let read = c.talk.ensures.read in
     let written = c.talk.ensures.written in
     let t = talked g.H.Handler.is_answered _ (λ o. o.handler.now) (λ old new call is. is) c.args.handler.now c.args.config c.new-connection.result c.talk.new.connection _ _ refl read.0 written.0
@@ -18,12 +18,12 @@ returns-in_err-talk g c =
       read.1,
       written.1,
       c.talk.ensures.end (ended_first _ _ c.new-connection.ensures.history),
-      of_err (g.H.Handler.is_answered c.args.handler.now) (g.H.Handler.rejects c.args.handler.now) (g.met.H.Handler.stays c.args.handler.now) _ _ _ _ _ _ c.from_residual.ensures.0 (λ e. failed_at_once (g.H.Handler.is_answered c.args.handler.now) (g.H.Handler.rejects c.args.handler.now) (g.met.H.Handler.stays c.args.handler.now) _ c.args.config c.talk.new.connection read.0 written.0 e t),
+      failed_at_once (g.H.Handler.is_answered c.args.handler.now) (g.H.Handler.rejects c.args.handler.now) (g.met.H.Handler.stays c.args.handler.now) io_error.the_row.Denot c.args.config c.talk.new.connection read.0 written.0 c.in-Err.error t,
     )
 
 -- where the end of it was not written
-pub returns-in_err-close : goal.returns-in_err-close
-returns-in_err-close g c =
+pub returns-in_err-close-in-Ok : goal.returns-in_err-close-in-Ok
+returns-in_err-close-in-Ok g c =
     let read = c.talk.ensures.read in
     let written = c.talk.ensures.written in
     let t = talked g.H.Handler.is_answered _ (λ o. o.handler.now) (λ old new call is. is) c.args.handler.now c.args.config c.new-connection.result c.talk.new.connection _ _ refl read.0 written.0
@@ -35,21 +35,21 @@ returns-in_err-close g c =
       read.1,
       Appends-then _ _ _ written.0 end.0 written.1 end.2,
       c.talk.ensures.end (ended_first _ _ c.new-connection.ensures.history),
-      of_err (g.H.Handler.is_answered c.args.handler.now) (g.H.Handler.rejects c.args.handler.now) (g.met.H.Handler.stays c.args.handler.now) _ _ _ _ _ _ c.from_residual-in_err-close.ensures.0 (λ e. failed (g.H.Handler.is_answered c.args.handler.now) (g.H.Handler.rejects c.args.handler.now) (g.met.H.Handler.stays c.args.handler.now) _ c.args.config c.talk.new.connection read.0 written.0 end.0 end.1 e t end.3),
+      of_err (g.H.Handler.is_answered c.args.handler.now) (g.H.Handler.rejects c.args.handler.now) (g.met.H.Handler.stays c.args.handler.now) _ _ _ _ _ _ c.from_residual.ensures.0 (λ e. failed (g.H.Handler.is_answered c.args.handler.now) (g.H.Handler.rejects c.args.handler.now) (g.met.H.Handler.stays c.args.handler.now) _ c.args.config c.talk.new.connection read.0 written.0 end.0 end.1 e t end.3),
     )
 
-pub returns : goal.returns
-returns g c =
+pub returns-in_ok-close-in-Ok : goal.returns-in_ok-close-in-Ok
+returns-in_ok-close-in-Ok g c =
     let read = c.talk.ensures.read in
     let written = c.talk.ensures.written in
     let t = talked g.H.Handler.is_answered _ (λ o. o.handler.now) (λ old new call is. is) c.args.handler.now c.args.config c.new-connection.result c.talk.new.connection _ _ refl read.0 written.0
     c.new-connection.ensures.config c.new-connection.ensures.history c.talk.ensures.config read.2 written.2 c.talk.ensures.calls in
-    let end = c.in_ok-close.ensures in (
+    let end = c.in_ok-close-in-Ok.ensures in (
       read.0,
       written.0 ++ end.0,
       (history c.talk.new.connection).ended,
       read.1,
       Appends-then _ _ _ written.0 end.0 written.1 end.2,
       c.talk.ensures.end (ended_first _ _ c.new-connection.ensures.history),
-      closed (g.H.Handler.is_answered c.args.handler.now) (g.H.Handler.rejects c.args.handler.now) (g.met.H.Handler.stays c.args.handler.now) io_error.the_row.Denot c.args.config c.talk.new.connection read.0 written.0 end.0 end.1 _ t c.state-stands.ensures c.in_ok-talk.ensures.closed end.3 end.4,
+      closed (g.H.Handler.is_answered c.args.handler.now) (g.H.Handler.rejects c.args.handler.now) (g.met.H.Handler.stays c.args.handler.now) io_error.the_row.Denot c.args.config c.talk.new.connection read.0 written.0 end.0 end.1 _ t c.state-stands.ensures c.in-Ok.ensures.closed end.3 end.4,
     )
