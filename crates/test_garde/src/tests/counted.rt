@@ -47,16 +47,24 @@ impl Validate for Marks {
 /// How many faults are asked for, and how many of nine marks are asked.
 static ASKED: [(usize, usize); 5] = [(0, 2), (2, 4), (6, 8), (7, 9), (20, 9)];
 
+/// Nine marks.
+static NINE: [u8; 9] = [0, 1, 2, 3, 4, 5, 6, 7, 8];
+
+// Whether so many marks are asked where so many faults are asked for.
+fn are_asked(alloc: Global, marks: &Marks, most: usize, wanted: usize) -> bool {
+    let asked = Cell::new(0);
+    let answer = marks.validate_first(alloc, &asked, most, &DefaultI18n);
+    answer.is_err() && asked.get() == wanted
+}
+
 // The report is full with one fault more than is asked for. The fault behind it ends the walk.
 #[test]
 fn a_walk_ends_at_the_fault_behind_a_full_report(rt: HostRuntime) {
-    let marks = Marks(vec![in rt.alloc(); 0u8, 1, 2, 3, 4, 5, 6, 7, 8].or_end(&rt));
+    let marks = Marks(Vec::from_slice(rt.alloc(), &NINE).or_end(&rt));
     let asked = Cell::new(0);
     let valid = marks.is_valid(rt.alloc(), &asked);
     assert!(rt; valid == Ok(false) && asked.get() == 2);
     for (most, wanted) in &ASKED {
-        asked.set(0);
-        let answer = marks.validate_first(rt.alloc(), &asked, *most, &DefaultI18n);
-        assert!(rt; answer.is_err() && asked.get() == *wanted);
+        assert!(rt; are_asked(rt.alloc(), &marks, *most, *wanted));
     }
 }

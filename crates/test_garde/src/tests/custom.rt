@@ -190,6 +190,7 @@ fn says_its_own_texts(rt: HostRuntime) {
     let h = Custom {
         weight: Vec::new(rt.alloc()),
     };
-    assert_says(&rt, rt.alloc(), &h, &TEXTS);
-    assert_says(&rt, rt.alloc(), &&h, &TEXTS);
+    let rows = &TEXTS;
+    assert_says(&rt, rt.alloc(), &h, rows);
+    assert_says(&rt, rt.alloc(), &&h, rows);
 }

@@ -1,7 +1,6 @@
 //! A document, of which it depends on its switches what is asked.
 use super::text_of;
-use super::told::is_told;
-use garde::DefaultI18n;
+use super::told::is_told_by_default;
 use garde::samples::{Document, Tag};
 use std::alloc::Global;
 use std::process::Abort;
@@ -55,7 +54,7 @@ fn each_rule_under_its_condition(rt: HostRuntime) {
     for (switches, content, tag, told) in &ROWS {
         let document = document(&rt, rt.alloc(), *switches, *content, tag);
         assert!(rt;
-            is_told(rt.alloc(), &document, &(), &DefaultI18n, *told),
+            is_told_by_default(rt.alloc(), &document, *told),
             "at {}",
             told.0
         );

@@ -1,4 +1,5 @@
 //! At most so many faults of a value, and whether it has one.
+use super::containers::put_ordered;
 use super::told::reads;
 use super::{user_of, wrong_form};
 use crate::tests::OrEnd;
@@ -126,20 +127,37 @@ fn users(rt: &impl Abort, alloc: Global, name: &str) -> Vec<User> {
     users
 }
 
-// Five users of a name, five named `é` that stand each under a letter, and a form.
+/// Whether each number is answered for five users of a name.
+fn are_users_answered(rt: &impl Abort, alloc: Global, name: &str, lines: &[Line<'_>]) -> bool {
+    is_answered(rt, alloc, &users(rt, alloc, name), &(), lines)
+}
+
+/// Letters that are not in order.
+static LETTERS: [&str; 5] = ["e", "b", "a", "d", "c"];
+
+/// Whether each number is answered for five users named `é` that stand each under a letter.
+fn are_named_answered(rt: &impl Abort, alloc: Global) -> bool {
+    let mut named = BTreeMap::new(alloc);
+    for letter in &LETTERS {
+        put_ordered(rt, &mut named, *letter, user_of(rt, alloc, "é"));
+    }
+    is_answered(rt, alloc, &named, &(), &NAMED)
+}
+
+/// Whether each number is answered for a form with five tags, of which it may have one.
+fn is_form_answered(rt: &impl Abort, alloc: Global) -> bool {
+    let form = wrong_form(rt, alloc, &["ü"; 5], "");
+    is_answered(rt, alloc, &form, &Limits { most: 1 }, &FORM)
+}
+
+// Five users of a name, five that stand each under a letter, and a form.
 #[test]
 fn the_first_faults_of_each_value(rt: HostRuntime) {
-    let alloc = rt.alloc();
-    let mut named = BTreeMap::new(alloc);
-    for letter in ["e", "b", "a", "d", "c"] {
-        named.insert(letter, user_of(&rt, alloc, "é")).or_end(&rt);
-    }
-    let form = wrong_form(&rt, alloc, &["ü", "ü", "ü", "ü", "ü"], "");
     assert!(rt;
-        is_answered(&rt, alloc, &named, &(), &NAMED)
-            && is_answered(&rt, alloc, &form, &Limits { most: 1 }, &FORM)
-            && is_answered(&rt, alloc, &users(&rt, alloc, "é"), &(), &USERS)
-            && is_answered(&rt, alloc, &users(&rt, alloc, "test"), &(), &[])
+        are_named_answered(&rt, rt.alloc())
+            && is_form_answered(&rt, rt.alloc())
+            && are_users_answered(&rt, rt.alloc(), "é", &USERS)
+            && are_users_answered(&rt, rt.alloc(), "test", &[])
     );
 }
 

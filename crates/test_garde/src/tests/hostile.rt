@@ -2,14 +2,15 @@
 ghost use Rattle.std.specs.String.{string_bytes};
 ghost use Rattle.garde_report.specs.declared.error.component.Kind.TheVariants.{Key};
 
+use super::containers::{put_hashed, put_ordered};
 use super::custom::Custom;
 use super::paths::indexes;
-use super::told::is_told;
+use super::told::{is_told, is_told_by_default};
 use super::user::User;
 use super::{text_of, user_of};
 use crate::tests::OrEnd;
 use garde::error::{Kind, PathComponentKind};
-use garde::{Component, DefaultI18n, Error, Path, Report, Validate, ValidateError, select};
+use garde::{Component, Error, Path, Report, Validate, ValidateError, select};
 use garde_json::{path_from_json, path_to_json};
 use std::alloc::{AllocError, Global};
 use std::collections::{BTreeMap, HashMap};
@@ -37,11 +38,10 @@ impl PathComponentKind for User {
 fn a_computed_key_is_kept(rt: HostRuntime) {
     let alloc = rt.alloc();
     let mut users = BTreeMap::new(alloc);
-    users
-        .insert(user_of(&rt, alloc, "0x0f"), user_of(&rt, alloc, "ab"))
-        .or_end(&rt);
+    let key = user_of(&rt, alloc, "0x0f");
+    put_ordered(&rt, &mut users, key, user_of(&rt, alloc, "ab"));
     let told = ("0x0f.username: length is lower than 3\n", 2);
-    assert!(rt; is_told(alloc, &users, &(), &DefaultI18n, told));
+    assert!(rt; is_told_by_default(alloc, &users, told));
 }
 
 // A user under a key of many letters.
@@ -50,12 +50,8 @@ fn a_key_of_a_megabyte(rt: HostRuntime) {
     let alloc = rt.alloc();
     let mut text = "m".repeat(alloc, MANY).or_end(&rt);
     let mut users = BTreeMap::new(alloc);
-    users
-        .insert(
-            text_of(&rt, alloc, text.as_str()),
-            user_of(&rt, alloc, "ab"),
-        )
-        .or_end(&rt);
+    let key = text_of(&rt, alloc, text.as_str());
+    put_ordered(&rt, &mut users, key, user_of(&rt, alloc, "ab"));
     text.push_str(".username: custom: too short, need at least 3\n")
         .or_end(&rt);
     let custom = Custom {
@@ -85,9 +81,7 @@ fn keys_that_look_like_paths_stay_apart(rt: HostRuntime) {
     let alloc = rt.alloc();
     let mut users = HashMap::new(alloc);
     for key in &KEYS {
-        users
-            .insert(text_of(&rt, alloc, key), user_of(&rt, alloc, "ab"))
-            .or_end(&rt);
+        put_hashed(&rt, alloc, &mut users, key);
     }
     let answer = users.validate(alloc);
     assert!(rt; matches!(&answer, Err(ValidateError::Report(report)) if tells_each(report)));

@@ -16,6 +16,11 @@ pub fn longer<T: Drop>(alloc: Global, list: &List<T>, item: T) -> Result<List<T>
     }
 }
 
+// Whether a list has these letters and no others.
+fn has(list: &List<char>, letters: &[char]) -> bool {
+    list.iter().eq(letters)
+}
+
 /// A list with one item more.
 pub fn append(alloc: Global, memory: &mut Scarce) -> Result<Met, AllocError> {
     let mut list = List::new();
@@ -25,9 +30,9 @@ pub fn append(alloc: Global, memory: &mut Scarce) -> Result<Met, AllocError> {
     memory.begin();
     let answer = list.append(alloc, 'e');
     memory.end();
-    let stands = list.iter().copied().eq(['d', 'c', 'a']);
+    let stands = has(&list, &['d', 'c', 'a']);
     Ok(match answer {
-        Ok(longer) if stands && longer.iter().copied().eq(['e', 'd', 'c', 'a']) => Met::Ample,
+        Ok(longer) if stands && has(&longer, &['e', 'd', 'c', 'a']) => Met::Ample,
         Err(JoinError::Memory) if stands => Met::Want,
         _ => Met::Wrong,
     })
@@ -63,34 +68,49 @@ pub fn indexes(alloc: Global, count: usize) -> Result<Path, AllocError> {
     Ok(path)
 }
 
+// Whether this is the path of so many indexes.
+fn are_indexes(alloc: Global, path: &Path, count: usize) -> Result<bool, AllocError> {
+    Ok(*path == indexes(alloc, count)?)
+}
+
+// What the answer comes to that should be the path of three indexes.
+fn joined(alloc: Global, answer: Result<Path, JoinError>) -> Result<Met, AllocError> {
+    match answer {
+        Ok(longer) => Ok(Met::Ample.when(are_indexes(alloc, &longer, 3)?)),
+        Err(JoinError::Memory) => Ok(Met::Want),
+        Err(_) => Ok(Met::Wrong),
+    }
+}
+
 /// A path with one component more.
 pub fn join(alloc: Global, memory: &mut Scarce) -> Result<Met, AllocError> {
     let path = indexes(alloc, 2)?;
-    let like = indexes(alloc, 2)?;
-    let longer_like = indexes(alloc, 3)?;
     memory.begin();
     let answer = path.join(alloc, 2usize);
     memory.end();
-    let stands = path == like;
-    Ok(match answer {
-        Ok(longer) if stands && longer == longer_like => Met::Ample,
-        Err(JoinError::Memory) if stands => Met::Want,
-        _ => Met::Wrong,
-    })
+    match are_indexes(alloc, &path, 2) {
+        Ok(true) => joined(alloc, answer),
+        Ok(false) => Ok(Met::Wrong),
+        Err(AllocError) => Err(AllocError),
+    }
+}
+
+// What a walk of a path of nine components comes to.
+fn walked(alloc: Global, memory: &mut Scarce, path: &Path) -> Met {
+    memory.begin();
+    let met = match path.iter(alloc) {
+        Ok(items) => Met::Ample.when(items.len() == 9),
+        Err(AllocError) => Met::Want,
+    };
+    memory.end();
+    met
 }
 
 /// A walk of a path.
 pub fn iter(alloc: Global, memory: &mut Scarce) -> Result<Met, AllocError> {
     let path = indexes(alloc, 9)?;
-    let like = indexes(alloc, 9)?;
-    memory.begin();
-    let answer = match path.iter(alloc) {
-        Ok(items) if items.len() == 9 => Met::Ample,
-        Ok(_) => Met::Wrong,
-        Err(AllocError) => Met::Want,
-    };
-    memory.end();
-    Ok(answer.when(path == like))
+    let met = walked(alloc, memory, &path);
+    Ok(met.when(are_indexes(alloc, &path, 9)?))
 }
 
 /// Keys, what their path prints, and what it prints for a programmer.

@@ -76,6 +76,15 @@ pub fn write(alloc: Global, memory: &mut Scarce) -> Result<Met, AllocError> {
     }
 }
 
+// What the answer comes to that should be the report of a tree.
+fn found(answer: Result<Report, JsonRefused>) -> Met {
+    match answer {
+        Ok(report) => Met::Ample.when(has(&report, &["lorem", "dolor"])),
+        Err(JsonRefused::Memory) => Met::Want,
+        Err(_) => Met::Wrong,
+    }
+}
+
 /// The report of a tree.
 pub fn read(alloc: Global, memory: &mut Scarce) -> Result<Met, AllocError> {
     let Ok(tree) = Value::from_str(alloc, FORM) else {
@@ -84,14 +93,8 @@ pub fn read(alloc: Global, memory: &mut Scarce) -> Result<Met, AllocError> {
     memory.begin();
     let answer = report_from_json(alloc, &tree);
     memory.end();
-    if !reads(alloc, &tree, FORM)? {
-        return Ok(Met::Wrong);
-    }
-    Ok(match answer {
-        Ok(report) if has(&report, &["lorem", "dolor"]) => Met::Ample,
-        Err(JsonRefused::Memory) => Met::Want,
-        _ => Met::Wrong,
-    })
+    let met = found(answer);
+    Ok(met.when(reads(alloc, &tree, FORM)?))
 }
 
 /// The report of the text of a tree.
@@ -99,9 +102,5 @@ pub fn read_text(alloc: Global, memory: &mut Scarce) -> Result<Met, AllocError> 
     memory.begin();
     let answer = report_from_json_text(alloc, FORM);
     memory.end();
-    Ok(match answer {
-        Ok(report) if has(&report, &["lorem", "dolor"]) => Met::Ample,
-        Err(JsonRefused::Memory) => Met::Want,
-        _ => Met::Wrong,
-    })
+    Ok(found(answer))
 }

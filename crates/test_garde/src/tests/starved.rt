@@ -1,11 +1,21 @@
 //! Valid values that are validated while each allocation fails.
 use super::documents::document;
-use super::walks::{four, one};
+use super::user::User;
+use super::walks::{Four, four, one};
 use super::{OrEnd, user_and_none, user_of};
 use garde::{DefaultI18n, Trail, Unvalidated, Validate, ValidateError};
 use std::alloc::{AllocError, Global};
 use std::process::Abort;
 use test_memory::{Met, Scarce};
+
+/// What the answer of a walk comes to, and that of whether the value is valid.
+fn met(answer: Result<(), ValidateError>, valid: Result<bool, AllocError>) -> Met {
+    match answer {
+        Ok(()) => Met::Ample.when(valid == Ok(true)),
+        Err(ValidateError::Memory) => Met::Want.when(valid == Err(AllocError)),
+        Err(ValidateError::Report(_)) => Met::Wrong,
+    }
+}
 
 /// What a walk on a new trail comes to while each allocation fails. Whether the value is valid is
 /// answered alike.
@@ -16,11 +26,22 @@ fn starved<V: Validate<Context = ()>>(rt: &impl Abort, alloc: Global, value: &V)
     let answer = value.validate_on(alloc, &(), &mut trail, &DefaultI18n);
     let valid = value.is_valid(alloc, &());
     memory.end();
-    match answer {
-        Ok(()) => Met::Ample.when(valid == Ok(true)),
-        Err(ValidateError::Memory) => Met::Want.when(valid == Err(AllocError)),
-        Err(ValidateError::Report(_)) => Met::Wrong,
-    }
+    met(answer, valid)
+}
+
+/// Whether a valid value is found to be valid while each allocation fails.
+fn needs_nothing<V: Validate<Context = ()> + Drop>(
+    rt: &impl Abort,
+    alloc: Global,
+    value: V,
+) -> bool {
+    starved(rt, alloc, &value) == Met::Ample
+}
+
+/// A user in seven lists.
+fn seven(rt: &impl Abort, alloc: Global) -> Four<Vec<Vec<Vec<User>>>> {
+    let two = one(alloc, one(alloc, user_of(rt, alloc, "test")).or_end(rt)).or_end(rt);
+    four(alloc, one(alloc, two).or_end(rt)).or_end(rt)
 }
 
 // A list, a document of which nothing is asked but its tag, and a user in seven lists, which is
@@ -28,14 +49,11 @@ fn starved<V: Validate<Context = ()>>(rt: &impl Abort, alloc: Global, value: &V)
 #[test]
 fn shallow_valid_values_allocate_nothing(rt: HostRuntime) {
     let alloc = rt.alloc();
-    let users = user_and_none(&rt, alloc, "test");
     let document = document(&rt, alloc, (false, false), Some("é"), "t-1");
-    let two = one(alloc, one(alloc, user_of(&rt, alloc, "test")).or_end(&rt)).or_end(&rt);
-    let lists = four(alloc, one(alloc, two).or_end(&rt)).or_end(&rt);
     assert!(rt;
-        starved(&rt, alloc, &users) == Met::Ample
-            && starved(&rt, alloc, &document) == Met::Ample
-            && starved(&rt, alloc, &lists) == Met::Ample
+        needs_nothing(&rt, alloc, user_and_none(&rt, alloc, "test"))
+            && needs_nothing(&rt, alloc, document)
+            && needs_nothing(&rt, alloc, seven(&rt, alloc))
     );
 }
 

@@ -1,5 +1,5 @@
 //! What answers print, and what values print.
-use garde::{I18n, RuleError, Trail, Validate, ValidateError};
+use garde::{DefaultI18n, I18n, RuleError, Trail, Validate, ValidateError};
 use std::alloc::{AllocError, Global};
 use std::fmt::{Debug, Display};
 
@@ -32,6 +32,15 @@ pub fn is_told<T: Validate, H: I18n>(
     let mut trail = Trail::new(alloc);
     let answer = value.validate_on(alloc, ctx, &mut trail, h);
     trail.nodes() == nodes && tells_all(alloc, answer, text)
+}
+
+/// Whether a walk without a context on a new trail reports just this by default, and makes so many nodes.
+pub fn is_told_by_default<T: Validate<Context = ()>>(
+    alloc: Global,
+    value: &T,
+    told: (&str, usize),
+) -> bool {
+    is_told(alloc, value, &(), &DefaultI18n, told)
 }
 
 /// Whether the answer of a rule prints this: nothing where it is Ok, and else the text of its

@@ -1,8 +1,9 @@
 //! What is reported for tuples of values.
-use super::told::is_told;
+use super::told::is_told_by_default;
 use super::user_of;
 use crate::tests::OrEnd;
-use garde::{DefaultI18n, Validate};
+use crate::tests::user::User;
+use garde::Validate;
 use std::alloc::Global;
 use std::process::Abort;
 
@@ -13,7 +14,7 @@ fn tuples_in_tuples(rt: HostRuntime) {
     let short = user_of(&rt, rt.alloc(), "ab");
     let accented = user_of(&rt, rt.alloc(), "é");
     let tuple = (short, (accented,));
-    assert!(rt; is_told(rt.alloc(), &tuple, &(), &DefaultI18n, (text, 5)));
+    assert!(rt; is_told_by_default(rt.alloc(), &tuple, (text, 5)));
 }
 
 /// What is reported for a user at each place whose name is too short.
@@ -39,29 +40,42 @@ fn is_each_told<V: Validate<Context = ()>>(
     tuple: &V,
     count: usize,
 ) -> bool {
-    let mut text = String::new(alloc);
-    for line in EACH_TOO_SHORT.iter().take(count) {
-        text.push_str(line).or_end(rt);
-    }
-    let nodes = count.saturating_mul(2);
-    is_told(alloc, tuple, &(), &DefaultI18n, (text.as_str(), nodes))
+    let Some(lines) = EACH_TOO_SHORT.get(..count) else {
+        return false;
+    };
+    let text = lines.concat(alloc).or_end(rt);
+    is_told_by_default(alloc, tuple, (text.as_str(), count.saturating_mul(2)))
+}
+
+/// Whether this user, whose name is too short, is told in each tuple of three to seven.
+fn is_told_in_short_tuples(rt: &impl Abort, alloc: Global, u: &User) -> bool {
+    is_each_told(rt, alloc, &(u, u, u), 3)
+        && is_each_told(rt, alloc, &(u, u, u, u), 4)
+        && is_each_told(rt, alloc, &(u, u, u, u, u), 5)
+        && is_each_told(rt, alloc, &(u, u, u, u, u, u), 6)
+        && is_each_told(rt, alloc, &(u, u, u, u, u, u, u), 7)
+}
+
+/// Whether it is told in each tuple of eight to ten.
+fn is_told_in_longer_tuples(rt: &impl Abort, alloc: Global, u: &User) -> bool {
+    is_each_told(rt, alloc, &(u, u, u, u, u, u, u, u), 8)
+        && is_each_told(rt, alloc, &(u, u, u, u, u, u, u, u, u), 9)
+        && is_each_told(rt, alloc, &(u, u, u, u, u, u, u, u, u, u), 10)
+}
+
+/// Whether it is told in each tuple of eleven and twelve.
+fn is_told_in_the_longest_tuples(rt: &impl Abort, alloc: Global, u: &User) -> bool {
+    is_each_told(rt, alloc, &(u, u, u, u, u, u, u, u, u, u, u), 11)
+        && is_each_told(rt, alloc, &(u, u, u, u, u, u, u, u, u, u, u, u), 12)
 }
 
 #[test]
 fn each_item_of_a_tuple(rt: HostRuntime) {
     let alloc = rt.alloc();
     let user = user_of(&rt, alloc, "ab");
-    let u = &user;
     assert!(rt;
-        is_each_told(&rt, alloc, &(u, u, u), 3)
-            && is_each_told(&rt, alloc, &(u, u, u, u), 4)
-            && is_each_told(&rt, alloc, &(u, u, u, u, u), 5)
-            && is_each_told(&rt, alloc, &(u, u, u, u, u, u), 6)
-            && is_each_told(&rt, alloc, &(u, u, u, u, u, u, u), 7)
-            && is_each_told(&rt, alloc, &(u, u, u, u, u, u, u, u), 8)
-            && is_each_told(&rt, alloc, &(u, u, u, u, u, u, u, u, u), 9)
-            && is_each_told(&rt, alloc, &(u, u, u, u, u, u, u, u, u, u), 10)
-            && is_each_told(&rt, alloc, &(u, u, u, u, u, u, u, u, u, u, u), 11)
-            && is_each_told(&rt, alloc, &(u, u, u, u, u, u, u, u, u, u, u, u), 12)
+        is_told_in_short_tuples(&rt, alloc, &user)
+            && is_told_in_longer_tuples(&rt, alloc, &user)
+            && is_told_in_the_longest_tuples(&rt, alloc, &user)
     );
 }

@@ -8,11 +8,12 @@ use garde::i18n::InvalidPhoneNumber;
 use garde::rules::Rule;
 use garde::rules::pattern::regex::Searcher;
 use garde::rules::values::{Length, WithMessage};
-use garde::{DefaultI18n, RuleError};
+use garde::{DefaultI18n, Path, RuleError};
 use garde_i18n::Datum;
 use garde_problem::{Escaped, JsonPointer};
 use std::alloc::{AllocError, Global};
 use std::fmt::Write;
+use std::process::Abort;
 use test_memory::Scarce;
 
 /// A pattern of 64 bytes.
@@ -21,25 +22,30 @@ const LONG: &str = "^(one|two|three|four|five|six|seven|eight|nine|ten|eleven|mo
 /// Texts, and whether that pattern matches them.
 static SEARCHED: [(&str, bool); 3] = [("seven", true), ("zero", false), ("more", true)];
 
-// Whether a searcher that was made before answers each search.
-fn searches_without_memory(alloc: Global, pattern: &str) -> Result<bool, AllocError> {
-    let code = regex(alloc, pattern)?;
-    let searcher = code.searcher(alloc)?;
-    let mut memory = Scarce::taken(alloc)?;
+// Whether a searcher answers each search.
+fn answers_each(alloc: Global, memory: &mut Scarce, searcher: &Searcher<'_>) -> bool {
     let mut all = true;
     memory.begin();
     for (text, wanted) in &SEARCHED {
         all = all && searcher.is_match(alloc, text) == Ok(*wanted);
     }
     memory.end();
-    Ok(all)
+    all
+}
+
+// Whether a searcher that was made before answers each search.
+fn searches_without_memory(rt: &impl Abort, alloc: Global, pattern: &str) -> bool {
+    let code = regex(alloc, pattern).or_end(rt);
+    let searcher = code.searcher(alloc).or_end(rt);
+    let mut memory = Scarce::taken(alloc).or_end(rt);
+    answers_each(alloc, &mut memory, &searcher)
 }
 
 #[test]
 fn a_searcher_searches_without_memory(rt: HostRuntime) {
     assert!(rt;
-        searches_without_memory(rt.alloc(), LONG) == Ok(true)
-            && searches_without_memory(rt.alloc(), "^(seven|more)$") == Ok(true)
+        searches_without_memory(&rt, rt.alloc(), LONG)
+            && searches_without_memory(&rt, rt.alloc(), "^(seven|more)$")
     );
 }
 
@@ -80,15 +86,23 @@ fn a_message_is_out_of_memory_where_the_handler_is(rt: HostRuntime) {
 /// What a path of eight keys prints as a pointer, and escaped.
 const PRINTED: &str = "/a~1\n/b/b/b/b/b/b/b a/\\n.b.b.b.b.b.b.b";
 
+/// These keys.
+static KEYS: [&str; 8] = ["a/\n", "b", "b", "b", "b", "b", "b", "b"];
+
+// Prints a path as a pointer, and escaped.
+fn print(alloc: Global, path: &Path, out: &mut String) -> Result<(), AllocError> {
+    let (pointer, escaped) = (JsonPointer(alloc, path), Escaped(alloc, path));
+    write!(out, "{pointer} {escaped}")
+}
+
 #[test]
 fn a_path_of_eight_components_prints_without_memory(rt: HostRuntime) {
     let alloc = rt.alloc();
-    let path = keys(alloc, &["a/\n", "b", "b", "b", "b", "b", "b", "b"]).or_end(&rt);
+    let path = keys(alloc, &KEYS).or_end(&rt);
     let mut out = String::with_capacity(alloc, 64).or_end(&rt);
     let mut memory = Scarce::taken(alloc).or_end(&rt);
     memory.begin();
-    let (pointer, escaped) = (JsonPointer(alloc, &path), Escaped(alloc, &path));
-    let printed = write!(out, "{pointer} {escaped}");
+    let printed = print(alloc, &path, &mut out);
     memory.end();
     assert!(rt; printed.is_ok() && out.as_str() == PRINTED);
 }

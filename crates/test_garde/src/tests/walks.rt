@@ -4,8 +4,8 @@ use super::reports::{has, report_of};
 use super::told::{reads, shows};
 use super::user::User;
 use garde::{
-    Component, DefaultI18n, FirstError, IntoValidError, Report, Trail, Unvalidated, Validate,
-    ValidateError,
+    Component, DefaultI18n, FirstError, IntoValidError, Report, Trail, Unvalidated, Valid,
+    Validate, ValidateError,
 };
 use std::alloc::{AllocError, Global};
 use test_memory::{Met, Scarce};
@@ -44,21 +44,35 @@ fn stands<'a>(
     Ok(trail.depth() == 1 && has(&again, FOUND) && same_place)
 }
 
-/// A walk of users into a report that has a fault.
-pub fn on_users(alloc: Global, memory: &mut Scarce) -> Result<Met, AllocError> {
-    let users = one(alloc, Some(user(alloc, "é")?))?;
-    let mut report = report_of(alloc, "a", OLD)?;
+// What a walk of users into a report that has a fault comes to.
+fn walk(
+    alloc: Global,
+    memory: &mut Scarce,
+    users: &Vec<Option<User>>,
+    report: &mut Report,
+) -> Result<Met, AllocError> {
     let mut trail = Trail::new(alloc);
     trail.push(Component::key("users"))?;
     memory.begin();
-    let answer = users.validate_into(alloc, &(), &mut trail, &mut report, &DefaultI18n);
+    let answer = users.validate_into(alloc, &(), &mut trail, report, &DefaultI18n);
     memory.end();
-    let stands = stands(alloc, &users, &mut trail)?;
-    Ok(match answer {
-        Ok(()) if stands && has(&report, FAULTS) => Met::Ample,
-        Err(AllocError) if stands && begins(&report) => Met::Want,
-        _ => Met::Wrong,
-    })
+    let met = match answer {
+        Ok(()) => Met::Ample.when(has(report, FAULTS)),
+        Err(AllocError) => Met::Want.when(begins(report)),
+    };
+    Ok(met.when(stands(alloc, users, &mut trail)?))
+}
+
+// A list of one user with faults.
+fn one_wrong(alloc: Global) -> Result<Vec<Option<User>>, AllocError> {
+    one(alloc, Some(user(alloc, "é")?))
+}
+
+/// A walk of users into a report that has a fault.
+pub fn on_users(alloc: Global, memory: &mut Scarce) -> Result<Met, AllocError> {
+    let users = one_wrong(alloc)?;
+    let mut report = report_of(alloc, "a", OLD)?;
+    walk(alloc, memory, &users, &mut report)
 }
 
 /// Lists in lists, four deep.
@@ -86,6 +100,21 @@ pub fn twelve(alloc: Global, name: &str) -> Result<Four<Four<Four<User>>>, Alloc
 /// What is reported of a user in twelve lists.
 const NESTED: &str = "[0][0][0][0][0][0][0][0][0][0][0][0].username: length is lower than 3\n";
 
+// What the answer of a walk of twelve lists comes to that made so many nodes.
+fn nested(
+    alloc: Global,
+    answer: Result<(), ValidateError>,
+    nodes: usize,
+) -> Result<Met, AllocError> {
+    match answer {
+        Err(ValidateError::Report(report)) => {
+            Ok(Met::Ample.when(nodes == 13 && reads(alloc, &report, NESTED)?))
+        }
+        Err(ValidateError::Memory) => Ok(Met::Want),
+        Ok(()) => Ok(Met::Wrong),
+    }
+}
+
 /// A walk of twelve lists.
 pub fn nest(alloc: Global, memory: &mut Scarce) -> Result<Met, AllocError> {
     let lists = twelve(alloc, "ab")?;
@@ -93,42 +122,49 @@ pub fn nest(alloc: Global, memory: &mut Scarce) -> Result<Met, AllocError> {
     memory.begin();
     let answer = lists.validate_on(alloc, &(), &mut trail, &DefaultI18n);
     memory.end();
-    let stands = trail.depth() == 0;
+    if trail.depth() != 0 {
+        return Ok(Met::Wrong);
+    }
+    nested(alloc, answer, trail.nodes())
+}
+
+// What the answer of a walk to the first fault comes to that made so many nodes.
+fn first_found(
+    alloc: Global,
+    answer: Result<(), FirstError>,
+    nodes: usize,
+) -> Result<Met, AllocError> {
     match answer {
-        Err(ValidateError::Report(report)) => {
-            let told = reads(alloc, &report, NESTED)? && trail.nodes() == 13;
-            Ok(Met::Ample.when(stands && told))
+        Err(FirstError::First(report)) => {
+            let told = reads(alloc, &report, "users[0].username: not ascii\n")?;
+            Ok(Met::Ample.when(told && nodes == 3))
         }
-        Err(ValidateError::Memory) => Ok(Met::Want.when(stands)),
-        Ok(()) => Ok(Met::Wrong),
+        Err(FirstError::Memory) => Ok(Met::Want),
+        _ => Ok(Met::Wrong),
     }
 }
 
-/// The first fault of two.
-pub fn first(alloc: Global, memory: &mut Scarce) -> Result<Met, AllocError> {
-    let users = one(alloc, user(alloc, "é")?)?;
+// What a walk of users to the first fault comes to.
+fn first_of(alloc: Global, memory: &mut Scarce, users: &Vec<User>) -> Result<Met, AllocError> {
     let mut trail = Trail::new(alloc);
     trail.push(Component::key("users"))?;
     memory.begin();
     let answer = users.validate_first_on(alloc, &(), 1, &mut trail, &DefaultI18n);
     memory.end();
-    let stands = trail.depth() == 1;
-    match answer {
-        Err(FirstError::First(report)) => {
-            let told = reads(alloc, &report, "users[0].username: not ascii\n")?;
-            Ok(Met::Ample.when(stands && told && trail.nodes() == 3))
-        }
-        Err(FirstError::Memory) => Ok(Met::Want.when(stands)),
-        _ => Ok(Met::Wrong),
-    }
+    let met = first_found(alloc, answer, trail.nodes())?;
+    Ok(met.when(trail.depth() == 1))
 }
 
-/// A value that becomes a valid one.
-pub fn typed(alloc: Global, memory: &mut Scarce) -> Result<Met, AllocError> {
-    let users = Unvalidated::new(one(alloc, Some(user(alloc, "é")?))?);
-    memory.begin();
-    let answer = users.validate(alloc);
-    memory.end();
+/// The first fault of two.
+pub fn first(alloc: Global, memory: &mut Scarce) -> Result<Met, AllocError> {
+    first_of(alloc, memory, &one(alloc, user(alloc, "é")?)?)
+}
+
+// What the answer comes to that should be the report of a user with faults.
+fn refused(
+    alloc: Global,
+    answer: Result<Valid<Vec<Option<User>>>, IntoValidError<Vec<Option<User>>>>,
+) -> Result<Met, AllocError> {
     match answer {
         Err(IntoValidError::Report(report)) => Ok(Met::Ample.when(has(&report, FOUND))),
         Err(IntoValidError::Memory(back)) => {
@@ -137,4 +173,13 @@ pub fn typed(alloc: Global, memory: &mut Scarce) -> Result<Met, AllocError> {
         }
         Ok(_) => Ok(Met::Wrong),
     }
+}
+
+/// A value that becomes a valid one.
+pub fn typed(alloc: Global, memory: &mut Scarce) -> Result<Met, AllocError> {
+    let users = Unvalidated::new(one_wrong(alloc)?);
+    memory.begin();
+    let answer = users.validate(alloc);
+    memory.end();
+    refused(alloc, answer)
 }

@@ -59,15 +59,25 @@ static KINDS: [(&str, Made); 11] = [
     ("refused", Made::Refused),
 ];
 
+// The list with one long text more.
+fn with_long(alloc: Global, list: &List<String>) -> Result<List<String>, AllocError> {
+    longer(alloc, list, String::from_str(alloc, LONG)?)
+}
+
+// A clone of a list, and the list before it.
+fn copied(list: &List<String>) -> Result<(), AllocError> {
+    let copy = list.clone()?;
+    let _before = copy.before()?;
+    Ok(())
+}
+
 // A list of long texts, its clone, and the list before it.
 fn lists(alloc: Global) -> Result<(), AllocError> {
     let mut list = List::new();
     for _ in 0..9usize {
-        list = longer(alloc, &list, String::from_str(alloc, LONG)?)?;
+        list = with_long(alloc, &list)?;
     }
-    let copy = list.clone()?;
-    let _before = copy.before()?;
-    Ok(())
+    copied(&list)
 }
 
 // The text of a value.
@@ -83,13 +93,17 @@ fn walk(alloc: Global, path: &Path) -> Result<(), AllocError> {
     Ok(())
 }
 
-// A path, a walk of it, its text, and its parent.
-fn paths(alloc: Global) -> Result<(), AllocError> {
-    let path = keys(alloc, &[LONG; 9])?;
-    walk(alloc, &path)?;
-    text(alloc, &path)?;
+// A walk of a path, its text, and its parent.
+fn used(alloc: Global, path: &Path) -> Result<(), AllocError> {
+    walk(alloc, path)?;
+    text(alloc, path)?;
     let _parent = path.parent()?;
     Ok(())
+}
+
+// A path, a walk of it, its text, and its parent.
+fn paths(alloc: Global) -> Result<(), AllocError> {
+    used(alloc, &keys(alloc, &[LONG; 9])?)
 }
 
 // So many steps down.
@@ -191,17 +205,16 @@ fn handlers(alloc: Global) -> Result<(), AllocError> {
 }
 
 // A searcher of a pattern, and a search.
-fn search(alloc: Global, pattern: &Regex) -> Result<(), AllocError> {
-    let searcher = pattern.searcher(alloc)?;
-    let _found = searcher.is_match(alloc, "x")?;
-    Ok(())
+fn search(alloc: Global, pattern: &Regex) -> Result<bool, AllocError> {
+    pattern.searcher(alloc)?.is_match(alloc, "x")
 }
 
 // A pattern, and two searches.
 fn patterns(alloc: Global) -> Result<(), AllocError> {
     let pattern = regex(alloc, "^[0-9]+$")?;
     let _found = pattern.is_match(alloc, "12345")?;
-    search(alloc, &pattern)
+    let _again = search(alloc, &pattern)?;
+    Ok(())
 }
 
 // A document with this content and this tag, of whose content no format and no length is asked.
