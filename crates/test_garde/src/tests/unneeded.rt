@@ -13,7 +13,6 @@ use garde_i18n::Datum;
 use garde_problem::{Escaped, JsonPointer};
 use std::alloc::{AllocError, Global};
 use std::fmt::Write;
-use std::process::Abort;
 use test_memory::Scarce;
 
 /// A pattern of 64 bytes.
@@ -22,30 +21,25 @@ const LONG: &str = "^(one|two|three|four|five|six|seven|eight|nine|ten|eleven|mo
 /// Texts, and whether that pattern matches them.
 static SEARCHED: [(&str, bool); 3] = [("seven", true), ("zero", false), ("more", true)];
 
-// Whether a searcher answers each search.
-fn answers_each(alloc: Global, memory: &mut Scarce, searcher: &Searcher<'_>) -> bool {
+// Whether a searcher that was made before answers each search.
+fn searches_without_memory(alloc: Global, pattern: &str) -> Result<bool, AllocError> {
+    let code = regex(alloc, pattern)?;
+    let searcher = code.searcher(alloc)?;
+    let mut memory = Scarce::taken(alloc)?;
     let mut all = true;
     memory.begin();
     for (text, wanted) in &SEARCHED {
         all = all && searcher.is_match(alloc, text) == Ok(*wanted);
     }
     memory.end();
-    all
-}
-
-// Whether a searcher that was made before answers each search.
-fn searches_without_memory(rt: &impl Abort, alloc: Global, pattern: &str) -> bool {
-    let code = regex(alloc, pattern).or_end(rt);
-    let searcher = code.searcher(alloc).or_end(rt);
-    let mut memory = Scarce::taken(alloc).or_end(rt);
-    answers_each(alloc, &mut memory, &searcher)
+    Ok(all)
 }
 
 #[test]
 fn a_searcher_searches_without_memory(rt: HostRuntime) {
     assert!(rt;
-        searches_without_memory(&rt, rt.alloc(), LONG)
-            && searches_without_memory(&rt, rt.alloc(), "^(seven|more)$")
+        searches_without_memory(rt.alloc(), LONG) == Ok(true)
+            && searches_without_memory(rt.alloc(), "^(seven|more)$") == Ok(true)
     );
 }
 

@@ -100,21 +100,6 @@ pub fn twelve(alloc: Global, name: &str) -> Result<Four<Four<Four<User>>>, Alloc
 /// What is reported of a user in twelve lists.
 const NESTED: &str = "[0][0][0][0][0][0][0][0][0][0][0][0].username: length is lower than 3\n";
 
-// What the answer of a walk of twelve lists comes to that made so many nodes.
-fn nested(
-    alloc: Global,
-    answer: Result<(), ValidateError>,
-    nodes: usize,
-) -> Result<Met, AllocError> {
-    match answer {
-        Err(ValidateError::Report(report)) => {
-            Ok(Met::Ample.when(nodes == 13 && reads(alloc, &report, NESTED)?))
-        }
-        Err(ValidateError::Memory) => Ok(Met::Want),
-        Ok(()) => Ok(Met::Wrong),
-    }
-}
-
 /// A walk of twelve lists.
 pub fn nest(alloc: Global, memory: &mut Scarce) -> Result<Met, AllocError> {
     let lists = twelve(alloc, "ab")?;
@@ -122,10 +107,15 @@ pub fn nest(alloc: Global, memory: &mut Scarce) -> Result<Met, AllocError> {
     memory.begin();
     let answer = lists.validate_on(alloc, &(), &mut trail, &DefaultI18n);
     memory.end();
-    if trail.depth() != 0 {
-        return Ok(Met::Wrong);
+    let stands = trail.depth() == 0;
+    match answer {
+        Err(ValidateError::Report(report)) => {
+            let told = reads(alloc, &report, NESTED)? && trail.nodes() == 13;
+            Ok(Met::Ample.when(stands && told))
+        }
+        Err(ValidateError::Memory) => Ok(Met::Want.when(stands)),
+        Ok(()) => Ok(Met::Wrong),
     }
-    nested(alloc, answer, trail.nodes())
 }
 
 // What the answer of a walk to the first fault comes to that made so many nodes.
