@@ -10,11 +10,12 @@ use std::process::Abort;
 
 /// Pushes the component of an item. Returns `Err` at the item 9.
 fn push_unless_9<'a>(
-    trail: &mut Trail<'a>,
+    item: &u8,
     component: Component<'a>,
-    item: u8,
+    trail: &mut Trail<'a>,
+    _report: &mut Report,
 ) -> Result<(), AllocError> {
-    if item == 9 {
+    if *item == 9 {
         return Err(AllocError);
     }
     trail.push(component)
@@ -26,12 +27,7 @@ fn push_all<'a, C: Inner<u8>>(
     trail: &mut Trail<'a>,
     report: &mut Report,
 ) -> Result<(), AllocError> {
-    inner::apply(
-        field,
-        trail,
-        report,
-        |item: &u8, component, trail, _report| push_unless_9(trail, component, *item),
-    )
+    inner::apply(field, trail, report, push_unless_9)
 }
 
 /// Whether the walk comes to its end or not, as it is said, and leaves this path.
@@ -66,11 +62,7 @@ fn leaves_by_the_method<C: Inner<u8>>(
     let mut trail = Trail::new(alloc);
     let mut report = Report::new(alloc);
     field
-        .validate_inner(
-            &mut trail,
-            &mut report,
-            |item: &u8, component, trail, _report| push_unless_9(trail, component, *item),
-        )
+        .validate_inner(&mut trail, &mut report, push_unless_9)
         .or_end(rt);
     is_at(rt, alloc, &mut trail, path)
 }

@@ -1,10 +1,10 @@
 //! Ample memory: what is long, deep or many gets the answers of what is small.
 
 use crate::tests::OrEnd;
-use crate::tests::report::samples::{append, is_kept, path_of, path_to};
+use crate::tests::report::samples::{append, is_kept, path_of_one, path_to};
 use crate::tests::report::written::is_read_back;
 use garde_report::rc_list::List;
-use garde_report::{Component, Error, Kind, Report, RuleError, Trail};
+use garde_report::{Component, Error, Kind, Path, PathIter, Report, RuleError, Trail};
 use std::alloc::Global;
 use std::borrow::CowStr;
 use std::fmt::Display;
@@ -28,14 +28,27 @@ fn items_before(rt: &impl Abort, alloc: Global, size: usize) -> Option<usize> {
     }
 }
 
+// How many components a path has without its last.
+fn above(rt: &impl Abort, path: &Path) -> Option<usize> {
+    match path.parent().or_end(rt) {
+        Some(parent) => Some(parent.len()),
+        None => None,
+    }
+}
+
+// How many components a walk gives.
+fn walked(walk: PathIter<'_>) -> usize {
+    let mut count = 0usize;
+    for _ in walk {
+        count = count.wrapping_add(1);
+    }
+    count
+}
+
 // Whether a path of so many components has as many without its last as it is said, and its clone has all.
 fn is_path_cut(rt: &impl Abort, alloc: Global, size: usize, wanted: Option<usize>) -> bool {
     let path = path_to(rt, alloc, size);
-    let above = match path.parent().or_end(rt) {
-        Some(parent) => Some(parent.len()),
-        None => None,
-    };
-    above == wanted && path.clone().or_end(rt).iter(alloc).or_end(rt).count() == size
+    above(rt, &path) == wanted && walked(path.clone().or_end(rt).iter(alloc).or_end(rt)) == size
 }
 
 // Whether a fault at the end of a way of so many components is the only one of a report, and stands so
@@ -70,7 +83,7 @@ fn lists_paths_and_ways_of_each_size(rt: HostRuntime) {
 
 // Whether the path of a component has it, and no other.
 fn is_component_kept(rt: &impl Abort, alloc: Global, kind: Kind, text: &str) -> bool {
-    let path = path_of(rt, alloc, &[(kind, text)]);
+    let path = path_of_one(rt, alloc, kind, text);
     let mut parts = path.iter(alloc).or_end(rt);
     parts.len() == 1 && parts.next() == Some((kind, text))
 }

@@ -1,9 +1,9 @@
 //! What words of a command line ask for, and the lines of faults under the name of their file.
 
 use crate::tests::OrEnd;
-use crate::tests::report::samples::report_of;
+use crate::tests::report::samples::{places_in_lines, report_of};
 use garde_places::{Asked, Format, Place, Printed, faults_of, listed_faults_of, stop_of_utf8};
-use garde_report::{Kind, Path, Report};
+use garde_report::{Path, Report};
 use std::alloc::Global;
 use std::process::Abort;
 
@@ -92,10 +92,7 @@ fn words_ask_for_a_file_and_a_format(rt: HostRuntime) {
 /// A text whose members do not stand in the order of the faults.
 const TEXT: &str = "{\"b\":1,\n\"a\":2}";
 
-static FAULTS: [(&[(Kind, &str)], &str); 2] = [
-    (&[(Kind::Key, "a")], "lower"),
-    (&[(Kind::Key, "b")], "higher"),
-];
+static FAULTS: [(&str, &str); 2] = [("a>", "lower"), ("b>", "higher")];
 
 const FOR_PEOPLE: &str = "f:1:6: error: b: higher\nf:2:5: error: a: lower\n";
 
@@ -117,10 +114,7 @@ fn print_as(rt: &impl Abort, alloc: Global, report: &Report, format: Format, tex
 
 // The line of the second fault, by a list of places whose lines count the tokens of the text.
 fn listed_line(rt: &impl Abort, alloc: Global, report: &Report) -> Option<usize> {
-    let mut places = Vec::new(alloc);
-    for line in 10..16 {
-        places.push(Place { line, column: 1 }).or_end(rt);
-    }
+    let places = places_in_lines(rt, alloc, 10, 16);
     match listed_faults_of(alloc, TEXT, places, report) {
         Ok(faults) => match faults.as_slice() {
             [_, second] => Some(second.place.line),

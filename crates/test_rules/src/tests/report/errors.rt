@@ -10,15 +10,9 @@ use std::process::Abort;
 
 const A: (Kind, &str) = (Kind::Key, "a");
 
-const B: (Kind, &str) = (Kind::Key, "b");
-
-const C: (Kind, &str) = (Kind::Key, "c");
-
 const ZERO: (Kind, &str) = (Kind::Index, "0");
 
 const ONE: (Kind, &str) = (Kind::Index, "1");
-
-const UNNAMED: (Kind, &str) = (Kind::None, "");
 
 /// Whether a walk of `[0].a[1]`, which begins at the last component, gives one from the front, one from
 /// the back, and twice from the front what is left.
@@ -39,15 +33,14 @@ fn is_beneath(rt: &impl Abort, path: &Path, above: &Path) -> bool {
 
 /// Whether `[0].a[1]`, by joins, has its length and its texts, is walked, and is under `[0].a`.
 fn is_joined(rt: &impl Abort, alloc: Global) -> bool {
-    let path = path_to(rt, alloc, 1);
-    let path = path.join(alloc, "a").or_end(rt);
+    let path = path_to(rt, alloc, 1).join(alloc, "a").or_end(rt);
     let path = path.join(alloc, 1usize).or_end(rt);
     let shown = "Path { components: [(Index, \"0\"), (Key, \"a\"), (Index, \"1\")] }";
     path.len() == 3
         && has_text(rt, alloc, &path, "[0].a[1]")
         && shows(rt, alloc, &path, shown)
         && is_walked(rt, alloc, &path)
-        && is_beneath(rt, &path, &path_of(rt, alloc, &[ZERO, A]))
+        && is_beneath(rt, &path, &path_of(rt, alloc, "#0>a>"))
 }
 
 #[test]
@@ -61,84 +54,48 @@ fn a_path_is_joined_walked_and_cut(rt: HostRuntime) {
     );
 }
 
-/// Components of a path and its text, those of another path and its text, and the order of both.
+/// A path as `path_of` reads it and its text, another path and its text, and the order of both.
 type Row = (
-    &'static [(Kind, &'static str)],
     &'static str,
-    &'static [(Kind, &'static str)],
+    &'static str,
+    &'static str,
     &'static str,
     Ordering,
 );
 
 static PATHS: [Row; 17] = [
-    (&[A, B], "a.b", &[A, B], "a.b", Ordering::Equal),
+    ("a>b>", "a.b", "a>b>", "a.b", Ordering::Equal),
     // A text of 22 bytes, and one of 23.
     (
-        &[(Kind::Key, "abcdefghijklmnopqrstuv"), B],
+        "abcdefghijklmnopqrstuv>b>",
         "abcdefghijklmnopqrstuv.b",
-        &[(Kind::Index, "abcdefghijklmnopqrstuvw")],
+        "#abcdefghijklmnopqrstuvw>",
         "[abcdefghijklmnopqrstuvw]",
         Ordering::Greater,
     ),
-    (
-        &[UNNAMED, (Kind::Key, "k")],
-        ".k",
-        &[A],
-        "a",
-        Ordering::Greater,
-    ),
-    (&[ZERO, ZERO, A], "[0][0].a", &[], "", Ordering::Greater),
-    (
-        &[(Kind::None, "x"), ZERO],
-        "x[0]",
-        &[A, UNNAMED, B],
-        "a.b",
-        Ordering::Less,
-    ),
+    ("?>k>", ".k", "a>", "a", Ordering::Greater),
+    ("#0>#0>a>", "[0][0].a", "", "", Ordering::Greater),
+    ("?x>#0>", "x[0]", "a>?>b>", "a.b", Ordering::Less),
     // Different paths of one text.
-    (&[(Kind::Key, "a.b")], "a.b", &[A, B], "a.b", Ordering::Less),
+    ("a.b>", "a.b", "a>b>", "a.b", Ordering::Less),
+    ("a[0]>", "a[0]", "a>#0>", "a[0]", Ordering::Less),
+    ("?>a>", ".a", ">a>", ".a", Ordering::Less),
+    (">", "", "", "", Ordering::Greater),
     (
-        &[(Kind::Key, "a[0]")],
-        "a[0]",
-        &[A, ZERO],
-        "a[0]",
-        Ordering::Less,
-    ),
-    (
-        &[UNNAMED, A],
-        ".a",
-        &[(Kind::Key, ""), A],
-        ".a",
-        Ordering::Less,
-    ),
-    (&[(Kind::Key, "")], "", &[], "", Ordering::Greater),
-    (
-        &[(Kind::Index, "0].a[1")],
+        "#0].a[1>",
         "[0].a[1]",
-        &[ZERO, A, ONE],
+        "#0>a>#1>",
         "[0].a[1]",
         Ordering::Less,
     ),
     // Shorter paths come first.
-    (&[(Kind::Key, "z")], "z", &[A, B], "a.b", Ordering::Less),
-    (&[A], "a", &[ZERO], "[0]", Ordering::Less),
-    (
-        &[(Kind::Index, "2")],
-        "[2]",
-        &[(Kind::Index, "10")],
-        "[10]",
-        Ordering::Greater,
-    ),
-    (&[B, A], "b.a", &[A, B], "a.b", Ordering::Greater),
-    (
-        &[A, B],
-        "a.b",
-        &[(Kind::Key, "a.b")],
-        "a.b",
-        Ordering::Greater,
-    ),
-    (&[ZERO], "[0]", &[ZERO], "[0]", Ordering::Equal),
-    (&[], "", &[], "", Ordering::Equal),
+    ("z>", "z", "a>b>", "a.b", Ordering::Less),
+    ("a>", "a", "#0>", "[0]", Ordering::Less),
+    ("#2>", "[2]", "#10>", "[10]", Ordering::Greater),
+    ("b>a>", "b.a", "a>b>", "a.b", Ordering::Greater),
+    ("a>b>", "a.b", "a.b>", "a.b", Ordering::Greater),
+    ("#0>", "[0]", "#0>", "[0]", Ordering::Equal),
+    ("", "", "", "", Ordering::Equal),
 ];
 
 /// Whether two paths have their texts, and are in their order.
@@ -157,58 +114,63 @@ fn paths_have_their_texts_and_their_order(rt: HostRuntime) {
     }
 }
 
-/// Whether the path of a component is that of this kind and text.
+/// Whether the path of a component is that of this text, as `path_of` reads it.
 pub fn is_path_of<K: PathComponentKind + Drop>(
     rt: &impl Abort,
     alloc: Global,
     made: K,
-    component: (Kind, &str),
+    text: &str,
 ) -> bool {
     are_in_order(
         &Path::new(alloc, made).or_end(rt),
-        &path_of(rt, alloc, &[component]),
+        &path_of(rt, alloc, text),
         Ordering::Equal,
     )
+}
+
+/// Whether the component of a number that is lent has the kind of its type, and its text.
+fn is_lent(rt: &impl Abort, alloc: Global) -> bool {
+    let shared = (&7usize).component();
+    shared.kind() == <&usize as PathComponentKind>::component_kind()
+        && has_text(rt, alloc, &shared, "7")
 }
 
 #[test]
 fn each_type_of_component_has_its_kind(rt: HostRuntime) {
     let alloc = rt.alloc();
-    let shared = (&7usize).component();
     assert!(rt;
-        is_path_of(&rt, alloc, String::from_str(alloc, "a").or_end(&rt), A)
-            && is_path_of(&rt, alloc, CowStr::Borrowed("a"), A)
-            && is_path_of(&rt, alloc, "a", A)
-            && is_path_of(&rt, alloc, NoKey::default(), UNNAMED)
+        is_path_of(&rt, alloc, String::from_str(alloc, "a").or_end(&rt), "a>")
+            && is_path_of(&rt, alloc, CowStr::Borrowed("a"), "a>")
+            && is_path_of(&rt, alloc, "a", "a>")
+            && is_path_of(&rt, alloc, NoKey::default(), "?>")
             && has_text(&rt, alloc, &NoKey::default(), "")
-            && shared.kind() == <&usize as PathComponentKind>::component_kind()
-            && has_text(&rt, alloc, &shared, "7")
+            && is_lent(&rt, alloc)
     );
 }
 
-/// Faults: the components of the path of each, and its message.
-type Faults = &'static [(&'static [(Kind, &'static str)], &'static str)];
+/// Faults: the path of each as `path_of` reads it, and its message.
+type Faults = &'static [(&'static str, &'static str)];
 
 /// Faults, what their report prints, and what it shows a programmer.
 static REPORTS: [(Faults, &str, &str); 5] = [
     (&[], "", "Report { errors: [] }"),
     (
-        &[(&[(Kind::Key, "content_fingerprints"), ZERO], "x")],
+        &[("content_fingerprints>#0>", "x")],
         "content_fingerprints[0]: x\n",
         "Report { errors: [(Path { components: [(Key, \"content_fingerprints\"), (Index, \"0\")] }, Error { message: \"x\" })] }",
     ),
     (
-        &[(&[UNNAMED], "x"), (&[], "x"), (&[A, B], "y\nz")],
+        &[("?>", "x"), ("", "x"), ("a>b>", "y\nz")],
         ": x\nx\na.b: y\nz\n",
         "Report { errors: [(Path { components: [(None, \"\")] }, Error { message: \"x\" }), (Path { components: [] }, Error { message: \"x\" }), (Path { components: [(Key, \"a\"), (Key, \"b\")] }, Error { message: \"y\\nz\" })] }",
     ),
     (
-        &[(&[], "x")],
+        &[("", "x")],
         "x\n",
         "Report { errors: [(Path { components: [] }, Error { message: \"x\" })] }",
     ),
     (
-        &[(&[], "a message of more than 30 bytes")],
+        &[("", "a message of more than 30 bytes")],
         "a message of more than 30 bytes\n",
         "Report { errors: [(Path { components: [] }, Error { message: \"a message of more than 30 bytes\" })] }",
     ),
@@ -231,11 +193,11 @@ fn only_the_root_has_no_colon(rt: HostRuntime) {
 }
 
 /// Four faults, two of them at one path.
-static FOUR: [(&[(Kind, &str)], &str); 4] = [
-    (&[A, B], "lol"),
-    (&[A, B, C], "that seems wrong"),
-    (&[A, B, C], "pog"),
-    (&[(Kind::Key, "array"), (Kind::Key, "0"), C], "pog"),
+static FOUR: [(&str, &str); 4] = [
+    ("a>b>", "lol"),
+    ("a>b>c>", "that seems wrong"),
+    ("a>b>c>", "pog"),
+    ("array>0>c>", "pog"),
 ];
 
 #[test]

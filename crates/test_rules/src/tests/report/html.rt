@@ -6,7 +6,7 @@ use garde_html::{
     Control, Field, Form, HtmlText, Page, Piece, field_faults, field_of, form_page, laws,
     other_faults,
 };
-use garde_report::{Error, Kind, Path, Report};
+use garde_report::{Error, Path, Report};
 use std::alloc::Global;
 use std::process::Abort;
 
@@ -43,13 +43,13 @@ fn texts_stand_as_entities(rt: HostRuntime) {
 }
 
 /// Faults at fields, under one, at the root, and at what is no field.
-const FAULTS: &[(&[(Kind, &str)], &str)] = &[
-    (&[(Kind::Key, "name")], "short"),
-    (&[(Kind::Key, "topics"), (Kind::Index, "1")], "not known"),
-    (&[], "wrong"),
-    (&[(Kind::Key, "nam")], "unknown"),
-    (&[(Kind::Key, "name")], "not ASCII"),
-    (&[(Kind::Key, "x"), (Kind::Key, "name")], "deep"),
+const FAULTS: &[(&str, &str)] = &[
+    ("name>", "short"),
+    ("topics>#1>", "not known"),
+    ("", "wrong"),
+    ("nam>", "unknown"),
+    ("name>", "not ASCII"),
+    ("x>name>", "deep"),
 ];
 
 /// The fields of a page.
@@ -93,32 +93,27 @@ fn faults_at_no_field_are_apart(rt: HostRuntime) {
     );
 }
 
-/// Components of a path, and the field at which it stands.
-static PLACES: [(&[(Kind, &str)], Option<&str>); 7] = [
-    (&[(Kind::Key, "name")], Some("name")),
-    (&[(Kind::None, "age")], Some("age")),
-    (&[(Kind::Key, "topics"), (Kind::Index, "1")], Some("topics")),
-    (&[], None),
-    (&[(Kind::Key, "nam")], None),
-    (&[(Kind::Key, "names")], None),
-    (&[(Kind::Key, "x"), (Kind::Key, "name")], None),
+/// A path as `path_of` reads it, and the field at which it stands.
+static PLACES: [(&str, Option<&str>); 7] = [
+    ("name>", Some("name")),
+    ("?age>", Some("age")),
+    ("topics>#1>", Some("topics")),
+    ("", None),
+    ("nam>", None),
+    ("names>", None),
+    ("x>name>", None),
 ];
 
 // Whether a path stands at this field.
-fn stands_at(
-    rt: &impl Abort,
-    alloc: Global,
-    components: &[(Kind, &str)],
-    field: Option<&str>,
-) -> bool {
-    let path = path_of(rt, alloc, components);
+fn stands_at(rt: &impl Abort, alloc: Global, path: &str, field: Option<&str>) -> bool {
+    let path = path_of(rt, alloc, path);
     field_of(alloc, &path, &FIELDS).or_end(rt) == field
 }
 
 #[test]
 fn paths_stand_at_fields(rt: HostRuntime) {
-    for (components, field) in &PLACES {
-        assert!(rt; stands_at(&rt, rt.alloc(), components, *field));
+    for (path, field) in &PLACES {
+        assert!(rt; stands_at(&rt, rt.alloc(), path, *field));
     }
 }
 

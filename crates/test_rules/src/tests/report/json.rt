@@ -4,22 +4,10 @@ use crate::tests::OrEnd;
 use crate::tests::report::samples::{path_of, report_of};
 use crate::tests::report::written::{is_read, is_there_and_back};
 use garde_json::{JsonRefused, first_to_json_text, path_from_json, path_to_json};
-use garde_report::{Kind, Path, Report};
+use garde_report::{Path, Report};
 use serde_json::Value;
 use std::alloc::Global;
 use std::process::Abort;
-
-const A: (Kind, &str) = (Kind::Key, "a");
-
-const B: (Kind, &str) = (Kind::Key, "b");
-
-const C: (Kind, &str) = (Kind::Key, "c");
-
-const ZERO: (Kind, &str) = (Kind::Index, "0");
-
-const ONE: (Kind, &str) = (Kind::Index, "1");
-
-const TWO: (Kind, &str) = (Kind::Index, "2");
 
 // Whether a path is written as this text, and is read back from its tree.
 fn is_path_there_and_back(rt: &impl Abort, alloc: Global, path: &Path, text: &str) -> bool {
@@ -36,36 +24,29 @@ fn a_path_is_written_and_read_back(rt: HostRuntime) {
     let text = r#"[["key","a"],["index","0"]]"#;
     let other = Value::from_str(alloc, r#"{"key":"a"}"#).or_end(&rt);
     assert!(rt;
-        is_path_there_and_back(&rt, alloc, &path_of(&rt, alloc, &[A, ZERO]), text)
+        is_path_there_and_back(&rt, alloc, &path_of(&rt, alloc, "a>#0>"), text)
             && matches!(&path_from_json(alloc, &other), Err(JsonRefused::Form))
     );
 }
 
-/// The components and the message of each fault of a report, and the text of the report.
-static WRITTEN: [(&[(&[(Kind, &str)], &str)], &str); 4] = [
+/// The path and the message of each fault of a report, and the text of the report.
+static WRITTEN: [(&[(&str, &str)], &str); 4] = [
     (&[], r#"{"errors":[]}"#),
     (
-        &[(&[A, ZERO], "lorem"), (&[B, C], "dolor")],
+        &[("a>#0>", "lorem"), ("b>c>", "dolor")],
         r#"{"errors":[[[["key","a"],["index","0"]],{"message":"lorem"}],[[["key","b"],["key","c"]],{"message":"dolor"}]]}"#,
     ),
     (
         &[
-            (&[A, ZERO], "lorem"),
-            (&[A, ONE], "ispum"),
-            (&[A, TWO], "dolor"),
-            (&[B, C], "dolor"),
+            ("a>#0>", "lorem"),
+            ("a>#1>", "ispum"),
+            ("a>#2>", "dolor"),
+            ("b>c>", "dolor"),
         ],
         r#"{"errors":[[[["key","a"],["index","0"]],{"message":"lorem"}],[[["key","a"],["index","1"]],{"message":"ispum"}],[[["key","a"],["index","2"]],{"message":"dolor"}],[[["key","b"],["key","c"]],{"message":"dolor"}]]}"#,
     ),
     (
-        &[
-            (
-                &[(Kind::Index, "7"), (Kind::Key, "a\"b")],
-                "not ASCII: \u{e9}\n",
-            ),
-            (&[(Kind::None, "")], "x"),
-            (&[], ""),
-        ],
+        &[("#7>a\"b>", "not ASCII: \u{e9}\n"), ("?>", "x"), ("", "")],
         "{\"errors\":[[[[\"index\",\"7\"],[\"key\",\"a\\\"b\"]],{\"message\":\"not ASCII: \u{e9}\\n\"}],[[[\"none\",\"\"]],{\"message\":\"x\"}],[[],{\"message\":\"\"}]]}",
     ),
 ];

@@ -4,19 +4,20 @@ use crate::tests::OrEnd;
 use crate::tests::report::samples::{append, path_of, path_to};
 use crate::tests::report::written::{is_answer, is_read_back};
 use garde_json::{report_from_json_text, report_from_tree, report_to_json_text};
-use garde_report::{Kind, Report};
+use garde_report::Report;
 use garde_tape::{Scratch, Tree, parse};
 use std::alloc::Global;
 use std::process::Abort;
 
-const LONG_KEY: &str = "a key that has more bytes than lie in a node";
+/// The path of a key, and of another one with more bytes than lie in a node.
+const LIST: &str = "list>a key that has more bytes than lie in a node>";
 
 const LONG: &str =
     "a message that has more bytes than lie in an error, and \u{e9}, \", \\ and \u{1f}";
 
 // Adds two faults: one at a short path and one at a long one, with texts that lie on the heap.
 fn add_faults(rt: &impl Abort, alloc: Global, report: &mut Report, index: usize) {
-    let list = path_of(rt, alloc, &[(Kind::Key, "list"), (Kind::Key, LONG_KEY)]);
+    let list = path_of(rt, alloc, LIST);
     append(rt, alloc, report, list.join(alloc, index).or_end(rt), LONG);
     append(rt, alloc, report, path_to(rt, alloc, index % 40), "short");
 }

@@ -3,60 +3,37 @@
 use crate::tests::OrEnd;
 use crate::tests::report::samples::{path_of, report_of};
 use garde_places::{Fault, Format, GitHub, Places, Short, sort_by_place};
-use garde_report::{Kind, Report};
+use garde_report::Report;
 use garde_tape::{Scratch, parse};
 use std::alloc::Global;
+use std::fmt::Display;
 use std::process::Abort;
-
-type Components<'a> = &'a [(Kind, &'a str)];
 
 /// Lines that end in CR LF, tabs, characters beyond ASCII, texts and names with escapes, names that
 /// come twice, and names that are numbers.
 const SETTINGS: &str =
     "{\r\n\t\"server\": {\"host\": \"k\u{e4}se\", \"port\": 70000},\r\n  \"routes\": [\r\n    {\"path\": \"/\", \"to\": [\"\u{1f600}, ]\", \"b\\\"\\n\" , true]},\r\n    {\"path\": \"/x\", \"path\": \"/y\", \"ex\\u0074ra\": null}\r\n  ],\r\r\n  \"ports\": {\"7\": {\"8\": [ ]}} }";
 
-const ROUTES: (Kind, &str) = (Kind::Key, "routes");
-
-const FIRST: (Kind, &str) = (Kind::Index, "0");
-
-const SECOND: (Kind, &str) = (Kind::Index, "1");
-
-const PATH: (Kind, &str) = (Kind::Key, "path");
-
-const TO: (Kind, &str) = (Kind::Key, "to");
-
-const PORTS: (Kind, &str) = (Kind::Key, "ports");
-
-const SEVEN: (Kind, &str) = (Kind::Index, "7");
-
-const EIGHT: (Kind, &str) = (Kind::Index, "8");
-
-const NO_KEY: (Kind, &str) = (Kind::None, "");
-
-/// A path, the place of its value, and that of its name: each a line and a column.
-type Row = (Components<'static>, (usize, usize), (usize, usize));
+/// A path as `path_of` reads it, the place of its value, and that of its name: each a line and a column.
+type Row = (&'static str, (usize, usize), (usize, usize));
 
 static PLACES: [Row; 16] = [
-    (&[], (1, 1), (1, 1)),
-    (&[NO_KEY], (1, 1), (1, 1)),
-    (
-        &[(Kind::Key, "server"), (Kind::Key, "port")],
-        (2, 37),
-        (2, 29),
-    ),
-    (&[ROUTES, FIRST, TO, FIRST], (4, 26), (4, 25)),
-    (&[ROUTES, FIRST, TO, SECOND], (4, 34), (4, 25)),
-    (&[ROUTES, FIRST, TO, (Kind::Index, "2")], (4, 44), (4, 25)),
-    (&[ROUTES, FIRST, TO, (Kind::Index, "3")], (4, 25), (4, 25)),
-    (&[ROUTES, NO_KEY, SECOND, PATH], (5, 28), (5, 20)),
-    (&[ROUTES, SECOND, (Kind::Key, "extra")], (5, 48), (5, 34)),
-    (&[ROUTES, SECOND, TO], (5, 5), (5, 5)),
-    (&[ROUTES, SEVEN, TO], (3, 13), (3, 13)),
-    (&[ROUTES, TO, FIRST], (3, 13), (3, 13)),
-    (&[ROUTES, FIRST, PATH, PATH], (4, 14), (4, 14)),
-    (&[PORTS], (7, 12), (7, 3)),
-    (&[PORTS, SEVEN], (7, 18), (7, 13)),
-    (&[PORTS, SEVEN, EIGHT], (7, 24), (7, 19)),
+    ("", (1, 1), (1, 1)),
+    ("?>", (1, 1), (1, 1)),
+    ("server>port>", (2, 37), (2, 29)),
+    ("routes>#0>to>#0>", (4, 26), (4, 25)),
+    ("routes>#0>to>#1>", (4, 34), (4, 25)),
+    ("routes>#0>to>#2>", (4, 44), (4, 25)),
+    ("routes>#0>to>#3>", (4, 25), (4, 25)),
+    ("routes>?>#1>path>", (5, 28), (5, 20)),
+    ("routes>#1>extra>", (5, 48), (5, 34)),
+    ("routes>#1>to>", (5, 5), (5, 5)),
+    ("routes>#7>to>", (3, 13), (3, 13)),
+    ("routes>to>#0>", (3, 13), (3, 13)),
+    ("routes>#0>path>path>", (4, 14), (4, 14)),
+    ("ports>", (7, 12), (7, 3)),
+    ("ports>#7>", (7, 18), (7, 13)),
+    ("ports>#7>#8>", (7, 24), (7, 19)),
 ];
 
 // Whether a path leads to a value and a name at these places.
@@ -69,12 +46,12 @@ fn stands(rt: &impl Abort, alloc: Global, places: &mut Places<'_, '_>, row: &Row
 
 /// Members of a wide object, in the same way.
 static WIDE: [Row; 6] = [
-    (&[(Kind::Key, "k7")], (301, 6), (301, 1)),
-    (&[(Kind::Key, "k0")], (1, 7), (1, 2)),
-    (&[(Kind::Key, "k7")], (301, 6), (301, 1)),
-    (&[(Kind::Key, "k299")], (300, 8), (300, 1)),
-    (&[(Kind::Key, "k300")], (1, 1), (1, 1)),
-    (&[(Kind::Key, "k8")], (9, 6), (9, 1)),
+    ("k7>", (301, 6), (301, 1)),
+    ("k0>", (1, 7), (1, 2)),
+    ("k7>", (301, 6), (301, 1)),
+    ("k299>", (300, 8), (300, 1)),
+    ("k300>", (1, 1), (1, 1)),
+    ("k8>", (9, 6), (9, 1)),
 ];
 
 // An object of 300 members, each in a line of its own, and another of the name of the eighth.
@@ -88,50 +65,55 @@ fn wide_text(rt: &impl Abort, alloc: Global) -> String {
     text
 }
 
-// How many rows, asked in their order and then backwards, hold of a text before the first that does not.
-fn standing(rt: &impl Abort, alloc: Global, text: &str, rows: &[Row]) -> usize {
+// Asserts that each row holds, in their order.
+fn assert_stand(rt: &impl Abort, alloc: Global, places: &mut Places<'_, '_>, rows: &[Row]) {
+    for row in rows {
+        assert!(rt; stands(rt, alloc, places, row), "{}", row.0);
+    }
+}
+
+// Asserts that each row holds, from the last on.
+fn assert_stand_back(rt: &impl Abort, alloc: Global, places: &mut Places<'_, '_>, rows: &[Row]) {
+    for row in rows.iter().rev() {
+        assert!(rt; stands(rt, alloc, places, row), "{}", row.0);
+    }
+}
+
+// Asserts that each row, asked in their order and then backwards, holds of a text.
+fn assert_standing(rt: &impl Abort, alloc: Global, text: &str, rows: &[Row]) {
     let mut scratch = Scratch::new(alloc);
     let Ok(tape) = parse(alloc, text, &mut scratch) else {
         rt.abort()
     };
     let mut places = Places::of(alloc, text, &tape).or_end(rt);
-    let mut count = 0usize;
-    for row in rows.iter().chain(rows.iter().rev()) {
-        if !stands(rt, alloc, &mut places, row) {
-            return count;
-        }
-        count = count.wrapping_add(1);
-    }
-    count
+    assert_stand(rt, alloc, &mut places, rows);
+    assert_stand_back(rt, alloc, &mut places, rows);
 }
 
 #[test]
 fn values_and_names_stand_where_they_are_counted(rt: HostRuntime) {
     let alloc = rt.alloc();
-    assert_eq!(rt; standing(&rt, alloc, SETTINGS, &PLACES), 32);
-    assert_eq!(rt;
-        standing(&rt, alloc, wide_text(&rt, alloc).as_str(), &WIDE),
-        12
-    );
+    assert_standing(&rt, alloc, SETTINGS, &PLACES);
+    assert_standing(&rt, alloc, wide_text(&rt, alloc).as_str(), &WIDE);
 }
 
 /// Faults with and without a code, two of them at the root's place.
-static FAULTS: [(Components<'_>, &str); 6] = [
+static FAULTS: [(&str, &str); 6] = [
     (
-        &[ROUTES, SECOND, (Kind::Key, "extra")],
+        "routes>#1>extra>",
         "\u{1f}member_unknown\u{1f}not known here\u{1f}",
     ),
     (
-        &[ROUTES, SECOND, PATH],
+        "routes>#1>path>",
         "\u{1f}member_repeated\u{1f}repeated\u{1f}",
     ),
     (
-        &[(Kind::Key, "server"), (Kind::Key, "port")],
+        "server>port>",
         "\u{1f}greater_than\u{1f}greater than 65535\u{1f}max\u{1f}65535\u{1f}",
     ),
-    (&[], "100% wrong: a,b\nor\r\\"),
-    (&[ROUTES, SECOND, TO], "missing"),
-    (&[(Kind::Key, "a\nb: c")], "missing"),
+    ("", "100% wrong: a,b\nor\r\\"),
+    ("routes>#1>to>", "missing"),
+    ("a\nb: c>", "missing"),
 ];
 
 /// The name of a file, with characters that mean something in a line.
@@ -167,6 +149,21 @@ const OBJECTS: &str = "\
 {\"file\":\"a:b,%\\n.json\",\"path\":\"routes[1].extra\",\"pointer\":\"/routes/1/extra\",\"line\":5,\"column\":34,\"detail\":\"not known here\",\"code\":\"member_unknown\",\"params\":{}}
 ";
 
+// Asserts that each of these faults stands at its place where it is asked for alone.
+fn assert_placed(
+    rt: &impl Abort,
+    alloc: Global,
+    places: &mut Places<'_, '_>,
+    faults: &[Fault<'_>],
+) {
+    for fault in faults {
+        let place = places
+            .locate_fault(alloc, fault.path, fault.error)
+            .or_end(rt);
+        assert!(rt; place == fault.place);
+    }
+}
+
 // The faults of a report by their places.
 fn placed<'r>(rt: &impl Abort, alloc: Global, report: &'r Report) -> Vec<Fault<'r>> {
     let mut scratch = Scratch::new(alloc);
@@ -176,20 +173,20 @@ fn placed<'r>(rt: &impl Abort, alloc: Global, report: &'r Report) -> Vec<Fault<'
     let mut places = Places::of(alloc, SETTINGS, &tape).or_end(rt);
     let mut faults = places.locate_all(alloc, report).or_end(rt);
     sort_by_place(&mut faults).or_end(rt);
-    for fault in &faults {
-        let place = places
-            .locate_fault(alloc, fault.path, fault.error)
-            .or_end(rt);
-        assert!(rt; place == fault.place);
-    }
+    assert_placed(rt, alloc, &mut places, faults.as_slice());
     faults
+}
+
+// Adds a line with this value.
+fn add_line<T: Display>(rt: &impl Abort, text: &mut String, value: &T) {
+    writeln!(text, "{value}").or_end(rt);
 }
 
 // A line for each fault.
 fn lines(rt: &impl Abort, alloc: Global, faults: &[Fault<'_>]) -> String {
     let mut text = String::new(alloc);
     for fault in faults {
-        writeln!(text, "{}", Short(alloc, FILE, fault)).or_end(rt);
+        add_line(rt, &mut text, &Short(alloc, FILE, fault));
     }
     text
 }
@@ -198,7 +195,7 @@ fn lines(rt: &impl Abort, alloc: Global, faults: &[Fault<'_>]) -> String {
 fn annotations(rt: &impl Abort, alloc: Global, faults: &[Fault<'_>]) -> String {
     let mut text = String::new(alloc);
     for fault in faults {
-        writeln!(text, "{}", GitHub(alloc, FILE, fault)).or_end(rt);
+        add_line(rt, &mut text, &GitHub(alloc, FILE, fault));
     }
     text
 }
@@ -206,24 +203,37 @@ fn annotations(rt: &impl Abort, alloc: Global, faults: &[Fault<'_>]) -> String {
 /// The name of a format, and what they print in it.
 static FORMATS: [(&str, &str); 3] = [("short", SHORT), ("github", ANNOTATIONS), ("json", OBJECTS)];
 
+// Whether faults are printed as this text in the format of this name.
+fn are_printed(
+    rt: &impl Abort,
+    alloc: Global,
+    faults: &[Fault<'_>],
+    name: &str,
+    text: &str,
+) -> bool {
+    match Format::of(name) {
+        Some(format) => format.lines(alloc, FILE, faults).or_end(rt).as_str() == text,
+        None => false,
+    }
+}
+
+// Asserts that faults are printed in each format.
+fn assert_printed(rt: &impl Abort, alloc: Global, faults: &[Fault<'_>]) {
+    for (name, text) in &FORMATS {
+        assert!(rt; are_printed(rt, alloc, faults, name, text), "{name}");
+    }
+}
+
+// Whether faults have their lines and their annotations.
+fn have_lines(rt: &impl Abort, alloc: Global, faults: &[Fault<'_>]) -> bool {
+    lines(rt, alloc, faults).as_str() == SHORT
+        && annotations(rt, alloc, faults).as_str() == ANNOTATIONS
+}
+
 #[test]
 fn faults_are_printed_in_each_format(rt: HostRuntime) {
-    let alloc = rt.alloc();
-    let report = report_of(&rt, alloc, &FAULTS);
-    let faults = placed(&rt, alloc, &report);
-    let faults = faults.as_slice();
-    assert!(rt;
-        lines(&rt, alloc, faults).as_str() == SHORT
-            && annotations(&rt, alloc, faults).as_str() == ANNOTATIONS
-            && Format::of("plain").is_none()
-    );
-    for (name, text) in &FORMATS {
-        let Some(format) = Format::of(name) else {
-            rt.abort()
-        };
-        assert!(rt;
-            format.lines(alloc, FILE, faults).or_end(&rt).as_str() == *text,
-            "{name}"
-        );
-    }
+    let report = report_of(&rt, rt.alloc(), &FAULTS);
+    let faults = placed(&rt, rt.alloc(), &report);
+    assert!(rt; have_lines(&rt, rt.alloc(), faults.as_slice()) && Format::of("plain").is_none());
+    assert_printed(&rt, rt.alloc(), faults.as_slice());
 }

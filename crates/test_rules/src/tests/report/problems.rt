@@ -1,6 +1,6 @@
 //! Pointers, escaped reports and problem details, beside texts written by hand.
 
-use crate::tests::report::samples::{path_of, report_of};
+use crate::tests::report::samples::{path_of, path_of_one, report_of};
 use crate::tests::{OrEnd, has_text, printed};
 use garde_problem::{
     Coded, Escaped, JsonPointer, Problem, coded_message, laws, problem_to_json_text,
@@ -9,81 +9,63 @@ use garde_report::Kind;
 use std::alloc::Global;
 use std::process::Abort;
 
-type Components<'a> = &'a [(Kind, &'a str)];
-
-/// Components that act on a terminal.
-const ACTING: Components<'_> = &[
-    (Kind::Key, "a\nb: forged"),
-    (Kind::Index, "0"),
-    (Kind::Key, "\u{1b}[2J\0"),
-];
+/// A path that acts on a terminal.
+const ACTING: &str = "a\nb: forged>#0>\u{1b}[2J\0>";
 
 /// A fault whose key and message act on a terminal.
-const HOSTILE: (Components<'_>, &str) = (
+const HOSTILE: (&str, &str) = (
     ACTING,
     "\t\u{202e}\\\u{7f}\u{85}\u{2028}\r\u{2069}\u{61c}\u{200f}",
 );
 
-/// Components of plain texts, one of them beyond ASCII.
-const SHOWN: Components<'_> = &[
-    (Kind::Index, "1"),
-    (Kind::None, ""),
-    (Kind::Key, "stra\u{df}e"),
-];
+/// A path of plain texts, one of them beyond ASCII.
+const SHOWN: &str = "#1>?>stra\u{df}e>";
 
 /// A message without a code.
 const LOWER: &str = "lower than 1";
 
 /// A fault of plain texts.
-const PLAIN: (Components<'_>, &str) = (SHOWN, LOWER);
+const PLAIN: (&str, &str) = (SHOWN, LOWER);
 
 /// A message with a code.
 const TOO_MANY: &str = "\u{1f}too_many\u{1f}more than \"9\"\u{1f}max\u{1f}9\u{1f}a\nb\u{1f}\u{1f}";
 
 /// A fault with a code.
-const CODED: (Components<'_>, &str) = (&[(Kind::Key, "count")], TOO_MANY);
+const CODED: (&str, &str) = ("count>", TOO_MANY);
 
 /// A fault at the root.
-const ROOT: (Components<'_>, &str) = (&[], "\u{1}");
+const ROOT: (&str, &str) = ("", "\u{1}");
 
-/// The examples of RFC 6901, section 5, and what they leave out: components, the pointer, and the path as
+/// The examples of RFC 6901, section 5, and what they leave out: a path as `path_of` reads it, its pointer, and how
 /// it is escaped.
-static PATHS: [(Components<'_>, &str, &str); 20] = [
-    (&[], "", ""),
-    (&[(Kind::Key, "foo")], "/foo", "foo"),
+static PATHS: [(&str, &str, &str); 20] = [
+    ("", "", ""),
+    ("foo>", "/foo", "foo"),
+    ("foo>#0>", "/foo/0", "foo[0]"),
+    (">", "/", ""),
+    ("a/b>", "/a~1b", "a/b"),
+    ("c%d>", "/c%d", "c%d"),
+    ("e^f>", "/e^f", "e^f"),
+    ("g|h>", "/g|h", "g|h"),
+    ("i\\j>", "/i\\j", "i\\\\j"),
+    ("k\"l>", "/k\"l", "k\"l"),
+    (" >", "/ ", " "),
+    ("m~n>", "/m~0n", "m~n"),
+    ("~1>/~0/>", "/~01/~1~00~1", "~1./~0/"),
+    ("?>?>", "//", ""),
     (
-        &[(Kind::Key, "foo"), (Kind::Index, "0")],
-        "/foo/0",
-        "foo[0]",
-    ),
-    (&[(Kind::Key, "")], "/", ""),
-    (&[(Kind::Key, "a/b")], "/a~1b", "a/b"),
-    (&[(Kind::Key, "c%d")], "/c%d", "c%d"),
-    (&[(Kind::Key, "e^f")], "/e^f", "e^f"),
-    (&[(Kind::Key, "g|h")], "/g|h", "g|h"),
-    (&[(Kind::Key, "i\\j")], "/i\\j", "i\\\\j"),
-    (&[(Kind::Key, "k\"l")], "/k\"l", "k\"l"),
-    (&[(Kind::Key, " ")], "/ ", " "),
-    (&[(Kind::Key, "m~n")], "/m~0n", "m~n"),
-    (
-        &[(Kind::Key, "~1"), (Kind::Key, "/~0/")],
-        "/~01/~1~00~1",
-        "~1./~0/",
-    ),
-    (&[(Kind::None, ""), (Kind::None, "")], "//", ""),
-    (
-        &[(Kind::Key, "\0\u{1b}\n\u{202e}"), (Kind::Index, "-1")],
+        "\0\u{1b}\n\u{202e}>#-1>",
         "/\0\u{1b}\n\u{202e}/-1",
         "\\u{0}\\u{1b}\\n\\u{202e}[-1]",
     ),
     (
-        &[(Kind::Key, "a.b[0]~a text beyond the room of a component")],
+        "a.b[0]~a text beyond the room of a component>",
         "/a.b[0]~0a text beyond the room of a component",
         "a.b[0]~a text beyond the room of a component",
     ),
     // More components than a walk along a path holds without memory.
     (
-        &[(Kind::Key, "~"); 12],
+        "~>~>~>~>~>~>~>~>~>~>~>~>",
         "/~0/~0/~0/~0/~0/~0/~0/~0/~0/~0/~0/~0",
         "~.~.~.~.~.~.~.~.~.~.~.~",
     ),
@@ -94,23 +76,15 @@ static PATHS: [(Components<'_>, &str, &str); 20] = [
     ),
     (SHOWN, "/1//stra\u{df}e", "[1].stra\u{df}e"),
     (
-        &[
-            (Kind::None, "\u{2066}"),
-            (Kind::Index, "\u{9f}"),
-            (Kind::Key, "\u{a0}\u{200d}\u{202f}"),
-        ],
+        "?\u{2066}>#\u{9f}>\u{a0}\u{200d}\u{202f}>",
         "/\u{2066}/\u{9f}/\u{a0}\u{200d}\u{202f}",
         "\\u{2066}[\\u{9f}].\u{a0}\u{200d}\u{202f}",
     ),
 ];
 
 // Whether a path has this pointer, and prints this where it is escaped.
-fn is_path(
-    rt: &impl Abort,
-    alloc: Global,
-    (components, pointer, escaped): &(Components<'_>, &str, &str),
-) -> bool {
-    let path = path_of(rt, alloc, components);
+fn is_path(rt: &impl Abort, alloc: Global, (path, pointer, escaped): &(&str, &str, &str)) -> bool {
+    let path = path_of(rt, alloc, path);
     has_text(rt, alloc, &JsonPointer(alloc, &path), pointer)
         && has_text(rt, alloc, &Escaped(alloc, &path), escaped)
 }
@@ -133,7 +107,7 @@ static LONG: [(&str, usize, usize); 3] = [
 // escaped text.
 fn is_long(rt: &impl Abort, alloc: Global, text: &str, pointer: usize, escaped: usize) -> bool {
     let key = text.repeat(alloc, 1_048_576).or_end(rt);
-    let path = path_of(rt, alloc, &[(Kind::Key, key.as_str())]);
+    let path = path_of_one(rt, alloc, Kind::Key, key.as_str());
     printed(rt, alloc, &JsonPointer(alloc, &path)).len() == pointer
         && printed(rt, alloc, &Escaped(alloc, &path)).len() == escaped
 }
@@ -145,8 +119,8 @@ fn a_key_of_a_megabyte_is_printed_whole(rt: HostRuntime) {
     }
 }
 
-/// Faults: the components of the path of each, and its message.
-const FAULTS: &[(Components<'_>, &str)] = &[HOSTILE, PLAIN, ROOT];
+/// Faults: the path of each, and its message.
+const FAULTS: &[(&str, &str)] = &[HOSTILE, PLAIN, ROOT];
 
 /// The lines of these faults where they are escaped.
 const LINES: &str =
@@ -171,7 +145,7 @@ const FULL: Problem<'static> = Problem {
 };
 
 /// Faults, what their report prints where it is escaped, problem details, and the text of both.
-static DETAILS: [(&[(Components<'_>, &str)], &str, &Problem<'_>, &str); 4] = [
+static DETAILS: [(&[(&str, &str)], &str, &Problem<'_>, &str); 4] = [
     (
         &[],
         "",
@@ -203,7 +177,7 @@ static DETAILS: [(&[(Components<'_>, &str)], &str, &Problem<'_>, &str); 4] = [
 fn is_report(
     rt: &impl Abort,
     alloc: Global,
-    (faults, lines, problem, text): &(&[(Components<'_>, &str)], &str, &Problem<'_>, &str),
+    (faults, lines, problem, text): &(&[(&str, &str)], &str, &Problem<'_>, &str),
 ) -> bool {
     let report = report_of(rt, alloc, faults);
     let details = problem_to_json_text(alloc, &report, problem).or_end(rt);
@@ -217,46 +191,53 @@ fn problem_details_of_reports(rt: HostRuntime) {
     }
 }
 
+/// The name and the value of each of two parameters, where a message has them.
+type Params<'a> = (Option<(&'a str, &'a str)>, Option<(&'a str, &'a str)>);
+
 /// A message, and its code, its detail and its parameters.
-static PARTED: [(&str, &str, &str, &[(&str, &str)]); 11] = [
-    ("", "custom", "", &[]),
+static PARTED: [(&str, &str, &str, Params<'_>); 11] = [
+    ("", "custom", "", (None, None)),
     (
         "a\u{1f}b\u{1f}c\u{1f}",
         "custom",
         "a\u{1f}b\u{1f}c\u{1f}",
-        &[],
+        (None, None),
     ),
-    ("\u{1f}", "custom", "\u{1f}", &[]),
-    ("\u{1f}a", "custom", "\u{1f}a", &[]),
-    ("\u{1f}a\u{1f}", "a", "", &[]),
-    ("\u{1f}a\u{1f}b", "a", "b", &[]),
-    ("\u{1f}a\u{1f}b\u{1f}", "a", "b", &[]),
-    ("\u{1f}a\u{1f}b\u{1f}c", "a", "b", &[]),
-    ("\u{1f}a\u{1f}b\u{1f}c\u{1f}d", "a", "b", &[("c", "d")]),
+    ("\u{1f}", "custom", "\u{1f}", (None, None)),
+    ("\u{1f}a", "custom", "\u{1f}a", (None, None)),
+    ("\u{1f}a\u{1f}", "a", "", (None, None)),
+    ("\u{1f}a\u{1f}b", "a", "b", (None, None)),
+    ("\u{1f}a\u{1f}b\u{1f}", "a", "b", (None, None)),
+    ("\u{1f}a\u{1f}b\u{1f}c", "a", "b", (None, None)),
+    (
+        "\u{1f}a\u{1f}b\u{1f}c\u{1f}d",
+        "a",
+        "b",
+        (Some(("c", "d")), None),
+    ),
     (
         TOO_MANY,
         "too_many",
         "more than \"9\"",
-        &[("max", "9"), ("a\nb", "")],
+        (Some(("max", "9")), Some(("a\nb", ""))),
     ),
-    (LOWER, "custom", "lower than 1", &[]),
+    (LOWER, "custom", "lower than 1", (None, None)),
 ];
 
 // Whether a message has this code and detail, and these parameters.
-fn is_parted(message: &str, code: &str, detail: &str, params: &[(&str, &str)]) -> bool {
+fn is_parted(message: &str, code: &str, detail: &str, wanted: Params<'_>) -> bool {
     let mut coded = Coded::of(message);
-    for param in params {
-        if coded.params.next() != Some(*param) {
-            return false;
-        }
-    }
-    coded.params.next().is_none() && coded.code == code && coded.detail == detail
+    let params = (coded.params.next(), coded.params.next());
+    params == wanted
+        && coded.params.next().is_none()
+        && coded.code == code
+        && coded.detail == detail
 }
 
 #[test]
 fn messages_are_parted(rt: HostRuntime) {
     for (message, code, detail, params) in &PARTED {
-        assert!(rt; is_parted(message, code, detail, params), "{message}");
+        assert!(rt; is_parted(message, code, detail, *params), "{message}");
     }
 }
 

@@ -1,18 +1,38 @@
 //! Values of the tests.
 
 use crate::tests::OrEnd;
+use garde_places::Place;
 use garde_report::{Component, Error, Kind, Path, Report, RuleError, Trail};
 use std::alloc::Global;
 use std::cmp::Ordering;
 use std::hash::{DefaultHasher, Hash, Hasher};
 use std::process::Abort;
 
-/// The path of components of these kinds and texts.
-pub fn path_of(rt: &impl Abort, alloc: Global, components: &[(Kind, &str)]) -> Path {
-    let mut trail = Trail::new(alloc);
-    for (kind, text) in components {
-        trail.push(Component::text(*kind, text)).or_end(rt);
+/// The component of a word: an index behind `#`, a text of no kind behind `?`, and else a key.
+fn component_of(word: &str) -> Component<'_> {
+    if let Some(text) = word.strip_prefix('#') {
+        return Component::text(Kind::Index, text);
     }
+    match word.strip_prefix('?') {
+        Some(text) => Component::text(Kind::None, text),
+        None => Component::text(Kind::Key, word),
+    }
+}
+
+/// The path of these words, each of which ends in `>`: `a>#0>?>` is the key `a`, the index 0, and a text of no
+/// kind that is empty.
+pub fn path_of(rt: &impl Abort, alloc: Global, words: &str) -> Path {
+    let mut trail = Trail::new(alloc);
+    for word in words.split_terminator('>') {
+        trail.push(component_of(word)).or_end(rt);
+    }
+    trail.path().or_end(rt)
+}
+
+/// The path of one component of this kind and text.
+pub fn path_of_one(rt: &impl Abort, alloc: Global, kind: Kind, text: &str) -> Path {
+    let mut trail = Trail::new(alloc);
+    trail.push(Component::text(kind, text)).or_end(rt);
     trail.path().or_end(rt)
 }
 
@@ -31,14 +51,22 @@ pub fn append(rt: &impl Abort, alloc: Global, report: &mut Report, path: Path, m
     report.append(path, error).or_end(rt)
 }
 
-/// A report of these faults.
-pub fn report_of(rt: &impl Abort, alloc: Global, faults: &[(&[(Kind, &str)], &str)]) -> Report {
+/// A report of these faults: the path of each as `path_of` reads it, and its message.
+pub fn report_of(rt: &impl Abort, alloc: Global, faults: &[(&str, &str)]) -> Report {
     let mut report = Report::new(alloc);
-    for (components, message) in faults {
-        let path = path_of(rt, alloc, components);
-        append(rt, alloc, &mut report, path, message);
+    for (words, message) in faults {
+        append(rt, alloc, &mut report, path_of(rt, alloc, words), message);
     }
     report
+}
+
+/// Places of tokens: each in the line after that of the one before it, from this line on and before another.
+pub fn places_in_lines(rt: &impl Abort, alloc: Global, first: usize, end: usize) -> Vec<Place> {
+    let mut places = Vec::new(alloc);
+    for line in first..end {
+        places.push(Place { line, column: 1 }).or_end(rt);
+    }
+    places
 }
 
 /// What a hasher gives of a value.

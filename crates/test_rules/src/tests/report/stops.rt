@@ -1,9 +1,9 @@
 //! Where texts stop being JSON, beside places that were counted by hand, and the places of listed tokens.
 
 use crate::tests::OrEnd;
-use crate::tests::report::samples::report_of;
-use garde_places::{ListedPlaces, Place, place_of_byte, stop_of};
-use garde_report::{Kind, Report};
+use crate::tests::report::samples::{places_in_lines, report_of};
+use garde_places::{Fault, ListedPlaces, Place, place_of_byte, stop_of};
+use garde_report::Report;
 use garde_tape::{Scratch, parse};
 use std::alloc::Global;
 use std::process::Abort;
@@ -120,37 +120,38 @@ fn bytes_are_counted_by_lines_and_characters(rt: HostRuntime) {
 const LISTED: &str = "{\"a\":[1,2]}";
 
 /// Faults of the second item, of an item that is missing, of the name, and of another name.
-static FAULTS: [(&[(Kind, &str)], &str); 4] = [
-    (&[(Kind::Key, "a"), (Kind::Index, "1")], "lower"),
-    (&[(Kind::Key, "a"), (Kind::Index, "2")], "missing"),
-    (
-        &[(Kind::Key, "a")],
-        "\u{1f}member_unknown\u{1f}not known here\u{1f}",
-    ),
-    (&[(Kind::Key, "b")], "missing"),
+static FAULTS: [(&str, &str); 4] = [
+    ("a>#1>", "lower"),
+    ("a>#2>", "missing"),
+    ("a>", "\u{1f}member_unknown\u{1f}not known here\u{1f}"),
+    ("b>", "missing"),
 ];
 
-// The lines of the faults of a report, by a list of places whose lines count its tokens.
-fn listed_lines(rt: &impl Abort, alloc: Global, report: &Report) -> Vec<usize> {
+// Whether these are four faults at these lines.
+fn are_at(faults: &[Fault<'_>], lines: [usize; 4]) -> bool {
+    match faults {
+        [a, b, c, d] => lines == [a.place.line, b.place.line, c.place.line, d.place.line],
+        _ => false,
+    }
+}
+
+// Whether the faults of a report stand at these lines, by a list of places whose lines count the tokens.
+fn are_listed(rt: &impl Abort, alloc: Global, report: &Report, lines: [usize; 4]) -> bool {
     let mut scratch = Scratch::new(alloc);
     let Ok(tape) = parse(alloc, LISTED, &mut scratch) else {
         rt.abort()
     };
-    let mut places = Vec::new(alloc);
-    for line in 10..17 {
-        places.push(Place { line, column: 1 }).or_end(rt);
-    }
+    let places = places_in_lines(rt, alloc, 10, 17);
     let mut listed = ListedPlaces::of(LISTED, &tape, places);
-    let mut lines = Vec::new(alloc);
-    for fault in listed.locate_all(alloc, report).or_end(rt) {
-        lines.push(fault.place.line).or_end(rt);
-    }
-    lines
+    are_at(
+        listed.locate_all(alloc, report).or_end(rt).as_slice(),
+        lines,
+    )
 }
 
 #[test]
 fn faults_stand_where_the_list_says(rt: HostRuntime) {
     let alloc = rt.alloc();
     let report = report_of(&rt, alloc, &FAULTS);
-    assert!(rt; listed_lines(&rt, alloc, &report).as_slice() == [14, 12, 11, 10].as_slice());
+    assert!(rt; are_listed(&rt, alloc, &report, [14, 12, 11, 10]));
 }

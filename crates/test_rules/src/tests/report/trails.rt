@@ -102,19 +102,30 @@ fn puts_weak(rt: &impl Abort, alloc: Global, trail: &mut Trail<'_>, report: &mut
     trail.put(report, Err(weak)).is_ok()
 }
 
+/// Whether Ok passes, where no node was made.
+fn passes(trail: &mut Trail<'_>, report: &mut Report) -> bool {
+    trail.put(report, Ok(())).is_ok() && trail.nodes() == 0
+}
+
 /// Whether Ok puts nothing under a key, and makes no node, and then one fault and one `Memory` make
 /// one line and one node there.
 fn puts_a_fault(rt: &impl Abort, alloc: Global) -> bool {
     let mut report = Report::new(alloc);
     let mut trail = Trail::new(alloc);
     trail.push(Component::key("a")).is_ok()
-        && trail.put(&mut report, Ok(())).is_ok()
+        && passes(&mut trail, &mut report)
         && report.is_empty()
-        && trail.nodes() == 0
         && puts_weak(rt, alloc, &mut trail, &mut report)
         && trail.put(&mut report, Err(RuleError::Memory)).is_err()
         && trail.nodes() == 1
         && has_text(rt, alloc, &report, "a: weak\n")
+}
+
+/// Whether no fault is put under a key, which makes no path, where Ok passes.
+fn is_full(rt: &impl Abort, alloc: Global, trail: &mut Trail<'_>, report: &mut Report) -> bool {
+    trail.push(Component::key("a")).is_ok()
+        && !puts_weak(rt, alloc, trail, report)
+        && passes(trail, report)
 }
 
 /// Whether a report of two faults, cut to one of them, is full for the trail that puts the next,
@@ -126,10 +137,7 @@ fn is_full_at_its_limit(rt: &impl Abort, alloc: Global) -> bool {
         && puts_weak(rt, alloc, &mut trail, &mut report);
     report.truncate(1);
     let unlimited = trail.limit(1);
-    let is_full = trail.push(Component::key("a")).is_ok()
-        && !puts_weak(rt, alloc, &mut trail, &mut report)
-        && trail.put(&mut report, Ok(())).is_ok()
-        && trail.nodes() == 0;
+    let is_full = is_full(rt, alloc, &mut trail, &mut report);
     let was = trail.limit(unlimited);
     let is_put_again = puts_weak(rt, alloc, &mut trail, &mut report);
     report.truncate(9);
