@@ -5,7 +5,7 @@ use csv::Writer;
 use example_import::row::Row;
 use example_table::database::Stock;
 use example_table::reading::{Rows, Stored};
-use sqlite::{File, FileStore};
+use sqlite::Alter;
 use std::alloc::Global;
 use std::io;
 use std::io::Write;
@@ -42,21 +42,31 @@ fn write_row<W: Write + Drop>(alloc: Global, row: &Row, out: &mut Writer<W>) -> 
     Ok(())
 }
 
+/// Writes a valid row as a record, or prints the faults of another on standard error. The answer is
+/// whether it is valid.
+fn write_stored<W: Write + Drop>(
+    rt: &HostRuntime,
+    stored: &Stored,
+    out: &mut Writer<W>,
+) -> Result<bool> {
+    match stored {
+        Stored::Valid(row) => write_row(rt.alloc(), row, out)?,
+        Stored::Faulty(report) => eprint!(rt; "{report}")?,
+    }
+    Ok(matches!(stored, Stored::Valid(_)))
+}
+
 /// Writes rows as records, and prints the faults of a row that is not valid on standard error. The answer
 /// is whether each row is valid.
-fn write_rows<W: Write + Drop>(
+fn write_rows<S: Alter + Drop, W: Write + Drop>(
     rt: &HostRuntime,
-    rows: &mut Rows<'_, FileStore<File>>,
+    rows: &mut Rows<'_, S>,
     out: &mut Writer<W>,
 ) -> Result<bool> {
     let mut valid = true;
     'rows: for _ in 0..u64::MAX {
         match rows.next()? {
-            Some(Stored::Valid(row)) => write_row(rt.alloc(), &row, out)?,
-            Some(Stored::Faulty(report)) => {
-                eprint!(rt; "{report}")?;
-                valid = false;
-            }
+            Some(stored) => valid &= write_stored(rt, &stored, out)?,
             None => break 'rows,
         }
     }
@@ -64,7 +74,7 @@ fn write_rows<W: Write + Drop>(
 }
 
 /// Prints the rows of a table as a list in CSV. The answer is whether each row is valid.
-fn print(rt: &HostRuntime, stock: &mut Stock<FileStore<File>>) -> Result<bool> {
+fn print<S: Alter + Drop>(rt: &HostRuntime, stock: &mut Stock<S>) -> Result<bool> {
     let mut out = records_on(rt.alloc(), io::writer(rt))?;
     out.write_fields(&[b"code", b"name", b"quantity", b"price", b"page"])?;
     let valid = write_rows(rt, &mut stock.rows(rt.alloc()), &mut out)?;
