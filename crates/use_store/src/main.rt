@@ -118,10 +118,14 @@ fn store_list<R: Read + Drop, W: Write + Drop, H: I18n>(
     }
 }
 
-/// Imports the list of a source into the table of a file, and prints faults in the language that is
-/// asked for. A fault that has a place has a code, too. The answer is whether all rows were stored.
-fn store<R: Read + Drop>(rt: &HostRuntime, source: R, options: &Options<'_>) -> Result<bool> {
-    let catalog = options.spoken.catalog(rt.alloc(), &languages(), &ENGLISH)?;
+/// Imports the list of a source into the table of a file, with the texts of a handler. The answer is
+/// whether all rows were stored.
+fn store_source<R: Read + Drop, H: I18n>(
+    rt: &HostRuntime,
+    source: R,
+    options: &Options<'_>,
+    h: &H,
+) -> Result<bool> {
     let line = Cell::new(0);
     let out = Faults {
         out: BufWriter::new(rt.alloc(), io::writer(rt))?,
@@ -130,9 +134,16 @@ fn store<R: Read + Drop>(rt: &HostRuntime, source: R, options: &Options<'_>) -> 
         line: &line,
     };
     let list = CsvList::new(rt.alloc(), source, &line)?;
+    store_list(rt, list, out, options, h)
+}
+
+/// Imports the list of a source into the table of a file, and prints faults in the language that is
+/// asked for. A fault that has a place has a code, too. The answer is whether all rows were stored.
+fn store<R: Read + Drop>(rt: &HostRuntime, source: R, options: &Options<'_>) -> Result<bool> {
+    let catalog = options.spoken.catalog(rt.alloc(), &languages(), &ENGLISH)?;
     match options.printed {
-        Some(_) => store_list(rt, list, out, options, &WithCodes(&catalog)),
-        None => store_list(rt, list, out, options, &catalog),
+        Some(_) => store_source(rt, source, options, &WithCodes(&catalog)),
+        None => store_source(rt, source, options, &catalog),
     }
 }
 

@@ -60,6 +60,8 @@ const BATCH: usize = 1000;
 #[derive(Clone, Copy)]
 struct Words<'w> {
     batch: Option<usize>,
+    // The next word is the number of `--batch`.
+    is_number: bool,
     is_whole: bool,
     asked: Asked<'w>,
     spoken: Spoken<'w>,
@@ -69,27 +71,33 @@ impl<'w> Words<'w> {
     fn of(words: &'w [String]) -> Result<Words<'w>, &'static str> {
         let mut taken = Words {
             batch: None,
+            is_number: false,
             is_whole: false,
             asked: Asked::new(),
             spoken: Spoken::new(),
         };
-        let mut is_number = false;
         for word in words {
-            if is_number {
-                taken.batch = Some(rows_each(word)?);
-                is_number = false;
-            } else if !taken.asked.is_open && taken.spoken.take(word)? {
-                continue;
-            } else if word.as_str() == "--batch" && taken.can_be_number() {
-                is_number = true;
-            } else if !taken.asked.take(word)? {
-                taken.take(word)?;
-            }
+            taken.take(word)?;
         }
-        if is_number {
+        if taken.is_number {
             return Err(NO_NUMBER);
         }
         Ok(taken)
+    }
+
+    // Takes the next word.
+    fn take(&mut self, word: &'w str) -> Result<(), &'static str> {
+        if self.is_number {
+            self.batch = Some(rows_each(word)?);
+            self.is_number = false;
+        } else if !self.asked.is_open && self.spoken.take(word)? {
+            return Ok(());
+        } else if word == "--batch" && self.can_be_number() {
+            self.is_number = true;
+        } else if !self.asked.take(word)? {
+            return self.take_alone(word);
+        }
+        Ok(())
     }
 
     // Whether `--batch` may stand here.
@@ -98,7 +106,7 @@ impl<'w> Words<'w> {
     }
 
     // Takes a word that stands alone, and names no file.
-    fn take(&mut self, word: &str) -> Result<(), &'static str> {
+    fn take_alone(&mut self, word: &str) -> Result<(), &'static str> {
         match word {
             "--all-or-nothing" if !self.is_whole => self.is_whole = true,
             _ => return Err(UNKNOWN),
