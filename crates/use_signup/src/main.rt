@@ -18,16 +18,17 @@ use crate::rely::age;
 use crate::service::SignUps;
 use crate::sign_up::{SignUp, read_sign_up};
 use crate::terms::Words;
-use crate::texts::{IN_ARABIC, IN_CZECH, IN_ENGLISH, Speech, texts_in};
+use crate::texts::{Speech, texts_in};
 use anyhow::{Context, Result, bail};
-use garde::{I18n, Report, ValidateError};
-use garde_catalog::{ARABIC, CZECH, Catalogs, ENGLISH, Language, Spoken, languages};
+use garde::{I18n, Report, Valid, ValidateError};
+use garde_catalog::{CatalogError, Catalogs, Language, Spoken, languages};
 use garde_form::{FormField, form_fields};
 use garde_html::Form;
 use garde_problem::Escaped;
 use garde_schema::FormI18n;
 use garde_service::answer_all;
 use http_server::{Config, Reason, State};
+use std::alloc::Global;
 use std::hash::RandomState;
 use std::io::{BufWriter, Read};
 use std::process::ExitCode;
@@ -58,16 +59,24 @@ fn print_faults(
     page: Option<&Form<'_>>,
     fields: &[FormField<'_>],
     report: &Report,
-) -> Result<()> {
+) -> Result<ExitCode> {
     match page {
         Some(form) => print!(rt; "{}", write_page(rt.alloc(), form, fields, report)?)?,
         None => print!(rt; "{}", Escaped(rt.alloc(), report))?,
     }
-    Ok(())
+    Ok(ExitCode::FAILURE)
+}
+
+/// Welcomes who sent a valid form.
+#[tactic(auto, unfolding(garde::specs::Fields::Known))]
+fn accept(rt: &HostRuntime, who: Valid<SignUp<'_>>, words: &Words) -> Result<ExitCode> {
+    let who = who.into_inner();
+    let welcomed = welcome(rt, &who, age(&who), words);
+    welcomed?;
+    Ok(ExitCode::SUCCESS)
 }
 
 /// Prints the faults of a form, on its page if there is one, or welcomes who sent it.
-#[tactic(auto, unfolding(garde::specs::Fields::Known))]
 fn answer<H: I18n + FormI18n>(
     rt: &HostRuntime,
     body: &[u8],
@@ -78,15 +87,8 @@ fn answer<H: I18n + FormI18n>(
     let alloc = rt.alloc();
     let fields = form_fields(alloc, body)?;
     match read_sign_up(alloc, fields.as_slice(), words, h) {
-        Ok(who) => {
-            let who = who.into_inner();
-            welcome(rt, &who, age(&who), words)?;
-            Ok(ExitCode::SUCCESS)
-        }
-        Err(ValidateError::Report(report)) => {
-            print_faults(rt, page, fields.as_slice(), &report)?;
-            Ok(ExitCode::FAILURE)
-        }
+        Ok(who) => accept(rt, who, words),
+        Err(ValidateError::Report(report)) => print_faults(rt, page, fields.as_slice(), &report),
         Err(error) => Err(error.into()),
     }
 }
@@ -127,61 +129,70 @@ fn judge_in(
     file: Option<&str>,
 ) -> Result<ExitCode> {
     let offered = languages();
-    let catalog = spoken.catalog(rt.alloc(), &offered, &ENGLISH)?;
-    let language = Language::named(spoken.tag.unwrap_or("en"), &offered).unwrap_or(offered[0]);
-    let form = &texts_in(language.tag).form;
-    let (page, words) = (page.then_some(form), Words::of(language.tag));
+    let english = offered[0];
+    let catalog = spoken.catalog(rt.alloc(), &offered, english.table)?;
+    let language = Language::named(spoken.tag.unwrap_or("en"), &offered).unwrap_or(english);
+    let page = page.then_some(&texts_in(language.tag).form);
     let body = read(rt, file)?;
-    judge(rt, &body, page, &words, &catalog)
+    judge(rt, &body, page, &Words::of(language.tag), &catalog)
+}
+
+/// The catalogs of the languages that the pages have: English, Czech and Arabic.
+fn catalogs(alloc: Global) -> Result<Catalogs, CatalogError> {
+    // A proof looks at all of a table where it is named, so the languages are found by their tags.
+    let all = languages();
+    let english = all[0];
+    let czech = Language::named("cs", &all).unwrap_or(english);
+    let arabic = Language::named("ar", &all).unwrap_or(english);
+    Catalogs::new(alloc, &[english, czech, arabic], english)
+}
+
+/// Answers all requests of standard input, and says how the connection stands then.
+fn answer_input(
+    rt: &HostRuntime,
+    config: Config,
+    handler: &SignUps<'_, HostRuntime>,
+) -> Result<State> {
+    let keys = RandomState::new(rt)?;
+    let mut output = BufWriter::new(rt.alloc(), io::writer(rt))?;
+    let clock = handler.clock;
+    let stands = answer_all(
+        rt.alloc(),
+        keys,
+        config,
+        clock,
+        handler,
+        &mut rt.stdin(),
+        &mut output,
+    );
+    Ok(stands?)
 }
 
 /// Answers all requests of standard input, in the languages that the pages have.
 fn serve(rt: &HostRuntime, most: usize, dates: bool) -> Result<ExitCode> {
-    let alloc = rt.alloc();
     // No request is read while an answer is pending, so a refusal of `http_server` is pending alone.
     let config = Config {
         max_body_len: most,
         max_pending: 0,
         ..Config::default()
     };
-    let clock = dates.then_some(rt);
-    let offered = [
-        Language {
-            tag: "en",
-            table: &ENGLISH,
-        },
-        Language {
-            tag: "cs",
-            table: &CZECH,
-        },
-        Language {
-            tag: "ar",
-            table: &ARABIC,
-        },
-    ];
-    let texts = [IN_ENGLISH, IN_CZECH, IN_ARABIC];
-    let catalogs = Catalogs::new(alloc, &offered, offered[0])?;
+    let texts = [*texts_in("en"), *texts_in("cs"), *texts_in("ar")];
+    let catalogs = catalogs(rt.alloc())?;
     let handler = SignUps {
-        alloc,
-        clock,
+        alloc: rt.alloc(),
+        clock: dates.then_some(rt),
         speech: Speech {
             catalogs: &catalogs,
             texts: &texts,
             otherwise: &texts[0],
         },
     };
-    let keys = RandomState::new(rt)?;
-    let mut output = BufWriter::new(alloc, io::writer(rt))?;
-    let mut input = rt.stdin();
-    match answer_all(
-        alloc,
-        keys,
-        config,
-        clock,
-        &handler,
-        &mut input,
-        &mut output,
-    )? {
+    ended(answer_input(rt, config, &handler))
+}
+
+/// With which status the run ends where the connection stands like this.
+fn ended(stands: Result<State>) -> Result<ExitCode> {
+    match stands? {
         State::Closing(Reason::Asked | Reason::EndOfInput) => Ok(ExitCode::SUCCESS),
         State::Closing(Reason::Refused(_)) => Ok(ExitCode::FAILURE),
         _ => bail!("out of memory"),

@@ -15,35 +15,45 @@ pub struct Texts {
     pub thanks: &'static str,
 }
 
-/// What is said in English.
-pub const IN_ENGLISH: Texts = Texts {
+static IN_ENGLISH: Texts = Texts {
     form: ENGLISH_PAGE,
     words: ENGLISH_WORDS,
     thanks: ENGLISH_THANKS,
 };
 
-/// What is said in Czech.
-pub const IN_CZECH: Texts = Texts {
+static IN_CZECH: Texts = Texts {
     form: CZECH_PAGE,
     words: CZECH_WORDS,
     thanks: CZECH_THANKS,
 };
 
-/// What is said in Arabic.
-pub const IN_ARABIC: Texts = Texts {
+static IN_ARABIC: Texts = Texts {
     form: ARABIC_PAGE,
     words: ARABIC_WORDS,
     thanks: ARABIC_THANKS,
 };
 
+/// What is said in English.
+fn in_english() -> &'static Texts {
+    &IN_ENGLISH
+}
+
+/// What is said in Czech.
+fn in_czech() -> &'static Texts {
+    &IN_CZECH
+}
+
+/// What is said in Arabic.
+fn in_arabic() -> &'static Texts {
+    &IN_ARABIC
+}
+
 /// What is said in the language of this tag, and in English where there is nothing in it.
-pub fn texts_in(tag: &str) -> Texts {
-    if tag == "cs" {
-        IN_CZECH
-    } else if tag == "ar" {
-        IN_ARABIC
-    } else {
-        IN_ENGLISH
+pub fn texts_in(tag: &str) -> &'static Texts {
+    match tag {
+        "cs" => in_czech(),
+        "ar" => in_arabic(),
+        _ => in_english(),
     }
 }
 
