@@ -71,8 +71,7 @@ fn print_faults(
 #[tactic(auto, unfolding(garde::specs::Fields::Known))]
 fn accept(rt: &HostRuntime, who: Valid<SignUp<'_>>, words: &Words) -> Result<ExitCode> {
     let who = who.into_inner();
-    let welcomed = welcome(rt, &who, age(&who), words);
-    welcomed?;
+    welcome(rt, &who, age(&who), words)?;
     Ok(ExitCode::SUCCESS)
 }
 
