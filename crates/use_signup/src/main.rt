@@ -20,7 +20,7 @@ use crate::sign_up::{SignUp, read_sign_up};
 use crate::terms::Words;
 use crate::texts::{Speech, texts_in};
 use anyhow::{Context, Result, bail};
-use garde::{I18n, Report, Valid, ValidateError};
+use garde::{I18n, Report, ValidateError};
 use garde_catalog::{CatalogError, Catalogs, Language, Spoken, languages};
 use garde_form::{FormField, form_fields};
 use garde_html::Form;
@@ -59,23 +59,16 @@ fn print_faults(
     page: Option<&Form<'_>>,
     fields: &[FormField<'_>],
     report: &Report,
-) -> Result<ExitCode> {
+) -> Result<()> {
     match page {
         Some(form) => print!(rt; "{}", write_page(rt.alloc(), form, fields, report)?)?,
         None => print!(rt; "{}", Escaped(rt.alloc(), report))?,
     }
-    Ok(ExitCode::FAILURE)
-}
-
-/// Welcomes who sent a valid form.
-#[tactic(auto, unfolding(garde::specs::Fields::Known))]
-fn accept(rt: &HostRuntime, who: Valid<SignUp<'_>>, words: &Words) -> Result<ExitCode> {
-    let who = who.into_inner();
-    welcome(rt, &who, age(&who), words)?;
-    Ok(ExitCode::SUCCESS)
+    Ok(())
 }
 
 /// Prints the faults of a form, on its page if there is one, or welcomes who sent it.
+#[tactic(auto, unfolding(garde::specs::Fields::Known))]
 fn answer<H: I18n + FormI18n>(
     rt: &HostRuntime,
     body: &[u8],
@@ -86,8 +79,15 @@ fn answer<H: I18n + FormI18n>(
     let alloc = rt.alloc();
     let fields = form_fields(alloc, body)?;
     match read_sign_up(alloc, fields.as_slice(), words, h) {
-        Ok(who) => accept(rt, who, words),
-        Err(ValidateError::Report(report)) => print_faults(rt, page, fields.as_slice(), &report),
+        Ok(who) => {
+            let who = who.into_inner();
+            welcome(rt, &who, age(&who), words)?;
+            Ok(ExitCode::SUCCESS)
+        }
+        Err(ValidateError::Report(report)) => {
+            print_faults(rt, page, fields.as_slice(), &report)?;
+            Ok(ExitCode::FAILURE)
+        }
         Err(error) => Err(error.into()),
     }
 }
