@@ -8,6 +8,7 @@ use garde_schema::{
     Closed, FirstReadError, List, Member, Object, Scratch, Text, U8, Whole, read_json_first,
 };
 use std::alloc::{AllocError, Global};
+use std::process::Abort;
 
 // What the bytes are as a name and a list of ages, or at most so many of their faults.
 fn told(alloc: Global, bytes: &[u8], most: usize) -> Result<String, AllocError> {
@@ -83,12 +84,19 @@ static READS: [(Long, usize, &str); 11] = [
     ),
 ];
 
+// Whether this is told of a body where at most so many faults are wanted.
+fn is_told(rt: &impl Abort, alloc: Global, body: &Long, most: usize, expected: &str) -> bool {
+    let body = body.text(alloc).or_end(rt);
+    is_text(told(alloc, body.as_str().as_bytes(), most), expected)
+}
+
 #[test]
 fn tells_at_most_so_many_faults(rt: HostRuntime) {
     for (row, (body, most, expected)) in READS.iter().enumerate() {
-        let body = body.text(rt.alloc()).or_end(&rt);
-        let told = told(rt.alloc(), body.as_str().as_bytes(), *most);
-        assert!(rt; is_text(told, expected), "row {row}");
+        assert!(rt;
+            is_told(&rt, rt.alloc(), body, *most, expected),
+            "row {row}"
+        );
     }
 }
 

@@ -24,48 +24,82 @@ pub enum Long {
     Numbered(&'static str, (usize, usize), (&'static str, &'static str), &'static str),
 }
 
-// Two texts, each so many times, and others before, between and behind them.
-fn repeated(
-    alloc: Global,
+// Writes a text, and another one so many times.
+fn push_repeated(
+    out: &mut String,
+    before: &str,
+    (count, piece): (usize, &str),
+) -> Result<(), AllocError> {
+    out.push_str(before)?;
+    for _ in 0..count {
+        out.push_str(piece)?;
+    }
+    Ok(())
+}
+
+// Writes two texts, each so many times, and others before, between and behind them.
+fn push_both(
+    out: &mut String,
     (start, between, end): (&str, &str, &str),
     first: (usize, &str),
     second: (usize, &str),
-) -> Result<String, AllocError> {
-    let first = first.1.repeat(alloc, first.0)?;
-    let second = second.1.repeat(alloc, second.0)?;
-    format!(in alloc; "{start}{first}{between}{second}{end}")
+) -> Result<(), AllocError> {
+    push_repeated(out, start, first)?;
+    push_repeated(out, between, second)?;
+    out.push_str(end)
 }
 
-// Each of these numbers behind a text, and again behind another one if there is one, between two texts.
-fn numbered(
-    alloc: Global,
-    (start, end): (&str, &str),
+// Writes a number behind a text.
+fn push_number(out: &mut String, before: &str, number: usize) -> Result<(), AllocError> {
+    write!(out, "{before}{number}")
+}
+
+// Writes each of these numbers behind a text, and again behind another one if there is one.
+fn push_numbers(
+    out: &mut String,
     (from, to): (usize, usize),
     (before, between): (&str, &str),
-) -> Result<String, AllocError> {
-    let mut text = String::from_str(alloc, start)?;
+) -> Result<(), AllocError> {
     for number in from..to {
-        write!(text, "{before}{number}")?;
+        push_number(out, before, number)?;
         if !between.is_empty() {
-            write!(text, "{between}{number}")?;
+            push_number(out, between, number)?;
         }
     }
-    text.push_str(end)?;
-    Ok(text)
+    Ok(())
+}
+
+// Writes each of these numbers behind a text, and again behind another one if there is one, between two texts.
+fn push_numbered(
+    out: &mut String,
+    (start, end): (&str, &str),
+    numbers: (usize, usize),
+    pieces: (&str, &str),
+) -> Result<(), AllocError> {
+    out.push_str(start)?;
+    push_numbers(out, numbers, pieces)?;
+    out.push_str(end)
 }
 
 impl Long {
-    /// The text.
-    pub fn text(&self, alloc: Global) -> Result<String, AllocError> {
+    // Writes the text.
+    fn push_onto(&self, out: &mut String) -> Result<(), AllocError> {
         match self {
-            Long::Text(text) => String::from_str(alloc, text),
+            Long::Text(text) => out.push_str(text),
             Long::Repeated(start, first, between, second, end) => {
-                repeated(alloc, (start, between, end), *first, *second)
+                push_both(out, (start, between, end), *first, *second)
             }
             Long::Numbered(start, numbers, pieces, end) => {
-                numbered(alloc, (start, end), *numbers, *pieces)
+                push_numbered(out, (start, end), *numbers, *pieces)
             }
         }
+    }
+
+    /// The text.
+    pub fn text(&self, alloc: Global) -> Result<String, AllocError> {
+        let mut out = String::new(alloc);
+        self.push_onto(&mut out)?;
+        Ok(out)
     }
 
     /// Whether a text was made, and is this one.

@@ -221,15 +221,22 @@ static CONTACTS: [(Reached, &str); 3] = [
     ),
 ];
 
-/// Links of these titles.
-fn links(rt: &impl Abort, alloc: Global, titles: [&str; 3]) -> Vec<Link> {
-    let mut links = Vec::new(alloc);
-    for title in titles {
-        let address = text(rt, alloc, "https://example.org/");
-        let title = text(rt, alloc, title);
-        links.push(Link { title, address }).or_end(rt);
+/// A link of this title.
+fn link(rt: &impl Abort, alloc: Global, title: &str) -> Link {
+    Link {
+        title: text(rt, alloc, title),
+        address: text(rt, alloc, "https://example.org/"),
     }
-    links
+}
+
+/// Links of the titles "a" and "b" and of this one.
+fn links(rt: &impl Abort, alloc: Global, last: &str) -> Vec<Link> {
+    let links = vec![in alloc;
+        link(rt, alloc, "a"),
+        link(rt, alloc, "b"),
+        link(rt, alloc, last),
+    ];
+    links.or_end(rt)
 }
 
 /// Whether this is reported for a contact.
@@ -245,7 +252,7 @@ fn is_told_of_a_contact(
         email: owned(rt, alloc, email),
         again: owned(rt, alloc, again),
         phone: owned(rt, alloc, phone),
-        links: links(rt, alloc, ["a", "b", last]),
+        links: links(rt, alloc, last),
     };
     is_told(rt, alloc, &contact, told)
 }

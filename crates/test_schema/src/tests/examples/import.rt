@@ -4,7 +4,7 @@ use crate::tests::OrEnd;
 use example_import::item::{Flaw, Item, Sink, Source};
 use example_import::memory::MemoryTable;
 use example_import::row::Row;
-use example_import::run::{Batch, import};
+use example_import::run::{Batch, Progress, import};
 use garde::{DefaultI18n, Report};
 use garde_csv::Fault;
 use std::alloc::{AllocError, Global};
@@ -99,36 +99,62 @@ const REPORT: &str = "[1].code: value does not begin with \"P\"
 ";
 
 /// Batches, how many rows are stored under each, and the names of those that are kept.
-static CASES: [(Batch, usize, &[&str]); 4] = [
-    (Batch::Items(0), 2, &["Screw", "Nut"]),
-    (Batch::Items(1), 2, &["Screw", "Nut"]),
-    (Batch::Items(3), 2, &["Screw", "Nut"]),
-    (Batch::All, 0, &[]),
+static CASES: [(Batch, usize, &str); 4] = [
+    (Batch::Items(0), 2, "Screw\nNut\n"),
+    (Batch::Items(1), 2, "Screw\nNut\n"),
+    (Batch::Items(3), 2, "Screw\nNut\n"),
+    (Batch::All, 0, ""),
 ];
 
+/// The names of these rows, a line each.
+fn names(rt: &impl Abort, alloc: Global, rows: &[Row]) -> String {
+    let mut names = String::new(alloc);
+    for row in rows {
+        names.push_str(row.name.as_str()).or_end(rt);
+        names.push('\n').or_end(rt);
+    }
+    names
+}
+
 /// Whether a table keeps rows of these names and has no other.
-fn keeps(table: &MemoryTable, kept: &[&str]) -> bool {
-    let names = table.kept_rows().iter().map(|row| row.name.as_str());
-    names.eq(kept.iter().map(|name| *name)) && table.rows.len() == table.kept
+fn keeps(rt: &impl Abort, alloc: Global, table: &MemoryTable, kept: &str) -> bool {
+    names(rt, alloc, table.kept_rows()).as_str() == kept && table.rows.len() == table.kept
+}
+
+/// Whether an import ended after seven items, of which it stored so many.
+fn has_stored<E: Drop>(answer: Result<Progress, E>, stored: usize) -> bool {
+    match answer {
+        Ok(done) => done.items == 7 && done.stored == stored,
+        Err(_) => false,
+    }
+}
+
+/// Whether an import under this batch tells the faults to this sink, counts so many stored rows, and
+/// keeps those of these names and leaves no other.
+fn stores(
+    rt: &impl Abort,
+    alloc: Global,
+    out: &mut Lines,
+    (batch, stored, kept): (Batch, usize, &str),
+) -> bool {
+    let mut table = MemoryTable::new(alloc);
+    let mut list = list(rt, alloc);
+    let answer = import(alloc, &mut table, &mut list, out, batch, &DefaultI18n);
+    has_stored(answer, stored) && keeps(rt, alloc, &table, kept)
 }
 
 /// Whether an import under this batch reports all faults, counts so many stored rows, and keeps
 /// those of these names and leaves no other.
-fn imports(rt: &impl Abort, alloc: Global, batch: Batch, stored: usize, kept: &[&str]) -> bool {
-    let mut table = MemoryTable::new(alloc);
-    let mut list = list(rt, alloc);
+fn imports(rt: &impl Abort, alloc: Global, case: (Batch, usize, &str)) -> bool {
     let mut out = Lines {
         text: String::new(alloc),
     };
-    let answer = import(alloc, &mut table, &mut list, &mut out, batch, &DefaultI18n);
-    matches!(&answer, Ok(done) if done.items == 7 && done.stored == stored)
-        && out.text.as_str() == REPORT
-        && keeps(&table, kept)
+    stores(rt, alloc, &mut out, case) && out.text.as_str() == REPORT
 }
 
 #[test]
 fn imports_into_memory(rt: HostRuntime) {
-    for (batch, stored, kept) in &CASES {
-        assert!(rt; imports(&rt, rt.alloc(), *batch, *stored, *kept));
+    for case in &CASES {
+        assert!(rt; imports(&rt, rt.alloc(), *case));
     }
 }

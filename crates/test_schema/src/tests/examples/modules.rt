@@ -1,6 +1,6 @@
 //! Each module that `garde` passes on from the crates below it, and `garde_json`.
 use super::login;
-use crate::tests::OrEnd;
+use crate::tests::{OrEnd, is_text};
 use example_types::login::Login;
 use garde::error::{Component, Kind, PathComponentKind};
 use garde::i18n::{DefaultI18n, IpKind};
@@ -42,10 +42,8 @@ fn lists_and_trails(rt: HostRuntime) {
 /// Whether a report that is read back from its tree prints this text.
 fn is_read_back(rt: &impl Abort, alloc: Global, report: &Report, text: &str) -> bool {
     let tree = report_to_json(alloc, report).or_end(rt);
-    match report_from_json(alloc, &tree) {
-        Ok(back) => back.to_string(alloc).or_end(rt).as_str() == text,
-        Err(_) => false,
-    }
+    let back = report_from_json(alloc, &tree).or_end(rt);
+    is_text(back.to_string(alloc), text)
 }
 
 /// Whether a report has one message at and under a prefix, this one.
@@ -80,10 +78,9 @@ fn is_no_address(alloc: Global, text: &str, message: &str) -> bool {
 
 /// Whether the login of a password becomes a valid one, of this name.
 fn is_valid(rt: &impl Abort, alloc: Global, password: &str, username: &str) -> bool {
-    let made: Result<Valid<Login>, _> = Unvalidated::new(login(
-        rt, alloc, "test", password,
-    )).validate(alloc);
-    matches!(&made, Ok(valid) if valid.username.as_str() == username)
+    let made = Unvalidated::new(login(rt, alloc, "test", password));
+    let valid: Valid<Login> = made.validate(alloc).or_end(rt);
+    valid.username.as_str() == username
 }
 
 /// Whether the login of a password is rejected, and so many nodes are made for its report.

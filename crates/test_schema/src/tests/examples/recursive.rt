@@ -1,6 +1,5 @@
 //! What is reported for values that hold values of their own type.
-use super::text;
-use super::walks::is_told;
+use super::{text, walks};
 use crate::tests::OrEnd;
 use example_types::recursive::comment::Comment;
 use example_types::recursive::expr::Expr;
@@ -8,10 +7,22 @@ use example_types::recursive::folder::Folder;
 use example_types::recursive::menu::Menu;
 use example_types::recursive::question::{Entry, Kind};
 use example_types::recursive::tree::Tree;
+use garde::Validate;
 use garde::laws::nested_values;
 use std::alloc::Global;
 use std::collections::BTreeMap;
 use std::process::Abort;
+
+/// Whether this is reported for a value, which is dropped, and takes so many nodes.
+fn is_told<V: Validate<Context = ()> + Drop>(
+    rt: &impl Abort,
+    alloc: Global,
+    value: V,
+    text: &str,
+    nodes: usize,
+) -> bool {
+    walks::is_told(rt, alloc, &value, text, nodes)
+}
 
 /// A list of these items.
 fn list<T: Drop, const N: usize>(rt: &impl Abort, alloc: Global, items: [T; N]) -> Vec<T> {
@@ -51,9 +62,9 @@ fn trees_of_values_of_a_type(rt: HostRuntime) {
     let values =
         "value.num: greater than 10\nchildren[0].children[0].value[0].num: lower than -10\nchildren[1].value.num: greater than 10\n";
     assert!(rt;
-        is_told(&rt, rt.alloc(), &sum(&rt, rt.alloc()), numbers, 5)
-            && is_told(&rt, rt.alloc(), &Expr::Num(10), "", 0)
-            && is_told(&rt, rt.alloc(), &high(&rt, rt.alloc()), values, 12)
+        is_told(&rt, rt.alloc(), sum(&rt, rt.alloc()), numbers, 5)
+            && is_told(&rt, rt.alloc(), Expr::Num(10), "", 0)
+            && is_told(&rt, rt.alloc(), high(&rt, rt.alloc()), values, 12)
     );
 }
 
@@ -88,7 +99,7 @@ fn deep(rt: &impl Abort, alloc: Global) -> Folder {
 fn is_told_of_deep(rt: &impl Abort, alloc: Global, fault: &str, nodes: usize) -> bool {
     let mut told = "folders[0].".repeat(alloc, 1000).or_end(rt);
     told.push_str(fault).or_end(rt);
-    is_told(rt, alloc, &deep(rt, alloc), told.as_str(), nodes)
+    is_told(rt, alloc, deep(rt, alloc), told.as_str(), nodes)
 }
 
 #[test]
@@ -96,7 +107,7 @@ fn folders_at_each_level(rt: HostRuntime) {
     let told =
         "name: length is greater than 9\nfolders[0].folders[0].name: length is lower than 1\nfolders[2].name: length is lower than 1\n";
     assert!(rt;
-        is_told(&rt, rt.alloc(), &folders(&rt, rt.alloc()), told, 8)
+        is_told(&rt, rt.alloc(), folders(&rt, rt.alloc()), told, 8)
             && is_told_of_deep(&rt, rt.alloc(), "name: length is lower than 1\n", 2001)
     );
 }
@@ -127,8 +138,8 @@ fn questions_and_answers(rt: HostRuntime) {
     let short =
         "text: length is lower than 1\nentries[0].entries[0].text: length is lower than 1\n";
     assert!(rt;
-        is_told(&rt, rt.alloc(), &question(&rt, rt.alloc(), answer), long, 7)
-            && is_told(&rt, rt.alloc(), &question(&rt, rt.alloc(), ""), short, 6)
+        is_told(&rt, rt.alloc(), question(&rt, rt.alloc(), answer), long, 7)
+            && is_told(&rt, rt.alloc(), question(&rt, rt.alloc(), ""), short, 6)
     );
 }
 
@@ -179,8 +190,8 @@ fn menus_under_their_keys(rt: HostRuntime) {
     let labels =
         "label: length is lower than 1\nmenus.file.menus.recent.label: length is lower than 1\nmenus.view.label: length is greater than 20\n";
     assert!(rt;
-        is_told(&rt, rt.alloc(), &thread(&rt, rt.alloc()), texts, 8)
-            && is_told(&rt, rt.alloc(), &menus(&rt, rt.alloc()), labels, 8)
+        is_told(&rt, rt.alloc(), thread(&rt, rt.alloc()), texts, 8)
+            && is_told(&rt, rt.alloc(), menus(&rt, rt.alloc()), labels, 8)
     );
 }
 

@@ -3,9 +3,16 @@ use super::{owned, prints_as, text};
 use crate::tests::OrEnd;
 use example_types::ledger::{Ledger, Pairs};
 use example_types::names::Names;
-use garde::{DefaultI18n, FirstError, Trail, Validate};
+use garde::{DefaultI18n, FirstError, Report, Trail, Validate};
 use std::alloc::Global;
 use std::process::Abort;
+
+/// Whether a report is of the first of the faults in this text, and it is said whether it is of all.
+fn is_first(rt: &impl Abort, alloc: Global, report: Report, is_all: bool, text: &str) -> bool {
+    report.len() == 1
+        && is_all == (text.lines().count() == 1)
+        && text.starts_with(report.to_string(alloc).or_end(rt).as_str())
+}
 
 /// Whether the first of the faults in this text is found, and it is said whether it is the only one.
 fn is_told_first<V: Validate<Context = ()>>(
@@ -14,15 +21,12 @@ fn is_told_first<V: Validate<Context = ()>>(
     value: &V,
     text: &str,
 ) -> bool {
-    let (report, is_all) = match value.validate_first(alloc, &(), 1, &DefaultI18n) {
-        Ok(()) => return text.is_empty(),
-        Err(FirstError::All(report)) => (report, true),
-        Err(FirstError::First(report)) => (report, false),
-        Err(FirstError::Memory) => return false,
-    };
-    report.len() == 1
-        && is_all == (text.lines().count() == 1)
-        && text.starts_with(report.to_string(alloc).or_end(rt).as_str())
+    match value.validate_first(alloc, &(), 1, &DefaultI18n) {
+        Ok(()) => text.is_empty(),
+        Err(FirstError::All(report)) => is_first(rt, alloc, report, true, text),
+        Err(FirstError::First(report)) => is_first(rt, alloc, report, false, text),
+        Err(FirstError::Memory) => false,
+    }
 }
 
 /// Whether this is reported for a value and takes so many nodes, and its first fault alone where that

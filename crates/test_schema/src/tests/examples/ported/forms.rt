@@ -118,26 +118,65 @@ const STAYS: &[(&str, &str)] = &[
 ];
 
 /// What was read: the value, or what is wrong.
-fn told_of<T: Debug, E: Display>(alloc: Global, read: &Result<T, E>) -> Result<String, AllocError> {
+fn told_of<T: Debug + Drop, E: Display + Drop>(
+    alloc: Global,
+    read: Result<T, E>,
+) -> Result<String, AllocError> {
     match read {
         Ok(value) => format!(in alloc; "{value:?}"),
         Err(error) => error.to_string(alloc),
     }
 }
 
+/// What was read of a basket.
+fn basket(alloc: Global, body: &[u8]) -> Result<String, AllocError> {
+    let mut scratch = Scratch::new(alloc);
+    told_of(alloc, read_basket(alloc, body, &mut scratch, &DefaultI18n))
+}
+
+/// What was read of a bill.
+fn bill(alloc: Global, body: &[u8]) -> Result<String, AllocError> {
+    let mut scratch = Scratch::new(alloc);
+    told_of(alloc, read_bill(alloc, body, &mut scratch, &DefaultI18n))
+}
+
+/// What was read of a disk.
+fn disk(alloc: Global, body: &[u8]) -> Result<String, AllocError> {
+    let mut scratch = Scratch::new(alloc);
+    told_of(alloc, read_disk(alloc, body, &mut scratch, &DefaultI18n))
+}
+
+/// What was read of marks.
+fn marks(alloc: Global, body: &[u8]) -> Result<String, AllocError> {
+    let mut scratch = Scratch::new(alloc);
+    told_of(alloc, read_marks(alloc, body, &mut scratch, &DefaultI18n))
+}
+
+/// What was read of a parcel.
+fn parcel(alloc: Global, body: &[u8]) -> Result<String, AllocError> {
+    let mut scratch = Scratch::new(alloc);
+    told_of(alloc, read_parcel(alloc, body, &mut scratch, &DefaultI18n))
+}
+
+/// What was read of a stay, in a season of at most 20 percent.
+fn stay(alloc: Global, body: &[u8]) -> Result<String, AllocError> {
+    let mut scratch = Scratch::new(alloc);
+    let season = Season { most: 20 };
+    told_of(
+        alloc,
+        read_stay(alloc, body, &mut scratch, &season, &DefaultI18n),
+    )
+}
+
 /// What was read of a body.
 fn told(alloc: Global, of: Of, body: &[u8]) -> Result<String, AllocError> {
-    let (mut scratch, season) = (Scratch::new(alloc), Season { most: 20 });
     match of {
-        Of::Basket => told_of(alloc, &read_basket(alloc, body, &mut scratch, &DefaultI18n)),
-        Of::Bill => told_of(alloc, &read_bill(alloc, body, &mut scratch, &DefaultI18n)),
-        Of::Disk => told_of(alloc, &read_disk(alloc, body, &mut scratch, &DefaultI18n)),
-        Of::Marks => told_of(alloc, &read_marks(alloc, body, &mut scratch, &DefaultI18n)),
-        Of::Parcel => told_of(alloc, &read_parcel(alloc, body, &mut scratch, &DefaultI18n)),
-        Of::Stay => told_of(
-            alloc,
-            &read_stay(alloc, body, &mut scratch, &season, &DefaultI18n),
-        ),
+        Of::Basket => basket(alloc, body),
+        Of::Bill => bill(alloc, body),
+        Of::Disk => disk(alloc, body),
+        Of::Marks => marks(alloc, body),
+        Of::Parcel => parcel(alloc, body),
+        Of::Stay => stay(alloc, body),
     }
 }
 

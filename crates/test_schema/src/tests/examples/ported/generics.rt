@@ -12,40 +12,54 @@ fn name(rt: &impl Abort, alloc: Global, from: &str) -> Nickname {
     Nickname(text(rt, alloc, from))
 }
 
-/// A couple of this text, twice.
-fn couple(rt: &impl Abort, alloc: Global, from: &str) -> Couple<Nickname, Nickname> {
-    Couple {
+/// Whether this is reported for a couple of this text, twice.
+fn is_told_of_a_couple(rt: &impl Abort, alloc: Global, from: &str, told: &str) -> bool {
+    let couple = Couple {
         left: name(rt, alloc, from),
         right: vec![in alloc; name(rt, alloc, from)].or_end(rt),
-    }
+    };
+    tells(rt, alloc, &couple, &(), told)
 }
 
-/// A value of which nothing is asked, with a label.
-fn labelled(rt: &impl Abort, alloc: Global, from: &str) -> Labelled<u8> {
-    Labelled {
+/// Whether this is reported for a value of which nothing is asked, with a label.
+fn is_told_of_a_label(rt: &impl Abort, alloc: Global, from: &str, told: &str) -> bool {
+    let labelled: Labelled<u8> = Labelled {
         value: 7,
         label: text(rt, alloc, from),
-    }
+    };
+    tells(rt, alloc, &labelled, &(), told)
 }
 
 /// Whether this is reported for a choice.
-fn is_told(rt: &impl Abort, alloc: Global, value: &Choice<'_, Nickname>, text: &str) -> bool {
-    tells(rt, alloc, value, &(), text)
+fn is_told(rt: &impl Abort, alloc: Global, value: Choice<'_, Nickname>, text: &str) -> bool {
+    tells(rt, alloc, &value, &(), text)
 }
 
-/// A part of this text, which is there.
-fn plain(rt: &impl Abort, alloc: Global, from: &str) -> Plain<Nickname> {
-    Plain {
+/// Whether this is reported for a part of this text, which is there.
+fn is_told_of_a_part(rt: &impl Abort, alloc: Global, from: &str, told: &str) -> bool {
+    let plain = Plain {
         part: Some(name(rt, alloc, from)),
-    }
+    };
+    tells(rt, alloc, &plain, &(), told)
 }
 
-/// Whether the report of each value is the right one.
-fn are_told(rt: &impl Abort, alloc: Global) -> bool {
-    let short = "left: length is lower than 3\nright[0]: length is lower than 3\n";
-    tells(rt, alloc, &couple(rt, alloc, "abc"), &(), "")
-        && tells(rt, alloc, &couple(rt, alloc, "ab"), &(), short)
-        && tells(rt, alloc, &Grid { cells: [9, 1] }, &(), "")
+/// Whether the report of each choice is the right one.
+fn are_choices_told(rt: &impl Abort, alloc: Global) -> bool {
+    is_told(rt, alloc, Choice::Name { name: "a" }, "")
+        && is_told(rt, alloc, Choice::Name { name: "é" }, "name: not ascii\n")
+        && is_told(rt, alloc, Choice::Neither, "")
+        && is_told(rt, alloc, Choice::Part(name(rt, alloc, "abc")), "")
+        && is_told(
+            rt,
+            alloc,
+            Choice::Part(name(rt, alloc, "ab")),
+            "[0]: length is lower than 3\n",
+        )
+}
+
+/// Whether the report of each grid is the right one.
+fn are_grids_told(rt: &impl Abort, alloc: Global) -> bool {
+    tells(rt, alloc, &Grid { cells: [9, 1] }, &(), "")
         && tells(
             rt,
             alloc,
@@ -53,35 +67,24 @@ fn are_told(rt: &impl Abort, alloc: Global) -> bool {
             &(),
             "cells[1]: greater than 9\n",
         )
-        && tells(rt, alloc, &labelled(rt, alloc, "a"), &(), "")
-        && tells(
-            rt,
-            alloc,
-            &labelled(rt, alloc, "é"),
-            &(),
-            "label: not ascii\n",
-        )
-        && is_told(rt, alloc, &Choice::Name { name: "a" }, "")
-        && is_told(rt, alloc, &Choice::Name { name: "é" }, "name: not ascii\n")
-        && is_told(rt, alloc, &Choice::Neither, "")
-        && is_told(rt, alloc, &Choice::Part(name(rt, alloc, "abc")), "")
-        && is_told(
-            rt,
-            alloc,
-            &Choice::Part(name(rt, alloc, "ab")),
-            "[0]: length is lower than 3\n",
-        )
-        && tells(rt, alloc, &plain(rt, alloc, "abc"), &(), "")
-        && tells(
-            rt,
-            alloc,
-            &plain(rt, alloc, "ab"),
-            &(),
-            "part: length is lower than 3\n",
-        )
+}
+
+/// Whether the report of each other value is the right one.
+fn are_told(rt: &impl Abort, alloc: Global) -> bool {
+    let short = "left: length is lower than 3\nright[0]: length is lower than 3\n";
+    is_told_of_a_couple(rt, alloc, "abc", "")
+        && is_told_of_a_couple(rt, alloc, "ab", short)
+        && is_told_of_a_label(rt, alloc, "a", "")
+        && is_told_of_a_label(rt, alloc, "é", "label: not ascii\n")
+        && is_told_of_a_part(rt, alloc, "abc", "")
+        && is_told_of_a_part(rt, alloc, "ab", "part: length is lower than 3\n")
 }
 
 #[test]
 fn types_with_parameters(rt: HostRuntime) {
-    assert!(rt; are_told(&rt, rt.alloc()));
+    assert!(rt;
+        are_choices_told(&rt, rt.alloc())
+            && are_grids_told(&rt, rt.alloc())
+            && are_told(&rt, rt.alloc())
+    );
 }

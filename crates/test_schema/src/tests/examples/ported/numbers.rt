@@ -42,42 +42,52 @@ fn each_number_within_its_bounds(rt: HostRuntime) {
     }
 }
 
-/// Someone who says this and reports it.
-fn say(rt: &impl Abort, alloc: Global, from: &str) -> Event {
-    Event::Say {
+/// Whether this is reported for an event.
+fn is_told(rt: &impl Abort, alloc: Global, event: Event, told: &str) -> bool {
+    tells(rt, alloc, &event, &(), told)
+}
+
+/// Whether this is reported for someone who says this and reports it.
+fn is_told_of_saying(rt: &impl Abort, alloc: Global, from: &str, told: &str) -> bool {
+    let said = Event::Say {
         text: text(rt, alloc, from),
         sender: 0,
         report: text(rt, alloc, from),
-    }
+    };
+    is_told(rt, alloc, said, told)
 }
 
-/// A pair of this text, twice.
-fn pair(rt: &impl Abort, alloc: Global, from: &str) -> Event {
-    Event::Pair(text(rt, alloc, from), text(rt, alloc, from))
+/// Whether this is reported for a pair of this text, twice.
+fn is_told_of_a_pair(rt: &impl Abort, alloc: Global, from: &str, told: &str) -> bool {
+    let pair = Event::Pair(text(rt, alloc, from), text(rt, alloc, from));
+    is_told(rt, alloc, pair, told)
 }
 
-/// Whether the report of each variant is the right one.
-fn are_told(rt: &impl Abort, alloc: Global) -> bool {
+/// Whether the report of each variant of texts is the right one.
+fn are_texts_told(rt: &impl Abort, alloc: Global) -> bool {
     let said = "text: not ascii\nreport: length is greater than 3\n";
-    tells(rt, alloc, &Event::Move { steps: 10 }, &(), "")
-        && tells(
+    is_told_of_saying(rt, alloc, "abc", "")
+        && is_told_of_saying(rt, alloc, "é12", said)
+        && is_told_of_a_pair(rt, alloc, "ab", "")
+        && is_told_of_a_pair(rt, alloc, "é", "[0]: not ascii\n")
+}
+
+/// Whether the report of each variant of a number or of nothing is the right one.
+fn are_told(rt: &impl Abort, alloc: Global) -> bool {
+    is_told(rt, alloc, Event::Move { steps: 10 }, "")
+        && is_told(
             rt,
             alloc,
-            &Event::Move { steps: 11 },
-            &(),
+            Event::Move { steps: 11 },
             "steps: greater than 10\n",
         )
-        && tells(rt, alloc, &say(rt, alloc, "abc"), &(), "")
-        && tells(rt, alloc, &say(rt, alloc, "é12"), &(), said)
-        && tells(rt, alloc, &Event::Wait(60), &(), "")
-        && tells(rt, alloc, &Event::Wait(61), &(), "[0]: greater than 60\n")
-        && tells(rt, alloc, &pair(rt, alloc, "ab"), &(), "")
-        && tells(rt, alloc, &pair(rt, alloc, "é"), &(), "[0]: not ascii\n")
-        && tells(rt, alloc, &Event::Stop, &(), "")
-        && tells(rt, alloc, &Event::Mark(255), &(), "")
+        && is_told(rt, alloc, Event::Wait(60), "")
+        && is_told(rt, alloc, Event::Wait(61), "[0]: greater than 60\n")
+        && is_told(rt, alloc, Event::Stop, "")
+        && is_told(rt, alloc, Event::Mark(255), "")
 }
 
 #[test]
 fn each_variant_in_its_way(rt: HostRuntime) {
-    assert!(rt; are_told(&rt, rt.alloc()));
+    assert!(rt; are_texts_told(&rt, rt.alloc()) && are_told(&rt, rt.alloc()));
 }

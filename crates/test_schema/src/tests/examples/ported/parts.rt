@@ -4,6 +4,7 @@ use crate::tests::OrEnd;
 use crate::tests::examples::text;
 use example_ported::team::{Cup, Ground, League, Member, Team, Terms};
 use example_ported::wrapped::{Boxes, Code, Holder, Nickname, Nothing, Numbered, Triple};
+use garde::Validate;
 use std::alloc::Global;
 use std::process::Abort;
 
@@ -42,13 +43,20 @@ fn members(rt: &impl Abort, alloc: Global, count: usize, age: u8, title: &str) -
     found
 }
 
-/// A cup of one team of so many members of this age and title, and a winner of one member of 18.
-fn cup(rt: &impl Abort, alloc: Global, count: usize, age: u8, title: &str) -> Cup {
+/// Whether this is reported for a cup of one team of so many members of this age and title, and a winner
+/// of one member of 18.
+fn is_told_of_a_cup(
+    rt: &impl Abort,
+    alloc: Global,
+    (count, age, title): (usize, u8, &str),
+    told: &str,
+) -> bool {
     let all = team(rt, alloc, members(rt, alloc, count, age, title), age, title);
-    Cup {
+    let cup = Cup {
         teams: vec![in alloc; all].or_end(rt),
         winner: Some(team(rt, alloc, members(rt, alloc, 1, 18, title), 18, title)),
-    }
+    };
+    tells(rt, alloc, &cup, &LEAGUE, told)
 }
 
 const BAD_CUP: &str =
@@ -58,8 +66,8 @@ const BAD_MEMBER: &str = "years: lower than 18\ntitle: length is greater than 3\
 
 /// Whether the report of each part is the right one.
 fn are_parts_told(rt: &impl Abort, alloc: Global) -> bool {
-    tells(rt, alloc, &cup(rt, alloc, 1, 18, "abc"), &LEAGUE, "")
-        && tells(rt, alloc, &cup(rt, alloc, 2, 17, "é"), &LEAGUE, BAD_CUP)
+    is_told_of_a_cup(rt, alloc, (1, 18, "abc"), "")
+        && is_told_of_a_cup(rt, alloc, (2, 17, "é"), BAD_CUP)
         && tells(
             rt,
             alloc,
@@ -74,83 +82,78 @@ fn each_part_of_a_cup(rt: HostRuntime) {
     assert!(rt; are_parts_told(&rt, rt.alloc()));
 }
 
-/// A text in a box.
-fn boxes(rt: &impl Abort, alloc: Global, from: &str) -> Boxes<Numbered> {
+/// Whether this is reported for a text in a box.
+fn is_told_of_boxes(rt: &impl Abort, alloc: Global, from: &str, told: &str) -> bool {
     let first = Box::new(alloc, Numbered(text(rt, alloc, from))).or_end(rt);
-    Boxes(vec![in alloc; first].or_end(rt))
+    let boxes = Boxes(vec![in alloc; first].or_end(rt));
+    tells(rt, alloc, &boxes, &(), told)
 }
 
-/// A holder of this text, twice.
-fn holder(rt: &impl Abort, alloc: Global, from: &str) -> Holder<Nickname> {
-    Holder {
+/// Whether this is reported for a code of this text.
+fn is_told_of_a_code(rt: &impl Abort, alloc: Global, from: &str, told: &str) -> bool {
+    let code = Code {
+        text: text(rt, alloc, from),
+    };
+    tells(rt, alloc, &code, &(), told)
+}
+
+/// Whether this is reported for a holder of this text, twice.
+fn is_told_of_a_holder(rt: &impl Abort, alloc: Global, from: &str, told: &str) -> bool {
+    let holder = Holder {
         value: Nickname(text(rt, alloc, from)),
         label: text(rt, alloc, from),
-    }
+    };
+    tells(rt, alloc, &holder, &(), told)
 }
 
 /// Whether the report of each type with a part round a text, or with two rules of it, is the right one.
 fn are_holders_told(rt: &impl Abort, alloc: Global) -> bool {
-    tells(rt, alloc, &boxes(rt, alloc, "abc"), &(), "")
-        && tells(
+    is_told_of_boxes(rt, alloc, "abc", "")
+        && is_told_of_boxes(rt, alloc, "ab", "[0][0]: length is lower than 3\n")
+        && is_told_of_a_code(rt, alloc, "abcd", "")
+        && is_told_of_a_code(rt, alloc, "é123", "not ascii\nlength is greater than 4\n")
+        && is_told_of_a_holder(rt, alloc, "abc", "")
+        && is_told_of_a_holder(
             rt,
             alloc,
-            &boxes(rt, alloc, "ab"),
-            &(),
-            "[0][0]: length is lower than 3\n",
-        )
-        && tells(
-            rt,
-            alloc,
-            &Code {
-                text: text(rt, alloc, "abcd"),
-            },
-            &(),
             "",
-        )
-        && tells(
-            rt,
-            alloc,
-            &Code {
-                text: text(rt, alloc, "é123"),
-            },
-            &(),
-            "not ascii\nlength is greater than 4\n",
-        )
-        && tells(rt, alloc, &holder(rt, alloc, "abc"), &(), "")
-        && tells(
-            rt,
-            alloc,
-            &holder(rt, alloc, ""),
-            &(),
             "value: length is lower than 3\nlabel: length is lower than 1\n",
         )
 }
 
-/// Whether the report of each type of one text, of numbered fields or of none is the right one.
-fn are_told(rt: &impl Abort, alloc: Global) -> bool {
+/// Whether this is reported for a value, which is dropped.
+fn is_told<V: Validate<Context = ()> + Drop>(
+    rt: &impl Abort,
+    alloc: Global,
+    value: V,
+    told: &str,
+) -> bool {
+    tells(rt, alloc, &value, &(), told)
+}
+
+/// Whether the report of each type of one text under no index, or of none, is the right one.
+fn are_nicknames_told(rt: &impl Abort, alloc: Global) -> bool {
     let short = "length is lower than 3\n";
-    tells(rt, alloc, &Nickname(text(rt, alloc, "abc")), &(), "")
-        && tells(rt, alloc, &Nickname(text(rt, alloc, "ab")), &(), short)
-        && tells(rt, alloc, &Nothing, &(), "")
-        && tells(rt, alloc, &Numbered(text(rt, alloc, "abc")), &(), "")
-        && tells(
-            rt,
-            alloc,
-            &Numbered(text(rt, alloc, "ab")),
-            &(),
-            "[0]: length is lower than 3\n",
-        )
-        && tells(rt, alloc, &Triple(text(rt, alloc, "a"), 255, 9), &(), "")
-        && tells(
-            rt,
-            alloc,
-            &Triple(text(rt, alloc, "é"), 255, 10),
-            &(),
-            "[0]: not ascii\n[2]: greater than 9\n",
-        )
+    is_told(rt, alloc, Nickname(text(rt, alloc, "abc")), "")
+        && is_told(rt, alloc, Nickname(text(rt, alloc, "ab")), short)
+        && is_told(rt, alloc, Nothing, "")
+}
+
+/// Whether the report of each type of numbered fields is the right one.
+fn are_told(rt: &impl Abort, alloc: Global) -> bool {
+    let short = "[0]: length is lower than 3\n";
+    let both = "[0]: not ascii\n[2]: greater than 9\n";
+    is_told(rt, alloc, Numbered(text(rt, alloc, "abc")), "")
+        && is_told(rt, alloc, Numbered(text(rt, alloc, "ab")), short)
+        && is_told(rt, alloc, Triple(text(rt, alloc, "a"), 255, 9), "")
+        && is_told(rt, alloc, Triple(text(rt, alloc, "é"), 255, 10), both)
 }
 
 #[test]
 fn types_of_one_field_or_of_numbered_ones(rt: HostRuntime) {
-    assert!(rt; are_holders_told(&rt, rt.alloc()) && are_told(&rt, rt.alloc()));
+    assert!(rt;
+        are_holders_told(&rt, rt.alloc())
+            && are_nicknames_told(&rt, rt.alloc())
+            && are_told(&rt, rt.alloc())
+    );
 }

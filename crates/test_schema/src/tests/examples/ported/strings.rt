@@ -10,15 +10,21 @@ use std::alloc::Global;
 use std::borrow::CowStr;
 use std::process::Abort;
 
-/// An account of these texts.
-fn account(rt: &impl Abort, alloc: Global, from: [&str; 4]) -> Account {
-    Account {
-        username: text(rt, alloc, from[0]),
-        password: text(rt, alloc, from[1]),
-        again: text(rt, alloc, from[2]),
-        code: text(rt, alloc, from[3]),
+/// Whether this is reported for an account of these texts.
+fn is_told_of_an_account(
+    rt: &impl Abort,
+    alloc: Global,
+    [username, password, again, code]: [&str; 4],
+    told: &str,
+) -> bool {
+    let account = Account {
+        username: text(rt, alloc, username),
+        password: text(rt, alloc, password),
+        again: text(rt, alloc, again),
+        code: text(rt, alloc, code),
         remember: false,
-    }
+    };
+    tells(rt, alloc, &account, &(), told)
 }
 
 /// Whether this is reported for a draft of this report and height.
@@ -32,45 +38,51 @@ fn is_told_of_a_draft(rt: &impl Abort, alloc: Global, from: &str, h: u8, told: &
     tells(rt, alloc, &draft, &(), told)
 }
 
-/// A pair, in which the second of both is this.
-fn pair(rt: &impl Abort, alloc: Global, again: Option<&str>, pin_again: u32) -> Pair {
-    Pair {
+/// Whether this is reported for a pair, in which the second of both is this.
+fn is_told_of_a_pair(
+    rt: &impl Abort,
+    alloc: Global,
+    again: Option<&str>,
+    pin_again: u32,
+    told: &str,
+) -> bool {
+    let pair = Pair {
         mail: Some(text(rt, alloc, "a@b.org")),
         mail_again: owned(rt, alloc, again),
         pin: 1000,
         pin_again,
-    }
+    };
+    tells(rt, alloc, &pair, &(), told)
 }
 
 /// Whether this is reported for a label of five texts.
-fn is_told_of_a_label(rt: &impl Abort, alloc: Global, from: [&str; 5], told: &str) -> bool {
-    let also = ["b", from[1]];
+fn is_told_of_a_label(
+    rt: &impl Abort,
+    alloc: Global,
+    [name, last, code, text, mark]: [&str; 5],
+    told: &str,
+) -> bool {
     let label = Label {
-        name: from[0],
-        also: &also,
-        code: Some(from[2]),
-        text: CowStr::Borrowed(from[3]),
-        mark: from[4],
+        name,
+        also: &["b", last],
+        code: Some(code),
+        text: CowStr::Borrowed(text),
+        mark,
     };
     tells(rt, alloc, &label, &(), told)
 }
 
-/// Whether the report of each type of a few texts is the right one.
-fn are_texts_told(rt: &impl Abort, alloc: Global) -> bool {
+/// Whether the report of each account and of each draft is the right one.
+fn are_accounts_and_drafts_told(rt: &impl Abort, alloc: Global) -> bool {
     let long = "not a very good password";
-    tells(
-        rt,
-        alloc,
-        &account(rt, alloc, ["test", long, long, "a1"]),
-        &(),
-        "",
-    ) && tells(
-        rt,
-        alloc,
-        &account(rt, alloc, ["é", "short", "other", "a_23456789"]),
-        &(),
-        "username: not ascii\nusername: length is lower than 3\npassword: length is lower than 15\nagain: does not match password field\ncode: not alphanumeric\ncode: length is greater than 8\n",
-    ) && is_told_of_a_draft(rt, alloc, "a", 9, "")
+    is_told_of_an_account(rt, alloc, ["test", long, long, "a1"], "")
+        && is_told_of_an_account(
+            rt,
+            alloc,
+            ["é", "short", "other", "a_23456789"],
+            "username: not ascii\nusername: length is lower than 3\npassword: length is lower than 15\nagain: does not match password field\ncode: not alphanumeric\ncode: length is greater than 8\n",
+        )
+        && is_told_of_a_draft(rt, alloc, "a", 9, "")
         && is_told_of_a_draft(
             rt,
             alloc,
@@ -78,19 +90,23 @@ fn are_texts_told(rt: &impl Abort, alloc: Global) -> bool {
             10,
             "report: length is lower than 1\nh: greater than 9\n",
         )
-        && is_told_of_a_label(rt, alloc, ["name", "b1", "a-b", "text", "mark"], "")
+}
+
+/// Whether the report of each label and of each pair is the right one.
+fn are_labels_and_pairs_told(rt: &impl Abort, alloc: Global) -> bool {
+    is_told_of_a_label(rt, alloc, ["name", "b1", "a-b", "text", "mark"], "")
         && is_told_of_a_label(
             rt,
             alloc,
             ["é", "cde", "x", "_", "marks"],
             "name: not ascii\nalso[1]: value does not begin with \"b\"\nalso[1]: length is greater than 2\ncode: does not contain \"-\"\ncode: length is lower than 2\ntext: not alphanumeric\nmark: not short\n",
         )
-        && tells(rt, alloc, &pair(rt, alloc, Some("a@b.org"), 1000), &(), "")
-        && tells(
+        && is_told_of_a_pair(rt, alloc, Some("a@b.org"), 1000, "")
+        && is_told_of_a_pair(
             rt,
             alloc,
-            &pair(rt, alloc, None, 1001),
-            &(),
+            None,
+            1001,
             "mail_again: does not match mail field\npin_again: does not match pin field\n",
         )
 }
@@ -120,17 +136,22 @@ static PLACES: [([&str; 9], &str); 2] = [
 ];
 
 /// Whether this is reported for a place of these texts.
-fn is_told_of_a_place(rt: &impl Abort, alloc: Global, from: &[&str; 9], told: &str) -> bool {
+fn is_told_of_a_place(
+    rt: &impl Abort,
+    alloc: Global,
+    [mail, tag, host, old, new, site, sign, short, title]: &[&str; 9],
+    told: &str,
+) -> bool {
     let place = Place {
-        mail: text(rt, alloc, from[0]),
-        tag: text(rt, alloc, from[1]),
-        host: text(rt, alloc, from[2]),
-        old: text(rt, alloc, from[3]),
-        new: text(rt, alloc, from[4]),
-        site: text(rt, alloc, from[5]),
-        sign: text(rt, alloc, from[6]),
-        short: text(rt, alloc, from[7]),
-        title: text(rt, alloc, from[8]),
+        mail: text(rt, alloc, mail),
+        tag: text(rt, alloc, tag),
+        host: text(rt, alloc, host),
+        old: text(rt, alloc, old),
+        new: text(rt, alloc, new),
+        site: text(rt, alloc, site),
+        sign: text(rt, alloc, sign),
+        short: text(rt, alloc, short),
+        title: text(rt, alloc, title),
     };
     tells(rt, alloc, &place, &(), told)
 }
@@ -138,7 +159,8 @@ fn is_told_of_a_place(rt: &impl Abort, alloc: Global, from: &[&str; 9], told: &s
 #[test]
 fn types_of_texts(rt: HostRuntime) {
     assert!(rt;
-        are_texts_told(&rt, rt.alloc())
+        are_accounts_and_drafts_told(&rt, rt.alloc())
+            && are_labels_and_pairs_told(&rt, rt.alloc())
             && is_told_of_a_place(&rt, rt.alloc(), &PLACES[0].0, PLACES[0].1)
             && is_told_of_a_place(&rt, rt.alloc(), &PLACES[1].0, PLACES[1].1)
     );
