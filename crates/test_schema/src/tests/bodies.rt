@@ -5,7 +5,6 @@ use garde_tape::{Kind, ParseError, Place, Scratch, Tree, parse_bytes};
 use serde_json::Value;
 use std::alloc::{AllocError, Global};
 use std::fmt::{Debug, Write};
-use std::process::Abort;
 
 // Writes a text, and a value as it prints for debugging.
 fn push<T: Debug>(out: &mut String, before: &str, value: &T) -> Result<(), AllocError> {
@@ -69,73 +68,47 @@ fn read(alloc: Global, bytes: &[u8]) -> Result<String, AllocError> {
     }
 }
 
-// Bodies that are one value or a list, and what each is.
-static VALUES: [(&str, &str); 8] = [
-    ("null", "Null"),
-    (" true\n", "Boolean true"),
-    ("false", "Boolean false"),
-    ("-0.50e+1", "Number -0.50e+1"),
-    ("\"a\\u0041\\n\\ud83d\\ude00\"", "Text \"aA\\n\u{1f600}\""),
-    ("\"\"", "Text \"\""),
-    ("[]", "List"),
-    ("[1,\"a\",null,[]]", "List Number Text Null List"),
-];
-
-// Objects, and what each is.
-static OBJECTS: [(&str, &str); 5] = [
-    ("{}", "Object"),
+const BODIES: &[(&[u8], &str)] = &[
+    (b"null", "Null"),
+    (b" true\n", "Boolean true"),
+    (b"false", "Boolean false"),
+    (b"-0.50e+1", "Number -0.50e+1"),
+    (b"\"a\\u0041\\n\\ud83d\\ude00\"", "Text \"aA\\n\u{1f600}\""),
+    (b"\"\"", "Text \"\""),
+    (b"[]", "List"),
+    (b"[1,\"a\",null,[]]", "List Number Text Null List"),
+    (b"{}", "Object"),
     (
-        "{\"b\":{},\"a\":[],\"b\":true}",
+        b"{\"b\":{},\"a\":[],\"b\":true}",
         "Object \"b\"=Object \"a\"=List \"b\"=Boolean",
     ),
     (
-        "{\"a.b\":1,\"[0]\":2,\"\":3,\"\\u0000\":4}",
+        b"{\"a.b\":1,\"[0]\":2,\"\":3,\"\\u0000\":4}",
         "Object \"a.b\"=Number \"[0]\"=Number \"\"=Number \"\\0\"=Number",
     ),
     (
-        "{\"a\\nb\":1,\"__proto__\":{},\"\\u0061\":2}",
+        b"{\"a\\nb\":1,\"__proto__\":{},\"\\u0061\":2}",
         "Object \"a\\nb\"=Number \"__proto__\"=Object \"a\"=Number",
     ),
-    ("\u{feff}{}", "Object"),
+    (b"", "not JSON at line 1 column 0"),
+    (b"\xef\xbb\xbf{}", "Object"),
+    (b"{\"a\":1,}", "not JSON at line 1 column 8"),
+    (b"[1,]", "not JSON at line 1 column 4"),
+    (b"1 2", "not JSON at line 1 column 3"),
+    (b"{\"a\":\n 012}", "not JSON at line 2 column 2"),
+    (b"\"\\ud800\"", "a lone surrogate at line 1 column 2"),
+    (b"\"a\nb\"", "not JSON at line 1 column 1"),
+    (b"{\"a\":{\"b\":[1", "not JSON at line 1 column 12"),
+    (b"{1:2}", "not JSON at line 1 column 3"),
+    (b"\"\xff\"", "not UTF-8 at line 1 column 2"),
+    (b"[1,\n\"\xc3", "not UTF-8 at line 2 column 2"),
 ];
-
-// Texts that are no bodies, and why.
-static FAULTY: [(&str, &str); 9] = [
-    ("", "not JSON at line 1 column 0"),
-    ("{\"a\":1,}", "not JSON at line 1 column 8"),
-    ("[1,]", "not JSON at line 1 column 4"),
-    ("1 2", "not JSON at line 1 column 3"),
-    ("{\"a\":\n 012}", "not JSON at line 2 column 2"),
-    ("\"\\ud800\"", "a lone surrogate at line 1 column 2"),
-    ("\"a\nb\"", "not JSON at line 1 column 1"),
-    ("{\"a\":{\"b\":[1", "not JSON at line 1 column 12"),
-    ("{1:2}", "not JSON at line 1 column 3"),
-];
-
-// Ends at the first of these bodies that is another one.
-fn check(rt: &impl Abort, alloc: Global, rows: &[(&str, &str)]) {
-    for (body, expected) in rows {
-        assert!(rt;
-            is_text(read(alloc, body.as_bytes()), expected),
-            "{expected}"
-        );
-    }
-}
 
 #[test]
 fn tells_what_a_body_is(rt: HostRuntime) {
-    check(&rt, rt.alloc(), &VALUES);
-    check(&rt, rt.alloc(), &OBJECTS);
-    check(&rt, rt.alloc(), &FAULTY);
-    assert!(rt;
-        is_text(
-            read(rt.alloc(), b"\"\xff\""),
-            "not UTF-8 at line 1 column 2"
-        ) && is_text(
-            read(rt.alloc(), b"[1,\n\"\xc3"),
-            "not UTF-8 at line 2 column 2"
-        )
-    );
+    for (body, expected) in BODIES {
+        assert!(rt; is_text(read(rt.alloc(), body), expected), "{expected}");
+    }
 }
 
 // Whether serde_json tells this place.

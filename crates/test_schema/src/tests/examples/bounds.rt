@@ -20,39 +20,19 @@ fn are_lengths_right(a: usize, b: usize) -> bool {
         && Length::max(b) == Length { min: 0, max: b }
         && Length::equal(b) == Length { min: b, max: b }
         && Length::between(a, b) == Length { min: a, max: b }
-}
-
-/// Whether each length in bytes has the bounds of its name.
-fn are_byte_lengths_right(a: usize, b: usize) -> bool {
-    let max = usize::MAX;
-    ByteLength::min(b) == ByteLength { min: b, max }
+        && ByteLength::min(b) == ByteLength { min: b, max }
         && ByteLength::max(b) == ByteLength { min: 0, max: b }
         && ByteLength::equal(b) == ByteLength { min: b, max: b }
         && ByteLength::between(a, b) == ByteLength { min: a, max: b }
-}
-
-/// Whether each length in characters has the bounds of its name.
-fn are_char_lengths_right(a: usize, b: usize) -> bool {
-    let max = usize::MAX;
-    CharLength::min(b) == CharLength { min: b, max }
+        && CharLength::min(b) == CharLength { min: b, max }
         && CharLength::max(b) == CharLength { min: 0, max: b }
         && CharLength::equal(b) == CharLength { min: b, max: b }
         && CharLength::between(a, b) == CharLength { min: a, max: b }
-}
-
-/// Whether each length in graphemes has the bounds of its name.
-fn are_grapheme_lengths_right(a: usize, b: usize) -> bool {
-    let max = usize::MAX;
-    GraphemeLength::min(b) == GraphemeLength { min: b, max }
+        && GraphemeLength::min(b) == GraphemeLength { min: b, max }
         && GraphemeLength::max(b) == GraphemeLength { min: 0, max: b }
         && GraphemeLength::equal(b) == GraphemeLength { min: b, max: b }
         && GraphemeLength::between(a, b) == GraphemeLength { min: a, max: b }
-}
-
-/// Whether each length in UTF-16 has the bounds of its name.
-fn are_utf16_lengths_right(a: usize, b: usize) -> bool {
-    let max = usize::MAX;
-    Utf16Length::min(b) == Utf16Length { min: b, max }
+        && Utf16Length::min(b) == Utf16Length { min: b, max }
         && Utf16Length::max(b) == Utf16Length { min: 0, max: b }
         && Utf16Length::equal(b) == Utf16Length { min: b, max: b }
         && Utf16Length::between(a, b) == Utf16Length { min: a, max: b }
@@ -60,14 +40,7 @@ fn are_utf16_lengths_right(a: usize, b: usize) -> bool {
 
 #[test]
 fn bounds_by_their_names(rt: HostRuntime) {
-    assert!(rt;
-        are_ranges_right(Some(-1), Some(18))
-            && are_lengths_right(3, 300)
-            && are_byte_lengths_right(3, 300)
-            && are_char_lengths_right(3, 300)
-            && are_grapheme_lengths_right(3, 300)
-            && are_utf16_lengths_right(3, 300)
-    );
+    assert!(rt; are_ranges_right(Some(-1), Some(18)) && are_lengths_right(3, 300));
 }
 
 /// Whether a login that is not valid is rejected with this text.

@@ -98,7 +98,7 @@ const REPORT: &str = "[1].code: value does not begin with \"P\"
 [5]: a quote in line 7 is not closed
 ";
 
-/// Batches, how many rows are stored under each, and the names of those that are kept.
+/// Batches, how many rows are stored under each, and the names of those that are kept, a line each.
 static CASES: [(Batch, usize, &str); 4] = [
     (Batch::Items(0), 2, "Screw\nNut\n"),
     (Batch::Items(1), 2, "Screw\nNut\n"),

@@ -136,22 +136,17 @@ static PLACES: [([&str; 9], &str); 2] = [
 ];
 
 /// Whether this is reported for a place of these texts.
-fn is_told_of_a_place(
-    rt: &impl Abort,
-    alloc: Global,
-    [mail, tag, host, old, new, site, sign, short, title]: &[&str; 9],
-    told: &str,
-) -> bool {
+fn is_told_of_a_place(rt: &impl Abort, alloc: Global, from: &[&str; 9], told: &str) -> bool {
     let place = Place {
-        mail: text(rt, alloc, mail),
-        tag: text(rt, alloc, tag),
-        host: text(rt, alloc, host),
-        old: text(rt, alloc, old),
-        new: text(rt, alloc, new),
-        site: text(rt, alloc, site),
-        sign: text(rt, alloc, sign),
-        short: text(rt, alloc, short),
-        title: text(rt, alloc, title),
+        mail: text(rt, alloc, from[0]),
+        tag: text(rt, alloc, from[1]),
+        host: text(rt, alloc, from[2]),
+        old: text(rt, alloc, from[3]),
+        new: text(rt, alloc, from[4]),
+        site: text(rt, alloc, from[5]),
+        sign: text(rt, alloc, from[6]),
+        short: text(rt, alloc, from[7]),
+        title: text(rt, alloc, from[8]),
     };
     tells(rt, alloc, &place, &(), told)
 }
