@@ -47,7 +47,7 @@ fn is_each_told<V: Validate<Context = ()>>(
     is_told_by_default(alloc, tuple, (text.as_str(), count.saturating_mul(2)))
 }
 
-/// Whether this user, whose name is too short, is told in each tuple of three to seven.
+/// Whether this user, whose name is too short, is reported in each tuple of three to seven.
 fn is_told_in_short_tuples(rt: &impl Abort, alloc: Global, u: &User) -> bool {
     is_each_told(rt, alloc, &(u, u, u), 3)
         && is_each_told(rt, alloc, &(u, u, u, u), 4)
@@ -56,14 +56,14 @@ fn is_told_in_short_tuples(rt: &impl Abort, alloc: Global, u: &User) -> bool {
         && is_each_told(rt, alloc, &(u, u, u, u, u, u, u), 7)
 }
 
-/// Whether it is told in each tuple of eight to ten.
+/// Whether it is reported in each tuple of eight to ten.
 fn is_told_in_longer_tuples(rt: &impl Abort, alloc: Global, u: &User) -> bool {
     is_each_told(rt, alloc, &(u, u, u, u, u, u, u, u), 8)
         && is_each_told(rt, alloc, &(u, u, u, u, u, u, u, u, u), 9)
         && is_each_told(rt, alloc, &(u, u, u, u, u, u, u, u, u, u), 10)
 }
 
-/// Whether it is told in each tuple of eleven and twelve.
+/// Whether it is reported in each tuple of eleven and twelve.
 fn is_told_in_the_longest_tuples(rt: &impl Abort, alloc: Global, u: &User) -> bool {
     is_each_told(rt, alloc, &(u, u, u, u, u, u, u, u, u, u, u), 11)
         && is_each_told(rt, alloc, &(u, u, u, u, u, u, u, u, u, u, u, u), 12)

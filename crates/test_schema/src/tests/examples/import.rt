@@ -129,7 +129,7 @@ fn has_stored<E: Drop>(answer: Result<Progress, E>, stored: usize) -> bool {
     }
 }
 
-/// Whether an import under this batch tells the faults to this sink, counts so many stored rows, and
+/// Whether an import under this batch reports the faults to this sink, counts so many stored rows, and
 /// keeps those of these names and leaves no other.
 fn stores(
     rt: &impl Abort,
