@@ -153,7 +153,7 @@ fn close<H: Handler, C: Clock, W: Write>(
     }
 }
 
-/// Drops what a connection holds. That `into_buffers` drops the most of it makes this cheap to prove.
+/// Drops a connection. `into_buffers` drops most of what it holds, which makes this cheap to prove.
 fn discard(connection: Connection) {
     let (_, _) = connection.into_buffers();
 }

@@ -189,7 +189,7 @@ fn serve(rt: &HostRuntime, most: usize, dates: bool) -> Result<ExitCode> {
     ended(answer_input(rt, config, &handler))
 }
 
-/// With which status the run ends where the connection stands like this.
+/// The status of a run that ended with its connection like this, or the error that ended it.
 fn ended(stands: Result<State>) -> Result<ExitCode> {
     match stands? {
         State::Closing(Reason::Asked | Reason::EndOfInput) => Ok(ExitCode::SUCCESS),

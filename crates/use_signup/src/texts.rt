@@ -33,6 +33,8 @@ static IN_ARABIC: Texts = Texts {
     thanks: ARABIC_THANKS,
 };
 
+// A proof looks at all of a static where it is named, so each has a function that names it.
+
 /// What is said in English.
 fn in_english() -> &'static Texts {
     &IN_ENGLISH

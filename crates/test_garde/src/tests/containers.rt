@@ -29,7 +29,7 @@ fn is_short<V: Validate<Context = ()>>(alloc: Global, value: &V) -> bool {
     is_told_by_default(alloc, value, TOO_SHORT)
 }
 
-/// Whether this user, whose name is too short, is reported in a list of links.
+/// Whether this user, whose name is too short, is reported in a linked list.
 fn is_short_in_links(rt: &impl Abort, alloc: Global, named: &User) -> bool {
     let mut linked = LinkedList::new(alloc);
     linked.push_back(named).or_end(rt);
@@ -109,7 +109,7 @@ pub fn put_hashed(rt: &impl Abort, alloc: Global, users: &mut HashMap<String, Us
 /// Two keys that are not in order.
 static KEYS: [&str; 2] = ["b", "a"];
 
-/// Whether a user under each of these keys of an ordered map is reported.
+/// Whether a user under each of these keys of an ordered map is reported, in the order of the keys.
 fn are_told_in_order(rt: &impl Abort, alloc: Global) -> bool {
     let mut users = BTreeMap::new(alloc);
     for key in &KEYS {

@@ -34,7 +34,8 @@ pub fn is_told<T: Validate, H: I18n>(
     trail.nodes() == nodes && tells_all(alloc, answer, text)
 }
 
-/// Whether a walk without a context on a new trail reports just this by default, and makes so many nodes.
+/// Whether a walk on a new trail, without a context and with the default texts, reports just this, and makes
+/// so many nodes.
 pub fn is_told_by_default<T: Validate<Context = ()>>(
     alloc: Global,
     value: &T,

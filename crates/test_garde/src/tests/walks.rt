@@ -118,7 +118,7 @@ pub fn nest(alloc: Global, memory: &mut Scarce) -> Result<Met, AllocError> {
     }
 }
 
-// What the answer of a walk to the first fault comes to that made so many nodes.
+// What the answer of a walk to the first fault comes to, where the walk made so many nodes.
 fn first_found(
     alloc: Global,
     answer: Result<(), FirstError>,

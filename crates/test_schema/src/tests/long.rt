@@ -1,7 +1,7 @@
 //! Long and deep bodies that are read by a form: the whole report of each, or its value.
 
 use super::told::{Case, told_of};
-use super::{is_text, lists, maps, nested, wide_numbers};
+use super::{is_text, lists, maps, nested};
 use garde::{DefaultI18n, I18n};
 use garde_schema::FormI18n;
 use std::alloc::{AllocError, Global};

@@ -12,8 +12,8 @@ fn has_three<T: HasSimpleLength + Drop>(collection: T) -> bool {
     collection.length() == 3 && (&collection).length() == 3
 }
 
-/// Whether a collection that was made has three items.
-fn keeps_three<T: HasSimpleLength + Drop>(made: Result<T, AllocError>) -> bool {
+/// Whether a collection was made, and has three items.
+fn is_made_with_three<T: HasSimpleLength + Drop>(made: Result<T, AllocError>) -> bool {
     match made {
         Ok(collection) => has_three(collection),
         Err(_) => false,
@@ -24,14 +24,14 @@ fn keeps_three<T: HasSimpleLength + Drop>(made: Result<T, AllocError>) -> bool {
 fn counts_the_items_of_lists_and_sets(rt: HostRuntime) {
     let alloc = rt.alloc();
     assert!(rt;
-        keeps_three((0..3).collect::<Vec<u8>>(alloc))
+        is_made_with_three((0..3).collect::<Vec<u8>>(alloc))
             && has_three(b"789".as_slice())
-            && keeps_three((0..3).collect::<BoxedSlice<u8>>(alloc))
-            && keeps_three((0..3).collect::<VecDeque<u8>>(alloc))
-            && keeps_three((0..3).collect::<LinkedList<u8>>(alloc))
-            && keeps_three((0..3).collect::<HashSet<u8>>(alloc))
-            && keeps_three((0..3).collect::<BTreeSet<u8>>(alloc))
-            && keeps_three((0..3).collect::<BinaryHeap<u8>>(alloc))
+            && is_made_with_three((0..3).collect::<BoxedSlice<u8>>(alloc))
+            && is_made_with_three((0..3).collect::<VecDeque<u8>>(alloc))
+            && is_made_with_three((0..3).collect::<LinkedList<u8>>(alloc))
+            && is_made_with_three((0..3).collect::<HashSet<u8>>(alloc))
+            && is_made_with_three((0..3).collect::<BTreeSet<u8>>(alloc))
+            && is_made_with_three((0..3).collect::<BinaryHeap<u8>>(alloc))
     );
 }
 

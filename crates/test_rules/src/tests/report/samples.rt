@@ -60,7 +60,7 @@ pub fn report_of(rt: &impl Abort, alloc: Global, faults: &[(&str, &str)]) -> Rep
     report
 }
 
-/// Places of tokens: each in the line after that of the one before it, from this line on and before another.
+/// A place for each token, one a line: from the line `first` on, and before the line `end`.
 pub fn places_in_lines(rt: &impl Abort, alloc: Global, first: usize, end: usize) -> Vec<Place> {
     let mut places = Vec::new(alloc);
     for line in first..end {

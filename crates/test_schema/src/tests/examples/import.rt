@@ -129,8 +129,8 @@ fn has_stored<E: Drop>(answer: Result<Progress, E>, stored: usize) -> bool {
     }
 }
 
-/// Whether an import under this batch reports the faults to this sink, counts so many stored rows, and
-/// keeps those of these names and leaves no other.
+/// Whether an import under this batch, which reports to this sink, counts so many stored rows, and keeps
+/// those of these names and leaves no other.
 fn stores(
     rt: &impl Abort,
     alloc: Global,

@@ -131,8 +131,9 @@ fn is_told<V: Validate<Context = ()> + Drop>(
     tells(rt, alloc, &value, &(), told)
 }
 
-/// Whether the report of each type of one text under no index, or of none, is the right one.
-fn are_nicknames_told(rt: &impl Abort, alloc: Global) -> bool {
+/// Whether the report is the right one of the type of one text that stands under no index, and of the type
+/// without a field.
+fn are_told_without_index(rt: &impl Abort, alloc: Global) -> bool {
     let short = "length is lower than 3\n";
     is_told(rt, alloc, Nickname(text(rt, alloc, "abc")), "")
         && is_told(rt, alloc, Nickname(text(rt, alloc, "ab")), short)
@@ -153,7 +154,7 @@ fn are_told(rt: &impl Abort, alloc: Global) -> bool {
 fn types_of_one_field_or_of_numbered_ones(rt: HostRuntime) {
     assert!(rt;
         are_holders_told(&rt, rt.alloc())
-            && are_nicknames_told(&rt, rt.alloc())
+            && are_told_without_index(&rt, rt.alloc())
             && are_told(&rt, rt.alloc())
     );
 }
