@@ -1,11 +1,12 @@
 //! The table of a file.
 ghost use Rattle.std.specs.Prelude.{◌≡◌, [], IfOk, IsTrue};
-ghost use Rattle.sqlite.specs.Files.{file_state};
+ghost use Rattle.sqlite.specs.Held.{state};
 ghost use Rattle.example_table.specs.Stock.{IsUp};
 
+use anyhow::Result;
 use example_table::database::Stock;
 use example_table::opening::OpenError;
-use sqlite::{Connection, Error, ErrorCode, File, FileStore};
+use sqlite::{Alter, Connection, Error, ErrorCode, File, FileStore};
 use std::rt::HostRuntime;
 use std::thread;
 use std::time::Duration;
@@ -15,7 +16,23 @@ const TRIES: usize = 20;
 
 const PAUSE: u64 = 50;
 
-/// The database of a file, which is made if it is not there.
+/// What is done with the table of a file. It is written over any store of a database, since a proof over
+/// `FileStore<File>` is dear: `with` alone has one.
+pub trait Work {
+    /// What comes of it.
+    type Done;
+
+    /// Opens the table of a database by `open`, and does it. The answer is the table, which is still
+    /// open, and what came of it.
+    fn run<S: Alter + Drop>(
+        &mut self,
+        rt: &HostRuntime,
+        database: Result<Connection<S>, Error>,
+    ) -> Result<(Stock<S>, Self::Done)>;
+}
+
+/// The database of a file, which is made if it is not there. A file that another process has open is
+/// waited for, a second at most.
 fn connect(rt: &HostRuntime, path: &str) -> Result<Connection<FileStore<File>>, Error> {
     for _ in 1..TRIES {
         match Connection::open(rt, path) {
@@ -29,14 +46,24 @@ fn connect(rt: &HostRuntime, path: &str) -> Result<Connection<FileStore<File>>, 
     Connection::open(rt, path)
 }
 
-/// The table of a file, which is made where the file is not there or holds no table. A file with
-/// another table is rejected, and so is one that is no database. A file that another process has
-/// open is waited for, a second at most.
-pub fn open(rt: &HostRuntime, path: &str) -> Result<Stock<FileStore<File>>, OpenError>
-    ensures empty { IfOk result (λ stock. IsTrue stock.is_made → IsUp (file_state stock.conn)
-        → ((file_state stock.conn).now.trees 0 ≡ []) × ((file_state stock.conn).committed.trees 0 ≡ [])) }
+/// The table of the database of a file, which is made where the file was not there or holds no table. A
+/// file with another table is rejected, and so is one that is no database.
+pub fn open<S: Alter + Drop>(database: Result<Connection<S>, Error>) -> Result<Stock<S>, OpenError>
+    ensures empty { IfOk result (λ stock. IsTrue stock.is_made → IsUp (state S.Store stock.conn)
+        → ((state S.Store stock.conn).now.trees 0 ≡ []) × ((state S.Store stock.conn).committed.trees 0 ≡ [])) }
 {
-    Stock::over(connect(rt, path)?)
+    Stock::over(database?)
+}
+
+/// Does work with the table of a file, which is made if it is not there. A file that another process
+/// has open is waited for, a second at most. The answer is the table, which is still open, and what
+/// came of the work.
+pub fn with<W: Work>(
+    rt: &HostRuntime,
+    path: &str,
+    work: &mut W,
+) -> Result<(Stock<FileStore<File>>, W::Done)> {
+    work.run(rt, connect(rt, path))
 }
 
 /// Whether a file was not opened since the disk is full, or failed.

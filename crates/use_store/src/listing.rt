@@ -1,11 +1,12 @@
 //! The rows of a table, printed.
 use crate::file;
+use crate::file::Work;
 use anyhow::Result;
 use csv::Writer;
 use example_import::row::Row;
 use example_table::database::Stock;
 use example_table::reading::{Rows, Stored};
-use sqlite::Alter;
+use sqlite::{Alter, Connection};
 use std::alloc::Global;
 use std::io;
 use std::io::Write;
@@ -82,11 +83,29 @@ fn print<S: Alter + Drop>(rt: &HostRuntime, stock: &mut Stock<S>) -> Result<bool
     Ok(valid)
 }
 
+/// Prints the rows of a table.
+#[derive(Drop)]
+struct Listing;
+
+impl Work for Listing {
+    /// Whether each row is valid.
+    type Done = Result<bool>;
+
+    fn run<S: Alter + Drop>(
+        &mut self,
+        rt: &HostRuntime,
+        database: Result<Connection<S>, sqlite::Error>,
+    ) -> Result<(Stock<S>, Result<bool>)> {
+        let mut stock = file::open(database)?;
+        let printed = print(rt, &mut stock);
+        Ok((stock, printed))
+    }
+}
+
 /// Prints the rows of the table of a file as a list in CSV, and the faults of a row that is not valid
 /// on standard error. The answer is whether each row is valid.
 pub fn list(rt: &HostRuntime, path: &str) -> Result<bool> {
-    let mut stock = file::open(rt, path)?;
-    let printed = print(rt, &mut stock);
+    let (stock, printed) = file::with(rt, path, &mut Listing)?;
     let closed = file::close(stock);
     let valid = printed?;
     closed?;

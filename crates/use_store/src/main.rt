@@ -9,6 +9,7 @@ mod listing;
 mod options;
 
 use crate::faults::Faults;
+use crate::file::Work;
 use crate::list::CsvList;
 use crate::options::{Options, Task, USAGE};
 use anyhow::{Error, Result, anyhow, bail};
@@ -19,7 +20,7 @@ use garde::I18n;
 use garde_catalog::{ENGLISH, languages};
 use garde_csv::ListError;
 use garde_problem::WithCodes;
-use sqlite::FileStore;
+use sqlite::{Alter, Connection, FileStore};
 use std::cell::Cell;
 use std::fmt::Display;
 use std::fs::File;
@@ -95,25 +96,40 @@ fn not_opened(error: OpenError) -> Error {
     }
 }
 
-/// Imports a list into the table of a file, with the texts of a handler. The answer is whether all of
-/// its rows were stored.
-fn store_list<R: Read + Drop, W: Write + Drop, H: I18n>(
-    rt: &HostRuntime,
-    mut list: CsvList<'_, R>,
-    mut out: Faults<'_, W>,
-    options: &Options<'_>,
-    h: &H,
-) -> Result<bool> {
-    let alloc = rt.alloc();
-    let mut stock = match file::open(rt, options.path) {
-        Ok(stock) => stock,
-        Err(error) => return Err(not_opened(error)),
-    };
-    match import(alloc, &mut stock, &mut list, &mut out, options.batch, h) {
-        Ok(progress) => end(rt, stock, progress, &mut out),
-        Err(stopped) => {
-            let _ = out.out.flush();
-            Err(reason(&stopped))
+/// An import of a list, with the texts of a handler.
+#[derive(Drop)]
+struct Import<'w, R, W, H> {
+    list: CsvList<'w, R>,
+    out: Faults<'w, W>,
+    batch: Batch,
+    h: &'w H,
+}
+
+impl<'w, R: Read + Drop, W: Write + Drop, H: I18n> Work for Import<'w, R, W, H> {
+    type Done = Progress;
+
+    fn run<S: Alter + Drop>(
+        &mut self,
+        rt: &HostRuntime,
+        database: Result<Connection<S>, sqlite::Error>,
+    ) -> Result<(Stock<S>, Progress)> {
+        let mut stock = match file::open(database) {
+            Ok(stock) => stock,
+            Err(error) => return Err(not_opened(error)),
+        };
+        match import(
+            rt.alloc(),
+            &mut stock,
+            &mut self.list,
+            &mut self.out,
+            self.batch,
+            self.h,
+        ) {
+            Ok(progress) => Ok((stock, progress)),
+            Err(stopped) => {
+                let _ = self.out.out.flush();
+                Err(reason(&stopped))
+            }
         }
     }
 }
@@ -134,7 +150,15 @@ fn store_source<R: Read + Drop, H: I18n>(
         line: &line,
     };
     let list = CsvList::new(rt.alloc(), source, &line)?;
-    store_list(rt, list, out, options, h)
+    let batch = options.batch;
+    let mut work = Import {
+        list,
+        out,
+        batch,
+        h,
+    };
+    let (stock, progress) = file::with(rt, options.path, &mut work)?;
+    end(rt, stock, progress, &mut work.out)
 }
 
 /// Imports the list of a source into the table of a file, and prints faults in the language that is
