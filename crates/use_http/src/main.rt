@@ -16,13 +16,14 @@ use anyhow::{Context, Result, bail};
 use garde_catalog::{Catalogs, languages};
 use garde_service::answer_all;
 use http_server::{Config, Reason, State};
+use std::alloc::Global;
 use std::hash::RandomState;
 use std::io::BufWriter;
 use std::process::ExitCode;
 use std::{env, io};
 
-/// Answers all requests of standard input.
-fn run(rt: &HostRuntime, most: usize, dates: bool) -> Result<ExitCode> {
+/// Answers all requests of standard input in these languages, and says how the connection stands then.
+fn serve(rt: &HostRuntime, most: usize, dates: bool, catalogs: &Catalogs) -> Result<State> {
     let alloc = rt.alloc();
     // No request is read while an answer is pending, so a refusal of `http_server` is pending alone.
     let config = Config {
@@ -31,17 +32,36 @@ fn run(rt: &HostRuntime, most: usize, dates: bool) -> Result<ExitCode> {
         ..Config::default()
     };
     let clock = dates.then_some(rt);
-    let offered = languages();
-    let catalogs = Catalogs::new(alloc, &offered, offered[0])?;
     let orders = Orders {
         alloc,
         clock,
-        catalogs: &catalogs,
+        catalogs,
     };
     let keys = RandomState::new(rt)?;
     let mut output = BufWriter::new(alloc, io::writer(rt))?;
-    let mut input = rt.stdin();
-    match answer_all(alloc, keys, config, clock, &orders, &mut input, &mut output)? {
+    let served = answer_all(
+        alloc,
+        keys,
+        config,
+        clock,
+        &orders,
+        &mut rt.stdin(),
+        &mut output,
+    );
+    Ok(served?)
+}
+
+/// The catalogs of all languages. The first of them is for a request that asks for none of them.
+fn catalogs_of(alloc: Global) -> Result<Catalogs> {
+    let offered = languages();
+    Ok(Catalogs::new(alloc, &offered, offered[0])?)
+}
+
+/// Answers all requests of standard input.
+fn run(rt: &HostRuntime, most: usize, dates: bool) -> Result<ExitCode> {
+    let catalogs = catalogs_of(rt.alloc())?;
+    let served = serve(rt, most, dates, &catalogs);
+    match served? {
         State::Closing(Reason::Asked | Reason::EndOfInput) => Ok(ExitCode::SUCCESS),
         State::Closing(Reason::Refused(_)) => Ok(ExitCode::FAILURE),
         _ => bail!("out of memory"),
