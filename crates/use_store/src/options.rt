@@ -60,8 +60,8 @@ const BATCH: usize = 1000;
 #[derive(Clone, Copy)]
 struct Words<'w> {
     batch: Option<usize>,
-    // The next word is the number of `--batch`.
-    is_number: bool,
+    // Whether the next word is the number of `--batch`.
+    wants_number: bool,
     is_whole: bool,
     asked: Asked<'w>,
     spoken: Spoken<'w>,
@@ -71,7 +71,7 @@ impl<'w> Words<'w> {
     fn of(words: &'w [String]) -> Result<Words<'w>, &'static str> {
         let mut taken = Words {
             batch: None,
-            is_number: false,
+            wants_number: false,
             is_whole: false,
             asked: Asked::new(),
             spoken: Spoken::new(),
@@ -79,7 +79,7 @@ impl<'w> Words<'w> {
         for word in words {
             taken.take(word)?;
         }
-        if taken.is_number {
+        if taken.wants_number {
             return Err(NO_NUMBER);
         }
         Ok(taken)
@@ -87,13 +87,13 @@ impl<'w> Words<'w> {
 
     // Takes the next word.
     fn take(&mut self, word: &'w str) -> Result<(), &'static str> {
-        if self.is_number {
+        if self.wants_number {
             self.batch = Some(rows_each(word)?);
-            self.is_number = false;
+            self.wants_number = false;
         } else if !self.asked.is_open && self.spoken.take(word)? {
             return Ok(());
         } else if word == "--batch" && self.can_be_number() {
-            self.is_number = true;
+            self.wants_number = true;
         } else if !self.asked.take(word)? {
             return self.take_alone(word);
         }
