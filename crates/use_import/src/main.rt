@@ -109,39 +109,42 @@ fn header<R: Read + Drop>(
     }
 }
 
-/// Prints every fault of a header row, which begins in this line.
-fn tell_columns<W: Write>(
+/// Prints every fault of a header row, which begins in this line, and fails.
+fn reject_columns<W: Write>(
     alloc: Global,
     naming: Naming<'_>,
     line: u64,
     report: &Report,
     out: &mut W,
-) -> Result<()> {
+) -> Result<bool> {
     match naming {
-        Naming::Placed(printed) => tell_header(alloc, printed, line, report, out),
-        _ => Ok(write!(out, "{}", Escaped(alloc, report))?),
+        Naming::Placed(printed) => tell_header(alloc, printed, line, report, out)?,
+        _ => write!(out, "{}", Escaped(alloc, report))?,
     }
+    Err(anyhow!("these are not the columns of a list"))
 }
 
-/// The list of these records, whose header row has each of the columns and no other. It prints every
-/// fault of another header row.
-fn open<'a, R: Read + Drop, W: Write, H: I18n + FormI18n>(
+/// Checks the rows of these records, whose header row has each of the columns and no other. It prints
+/// every fault of another header row. The answer is whether nothing is wrong.
+fn check_rows<R: Read + Drop, W: Write, H: I18n + FormI18n>(
     alloc: Global,
     records: Records<R>,
-    header: &'a StringRecord,
-    naming: Naming<'_>,
+    header: &StringRecord,
+    options: &Options<'_>,
     h: &H,
     out: &mut W,
-) -> Result<List<'a, R>> {
+) -> Result<bool> {
     match read_columns(alloc, header, Names(&COLUMNS), h) {
-        Ok(columns) => Ok(List {
-            records,
-            columns,
-            cells: StringRecord::new(alloc),
-        }),
+        Ok(columns) => {
+            let mut list = List {
+                records,
+                columns,
+                cells: StringRecord::new(alloc),
+            };
+            import(alloc, &mut list, options, h, out)
+        }
         Err(ValidateError::Report(report)) => {
-            tell_columns(alloc, naming, records.line(), &report, out)?;
-            Err(anyhow!("these are not the columns of a list"))
+            reject_columns(alloc, options.naming, records.line(), &report, out)
         }
         Err(error) => Err(error.into()),
     }
@@ -157,8 +160,7 @@ fn check<R: Read + Drop, W: Write, H: I18n + FormI18n>(
 ) -> Result<bool> {
     let mut records = Records::new(alloc, source)?;
     let header = header(alloc, &mut records, options.has_header)?;
-    let mut list = open(alloc, records, &header, options.naming, h, out)?;
-    import(alloc, &mut list, options, h, out)
+    check_rows(alloc, records, &header, options, h, out)
 }
 
 /// Checks the list of a source. A fault that has a place has a code, too.
