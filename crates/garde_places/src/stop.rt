@@ -21,8 +21,8 @@ pub struct Stop<'w> {
 /// Where the bytes stop being one JSON text (RFC 8259) nested no deeper than 128, and why; none where
 /// they are one. Bytes that are not UTF-8 stop at the first that is not.
 ///
-/// A stop of UTF-8 is at one of its bytes, or at its end. That UTF-8 stops just where it is no JSON
-/// text, and at the first byte that cannot stand there, is tested alone.
+/// A stop of UTF-8 is at one of its bytes, or at its end. That UTF-8 stops exactly if it is no JSON
+/// text, and then at the first byte that cannot stand there, is tested alone.
 pub fn stop_of(alloc: Global, bytes: &[u8]) -> Result<Option<Stop<'static>>, AllocError>
     ensures place { IfOk result (λ stop. MatchOption stop (IsUtf8 bytes.now) (λ it. IsStopIn bytes.now it.place)) }
     ensures utf8 { IfOk result (λ stop. ¬ IsUtf8 bytes.now
