@@ -15,6 +15,7 @@ mod languages;
 mod list_rules;
 mod lists;
 mod long;
+mod long_text;
 mod maps;
 mod members;
 mod nested;

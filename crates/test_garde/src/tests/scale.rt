@@ -2,4 +2,5 @@
 mod label;
 mod leaks;
 mod long;
+mod made;
 mod walked;

@@ -6,8 +6,7 @@ use super::told::told;
 use garde::fields::{Ascii, Is, Prefix, Rule};
 use garde::{I18n, RuleError, range};
 use garde_schema::{
-    Built, Checked, Closed, FormI18n, FromParts, List, Member, Object, Text, TextRef, U32, Under,
-    Whole,
+    Built, Checked, Closed, FromParts, List, Member, Object, Text, TextRef, U32, Under, Whole,
 };
 use garde_tape::Tree;
 use std::alloc::{AllocError, Global};
@@ -22,12 +21,7 @@ pub enum Case {
 }
 
 /// The value of a tree of this form, as text, or its report.
-pub fn told_by<H: I18n + FormI18n>(
-    alloc: Global,
-    tree: &Tree<'_, '_>,
-    case: &Case,
-    h: &H,
-) -> Result<String, AllocError> {
+pub fn told_by(alloc: Global, tree: &Tree<'_, '_>, case: &Case) -> Result<String, AllocError> {
     match case {
         Case::Lines => {
             let line = Object(Closed((
@@ -36,7 +30,7 @@ pub fn told_by<H: I18n + FormI18n>(
                 Member("cents", Whole(U32, Is(range!(max = 9999)))),
             )));
             let form = List(Built(line, PhantomData::<&Line<'_>>));
-            told(alloc, tree, &form, h)
+            told(alloc, tree, &form)
         }
         // A span and its name. The rule over both ends stands under the last of them.
         Case::Span => {
@@ -44,12 +38,12 @@ pub fn told_by<H: I18n + FormI18n>(
             let ends = (from, Member("to", Whole(U32, ())));
             let span = Checked(ends, Under("to", Is(InOrder)));
             let form = Object(Closed((span, Member("name", Text(Is(Ascii))))));
-            told(alloc, tree, &form, h)
+            told(alloc, tree, &form)
         }
         // Both ends, by a rule on the object itself.
         Case::Ends => {
             let ends = Object((Member("from", Whole(U32, ())), Member("to", Whole(U32, ()))));
-            told(alloc, tree, &Checked(ends, Is(InOrder)), h)
+            told(alloc, tree, &Checked(ends, Is(InOrder)))
         }
     }
 }

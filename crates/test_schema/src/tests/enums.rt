@@ -1,6 +1,6 @@
 //! Texts that stand for values: the whole report of each body in English and as codes, or its value.
 
-use super::told::told;
+use super::told::told_with;
 use garde::I18n;
 use garde_schema::{FormI18n, Member, Object, OneOf, Optional};
 use garde_tape::Tree;
@@ -32,7 +32,7 @@ pub fn order<H: I18n + FormI18n>(
         ),
         Optional("stars", OneOf(&[("one", 1_u8), ("two", 2), ("three", 3)])),
     ));
-    told(alloc, tree, &form, h)
+    told_with(alloc, tree, &form, h)
 }
 
 /// Bodies, and what each reads as, in English and as codes.

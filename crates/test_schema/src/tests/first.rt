@@ -1,6 +1,6 @@
 //! Reads that report at most so many faults of form and of rules.
 
-use super::long::Long;
+use super::long_text::Long;
 use super::{OrEnd, is_text};
 use garde::fields::Is;
 use garde::{DefaultI18n, length, range};

@@ -4,9 +4,10 @@ ghost use Rattle.std.specs.Prelude.{nat_le, length};
 ghost use Rattle.garde.specs.Fields.{asks};
 
 use super::is_handed;
-use super::long::{Long, is_told};
+use super::long::is_told;
+use super::long_text::Long;
 use super::texts::Texts;
-use super::told::{Case, check, told};
+use super::told::{Tells, check, told_with};
 use garde::fields::{Is, Rule};
 use garde::{DefaultI18n, I18n, RuleError};
 use garde_problem::WithCodes;
@@ -34,24 +35,24 @@ impl<'a> Rule<TextRef<'a>> for Least {
     }
 }
 
-/// A person with a name, who wants news or not, has a motto or none, and whose address has a town.
-pub fn person<H: I18n + FormI18n>(
-    alloc: Global,
-    tree: &Tree<'_, '_>,
-    h: &H,
-) -> Result<String, AllocError> {
-    let town = Object(Member("town", Text((Is(Least(2)), Is(Least(3))))));
-    let person = Closed((
-        (Member("name", Text(Is(Least(3)))), Member("news", Flag)),
-        (
-            Optional("motto", Text(())),
+// A person with a name, who wants news or not, has a motto or none, and whose address has a town.
+struct Person;
+
+impl Tells for Person {
+    fn tell(&self, alloc: Global, tree: &Tree<'_, '_>) -> Result<String, AllocError> {
+        let town = Object(Member("town", Text((Is(Least(2)), Is(Least(3))))));
+        let person = Closed((
+            (Member("name", Text(Is(Least(3)))), Member("news", Flag)),
             (
-                Member("address", town),
-                (Member("end", Null), Optional("more", Any)),
+                Optional("motto", Text(())),
+                (
+                    Member("address", town),
+                    (Member("end", Null), Optional("more", Any)),
+                ),
             ),
-        ),
-    ));
-    told(alloc, tree, &Object(person), h)
+        ));
+        told_with(alloc, tree, &Object(person), &Texts(DefaultI18n))
+    }
 }
 
 const BODIES: &[(&str, &str)] = &[
@@ -99,8 +100,7 @@ const BODIES: &[(&str, &str)] = &[
 #[test]
 fn tells_every_fault_of_form_and_of_rules(rt: HostRuntime) {
     for (body, expected) in BODIES {
-        let h = Texts(DefaultI18n);
-        check(&rt, rt.alloc(), &Case::Forms, body.as_bytes(), &h, expected);
+        check(&rt, rt.alloc(), &Person, body.as_bytes(), expected);
     }
 }
 
@@ -118,7 +118,7 @@ static UNKNOWN: (Long, Long) = (
 #[test]
 fn tells_each_of_many_unknown_members(rt: HostRuntime) {
     let (body, told) = &UNKNOWN;
-    assert!(rt; is_told(rt.alloc(), &Case::Forms, &Texts(DefaultI18n), body, told));
+    assert!(rt; is_told(rt.alloc(), &Person, body, told));
 }
 
 // A fault of form, its text, and its text with a code.

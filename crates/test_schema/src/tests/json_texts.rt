@@ -3,20 +3,16 @@
 use super::is_text;
 use super::told::{Case, check, told};
 use garde::fields::Is;
-use garde::{DefaultI18n, I18n, length};
+use garde::{DefaultI18n, length};
 use garde_schema::{
-    Any, Closed, FormI18n, Member, Null, Object, Optional, ParseError, Place, ReadError, Scratch,
-    Text, Tree, U8, Whole, read_json,
+    Any, Closed, Member, Null, Object, Optional, ParseError, Place, ReadError, Scratch, Text, Tree,
+    U8, Whole, read_json,
 };
 use std::alloc::{AllocError, Global};
 use std::process::Abort;
 
 /// A name, perhaps an age, a town and whatever there is, and names that a path may confuse.
-pub fn person<H: I18n + FormI18n>(
-    alloc: Global,
-    tree: &Tree<'_, '_>,
-    h: &H,
-) -> Result<String, AllocError> {
+pub fn person(alloc: Global, tree: &Tree<'_, '_>) -> Result<String, AllocError> {
     let town = Object(Closed(Member("town", Text(Is(length!(min = 2))))));
     let person = Closed((
         (
@@ -31,7 +27,7 @@ pub fn person<H: I18n + FormI18n>(
             ),
         ),
     ));
-    told(alloc, tree, &Object(person), h)
+    told(alloc, tree, &Object(person))
 }
 
 // Bodies, and what each reads as.
@@ -168,7 +164,7 @@ const FAULTS: &[(&[u8], &str)] = &[
 // Ends at the first of these bodies of which something else is told.
 fn check_bodies(rt: &impl Abort, alloc: Global, bodies: &[(&[u8], &str)]) {
     for (body, expected) in bodies {
-        check(rt, alloc, &Case::Json, body, &DefaultI18n, expected);
+        check(rt, alloc, &Case::Json, body, expected);
     }
 }
 

@@ -9,8 +9,8 @@ use garde::fields::{
 };
 use garde::{I18n, Report, RuleError, Trail, all, length};
 use garde_schema::{
-    Checked, Count, Flag, FormI18n, Items, List, ListUnder, Member, Object, Optional, Text,
-    TextRef, U8, Under, Whole,
+    Checked, Count, Flag, Items, List, ListUnder, Member, Object, Optional, Text, TextRef, U8,
+    Under, Whole,
 };
 use garde_tape::Tree;
 use std::alloc::{AllocError, Global};
@@ -27,55 +27,46 @@ pub enum Case {
 }
 
 /// The value of a tree of this form, as text, or its report.
-pub fn told_by<H: I18n + FormI18n>(
-    alloc: Global,
-    tree: &Tree<'_, '_>,
-    case: &Case,
-    h: &H,
-) -> Result<String, AllocError> {
+pub fn told_by(alloc: Global, tree: &Tree<'_, '_>, case: &Case) -> Result<String, AllocError> {
     match case {
-        Case::Several => told(alloc, tree, &ListUnder(Is(Several), Whole(U8, ())), h),
+        Case::Several => told(alloc, tree, &ListUnder(Is(Several), Whole(U8, ()))),
         // At most four texts, of which no two are the same.
         Case::Apart => {
             let rules = (Is(length!(max = 4)), Unique("stands before", Equal));
             let form = ListUnder(rules, Text(Is(Ascii)));
-            told(alloc, tree, &form, h)
+            told(alloc, tree, &form)
         }
-        Case::Many => many(alloc, tree, h),
+        Case::Many => many(alloc, tree),
         // Texts of two bytes at most, asked after all of them, unless there are two or more.
         Case::Each => {
             let never = When(false, Is(length!(max = 1)));
             let rules = When(true, (Each(Is(length!(max = 2))), never));
-            told(alloc, tree, &ListUnder(&rules, Text(Is(Ascii))), h)
+            told(alloc, tree, &ListUnder(&rules, Text(Is(Ascii))))
         }
         // A list that may be missing, of texts that are all different.
         Case::MaybeApart => {
             let apart = Under("tags", IfSome(Unique("stands before", Equal)));
             let tags = Checked(Optional("tags", List(Text(()))), apart);
-            told(alloc, tree, &Object((tags, Optional("end", Flag))), h)
+            told(alloc, tree, &Object((tags, Optional("end", Flag))))
         }
         // Tags, and a phone number that may be missing.
         Case::Rush => {
             let phone = Optional("phone", Whole(U8, ()));
             let members = (Member("tags", List(Text(()))), phone);
             let form = Object(Checked(members, Under("phone", PhoneForRush)));
-            told(alloc, tree, &form, h)
+            told(alloc, tree, &form)
         }
     }
 }
 
 // Lists of texts under five and under six rules: of how many there are, and of the texts.
-fn many<H: I18n + FormI18n>(
-    alloc: Global,
-    tree: &Tree<'_, '_>,
-    h: &H,
-) -> Result<String, AllocError> {
+fn many(alloc: Global, tree: &Tree<'_, '_>) -> Result<String, AllocError> {
     let (few, short) = (Is(length!(max = 2)), Each(Is(length!(max = 1))));
     let apart = Unique("stands before", Equal);
     let five = ListUnder(all!(few, apart, few, short, Is(Several)), Text(()));
     let six = ListUnder(all!(few, few, few, Is(Several), short, apart), Text(()));
     let form = Object((Member("five", five), Member("six", six)));
-    told(alloc, tree, &form, h)
+    told(alloc, tree, &form)
 }
 
 // The rule that a list has two items or more.

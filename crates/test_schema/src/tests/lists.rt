@@ -1,13 +1,12 @@
 //! Lists: the whole report of each body, or its values in order.
 
 use super::OrEnd;
-use super::long::Long;
+use super::long_text::Long;
 use super::told::told;
 use garde::fields::{Ascii, Is};
-use garde::{DefaultI18n, I18n, length, range};
+use garde::{DefaultI18n, length, range};
 use garde_schema::{
-    Flag, FormI18n, List, ListUnder, Member, Object, Optional, Scratch, Text, U8, U16, Whole,
-    read_json,
+    Flag, List, ListUnder, Member, Object, Optional, Scratch, Text, U8, U16, Whole, read_json,
 };
 use garde_tape::Tree;
 use std::alloc::{AllocError, Global};
@@ -21,30 +20,25 @@ pub enum Case {
 }
 
 /// The value of a tree of this form, as text, or its report.
-pub fn told_by<H: I18n + FormI18n>(
-    alloc: Global,
-    tree: &Tree<'_, '_>,
-    case: &Case,
-    h: &H,
-) -> Result<String, AllocError> {
+pub fn told_by(alloc: Global, tree: &Tree<'_, '_>, case: &Case) -> Result<String, AllocError> {
     match case {
         // An object with tags.
         Case::Tags => {
             let tag = Text((Is(Ascii), Is(length!(min = 1, max = 3))));
             let form = Object((Member("tags", List(tag)), Optional("end", Flag)));
-            told(alloc, tree, &form, h)
+            told(alloc, tree, &form)
         }
         // At most three small numbers.
         Case::Few => {
             let rules = (Is(length!(min = 1, max = 3)), Is(length!(max = 4)));
             let form = ListUnder(rules, Whole(U8, Is(range!(max = 9))));
-            told(alloc, tree, &form, h)
+            told(alloc, tree, &form)
         }
-        Case::Numbers => told(alloc, tree, &List(Whole(U16, ())), h),
+        Case::Numbers => told(alloc, tree, &List(Whole(U16, ()))),
         // Lists in a list, ten deep.
         Case::Deep => {
             let five = List(List(List(List(List(Whole(U8, ()))))));
-            told(alloc, tree, &List(List(List(List(List(five))))), h)
+            told(alloc, tree, &List(List(List(List(List(five))))))
         }
     }
 }

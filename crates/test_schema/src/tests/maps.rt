@@ -2,10 +2,8 @@
 
 use super::told::told;
 use garde::fields::{Alphanumeric, Ascii, Is};
-use garde::{I18n, all, length, range};
-use garde_schema::{
-    Flag, FormI18n, Keys, List, Map, MapUnder, Member, Object, Text, U8, U16, Whole,
-};
+use garde::{all, length, range};
+use garde_schema::{Flag, Keys, List, Map, MapUnder, Member, Object, Text, U8, U16, Whole};
 use garde_tape::Tree;
 use std::alloc::{AllocError, Global};
 
@@ -20,23 +18,18 @@ pub enum Case {
 }
 
 /// The value of a tree of this form, as text, or its report.
-pub fn told_by<H: I18n + FormI18n>(
-    alloc: Global,
-    tree: &Tree<'_, '_>,
-    case: &Case,
-    h: &H,
-) -> Result<String, AllocError> {
+pub fn told_by(alloc: Global, tree: &Tree<'_, '_>, case: &Case) -> Result<String, AllocError> {
     match case {
         // An object with labels.
         Case::Labels => {
             let label = Text((Is(Ascii), Is(length!(max = 3))));
             let form = Object((Member("labels", Map(label)), Member("end", Flag)));
-            told(alloc, tree, &form, h)
+            told(alloc, tree, &form)
         }
         // An object of one or two labels.
         Case::FewLabels => {
             let form = MapUnder(Is(length!(min = 1, max = 2)), Text(Is(Ascii)));
-            told(alloc, tree, &form, h)
+            told(alloc, tree, &form)
         }
         // An object of one or two numbers under short names of letters and digits.
         Case::Named => {
@@ -45,26 +38,22 @@ pub fn told_by<H: I18n + FormI18n>(
                 (Is(length!(max = 2)), names),
                 Whole(U8, Is(range!(max = 9))),
             );
-            told(alloc, tree, &form, h)
+            told(alloc, tree, &form)
         }
-        Case::Many => many(alloc, tree, h),
-        Case::Numbers => told(alloc, tree, &Map(Whole(U16, ())), h),
-        Case::Nested => told(alloc, tree, &Map(List(Map(Map(Whole(U8, ()))))), h),
+        Case::Many => many(alloc, tree),
+        Case::Numbers => told(alloc, tree, &Map(Whole(U16, ()))),
+        Case::Nested => told(alloc, tree, &Map(List(Map(Map(Whole(U8, ())))))),
     }
 }
 
 // Numbers under five and under six rules: of how many there are, and of their names.
-fn many<H: I18n + FormI18n>(
-    alloc: Global,
-    tree: &Tree<'_, '_>,
-    h: &H,
-) -> Result<String, AllocError> {
+fn many(alloc: Global, tree: &Tree<'_, '_>) -> Result<String, AllocError> {
     let (few, plain) = (Is(length!(max = 1)), Keys(Is(Alphanumeric)));
     let short = Keys(Is(length!(max = 1)));
     let five = MapUnder(all!(few, plain, short, few, plain), Whole(U8, ()));
     let six = MapUnder(all!(plain, few, few, plain, few, short), Whole(U8, ()));
     let form = Object((Member("five", five), Member("six", six)));
-    told(alloc, tree, &form, h)
+    told(alloc, tree, &form)
 }
 
 /// Bodies, and what each reads as.

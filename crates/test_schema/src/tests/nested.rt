@@ -4,13 +4,12 @@ ghost use Rattle.std.proofs.Common.{rules};
 ghost use Rattle.test_schema.specs.declared.tests.nested.Folder.{out-Folder, roll-Folder, the_lemmas};
 
 use super::OrEnd;
-use super::long::Long;
+use super::long_text::Long;
 use super::told::{Case as Form, told, told_of};
 use garde::fields::{Ascii, Is};
-use garde::{DefaultI18n, I18n, length, range};
+use garde::{length, range};
 use garde_schema::{
-    Closed, FormI18n, FromNested, Items, Member, Members, Nested, Optional, Text, TextRef, U16,
-    Whole, laws,
+    Closed, FromNested, Items, Member, Members, Nested, Optional, Text, TextRef, U16, Whole, laws,
 };
 use garde_tape::Tree;
 use std::alloc::{AllocError, Global};
@@ -23,12 +22,7 @@ pub enum Case {
 }
 
 /// The value of a tree of this form, as text, or its report.
-pub fn told_by<H: I18n + FormI18n>(
-    alloc: Global,
-    tree: &Tree<'_, '_>,
-    case: &Case,
-    h: &H,
-) -> Result<String, AllocError> {
+pub fn told_by(alloc: Global, tree: &Tree<'_, '_>, case: &Case) -> Result<String, AllocError> {
     match case {
         Case::Closed => {
             let members = (
@@ -36,13 +30,13 @@ pub fn told_by<H: I18n + FormI18n>(
                 Optional("size", Whole(U16, Is(range!(max = 1000)))),
             );
             let form = Closed(Nested("folders", members, PhantomData::<&Folder<'_>>));
-            told(alloc, tree, &form, h)
+            told(alloc, tree, &form)
         }
         Case::Open => {
             let members = (Member("name", Text(())), Optional("size", Whole(U16, ())));
             let form = Nested("folders", members, PhantomData::<&Folder<'_>>);
             leaves_none_out(&form);
-            told(alloc, tree, &form, h)
+            told(alloc, tree, &form)
         }
     }
 }
@@ -158,6 +152,6 @@ fn has_a_fault_at_each_depth(told: &str) -> bool {
 fn tells_a_fault_of_each_folder_of_sixty(rt: HostRuntime) {
     let body = SIXTY.text(rt.alloc()).or_end(&rt);
     let bytes = body.as_str().as_bytes();
-    let read = told_of(rt.alloc(), &Form::Nested(Case::Closed), bytes, &DefaultI18n);
+    let read = told_of(rt.alloc(), &Form::Nested(Case::Closed), bytes);
     assert!(rt; has_a_fault_at_each_depth(read.or_end(&rt).as_str()));
 }

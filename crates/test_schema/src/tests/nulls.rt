@@ -1,6 +1,6 @@
 //! Values that may be null, and members that may be null or missing, beside those that may not.
 
-use super::told::told;
+use super::told::told_with;
 use garde::fields::Is;
 use garde::{I18n, length, range};
 use garde_schema::{
@@ -32,7 +32,7 @@ pub fn told_by<H: I18n + FormI18n>(
                 (must, Optional("may", Nullable(text))),
                 (Nullish("ish", text), or),
             );
-            told(alloc, tree, &Object(Closed(texts)), h)
+            told_with(alloc, tree, &Object(Closed(texts)), h)
         }
         // Members that have defaults of other types, or are null in other places.
         Case::Defaults => {
@@ -42,7 +42,7 @@ pub fn told_by<H: I18n + FormI18n>(
                 (count, WithDefault("news", Flag, true)),
                 ((Nullish("null", Null), Nullish("any", Any)), twice),
             );
-            told(alloc, tree, &Nullable(Object(defaults)), h)
+            told_with(alloc, tree, &Nullable(Object(defaults)), h)
         }
     }
 }

@@ -1,6 +1,6 @@
 //! Unions by the only member: the whole report of each body in English and as codes, or its value.
 
-use super::told::told;
+use super::told::told_with;
 use garde::fields::Is;
 use garde::{I18n, range};
 use garde_schema::{
@@ -32,7 +32,7 @@ pub fn told_by<H: I18n + FormI18n>(
             let card = Object(Closed((Member("number", Text(())), Optional("year", year))));
             let cash = Member("cash", Whole(U64, ()));
             let either = (Member("card", card), (cash, Member("", Flag)));
-            told(alloc, tree, &OneMember(either, PhantomData), h)
+            told_with(alloc, tree, &OneMember(either, PhantomData), h)
         }
         // A payment as serde has it by default: in cash or by a transfer, of which nothing more is known,
         // or by a card.
@@ -40,7 +40,7 @@ pub fn told_by<H: I18n + FormI18n>(
             let plain = OneOf(&[("cash", 0_u8), ("transfer", 1)]);
             let card = Object(Closed(Member("number", Text(()))));
             let form = TextOr(plain, OneMember(Member("card", card), PhantomData));
-            told(alloc, tree, &form, h)
+            told_with(alloc, tree, &form, h)
         }
     }
 }

@@ -1,7 +1,7 @@
 //! A sign-up, whose texts and whole numbers are read under rules of `garde`: the whole report of each
 //! body in English and as codes.
 
-use super::told::told;
+use super::told::told_with;
 use garde::fields::{Ascii, Is, When};
 use garde::{I18n, length, range};
 use garde_schema::{FormI18n, I8, Member, Object, Text, U8, U64, Whole};
@@ -25,7 +25,7 @@ pub fn signup<H: I18n + FormI18n>(
             (Member("low", Whole(I8, ())), Member("big", Whole(U64, ()))),
         ),
     ));
-    told(alloc, tree, &form, h)
+    told_with(alloc, tree, &form, h)
 }
 
 /// Bodies, and what each reads as, in English and as codes.

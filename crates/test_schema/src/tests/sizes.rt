@@ -1,7 +1,7 @@
 //! Wide and deep bodies.
 
 use super::OrEnd;
-use super::long::Long;
+use super::long_text::Long;
 use garde_tape::{Found, ParseError, Scratch, Tree, parse};
 use std::alloc::Global;
 

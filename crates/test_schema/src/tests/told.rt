@@ -1,7 +1,7 @@
 //! What a body reads as by a form: its value, as it prints for debugging, or its whole report.
 
 use super::{
-    OrEnd, checked, enums, forms, json_texts, list_rules, lists, maps, nested, nulls, only_members,
+    OrEnd, checked, enums, json_texts, list_rules, lists, maps, nested, nulls, only_members,
     signup, tuples, unions, wide_numbers,
 };
 use garde::{CodeI18n, DefaultI18n, I18n};
@@ -11,33 +11,46 @@ use std::alloc::{AllocError, Global};
 use std::fmt::Debug;
 use std::process::Abort;
 
-/// The forms of these tests, by the module that has them.
+/// What tells what a tree reads as.
+pub trait Tells {
+    /// The value of a tree, as text, or its report.
+    fn tell(&self, alloc: Global, tree: &Tree<'_, '_>) -> Result<String, AllocError>;
+}
+
+/// The forms of these tests, by the module that has them. They tell faults in English.
 pub enum Case {
     Checked(checked::Case),
-    Enums,
-    Forms,
     Json,
     Lists(lists::Case),
     ListRules(list_rules::Case),
     Maps(maps::Case),
     Nested(nested::Case),
-    Nulls(nulls::Case),
-    OnlyMembers(only_members::Case),
-    Signup,
     /// So many members.
     Tuples(usize),
-    Unions,
     /// Of 128 bits, without a sign or with one.
     Wide(bool),
 }
+
+/// The forms whose faults are told in English and as codes.
+pub enum Coded {
+    Enums,
+    Nulls(nulls::Case),
+    OnlyMembers(only_members::Case),
+    Signup,
+    Unions,
+}
+
+// A form whose faults are told as codes.
+#[derive(Drop)]
+struct Codes<'c>(&'c Coded);
 
 // A value, as it prints for debugging.
 fn shown<T: Debug>(alloc: Global, value: &T) -> Result<String, AllocError> {
     format!(in alloc; "{value:?}")
 }
 
-/// The value of a tree of this form, as text, or its report.
-pub fn told<'a, F: Form<'a>, H: I18n + FormI18n>(
+/// The value of a tree of this form, as text, or its report with the texts of this handler.
+pub fn told_with<'a, F: Form<'a>, H: I18n + FormI18n>(
     alloc: Global,
     tree: &Tree<'_, 'a>,
     form: &F,
@@ -52,69 +65,87 @@ where
     }
 }
 
-fn told_by<H: I18n + FormI18n>(
+/// The same in English.
+pub fn told<'a, F: Form<'a>>(
+    alloc: Global,
+    tree: &Tree<'_, 'a>,
+    form: &F,
+) -> Result<String, AllocError>
+where
+    F::Out: Debug,
+{
+    told_with(alloc, tree, form, &DefaultI18n)
+}
+
+impl Tells for Case {
+    fn tell(&self, alloc: Global, tree: &Tree<'_, '_>) -> Result<String, AllocError> {
+        match self {
+            Case::Checked(case) => checked::told_by(alloc, tree, case),
+            Case::Json => json_texts::person(alloc, tree),
+            Case::Lists(case) => lists::told_by(alloc, tree, case),
+            Case::ListRules(case) => list_rules::told_by(alloc, tree, case),
+            Case::Maps(case) => maps::told_by(alloc, tree, case),
+            Case::Nested(case) => nested::told_by(alloc, tree, case),
+            Case::Tuples(size) => tuples::told_by(alloc, tree, *size),
+            Case::Wide(signed) => wide_numbers::number(alloc, tree, *signed),
+        }
+    }
+}
+
+fn coded_by<H: I18n + FormI18n>(
     alloc: Global,
     tree: &Tree<'_, '_>,
-    case: &Case,
+    case: &Coded,
     h: &H,
 ) -> Result<String, AllocError> {
     match case {
-        Case::Checked(case) => checked::told_by(alloc, tree, case, h),
-        Case::Enums => enums::order(alloc, tree, h),
-        Case::Forms => forms::person(alloc, tree, h),
-        Case::Json => json_texts::person(alloc, tree, h),
-        Case::Lists(case) => lists::told_by(alloc, tree, case, h),
-        Case::ListRules(case) => list_rules::told_by(alloc, tree, case, h),
-        Case::Maps(case) => maps::told_by(alloc, tree, case, h),
-        Case::Nested(case) => nested::told_by(alloc, tree, case, h),
-        Case::Nulls(case) => nulls::told_by(alloc, tree, case, h),
-        Case::OnlyMembers(case) => only_members::told_by(alloc, tree, case, h),
-        Case::Signup => signup::signup(alloc, tree, h),
-        Case::Tuples(size) => tuples::told_by(alloc, tree, *size, h),
-        Case::Unions => unions::payment(alloc, tree, h),
-        Case::Wide(signed) => wide_numbers::number(alloc, tree, *signed, h),
+        Coded::Enums => enums::order(alloc, tree, h),
+        Coded::Nulls(case) => nulls::told_by(alloc, tree, case, h),
+        Coded::OnlyMembers(case) => only_members::told_by(alloc, tree, case, h),
+        Coded::Signup => signup::signup(alloc, tree, h),
+        Coded::Unions => unions::payment(alloc, tree, h),
+    }
+}
+
+impl Tells for Coded {
+    fn tell(&self, alloc: Global, tree: &Tree<'_, '_>) -> Result<String, AllocError> {
+        coded_by(alloc, tree, self, &DefaultI18n)
+    }
+}
+
+impl Tells for Codes<'_> {
+    fn tell(&self, alloc: Global, tree: &Tree<'_, '_>) -> Result<String, AllocError> {
+        coded_by(alloc, tree, self.0, &CodeI18n)
     }
 }
 
 /// The same of bytes, or where they stop to be JSON.
-pub fn told_of<H: I18n + FormI18n>(
-    alloc: Global,
-    case: &Case,
-    bytes: &[u8],
-    h: &H,
-) -> Result<String, AllocError> {
+pub fn told_of<T: Tells>(alloc: Global, form: &T, bytes: &[u8]) -> Result<String, AllocError> {
     let mut scratch = Scratch::new(alloc);
     match parse_bytes(alloc, bytes, &mut scratch) {
-        Ok(tape) => told_by(alloc, &Tree::root(&tape), case, h),
+        Ok(tape) => form.tell(alloc, &Tree::root(&tape)),
         Err(error) => error.to_string(alloc),
     }
 }
 
 /// Asks that bytes read as this.
-pub fn check<H: I18n + FormI18n>(
-    rt: &impl Abort,
-    alloc: Global,
-    case: &Case,
-    bytes: &[u8],
-    h: &H,
-    expected: &str,
-) {
-    let told = told_of(alloc, case, bytes, h).or_end(rt);
+pub fn check<T: Tells>(rt: &impl Abort, alloc: Global, form: &T, bytes: &[u8], expected: &str) {
+    let told = told_of(alloc, form, bytes).or_end(rt);
     assert_eq!(rt; told.as_str(), expected);
 }
 
-// Asks that each body reads as this, in English.
-fn compare(rt: &impl Abort, alloc: Global, case: &Case, rows: &[(&str, &str)]) {
+// Asks that each body reads as this.
+fn compare<T: Tells>(rt: &impl Abort, alloc: Global, form: &T, rows: &[(&str, &str)]) {
     for (body, expected) in rows {
-        check(rt, alloc, case, body.as_bytes(), &DefaultI18n, expected);
+        check(rt, alloc, form, body.as_bytes(), expected);
     }
 }
 
 // Asks that each body reads as this, in English and as codes.
-fn compare_codes(rt: &impl Abort, alloc: Global, case: &Case, rows: &[(&str, &str, &str)]) {
+fn compare_codes(rt: &impl Abort, alloc: Global, form: &Coded, rows: &[(&str, &str, &str)]) {
     for (body, english, codes) in rows {
-        check(rt, alloc, case, body.as_bytes(), &DefaultI18n, english);
-        check(rt, alloc, case, body.as_bytes(), &CodeI18n, codes);
+        check(rt, alloc, form, body.as_bytes(), english);
+        check(rt, alloc, &Codes(form), body.as_bytes(), codes);
     }
 }
 
@@ -250,20 +281,20 @@ fn reads_defaults(rt: HostRuntime) {
     compare(
         &rt,
         rt.alloc(),
-        &Case::Nulls(nulls::Case::Defaults),
+        &Coded::Nulls(nulls::Case::Defaults),
         nulls::DEFAULTS,
     );
 }
 
 #[test]
 fn reads_enums(rt: HostRuntime) {
-    compare_codes(&rt, rt.alloc(), &Case::Enums, enums::ORDERS);
-    compare_codes(&rt, rt.alloc(), &Case::Unions, unions::PAYMENTS);
+    compare_codes(&rt, rt.alloc(), &Coded::Enums, enums::ORDERS);
+    compare_codes(&rt, rt.alloc(), &Coded::Unions, unions::PAYMENTS);
 }
 
 #[test]
 fn reads_a_sign_up(rt: HostRuntime) {
-    compare_codes(&rt, rt.alloc(), &Case::Signup, signup::SIGNUPS);
+    compare_codes(&rt, rt.alloc(), &Coded::Signup, signup::SIGNUPS);
 }
 
 #[test]
@@ -271,13 +302,13 @@ fn reads_objects_of_one_member(rt: HostRuntime) {
     compare_codes(
         &rt,
         rt.alloc(),
-        &Case::OnlyMembers(only_members::Case::Payment),
+        &Coded::OnlyMembers(only_members::Case::Payment),
         only_members::PAYMENTS,
     );
     compare_codes(
         &rt,
         rt.alloc(),
-        &Case::OnlyMembers(only_members::Case::Mixed),
+        &Coded::OnlyMembers(only_members::Case::Mixed),
         only_members::MIXED,
     );
 }
@@ -287,7 +318,7 @@ fn reads_nulls(rt: HostRuntime) {
     compare_codes(
         &rt,
         rt.alloc(),
-        &Case::Nulls(nulls::Case::Texts),
+        &Coded::Nulls(nulls::Case::Texts),
         nulls::TEXTS,
     );
 }

@@ -3,28 +3,39 @@
 
 use super::told::{Case, check, told};
 use garde::fields::Is;
-use garde::{DefaultI18n, I18n, all, parts, range};
-use garde_schema::{Closed, FormI18n, Member, Members, Object, U8, Whole, read};
+use garde::{DefaultI18n, all, parts, range};
+use garde_schema::{Closed, Member, Members, Object, U8, Whole, read};
 use garde_tape::Tree;
 use std::alloc::{AllocError, Global};
 use std::fmt::Debug;
 
-// What is told of a tree with sixteen members and no other, whose values are taken out of them.
-fn sixteen<'a, M: Members<'a> + Copy, H: I18n + FormI18n>(
+// What is told of a tree with these members and no other.
+fn told_of<'a, M: Members<'a> + Copy>(
     alloc: Global,
     tree: &Tree<'_, 'a>,
-    members: &[M; 16],
-    h: &H,
+    members: M,
 ) -> Result<String, AllocError>
 where
     M::Out: Debug,
 {
+    told(alloc, tree, &Object(Closed(members)))
+}
+
+// What is told of a tree with sixteen members and no other, whose values are taken out of them.
+fn sixteen<'a, M: Members<'a> + Copy>(
+    alloc: Global,
+    tree: &Tree<'_, 'a>,
+    members: &[M; 16],
+) -> Result<String, AllocError>
+where
+    M::Out: Debug + Copy,
+{
     let [a, b, c, d, e, f, g, i, j, k, l, m, n, o, p, q] = *members;
     let all = all!(a, b, c, d, e, f, g, i, j, k, l, m, n, o, p, q);
-    match read(alloc, &Object(Closed(all)), tree, h) {
+    match read(alloc, &Object(Closed(all)), tree, &DefaultI18n) {
         Ok(values) => {
             let parts!(a, b, c, d, e, f, g, i, j, k, l, m, n, o, p, q) = values;
-            let values = ((a, b, c, d, e, f, g, i), (j, k, l, m, n, o, p, q));
+            let values = [a, b, c, d, e, f, g, i, j, k, l, m, n, o, p, q];
             format!(in alloc; "{values:?}")
         }
         Err(error) => error.to_string(alloc),
@@ -33,30 +44,26 @@ where
 
 // What is told of a tree with so many of these members and no other: the first one to six, seven, the
 // last two of them in a tuple of their own, twelve or sixteen.
-fn told_of_members<'a, M: Members<'a> + Copy, H: I18n + FormI18n>(
+fn told_of_members<'a, M: Members<'a> + Copy>(
     alloc: Global,
     tree: &Tree<'_, 'a>,
     size: usize,
     members: &[M; 16],
-    h: &H,
 ) -> Result<String, AllocError>
 where
-    M::Out: Debug,
+    M::Out: Debug + Copy,
 {
     let [a, b, c, d, e, f, g, i, j, k, l, m, ..] = *members;
     match size {
-        1 => told(alloc, tree, &Object(Closed((a,))), h),
-        2 => told(alloc, tree, &Object(Closed((a, b))), h),
-        3 => told(alloc, tree, &Object(Closed((a, b, c))), h),
-        4 => told(alloc, tree, &Object(Closed((a, b, c, d))), h),
-        5 => told(alloc, tree, &Object(Closed((a, b, c, d, e))), h),
-        6 => told(alloc, tree, &Object(Closed((a, b, c, d, e, f))), h),
-        7 => told(alloc, tree, &Object(Closed((a, b, c, d, e, (f, g)))), h),
-        12 => {
-            let twelve = all!(a, b, c, d, e, f, g, i, j, k, l, m);
-            told(alloc, tree, &Object(Closed(twelve)), h)
-        }
-        _ => sixteen(alloc, tree, members, h),
+        1 => told_of(alloc, tree, (a,)),
+        2 => told_of(alloc, tree, (a, b)),
+        3 => told_of(alloc, tree, (a, b, c)),
+        4 => told_of(alloc, tree, (a, b, c, d)),
+        5 => told_of(alloc, tree, (a, b, c, d, e)),
+        6 => told_of(alloc, tree, (a, b, c, d, e, f)),
+        7 => told_of(alloc, tree, (a, b, c, d, e, (f, g))),
+        12 => told_of(alloc, tree, all!(a, b, c, d, e, f, g, i, j, k, l, m)),
+        _ => sixteen(alloc, tree, members),
     }
 }
 
@@ -68,14 +75,9 @@ macro_rules! numbers {
 }
 
 /// What a tree with so many numbers, and no other member, reads as.
-pub fn told_by<H: I18n + FormI18n>(
-    alloc: Global,
-    tree: &Tree<'_, '_>,
-    size: usize,
-    h: &H,
-) -> Result<String, AllocError> {
+pub fn told_by(alloc: Global, tree: &Tree<'_, '_>, size: usize) -> Result<String, AllocError> {
     let members = numbers!("a" "b" "c" "d" "e" "f" "g" "h" "i" "j" "k" "l" "m" "n" "o" "p");
-    told_of_members(alloc, tree, size, &members, h)
+    told_of_members(alloc, tree, size, &members)
 }
 
 // How many members there are, a body, and what it reads as.
@@ -147,7 +149,7 @@ static TUPLES: [(Case, &str, &str); 18] = [
     (
         Case::Tuples(16),
         "{\"p\":16,\"o\":15,\"n\":14,\"m\":13,\"l\":12,\"k\":11,\"j\":10,\"i\":9,\"h\":8,\"g\":7,\"f\":6,\"e\":5,\"d\":4,\"c\":3,\"b\":2,\"a\":1}",
-        "((1, 2, 3, 4, 5, 6, 7, 8), (9, 10, 11, 12, 13, 14, 15, 16))",
+        "[1, 2, 3, 4, 5, 6, 7, 8, 9, 10, 11, 12, 13, 14, 15, 16]",
     ),
     (
         Case::Tuples(16),
@@ -159,13 +161,6 @@ static TUPLES: [(Case, &str, &str); 18] = [
 #[test]
 fn reads_tuples_of_members(rt: HostRuntime) {
     for (case, body, expected) in &TUPLES {
-        check(
-            &rt,
-            rt.alloc(),
-            case,
-            body.as_bytes(),
-            &DefaultI18n,
-            expected,
-        );
+        check(&rt, rt.alloc(), case, body.as_bytes(), expected);
     }
 }

@@ -1,6 +1,6 @@
 //! Unions: the whole report of each body in English and as codes, or its value.
 
-use super::told::told;
+use super::told::told_with;
 use garde::fields::Is;
 use garde::{I18n, range};
 use garde_schema::{
@@ -21,7 +21,7 @@ pub fn payment<H: I18n + FormI18n>(
     let cash = Closed(Variant("cash", Member("sum", Whole(U64, ()))));
     let invoice = Variant("", Member("paid", Flag));
     let form = Tagged("kind", (Variant("card", card), (cash, invoice)));
-    told(alloc, tree, &form, h)
+    told_with(alloc, tree, &form, h)
 }
 
 /// Bodies, and what each reads as, in English and as codes.

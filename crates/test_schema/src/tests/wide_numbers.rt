@@ -2,22 +2,17 @@
 
 use super::told::{Case, check, told};
 use garde::fields::Is;
-use garde::{DefaultI18n, I18n, range};
-use garde_schema::{FormI18n, I128, U128, Whole};
+use garde::range;
+use garde_schema::{I128, U128, Whole};
 use garde_tape::Tree;
 use std::alloc::{AllocError, Global};
 
 /// A number without a sign, which is at least 7, or one with a sign, which is at most 7.
-pub fn number<H: I18n + FormI18n>(
-    alloc: Global,
-    tree: &Tree<'_, '_>,
-    signed: bool,
-    h: &H,
-) -> Result<String, AllocError> {
+pub fn number(alloc: Global, tree: &Tree<'_, '_>, signed: bool) -> Result<String, AllocError> {
     if signed {
-        told(alloc, tree, &Whole(I128, Is(range!(max = 7))), h)
+        told(alloc, tree, &Whole(I128, Is(range!(max = 7))))
     } else {
-        told(alloc, tree, &Whole(U128, Is(range!(min = 7))), h)
+        told(alloc, tree, &Whole(U128, Is(range!(min = 7))))
     }
 }
 
@@ -73,14 +68,7 @@ const NUMBERS: &[(&str, &str, &str)] = &[
 fn reads_whole_numbers_of_128_bits(rt: HostRuntime) {
     for (body, unsigned, signed) in NUMBERS {
         let (alloc, bytes) = (rt.alloc(), body.as_bytes());
-        check(
-            &rt,
-            alloc,
-            &Case::Wide(false),
-            bytes,
-            &DefaultI18n,
-            unsigned,
-        );
-        check(&rt, alloc, &Case::Wide(true), bytes, &DefaultI18n, signed);
+        check(&rt, alloc, &Case::Wide(false), bytes, unsigned);
+        check(&rt, alloc, &Case::Wide(true), bytes, signed);
     }
 }

@@ -1,6 +1,6 @@
 //! The fields of a web form: the names and the texts of each body.
 
-use crate::tests::long::Long;
+use crate::tests::long_text::Long;
 use crate::tests::{OrEnd, is_text};
 use garde_form::form_fields;
 use std::alloc::{AllocError, Global};

@@ -1,7 +1,7 @@
 //! Web forms in which the fields of some names are lists: the lists of each body, and the names of its
 //! members.
 
-use crate::tests::long::Long;
+use crate::tests::long_text::Long;
 use crate::tests::{OrEnd, is_text};
 use garde::DefaultI18n;
 use garde_form::{FormField, form_fields, read_form};

@@ -1,7 +1,7 @@
 //! Fields `Accept-Language`, each with the language that it asks for.
 
 use super::english;
-use crate::tests::long::Long;
+use crate::tests::long_text::Long;
 use crate::tests::{OrEnd, is_text};
 use garde_catalog::{Catalog, Catalogs, Key, Language, Spoken, languages, ranges_of};
 use std::alloc::Global;

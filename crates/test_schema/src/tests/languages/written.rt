@@ -1,7 +1,7 @@
 //! Tables that are written in files: read back, and with the faults that are reported.
 
 use super::english;
-use crate::tests::long::Long;
+use crate::tests::long_text::Long;
 use crate::tests::{OrEnd, is_text};
 use garde::DefaultI18n;
 use garde_catalog::{Catalog, Entry, KEYS, Key, Table, TableTexts, languages};

@@ -1,7 +1,7 @@
 //! Headers of many columns, and rows of many cells.
 
 use super::tables::told_of_row;
-use crate::tests::long::Long;
+use crate::tests::long_text::Long;
 use crate::tests::{OrEnd, is_text};
 use csv::StringRecord;
 use garde::{DefaultI18n, ValidateError};

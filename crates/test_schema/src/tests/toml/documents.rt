@@ -1,7 +1,7 @@
 //! TOML texts as JSON: the whole text of each document.
 
 use crate::tests::is_text;
-use crate::tests::long::Long;
+use crate::tests::long_text::Long;
 use garde_toml::toml_to_json;
 use std::alloc::Global;
 

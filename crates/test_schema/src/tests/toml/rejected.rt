@@ -1,6 +1,6 @@
 //! Texts that are not turned into JSON: what the error prints of each.
 
-use crate::tests::long::Long;
+use crate::tests::long_text::Long;
 use garde_toml::{TomlError, toml_to_json};
 use std::alloc::{AllocError, Global};
 
