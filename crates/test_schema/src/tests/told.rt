@@ -11,13 +11,13 @@ use std::alloc::{AllocError, Global};
 use std::fmt::Debug;
 use std::process::Abort;
 
-/// What tells what a tree reads as.
+/// A way to read a tree.
 pub trait Tells {
     /// The value of a tree, as text, or its report.
     fn tell(&self, alloc: Global, tree: &Tree<'_, '_>) -> Result<String, AllocError>;
 }
 
-/// The forms of these tests, by the module that has them. They tell faults in English.
+/// The forms of these tests, by the module that has them. Their faults are printed in English.
 pub enum Case {
     Checked(checked::Case),
     Json,
@@ -31,7 +31,7 @@ pub enum Case {
     Wide(bool),
 }
 
-/// The forms whose faults are told in English and as codes.
+/// The forms whose faults are printed in English and as codes.
 pub enum Coded {
     Enums,
     Nulls(nulls::Case),
@@ -40,7 +40,7 @@ pub enum Coded {
     Unions,
 }
 
-// A form whose faults are told as codes.
+// A form whose faults are printed as codes.
 #[derive(Drop)]
 struct Codes<'c>(&'c Coded);
 
