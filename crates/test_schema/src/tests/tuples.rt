@@ -3,8 +3,8 @@
 
 use super::told::{Case, check, told};
 use garde::fields::Is;
-use garde::{DefaultI18n, all, parts, range};
-use garde_schema::{Closed, Member, Members, Object, U8, Whole, read};
+use garde::{all, parts, range};
+use garde_schema::{Closed, Member, Members, Object, U8, Whole};
 use garde_tape::Tree;
 use std::alloc::{AllocError, Global};
 use std::fmt::Debug;
@@ -21,27 +21,6 @@ where
     told(alloc, tree, &Object(Closed(members)))
 }
 
-// What is told of a tree with sixteen members and no other, whose values are taken out of them.
-fn sixteen<'a, M: Members<'a> + Copy>(
-    alloc: Global,
-    tree: &Tree<'_, 'a>,
-    members: &[M; 16],
-) -> Result<String, AllocError>
-where
-    M::Out: Debug + Copy,
-{
-    let [a, b, c, d, e, f, g, i, j, k, l, m, n, o, p, q] = *members;
-    let all = all!(a, b, c, d, e, f, g, i, j, k, l, m, n, o, p, q);
-    match read(alloc, &Object(Closed(all)), tree, &DefaultI18n) {
-        Ok(values) => {
-            let parts!(a, b, c, d, e, f, g, i, j, k, l, m, n, o, p, q) = values;
-            let values = [a, b, c, d, e, f, g, i, j, k, l, m, n, o, p, q];
-            format!(in alloc; "{values:?}")
-        }
-        Err(error) => error.to_string(alloc),
-    }
-}
-
 // What is told of a tree with so many of these members and no other: the first one to six, seven, the
 // last two of them in a tuple of their own, twelve or sixteen.
 fn told_of_members<'a, M: Members<'a> + Copy>(
@@ -51,9 +30,9 @@ fn told_of_members<'a, M: Members<'a> + Copy>(
     members: &[M; 16],
 ) -> Result<String, AllocError>
 where
-    M::Out: Debug + Copy,
+    M::Out: Debug,
 {
-    let [a, b, c, d, e, f, g, i, j, k, l, m, ..] = *members;
+    let [a, b, c, d, e, f, g, i, j, k, l, m, n, o, p, q] = *members;
     match size {
         1 => told_of(alloc, tree, (a,)),
         2 => told_of(alloc, tree, (a, b)),
@@ -63,20 +42,24 @@ where
         6 => told_of(alloc, tree, (a, b, c, d, e, f)),
         7 => told_of(alloc, tree, (a, b, c, d, e, (f, g))),
         12 => told_of(alloc, tree, all!(a, b, c, d, e, f, g, i, j, k, l, m)),
-        _ => sixteen(alloc, tree, members),
+        _ => {
+            let sixteen = all!(a, b, c, d, e, f, g, i, j, k, l, m, n, o, p, q);
+            told_of(alloc, tree, sixteen)
+        }
     }
 }
 
-// A number up to 20 under each of these names.
-macro_rules! numbers {
-    ($($name:literal)+) => {
-        [$(Member($name, Whole(U8, Is(range!(max = 20))))),+]
+// A member of this form under each of these names.
+macro_rules! members {
+    ($form:ident: $($name:literal)+) => {
+        [$(Member($name, $form)),+]
     };
 }
 
 /// What a tree with so many numbers, and no other member, reads as.
 pub fn told_by(alloc: Global, tree: &Tree<'_, '_>, size: usize) -> Result<String, AllocError> {
-    let members = numbers!("a" "b" "c" "d" "e" "f" "g" "h" "i" "j" "k" "l" "m" "n" "o" "p");
+    let number = Whole(U8, Is(range!(max = 20)));
+    let members = members!(number: "a" "b" "c" "d" "e" "f" "g" "h" "i" "j" "k" "l" "m" "n" "o" "p");
     told_of_members(alloc, tree, size, &members)
 }
 
@@ -149,7 +132,7 @@ static TUPLES: [(Case, &str, &str); 18] = [
     (
         Case::Tuples(16),
         "{\"p\":16,\"o\":15,\"n\":14,\"m\":13,\"l\":12,\"k\":11,\"j\":10,\"i\":9,\"h\":8,\"g\":7,\"f\":6,\"e\":5,\"d\":4,\"c\":3,\"b\":2,\"a\":1}",
-        "[1, 2, 3, 4, 5, 6, 7, 8, 9, 10, 11, 12, 13, 14, 15, 16]",
+        "(1, 2, 3, 4, 5, (6, 7, 8, 9, 10, (11, 12, 13, 14, 15, 16)))",
     ),
     (
         Case::Tuples(16),
@@ -163,4 +146,18 @@ fn reads_tuples_of_members(rt: HostRuntime) {
     for (case, body, expected) in &TUPLES {
         check(&rt, rt.alloc(), case, body.as_bytes(), expected);
     }
+}
+
+// Whether sixteen values are taken out of tuples in tuples, in their order.
+fn are_taken_out() -> bool {
+    let parts!(a, b, c, d, e, f, g, h, i, j, k, l, m, n, o, p) = all!(
+        1u8, 2, 3, 4, 5, 6, 7, 8, 9, 10, 11, 12, 13, 14, 15, 16
+    );
+    [a, b, c, d, e, f, g, h, i, j, k, l, m, n, o, p]
+        == [1, 2, 3, 4, 5, 6, 7, 8, 9, 10, 11, 12, 13, 14, 15, 16]
+}
+
+#[test]
+fn takes_values_out_of_tuples_in_tuples(rt: HostRuntime) {
+    assert!(rt; are_taken_out());
 }

@@ -7,7 +7,7 @@ use super::german;
 use crate::tests::is_handed;
 use garde::fields::{Is, Rule};
 use garde::{I18n, RuleError};
-use garde_catalog::{CZECH, Catalog, CatalogError, Entry, Key, languages};
+use garde_catalog::{Catalog, CatalogError, Entry, Key, languages};
 use garde_i18n::{
     Code, Datum, InvalidCreditCard, InvalidPhoneNumber, InvalidUrl, IpKind, Named, Texts, Value,
 };
@@ -445,9 +445,9 @@ fn names_the_numbers_of_a_type(rt: HostRuntime) {
     assert!(rt; is_told);
 }
 
-// Whether this is the message of what is not read as JSON, in Czech.
+// Whether this is the message of what is not read as JSON, in German.
 fn is_told(alloc: Global, bytes: &[u8], text: &str) -> bool {
-    let Ok(h) = Catalog::new(alloc, &CZECH) else {
+    let Ok(h) = Catalog::new(alloc, german()) else {
         return false;
     };
     let mut scratch = Scratch::new(alloc);
@@ -460,7 +460,7 @@ fn is_told(alloc: Global, bytes: &[u8], text: &str) -> bool {
 #[test]
 fn tells_why_a_text_is_no_json(rt: HostRuntime) {
     assert!(rt;
-        is_told(rt.alloc(), b"[\n1", "není JSON: řádek 2, sloupec 1")
-            && is_told(rt.alloc(), b"\xff", "není UTF-8: řádek 1, sloupec 1")
+        is_told(rt.alloc(), b"[\n1", "kein JSON in Zeile 2, Spalte 1")
+            && is_told(rt.alloc(), b"\xff", "kein UTF-8 in Zeile 1, Spalte 1")
     );
 }

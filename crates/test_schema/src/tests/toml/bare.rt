@@ -6,8 +6,8 @@ use garde::{DefaultI18n, all};
 use garde_form::{Character, OrEmpty, Parsed};
 use garde_parsed::{Date, DateTime, ParsedInMemory, Time, Timestamp, Url, Uuid};
 use garde_schema::{
-    Any, Closed, Flag, List, Map, Null, Nullable, Object, OneOf, Optional, Scratch, Text, TextOr,
-    U8, Whole, read_json,
+    Any, Closed, Flag, Form, List, Map, Null, Nullable, Object, OneOf, Optional, Scratch, Text,
+    TextOr, U8, Whole, read_json,
 };
 use garde_toml::toml_to_json;
 use std::alloc::{AllocError, Global};
@@ -103,6 +103,22 @@ fn reads_a_bare_value_of_json(rt: HostRuntime) {
     }
 }
 
+// What a form tells of JSON: its report, or that it is valid.
+fn report_by<'a, F: Form<'a>>(
+    alloc: Global,
+    json: &'a [u8],
+    scratch: &'a mut Scratch,
+    form: &F,
+) -> Result<String, AllocError>
+where
+    F::Out: Drop,
+{
+    match read_json(alloc, json, scratch, form, &DefaultI18n) {
+        Ok(_) => String::from_str(alloc, "valid"),
+        Err(error) => error.to_string(alloc),
+    }
+}
+
 // What forms of other kinds tell of members with these names.
 fn read_others(alloc: Global, json: &[u8]) -> Result<String, AllocError> {
     let known = [("nan", ()), ("1979-05-27", ())];
@@ -126,12 +142,8 @@ fn read_others(alloc: Global, json: &[u8]) -> Result<String, AllocError> {
         Optional("list", List(Text(()))),
         Optional("any", Any)
     );
-    let form = Object(Closed((texts, others)));
     let mut scratch = Scratch::new(alloc);
-    match read_json(alloc, json, &mut scratch, &form, &DefaultI18n) {
-        Ok(_) => String::from_str(alloc, "valid"),
-        Err(error) => error.to_string(alloc),
-    }
+    report_by(alloc, json, &mut scratch, &Object(Closed((texts, others))))
 }
 
 // Each of these forms, of a bare value of this text.
