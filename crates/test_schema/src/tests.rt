@@ -2,6 +2,7 @@
 
 mod bodies;
 mod bounds;
+mod cases;
 mod checked;
 mod counted;
 mod csv_records;

@@ -7,7 +7,7 @@ mod told;
 mod worded;
 mod written;
 
-use garde_catalog::{ENGLISH, Entry, GERMAN};
+use garde_catalog::{CZECH, ENGLISH, Entry, GERMAN};
 
 // The texts in English. A proof looks at all of a table where it is named.
 fn english() -> &'static [Entry<'static>] {
@@ -17,4 +17,9 @@ fn english() -> &'static [Entry<'static>] {
 // The texts in German.
 fn german() -> &'static [Entry<'static>] {
     &GERMAN
+}
+
+// The texts in Czech.
+fn czech() -> &'static [Entry<'static>] {
+    &CZECH
 }

@@ -11,7 +11,7 @@ use std::alloc::{AllocError, Global};
 use std::fmt::Debug;
 use std::process::Abort;
 
-/// A way to read a tree.
+/// A form, and how what it finds in a tree is printed.
 pub trait Tells {
     /// The value of a tree, as text, or its report.
     fn tell(&self, alloc: Global, tree: &Tree<'_, '_>) -> Result<String, AllocError>;
@@ -31,7 +31,7 @@ pub enum Case {
     Wide(bool),
 }
 
-/// The forms whose faults are printed in English and as codes.
+/// The forms whose faults are printed in English, and by `Codes` as codes.
 pub enum Coded {
     Enums,
     Nulls(nulls::Case),
@@ -40,9 +40,9 @@ pub enum Coded {
     Unions,
 }
 
-// A form whose faults are printed as codes.
+/// A form whose faults are printed as codes.
 #[derive(Drop)]
-struct Codes<'c>(&'c Coded);
+pub struct Codes<'c>(pub &'c Coded);
 
 // A value, as it prints for debugging.
 fn shown<T: Debug>(alloc: Global, value: &T) -> Result<String, AllocError> {
@@ -119,7 +119,7 @@ impl Tells for Codes<'_> {
     }
 }
 
-/// The same of bytes, or where they stop to be JSON.
+/// What a form finds in bytes, or where they stop being JSON.
 pub fn told_of<T: Tells>(alloc: Global, form: &T, bytes: &[u8]) -> Result<String, AllocError> {
     let mut scratch = Scratch::new(alloc);
     match parse_bytes(alloc, bytes, &mut scratch) {
@@ -132,193 +132,4 @@ pub fn told_of<T: Tells>(alloc: Global, form: &T, bytes: &[u8]) -> Result<String
 pub fn check<T: Tells>(rt: &impl Abort, alloc: Global, form: &T, bytes: &[u8], expected: &str) {
     let told = told_of(alloc, form, bytes).or_end(rt);
     assert_eq!(rt; told.as_str(), expected);
-}
-
-// Asks that each body reads as this.
-fn compare<T: Tells>(rt: &impl Abort, alloc: Global, form: &T, rows: &[(&str, &str)]) {
-    for (body, expected) in rows {
-        check(rt, alloc, form, body.as_bytes(), expected);
-    }
-}
-
-// Asks that each body reads as this, in English and as codes.
-fn compare_codes(rt: &impl Abort, alloc: Global, form: &Coded, rows: &[(&str, &str, &str)]) {
-    for (body, english, codes) in rows {
-        check(rt, alloc, form, body.as_bytes(), english);
-        check(rt, alloc, &Codes(form), body.as_bytes(), codes);
-    }
-}
-
-#[test]
-fn reads_lists(rt: HostRuntime) {
-    compare(
-        &rt,
-        rt.alloc(),
-        &Case::Lists(lists::Case::Tags),
-        lists::TAGS,
-    );
-    compare(&rt, rt.alloc(), &Case::Lists(lists::Case::Few), lists::FEW);
-    compare(
-        &rt,
-        rt.alloc(),
-        &Case::Lists(lists::Case::Deep),
-        lists::DEEP,
-    );
-}
-
-#[test]
-fn reads_lists_under_several_rules(rt: HostRuntime) {
-    compare(
-        &rt,
-        rt.alloc(),
-        &Case::ListRules(list_rules::Case::Several),
-        list_rules::SEVERAL,
-    );
-    compare(
-        &rt,
-        rt.alloc(),
-        &Case::ListRules(list_rules::Case::Apart),
-        list_rules::APART,
-    );
-    compare(
-        &rt,
-        rt.alloc(),
-        &Case::ListRules(list_rules::Case::Many),
-        list_rules::MANY,
-    );
-}
-
-#[test]
-fn reads_lists_under_rules_of_items(rt: HostRuntime) {
-    compare(
-        &rt,
-        rt.alloc(),
-        &Case::ListRules(list_rules::Case::Each),
-        list_rules::EACH,
-    );
-    compare(
-        &rt,
-        rt.alloc(),
-        &Case::ListRules(list_rules::Case::MaybeApart),
-        list_rules::MAYBE_APART,
-    );
-    compare(
-        &rt,
-        rt.alloc(),
-        &Case::ListRules(list_rules::Case::Rush),
-        list_rules::RUSH,
-    );
-}
-
-#[test]
-fn reads_maps_of_labels(rt: HostRuntime) {
-    compare(
-        &rt,
-        rt.alloc(),
-        &Case::Maps(maps::Case::Labels),
-        maps::LABELS,
-    );
-    compare(
-        &rt,
-        rt.alloc(),
-        &Case::Maps(maps::Case::FewLabels),
-        maps::FEW_LABELS,
-    );
-}
-
-#[test]
-fn reads_maps_under_rules(rt: HostRuntime) {
-    compare(&rt, rt.alloc(), &Case::Maps(maps::Case::Named), maps::NAMED);
-    compare(&rt, rt.alloc(), &Case::Maps(maps::Case::Many), maps::MANY);
-    compare(
-        &rt,
-        rt.alloc(),
-        &Case::Maps(maps::Case::Nested),
-        maps::NESTED,
-    );
-}
-
-#[test]
-fn reads_objects_in_objects(rt: HostRuntime) {
-    compare(
-        &rt,
-        rt.alloc(),
-        &Case::Nested(nested::Case::Closed),
-        nested::CLOSED,
-    );
-    compare(
-        &rt,
-        rt.alloc(),
-        &Case::Nested(nested::Case::Open),
-        nested::OPEN,
-    );
-}
-
-#[test]
-fn reads_forms_under_rules(rt: HostRuntime) {
-    compare(
-        &rt,
-        rt.alloc(),
-        &Case::Checked(checked::Case::Lines),
-        checked::LINES,
-    );
-    compare(
-        &rt,
-        rt.alloc(),
-        &Case::Checked(checked::Case::Span),
-        checked::SPANS,
-    );
-    compare(
-        &rt,
-        rt.alloc(),
-        &Case::Checked(checked::Case::Ends),
-        checked::ENDS,
-    );
-}
-
-#[test]
-fn reads_defaults(rt: HostRuntime) {
-    compare(
-        &rt,
-        rt.alloc(),
-        &Coded::Nulls(nulls::Case::Defaults),
-        nulls::DEFAULTS,
-    );
-}
-
-#[test]
-fn reads_enums(rt: HostRuntime) {
-    compare_codes(&rt, rt.alloc(), &Coded::Enums, enums::ORDERS);
-    compare_codes(&rt, rt.alloc(), &Coded::Unions, unions::PAYMENTS);
-}
-
-#[test]
-fn reads_a_sign_up(rt: HostRuntime) {
-    compare_codes(&rt, rt.alloc(), &Coded::Signup, signup::SIGNUPS);
-}
-
-#[test]
-fn reads_objects_of_one_member(rt: HostRuntime) {
-    compare_codes(
-        &rt,
-        rt.alloc(),
-        &Coded::OnlyMembers(only_members::Case::Payment),
-        only_members::PAYMENTS,
-    );
-    compare_codes(
-        &rt,
-        rt.alloc(),
-        &Coded::OnlyMembers(only_members::Case::Mixed),
-        only_members::MIXED,
-    );
-}
-
-#[test]
-fn reads_nulls(rt: HostRuntime) {
-    compare_codes(
-        &rt,
-        rt.alloc(),
-        &Coded::Nulls(nulls::Case::Texts),
-        nulls::TEXTS,
-    );
 }

@@ -3,9 +3,9 @@
 
 use super::told::{Case, check, told};
 use garde::fields::Is;
-use garde::{all, parts, range};
-use garde_schema::{Closed, Member, Members, Object, U8, Whole};
-use garde_tape::Tree;
+use garde::{DefaultI18n, all, parts, range};
+use garde_schema::{Closed, Member, Members, Object, U8, Whole, read};
+use garde_tape::{Scratch, Tree, parse_bytes};
 use std::alloc::{AllocError, Global};
 use std::fmt::Debug;
 
@@ -157,7 +157,34 @@ fn are_taken_out() -> bool {
         == [1, 2, 3, 4, 5, 6, 7, 8, 9, 10, 11, 12, 13, 14, 15, 16]
 }
 
+// Whether the numbers from 1 to 7 are taken out of what a tree reads as.
+fn are_read(alloc: Global, tree: &Tree<'_, '_>) -> bool {
+    let number = Whole(U8, ());
+    let members = members!(number: "a" "b" "c" "d" "e" "f" "g");
+    let [a, b, c, d, e, f, g] = members;
+    match read(
+        alloc,
+        &Object(all!(a, b, c, d, e, f, g)),
+        tree,
+        &DefaultI18n,
+    ) {
+        Ok(parts!(a, b, c, d, e, f, g)) => [a, b, c, d, e, f, g] == [1, 2, 3, 4, 5, 6, 7],
+        Err(_) => false,
+    }
+}
+
+// The same of a body.
+fn are_read_of(alloc: Global, body: &[u8]) -> bool {
+    let mut scratch = Scratch::new(alloc);
+    match parse_bytes(alloc, body, &mut scratch) {
+        Ok(tape) => are_read(alloc, &Tree::root(&tape)),
+        Err(_) => false,
+    }
+}
+
+const SEVEN: &[u8] = b"{\"g\":7,\"f\":6,\"e\":5,\"d\":4,\"c\":3,\"b\":2,\"a\":1}";
+
 #[test]
 fn takes_values_out_of_tuples_in_tuples(rt: HostRuntime) {
-    assert!(rt; are_taken_out());
+    assert!(rt; are_taken_out() && are_read_of(rt.alloc(), SEVEN));
 }

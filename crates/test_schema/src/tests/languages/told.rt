@@ -3,7 +3,7 @@ ghost use Rattle.std.specs.Prelude.{Some};
 ghost use Rattle.garde.specs.Fields.{rule};
 ghost use Rattle.garde_i18n.specs.DatumOf.{datum_of};
 
-use super::german;
+use super::{czech, german};
 use crate::tests::is_handed;
 use garde::fields::{Is, Rule};
 use garde::{I18n, RuleError};
@@ -445,9 +445,9 @@ fn names_the_numbers_of_a_type(rt: HostRuntime) {
     assert!(rt; is_told);
 }
 
-// Whether this is the message of what is not read as JSON, in German.
+// Whether this is the message of what is not read as JSON, in Czech.
 fn is_told(alloc: Global, bytes: &[u8], text: &str) -> bool {
-    let Ok(h) = Catalog::new(alloc, german()) else {
+    let Ok(h) = Catalog::new(alloc, czech()) else {
         return false;
     };
     let mut scratch = Scratch::new(alloc);
@@ -460,7 +460,7 @@ fn is_told(alloc: Global, bytes: &[u8], text: &str) -> bool {
 #[test]
 fn tells_why_a_text_is_no_json(rt: HostRuntime) {
     assert!(rt;
-        is_told(rt.alloc(), b"[\n1", "kein JSON in Zeile 2, Spalte 1")
-            && is_told(rt.alloc(), b"\xff", "kein UTF-8 in Zeile 1, Spalte 1")
+        is_told(rt.alloc(), b"[\n1", "není JSON: řádek 2, sloupec 1")
+            && is_told(rt.alloc(), b"\xff", "není UTF-8: řádek 1, sloupec 1")
     );
 }
