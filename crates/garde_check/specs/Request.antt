@@ -33,6 +33,10 @@ members_json addresses age tags username =
     object (member (codes "addresses") addresses (member (codes "age") age
     (member (codes "tags") tags (member (codes "username") username no_members))))
 
+-- the first of the members has this name
+abbrev pub BeginsWith : List ℕ → Members → Type 0
+BeginsWith name members = (value : Data) × (rest : Members) × (members ≡ member name value rest)
+
 abbrev pub body_json : Content → Data
 body_json body =
     members_json

@@ -1,9 +1,9 @@
 //! Bodies from JSON trees.
 ghost use Rattle.std.specs.Prelude.{◌≡◌, ◌≢◌, ◌<◌, ◌^◌, ℕ, List, IfOk, IfSome, MatchOption, Option, Err, map, string_bytes};
-ghost use Rattle.serde_json.specs.Data.{Data, string};
-ghost use Rattle.serde_json.specs.View.{view};
+ghost use Rattle.serde_json.specs.Data.{Data, member, string};
+ghost use Rattle.serde_json.specs.View.{members_view, view};
 ghost use Rattle.garde_check.specs.Body.{Content, content, entries_of};
-ghost use Rattle.garde_check.specs.Request.{IsAge, age_json, texts_json, entries_json, members_json, is_texts, is_entries, are_spelled, IsRequest};
+ghost use Rattle.garde_check.specs.Request.{BeginsWith, IsAge, age_json, texts_json, entries_json, members_json, is_texts, is_entries, are_spelled, IsRequest};
 
 use super::{Address, Body};
 use crate::user::User;
@@ -11,6 +11,7 @@ use garde_json::JsonRefused;
 use serde_json::Value;
 use std::alloc::Global;
 use std::collections::BTreeMap;
+use std::collections::btree_map::Iter;
 
 // What the members of a body hold.
 #[derive(Clone, Copy)]
@@ -21,6 +22,19 @@ struct Members<'v> {
     username: &'v Value,
 }
 
+// The value of the next member, where that has this name.
+fn value_of<'v>(members: &mut Iter<'v, String, Value>, name: &str) -> Option<&'v Value>
+    ensures { MatchOption result
+        (BeginsWith name.now (members_view members.old) → ⊥)
+        (λ value. members_view members.old
+        ≡ member name.now (view value.now) (members_view members.new)) }
+{
+    match members.next() {
+        Some((key, value)) if key.as_str() == name => Some(value),
+        _ => None,
+    }
+}
+
 // What an object holds that has exactly the members of a body. They come in the order of their
 // names.
 fn members_of(tree: &Value) -> Option<Members<'_>>
@@ -28,29 +42,17 @@ fn members_of(tree: &Value) -> Option<Members<'_>>
         (λ m. view tree.now ≡ members_json (view m.addresses.now) (view m.age.now)
         (view m.tags.now) (view m.username.now)) }
 {
-    let mut entries = tree.as_object()?.iter();
-    let (name, addresses) = entries.next()?;
-    if name.as_str() != "addresses" {
-        return None;
+    let mut left = tree.as_object()?.iter();
+    let members = Members {
+        addresses: value_of(&mut left, "addresses")?,
+        age: value_of(&mut left, "age")?,
+        tags: value_of(&mut left, "tags")?,
+        username: value_of(&mut left, "username")?,
+    };
+    match left.next() {
+        None => Some(members),
+        Some(_) => None,
     }
-    let (name, age) = entries.next()?;
-    if name.as_str() != "age" {
-        return None;
-    }
-    let (name, tags) = entries.next()?;
-    if name.as_str() != "tags" {
-        return None;
-    }
-    let (name, username) = entries.next()?;
-    if name.as_str() != "username" || entries.next().is_some() {
-        return None;
-    }
-    Some(Members {
-        addresses,
-        age,
-        tags,
-        username,
-    })
 }
 
 // Null, or a whole number without a sign that fits 32 bits.
