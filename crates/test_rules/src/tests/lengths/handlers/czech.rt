@@ -1,5 +1,6 @@
 //! A handler in another language, whose texts stand as constants that its contract cites.
-ghost use Rattle.std.specs.Prelude.{◌≡◌, ℕ, List, ◌++◌, ◌==◌, ◌&&◌, if◌then◌else◌, nat_le, codes};
+ghost use Rattle.std.specs.Prelude.{◌≡◌, ℕ, List, ◌++◌, ◌==◌, ◌&&◌, if◌then◌else◌, nat_le, codes, IfOk, IfSome};
+ghost use Rattle.std.specs.Cow.{cow_str_bytes};
 ghost use Rattle.std.specs.Fmt.{decimal};
 ghost use Rattle.garde_i18n.specs.Datum as datum;
 ghost use Rattle.garde_i18n.specs.Reasons.{ip_kind_text};
@@ -9,6 +10,7 @@ use super::{ODD, assert_answers};
 use garde_i18n::{Datum, I18n, InvalidCreditCard, InvalidPhoneNumber, InvalidUrl, IpKind, Named};
 use std::alloc::{AllocError, Global};
 use std::borrow::CowStr;
+use std::fmt::Display;
 
 const SHORTER: &str = "délka je menší než";
 
@@ -51,6 +53,31 @@ const NOT_SET: &str = "hodnota chybí";
 /// A handler whose texts are Czech. It names no reason.
 #[derive(Drop)]
 pub struct Czech;
+
+/// A text, and a value behind it.
+fn with_value<D: Display + Drop>(
+    alloc: Global,
+    text: &str,
+    value: D,
+) -> Result<CowStr<'static>, AllocError>
+    ensures { IfOk result (λ s. IfSome (D.output value) (λ shown. cow_str_bytes s
+        ≡ text.now ++ (codes " " ++ shown))) }
+{
+    Ok(CowStr::Owned(format!(in alloc; "{text} {value}")?))
+}
+
+/// A text, and a part of a rule behind it, between what opens and what closes it.
+fn with_part(
+    alloc: Global,
+    text: &str,
+    open: &str,
+    part: &str,
+    close: &str,
+) -> Result<CowStr<'static>, AllocError>
+    ensures { IfOk result (λ s. cow_str_bytes s ≡ text.now ++ (open.now ++ (part.now ++ close.now))) }
+{
+    Ok(CowStr::Owned(format!(in alloc; "{text}{open}{part}{close}")?))
+}
 
 /// The word for that many characters: Czech has a form for 1, one for 2 to 4, and one for the rest.
 fn characters(count: usize) -> &'static str
@@ -111,11 +138,11 @@ impl I18n for Czech {
     }
 
     fn range_lower_than(&self, alloc: Global, min: &str) -> Result<CowStr<'static>, AllocError> {
-        Ok(CowStr::Owned(format!(in alloc; "{LESS} {min}")?))
+        with_value(alloc, LESS, min)
     }
 
     fn range_greater_than(&self, alloc: Global, max: &str) -> Result<CowStr<'static>, AllocError> {
-        Ok(CowStr::Owned(format!(in alloc; "{GREATER} {max}")?))
+        with_value(alloc, GREATER, max)
     }
 
     fn credit_card_invalid(
@@ -131,7 +158,7 @@ impl I18n for Czech {
         alloc: Global,
         pattern: &str,
     ) -> Result<CowStr<'static>, AllocError> {
-        Ok(CowStr::Owned(format!(in alloc; "{PATTERN} /{pattern}/")?))
+        with_part(alloc, PATTERN, " /", pattern, "/")
     }
 
     fn contains_missing(
@@ -139,7 +166,7 @@ impl I18n for Czech {
         alloc: Global,
         pattern: &str,
     ) -> Result<CowStr<'static>, AllocError> {
-        Ok(CowStr::Owned(format!(in alloc; "{CONTAINS} \"{pattern}\"")?))
+        with_part(alloc, CONTAINS, " \"", pattern, "\"")
     }
 
     fn url_invalid(
@@ -151,11 +178,11 @@ impl I18n for Czech {
     }
 
     fn prefix_missing(&self, alloc: Global, pattern: &str) -> Result<CowStr<'static>, AllocError> {
-        Ok(CowStr::Owned(format!(in alloc; "{PREFIX} \"{pattern}\"")?))
+        with_part(alloc, PREFIX, " \"", pattern, "\"")
     }
 
     fn suffix_missing(&self, alloc: Global, pattern: &str) -> Result<CowStr<'static>, AllocError> {
-        Ok(CowStr::Owned(format!(in alloc; "{SUFFIX} \"{pattern}\"")?))
+        with_part(alloc, SUFFIX, " \"", pattern, "\"")
     }
 
     fn phone_number_invalid(
@@ -167,7 +194,7 @@ impl I18n for Czech {
     }
 
     fn ip_invalid(&self, alloc: Global, kind: IpKind) -> Result<CowStr<'static>, AllocError> {
-        Ok(CowStr::Owned(format!(in alloc; "{ADDRESS} {kind}")?))
+        with_value(alloc, ADDRESS, kind)
     }
 
     fn matches_field_mismatch(
@@ -175,7 +202,7 @@ impl I18n for Czech {
         alloc: Global,
         field: &str,
     ) -> Result<CowStr<'static>, AllocError> {
-        Ok(CowStr::Owned(format!(in alloc; "{MATCHES} {field}")?))
+        with_value(alloc, MATCHES, field)
     }
 
     fn ascii_invalid(&self, _alloc: Global) -> Result<CowStr<'static>, AllocError> {
