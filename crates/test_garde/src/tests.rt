@@ -26,6 +26,7 @@ mod refusals;
 mod reports;
 mod rules;
 mod scale;
+mod searched;
 mod signup;
 mod span;
 mod starved;

@@ -7,9 +7,9 @@ use std::boxed::BoxedSlice;
 use std::collections::{BTreeMap, BTreeSet, BinaryHeap, HashMap, HashSet, LinkedList, VecDeque};
 use std::rc::RcSlice;
 
-/// Whether a collection, and a reference to it, has three items.
+/// Whether a collection, or what a reference refers to, has three items.
 fn has_three<T: HasSimpleLength + Drop>(collection: T) -> bool {
-    collection.length() == 3 && (&collection).length() == 3
+    collection.length() == 3
 }
 
 /// Whether a collection was made, and has three items.
@@ -36,11 +36,26 @@ fn counts_the_items_of_lists_and_sets(rt: HostRuntime) {
 }
 
 #[test]
+fn counts_the_items_behind_references(rt: HostRuntime) {
+    let alloc = rt.alloc();
+    assert!(rt;
+        has_three(&(0..3).collect::<Vec<u8>>(alloc).or_end(&rt))
+            && has_three(&(0..3).collect::<VecDeque<u8>>(alloc).or_end(&rt))
+            && has_three(&(0..3).collect::<LinkedList<u8>>(alloc).or_end(&rt))
+            && has_three(&(0..3).collect::<HashSet<u8>>(alloc).or_end(&rt))
+            && has_three(&(0..3).collect::<BTreeSet<u8>>(alloc).or_end(&rt))
+            && has_three(&(0..3).collect::<BinaryHeap<u8>>(alloc).or_end(&rt))
+    );
+}
+
+#[test]
 fn counts_the_pairs_of_maps(rt: HostRuntime) {
     let pairs = [(0, true), (1, true), (2, true)];
     let hashed: HashMap<u8, bool> = pairs.into_iter().collect(rt.alloc()).or_end(&rt);
     let ordered: BTreeMap<u8, bool> = pairs.into_iter().collect(rt.alloc()).or_end(&rt);
-    assert!(rt; has_three(hashed) && has_three(ordered));
+    assert!(rt;
+        has_three(&hashed) && has_three(&ordered) && has_three(hashed) && has_three(ordered)
+    );
 }
 
 /// Whether a list of characters has two.
