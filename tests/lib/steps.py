@@ -14,8 +14,8 @@ from lib.repository import ROOT
 
 # the steps that need no prover
 QUICK = (
-    "tests/documents", "tests/sources", "tests/words", "tests/layout", "tests/promises", "tests/since", "tests/ported", "tests/kept",
-    "tests/json-schema", "tests/vendored", "tests/needed",
+    "tests/documents", "tests/sources", "tests/words", "tests/layout", "tests/promises", "tests/since", "tests/successors",
+    "tests/ported", "tests/kept", "tests/json-schema", "tests/vendored", "tests/needed",
     "tests/languages", "tests/bind", "tests/why", "tests/why-finds", "tests/random-finds", "tests/finds", "tests/ported-finds",
 )
 COUNTS = re.compile(r"(?:[\w-]+: )?(\d+) passed, (\d+) failed$")
