@@ -4,6 +4,7 @@ mod addresses;
 mod conditions;
 mod engines;
 mod inner;
+mod laws;
 mod lengths;
 mod numbers;
 mod options;

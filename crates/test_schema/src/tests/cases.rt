@@ -185,6 +185,11 @@ fn reads_objects_of_one_member(rt: HostRuntime) {
 }
 
 #[test]
+fn reads_unions_that_are_eight_deep(rt: HostRuntime) {
+    compare(&rt, rt.alloc(), &Case::Deep, only_members::DEEP);
+}
+
+#[test]
 fn reads_nulls(rt: HostRuntime) {
     compare_codes(
         &rt,

@@ -1,11 +1,11 @@
 //! Unions by the only member: the whole report of each body in English and as codes, or its value.
 
-use super::told::told_with;
+use super::told::{told, told_with};
 use garde::fields::Is;
 use garde::{I18n, range};
 use garde_schema::{
-    Closed, Flag, FormI18n, Member, Object, OneMember, OneOf, Optional, Text, TextOr, U8, U64,
-    Whole,
+    Closed, Flag, FormI18n, List, Member, Object, OneMember, OneOf, Optional, Text, TextOr, U8,
+    U64, Whole,
 };
 use garde_tape::Tree;
 use std::alloc::{AllocError, Global};
@@ -44,6 +44,36 @@ pub fn told_by<H: I18n + FormI18n>(
         }
     }
 }
+
+/// This form, in an object with one member of each of these names, the first outermost.
+macro_rules! in_each {
+    ($form:expr;) => { $form };
+    ($form:expr; $name:literal $($others:literal)*) => {
+        OneMember(Member($name, in_each!($form; $($others)*)), PhantomData)
+    };
+}
+
+/// A list of lists of numbers, each in eight objects of one member.
+pub fn deep(alloc: Global, tree: &Tree<'_, '_>) -> Result<String, AllocError> {
+    let numbers = List(Whole(U8, ()));
+    told(
+        alloc,
+        tree,
+        &List(in_each!(numbers; "a" "b" "c" "d" "a" "b" "c" "d")),
+    )
+}
+
+/// Bodies eight deep, and what each reads as.
+pub const DEEP: &[(&str, &str)] = &[
+    (
+        "[{\"a\":{\"b\":{\"c\":{\"d\":{\"a\":{\"b\":{\"c\":{\"d\":[1,2]}}}}}}}}]",
+        "Items([Items([1, 2])])",
+    ),
+    (
+        "[{\"a\":{\"b\":{\"c\":{\"d\":{\"a\":{\"b\":{\"c\":{\"d\":[1,true,256]}}}}}}}},{\"a\":{\"b\":{\"c\":{\"d\":{\"a\":{\"b\":{\"c\":{}}}}}}}},{\"a\":{\"e\":1}}]",
+        "[0].a.b.c.d.a.b.c.d[1]: not a whole number\n[0].a.b.c.d.a.b.c.d[2]: out of range: 0 to 255\n[1].a.b.c.d.a.b.c: not an object with one member\n[2].a.e: not known here\n",
+    ),
+];
 
 const NONE: &str = "not an object with one member\n";
 

@@ -20,6 +20,8 @@ pub trait Tells {
 /// The forms of these tests, by the module that has them. Their faults are printed in English.
 pub enum Case {
     Checked(checked::Case),
+    /// A list of unions by the only member, eight deep.
+    Deep,
     Json,
     Lists(lists::Case),
     ListRules(list_rules::Case),
@@ -81,6 +83,7 @@ impl Tells for Case {
     fn tell(&self, alloc: Global, tree: &Tree<'_, '_>) -> Result<String, AllocError> {
         match self {
             Case::Checked(case) => checked::told_by(alloc, tree, case),
+            Case::Deep => only_members::deep(alloc, tree),
             Case::Json => json_texts::person(alloc, tree),
             Case::Lists(case) => lists::told_by(alloc, tree, case),
             Case::ListRules(case) => list_rules::told_by(alloc, tree, case),
