@@ -3,7 +3,7 @@
 use super::OrEnd;
 use super::told::{reads, shows};
 use garde::Path;
-use garde::error::PathComponentKind;
+use garde::error::{Kind, PathComponentKind};
 use garde::rc_list::{JoinError, List};
 use std::alloc::{AllocError, Global};
 use test_memory::{Met, Scarce};
@@ -139,4 +139,16 @@ fn a_key_that_is_a_number_is_a_key(rt: HostRuntime) {
             "{text}"
         );
     }
+}
+
+// Nine components are more than a walk holds without memory.
+#[test]
+fn a_long_walk_gives_both_ends_by_turns(rt: HostRuntime) {
+    let path = indexes(rt.alloc(), 9).or_end(&rt);
+    let mut walk = path.iter(rt.alloc()).or_end(&rt);
+    assert!(rt;
+        walk.next() == Some((Kind::Index, "8"))
+            && walk.next_back() == Some((Kind::Index, "0"))
+            && walk.next() == Some((Kind::Index, "7"))
+    );
 }

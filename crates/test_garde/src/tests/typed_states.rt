@@ -50,6 +50,7 @@ fn states_are_copied_and_shown(rt: HostRuntime) {
             && shows(alloc, &again, "Valid(Span { from: 2, to: 5 })") == Ok(true)
             && none.to == 0
             && shows(alloc, &want, "Memory(Span { from: 5, to: 2 })") == Ok(true)
+            && reads(alloc, &want, "out of memory") == Ok(true)
             && matches!(
                 &Unvalidated::new(backwards).validate_with(alloc, &()),
                 Err(IntoValidError::Report(_))

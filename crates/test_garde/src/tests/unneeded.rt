@@ -1,4 +1,4 @@
-//! Calls that need no memory, and one that does, while each request for memory fails.
+//! Calls that need no memory, and some that do, while each request for memory fails.
 
 use super::OrEnd;
 use super::asked::{Row, said};
@@ -8,11 +8,13 @@ use garde::i18n::InvalidPhoneNumber;
 use garde::rules::Rule;
 use garde::rules::pattern::regex::Searcher;
 use garde::rules::values::{Length, WithMessage};
-use garde::{DefaultI18n, Path, RuleError};
+use garde::{DefaultI18n, Error, Path, RuleError};
 use garde_i18n::Datum;
 use garde_problem::{Escaped, JsonPointer};
 use std::alloc::{AllocError, Global};
+use std::borrow::CowStr;
 use std::fmt::Write;
+use std::process::Abort;
 use test_memory::Scarce;
 
 /// A pattern of 64 bytes.
@@ -99,4 +101,36 @@ fn a_path_of_eight_components_prints_without_memory(rt: HostRuntime) {
     let printed = print(alloc, &path, &mut out);
     memory.end();
     assert!(rt; printed.is_ok() && out.as_str() == PRINTED);
+}
+
+/// A message of 30 bytes and one of 31, and whether an error of it needs no memory.
+static MESSAGES: [(&str, bool); 2] = [
+    ("abcdefghijklmnopqrstuvwxyz0123", true),
+    ("abcdefghijklmnopqrstuvwxyz01234", false),
+];
+
+// Whether an error of this message is made, borrowed and copied where there is no memory, or none of
+// the three.
+fn needs_no_memory(
+    rt: &impl Abort,
+    alloc: Global,
+    message: &'static str,
+    needs_none: bool,
+) -> bool {
+    let kept = Error::new(alloc, message).or_end(rt);
+    let mut memory = Scarce::taken(alloc).or_end(rt);
+    memory.begin();
+    let made = Error::new(alloc, message).is_ok();
+    let borrowed = RuleError::of(alloc, Ok(CowStr::Borrowed(message)));
+    let copied = kept.clone().is_ok();
+    memory.end();
+    let found = matches!(&borrowed, RuleError::Fault(_));
+    made == needs_none && found == needs_none && copied == needs_none
+}
+
+#[test]
+fn a_message_of_thirty_bytes_takes_no_memory(rt: HostRuntime) {
+    for (message, needs_none) in &MESSAGES {
+        assert!(rt; needs_no_memory(&rt, rt.alloc(), message, *needs_none));
+    }
 }
