@@ -1,8 +1,9 @@
 -- An object whose members are not those of a body is no tree of one.
 use Rattle.std.proofs.Common.{◌≡◌, ◌≢◌, ℕ, List, Some, codes, ap, ◌∙◌}
-use Rattle.serde_json.specs.Data.{Data, null, boolean, number, string, array, object, Members, member, no_members}
+use Rattle.serde_json.specs.Data.{Data, Members, member, no_members}
 use Rattle.serde_json.specs.Find.{as_object}
 use Rattle.garde_check.specs.Request.{BeginsWith, members_json}
+use Rattle.garde_check.proofs.Members.{object_is}
 
 -- no tree of a body
 abbrev pub IsNoBody : Data → Type 0
@@ -40,17 +41,9 @@ no_others d a b c e extra name all more others last left rest is first second th
     let whole = body_members d all is w x y z form in
     cc
 
-object_of : (d : Data) (all : Members) → Some all ≡ as_object d → d ≡ object all
-object_of null all is = cc
-object_of (boolean b) all is = cc
-object_of (number n) all is = cc
-object_of (string s) all is = cc
-object_of (array ds) all is = cc
-object_of (object ms) all is = let same : ms ≡ all = cc in ap object same
-
 -- an object of these members, and of no others, has them
 pub has_members : (d a b c e : Data) (all more others last left : Members) → Some all ≡ as_object d → all ≡ member (codes "addresses") a more
     → more ≡ member (codes "age") b others → others ≡ member (codes "tags") c last → last ≡ member (codes "username") e left → left ≡ no_members → d ≡ members_json a b c e
 has_members d a b c e all more others last left is first second third fourth none =
-    let whole = object_of d all is in
+    let whole = object_is d all is in
     cc

@@ -90,7 +90,8 @@ addresses_named : (es : List (Text × Address)) → entries_members (map (λ e. 
 addresses_named [] = refl
 addresses_named (e ∷ es) = ap (λ l. member (string_bytes e.0) (string (string_bytes e.1.0)) l) (addresses_named es)
 
-object_is : (d : Data) (ms : Members) → Some ms ≡ as_object d → object ms ≡ d
+-- a tree that has members is the object of them
+pub object_is : (d : Data) (ms : Members) → Some ms ≡ as_object d → object ms ≡ d
 object_is null ms e = cc
 object_is (boolean b) ms e = cc
 object_is (number n) ms e = cc

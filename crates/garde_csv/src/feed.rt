@@ -14,7 +14,7 @@ use crate::walk::Walk;
 use csv::ByteRecord;
 
 /// How much of a text was read.
-#[derive(Clone, Copy, Debug)]
+#[derive(Clone, Copy)]
 pub(crate) struct Fed {
     /// How many bytes.
     pub(crate) taken: usize,

@@ -9,7 +9,7 @@ use crate::fault::Fault;
 use crate::place::{Action, Place};
 
 /// How far a record was read, and what was found wrong with its quotes.
-#[derive(Clone, Copy, Debug)]
+#[derive(Clone, Copy)]
 pub(crate) struct Walk {
     pub(crate) place: Place,
     /// The line of the next byte, from 1.
