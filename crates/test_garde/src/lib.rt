@@ -1,6 +1,6 @@
-//! The tests of `garde`, by their public calls, and those that need several crates: memory that runs out,
-//! hostile values, user-defined handlers, and values at scale and at the limits. They stand in a crate of
-//! their own, since the tests within a crate prove all of it once more.
+//! The tests of `garde`, by their public calls, those of patterns, and those that need several crates:
+//! memory that runs out, hostile values, user-defined handlers, and values at scale and at the limits.
+//! They stand in a crate of their own, since the tests within a crate prove all of it once more.
 #![tactic(auto)]
 
 #[cfg(test)]

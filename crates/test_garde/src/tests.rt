@@ -20,6 +20,8 @@ mod names;
 mod nested;
 mod parts;
 mod paths;
+mod patterns;
+mod ported_patterns;
 mod profile;
 mod promises;
 mod refusals;

@@ -8,7 +8,6 @@ mod laws;
 mod lengths;
 mod numbers;
 mod options;
-mod patterns;
 mod ranges;
 mod report;
 mod rules;

@@ -1,55 +1,7 @@
-//! Tests of the engines, on tables of patterns and of texts.
+//! Tests of the engine of URLs, on a table of texts.
 use crate::tests::OrEnd;
-use garde_engines::patterns::{PatternRefused, Regex};
 use garde_engines::urls::{ParseError, check_url, is_plain_url, reason};
 use garde_i18n::InvalidUrl;
-use std::alloc::Global;
-use std::process::Abort;
-
-/// Whether the pattern of this source keeps it, and matches in the text or not, as it is said.
-fn is_found(rt: &impl Abort, alloc: Global, source: &str, text: &str, found: bool) -> bool {
-    let pattern = Regex::new(alloc, source).or_end(rt);
-    pattern.as_str() == source && pattern.is_match(alloc, text).or_end(rt) == found
-}
-
-/// A pattern, a text, and whether it is found there.
-static FOUND: [(&str, &str, bool); 7] = [
-    ("^[0-9]{5}$", "12345", true),
-    ("^[0-9]{5}$", "123", false),
-    ("^[0-9]{5}$", "123456", false),
-    ("b+", "abbc", true),
-    ("b+", "", false),
-    ("", "", true),
-    (r"^\w+$", "é", true),
-];
-
-#[test]
-fn matches_anywhere_in_a_text(rt: HostRuntime) {
-    for (source, text, found) in &FOUND {
-        assert!(rt;
-            is_found(&rt, rt.alloc(), source, text, *found),
-            "{source}: {text}"
-        );
-    }
-}
-
-/// A source, and why it is rejected.
-static REFUSED: [(&str, PatternRefused); 4] = [
-    ("(", PatternRefused::Syntax),
-    ("[z-a]", PatternRefused::Syntax),
-    ("*", PatternRefused::Syntax),
-    (r"(?:\pL{1000}){1000}", PatternRefused::Other),
-];
-
-#[test]
-fn says_why_a_pattern_is_refused(rt: HostRuntime) {
-    for (source, refused) in &REFUSED {
-        assert!(rt;
-            Regex::new(rt.alloc(), source).err() == Some(*refused),
-            "/{source}/"
-        );
-    }
-}
 
 /// A text, and what is said of it as a URL.
 static LINKS: [(&str, Result<(), InvalidUrl>); 39] = [

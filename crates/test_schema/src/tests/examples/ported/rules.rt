@@ -1,11 +1,9 @@
-//! Types with conditions, patterns and rules of their own.
+//! Types with conditions and rules of their own.
 use super::{tells, texts};
 use crate::tests::OrEnd;
 use crate::tests::examples::{owned, text};
 use example_ported::coupon::{Coupon, Discount, Season, Tag};
 use example_ported::page::{Page, Press};
-use example_ported::visitor::{Badge, BadgePatterns, Desk, Patterns, Visitor};
-use garde::rules::pattern::regex::Regex;
 use std::alloc::Global;
 use std::process::Abort;
 
@@ -87,58 +85,6 @@ fn rules_under_conditions(rt: HostRuntime) {
     for row in &PAGES {
         assert!(rt; is_told_of_a_page(&rt, rt.alloc(), row), "{}", row.told);
     }
-}
-
-/// A compiled pattern.
-fn pattern(rt: &impl Abort, alloc: Global, source: &str) -> Regex {
-    Regex::new(alloc, source).or_end(rt)
-}
-
-/// Whether this is reported for a visitor of this mail and phone.
-fn is_told_of_a_visitor(rt: &impl Abort, alloc: Global, from: [&str; 2], told: &str) -> bool {
-    let patterns = Patterns {
-        mail: pattern(rt, alloc, "^[^@]+@[^@]+$"),
-        phone: pattern(rt, alloc, "^[0-9]+$"),
-    };
-    let visitor = Visitor {
-        mail: text(rt, alloc, from[0]),
-        phone: Some(text(rt, alloc, from[1])),
-    };
-    tells(rt, alloc, &visitor, &patterns, told)
-}
-
-/// Whether this is reported for a badge of this number and color, which is given on a floor.
-fn is_told_of_a_badge(
-    rt: &impl Abort,
-    alloc: Global,
-    from: [&str; 2],
-    floor: u8,
-    told: &str,
-) -> bool {
-    let patterns = BadgePatterns {
-        number: pattern(rt, alloc, "^[A-Z]{2}[0-9]+$"),
-        colors: pattern(rt, alloc, "^[a-z]+$"),
-    };
-    let badge = Badge {
-        number: text(rt, alloc, from[0]),
-        colors: texts(rt, alloc, &[from[1]]),
-        desk: Desk { floor },
-    };
-    tells(rt, alloc, &badge, &patterns, told)
-}
-
-#[test]
-fn compiled_patterns(rt: HostRuntime) {
-    let badge =
-        "number: does not match pattern /^[A-Z]{2}[0-9]+$/\ncolors[0]: does not match pattern /^[a-z]+$/\ndesk.floor: greater than 9\n";
-    let visitor =
-        "mail: not ascii\nmail: does not match pattern /^[^@]+@[^@]+$/\nphone: does not match pattern /^[0-9]+$/\n";
-    assert!(rt;
-        is_told_of_a_badge(&rt, rt.alloc(), ["AB1", "red"], 9, "")
-            && is_told_of_a_badge(&rt, rt.alloc(), ["AB", "Red"], 10, badge)
-            && is_told_of_a_visitor(&rt, rt.alloc(), ["a@b", "123"], "")
-            && is_told_of_a_visitor(&rt, rt.alloc(), ["é", "a"], visitor)
-    );
 }
 
 /// A coupon of this number and tag.
