@@ -3,9 +3,10 @@
 use super::OrEnd;
 use super::told::{reads, shows};
 use garde::Path;
-use garde::error::{Kind, PathComponentKind};
+use garde::error::{Kind, PathComponentKind, PathIter};
 use garde::rc_list::{JoinError, List};
 use std::alloc::{AllocError, Global};
+use std::process::Abort;
 use test_memory::{Met, Scarce};
 
 /// The list with one item more.
@@ -141,14 +142,51 @@ fn a_key_that_is_a_number_is_a_key(rt: HostRuntime) {
     }
 }
 
-// Nine components are more than a walk holds without memory.
+/// A component that a walk gives, or none.
+type Given = Option<(Kind, &'static str)>;
+
+/// How many components a path has, the four in front of its walk, and what its front and its back give
+/// behind these and the four at the back. A walk of eight needs no memory, and one of nine does.
+static WALKS: [(usize, &[&str; 4], Given, Given); 3] = [
+    (8, &["7", "6", "5", "4"], None, None),
+    (9, &["8", "7", "6", "5"], Some((Kind::Index, "4")), None),
+    (
+        10,
+        &["9", "8", "7", "6"],
+        Some((Kind::Index, "5")),
+        Some((Kind::Index, "4")),
+    ),
+];
+
+// Whether a walk gives one component from its front, and then one from its back.
+fn gives_both(walk: &mut PathIter<'_>, front: &str, back: &str) -> bool {
+    walk.next() == Some((Kind::Index, front)) && walk.next_back() == Some((Kind::Index, back))
+}
+
+// Whether a walk gives these by turns with the four at its back, then these two, and then no more.
+fn gives(walk: &mut PathIter<'_>, fronts: &[&str; 4], (front, back): (Given, Given)) -> bool {
+    gives_both(walk, fronts[0], "0")
+        && gives_both(walk, fronts[1], "1")
+        && gives_both(walk, fronts[2], "2")
+        && gives_both(walk, fronts[3], "3")
+        && walk.next() == front
+        && walk.next_back() == back
+        && walk.next().is_none()
+}
+
+// Whether the walk of a path of so many components gives these.
+fn is_walked(
+    rt: &impl Abort,
+    alloc: Global,
+    (size, fronts, front, back): &(usize, &[&str; 4], Given, Given),
+) -> bool {
+    let path = indexes(alloc, *size).or_end(rt);
+    gives(&mut path.iter(alloc).or_end(rt), fronts, (*front, *back))
+}
+
 #[test]
 fn a_long_walk_gives_both_ends_by_turns(rt: HostRuntime) {
-    let path = indexes(rt.alloc(), 9).or_end(&rt);
-    let mut walk = path.iter(rt.alloc()).or_end(&rt);
-    assert!(rt;
-        walk.next() == Some((Kind::Index, "8"))
-            && walk.next_back() == Some((Kind::Index, "0"))
-            && walk.next() == Some((Kind::Index, "7"))
-    );
+    for row in &WALKS {
+        assert!(rt; is_walked(&rt, rt.alloc(), row));
+    }
 }

@@ -1,4 +1,4 @@
-//! Searches by one searcher after the other.
+//! Several searches by one searcher.
 use super::OrEnd;
 use garde::rules::pattern::regex::{Regex, Searcher};
 use std::alloc::Global;

@@ -131,6 +131,9 @@ fn needs_no_memory(
 #[test]
 fn a_message_of_thirty_bytes_takes_no_memory(rt: HostRuntime) {
     for (message, needs_none) in &MESSAGES {
-        assert!(rt; needs_no_memory(&rt, rt.alloc(), message, *needs_none));
+        assert!(rt;
+            needs_no_memory(&rt, rt.alloc(), message, *needs_none),
+            "{message}"
+        );
     }
 }

@@ -39,6 +39,8 @@ fn asks_numbers_with_a_sign(rt: HostRuntime) {
     let alloc = rt.alloc();
     let low = Some("lower than -127");
     let least = Some("lower than -170141183460469231731687303715884105727");
+    let most = Some("greater than -170141183460469231731687303715884105728");
+    let all = Some("lower than 170141183460469231731687303715884105727");
     assert!(rt;
         finds(alloc, &i8::MIN, (Some(-127), None), low)
             && finds(alloc, &i16::MIN, (Some(-127), None), low)
@@ -46,6 +48,8 @@ fn asks_numbers_with_a_sign(rt: HostRuntime) {
             && finds(alloc, &i64::MIN, (Some(-127), None), low)
             && finds(alloc, &isize::MIN, (Some(-127), None), low)
             && finds(alloc, &i128::MIN, (Some(i128::MIN + 1), None), least)
+            && finds(alloc, &0i128, (None, Some(i128::MIN)), most)
+            && finds(alloc, &0i128, (Some(i128::MAX), Some(i128::MIN)), all)
     );
 }
 

@@ -32,25 +32,38 @@ enum Under {
     Condition(bool),
 }
 
+// The same by so many rules: the first of them that the number is even, and the last two that have bounds.
+fn report_of<E: NumberRules<u8> + Copy + Drop, B: NumberRules<u8> + Copy + Drop>(
+    alloc: Global,
+    count: usize,
+    body: &str,
+    even: E,
+    (least, most): (B, B),
+) -> Result<String, AllocError> {
+    match count {
+        0 => report(alloc, body, ()),
+        1 => report(alloc, body, even),
+        2 => report(alloc, body, (least, most)),
+        3 => report(alloc, body, (even, least, most)),
+        4 => report(alloc, body, (even, even, least, most)),
+        5 => report(alloc, body, (even, even, even, least, most)),
+        6 => report(alloc, body, (even, even, even, even, least, most)),
+        7 => report(alloc, body, (even, even, even, even, even, (least, most))),
+        _ => report(
+            alloc,
+            body,
+            all!(even, even, even, even, even, even, least, most),
+        ),
+    }
+}
+
 // The same by these rules.
 fn report_under(alloc: Global, under: &Under, body: &str) -> Result<String, AllocError> {
-    let even = Is(MultipleOf(2));
     let least = Is(range!(min = 10));
     let most = Is(range!(max = 100));
     match under {
         Under::Condition(holds) => report(alloc, body, When(*holds, most)),
-        Under::Many(0) => report(alloc, body, ()),
-        Under::Many(1) => report(alloc, body, even),
-        Under::Many(2) => report(alloc, body, (least, most)),
-        Under::Many(3) => report(alloc, body, (even, least, most)),
-        Under::Many(4) => report(alloc, body, (even, even, least, most)),
-        Under::Many(5) => report(alloc, body, (even, even, even, least, most)),
-        Under::Many(6) => report(alloc, body, (even, even, even, even, least, most)),
-        Under::Many(7) => report(alloc, body, (even, even, even, even, even, (least, most))),
-        Under::Many(_) => {
-            let eight = all!(even, even, even, even, even, even, least, most);
-            report(alloc, body, eight)
-        }
+        Under::Many(count) => report_of(alloc, *count, body, Is(MultipleOf(2)), (least, most)),
     }
 }
 
