@@ -11,13 +11,29 @@ fn finds<T: Url>(alloc: Global, value: &T, fault: Option<&str>) -> bool {
 }
 
 /// A text, and what is found in it.
-static ASKED: [(&str, Option<&str>); 4] = [
+static ASKED: [(&str, Option<&str>); 8] = [
     ("https://example.com/", None),
     ("abc", Some("not a valid url: relative URL without a base")),
     ("http://", Some("not a valid url: empty host")),
     (
         "http://a:65536/",
         Some("not a valid url: invalid port number"),
+    ),
+    (
+        "http://1.2.3.256/",
+        Some("not a valid url: invalid IPv4 address"),
+    ),
+    (
+        "http://[::g]/",
+        Some("not a valid url: invalid IPv6 address"),
+    ),
+    (
+        "ssh://a b/",
+        Some("not a valid url: invalid domain character"),
+    ),
+    (
+        "https://\u{FFFD}/",
+        Some("not a valid url: invalid international domain name"),
     ),
 ];
 

@@ -57,7 +57,8 @@ fn counts_a_text_by_each_unit(rt: HostRuntime) {
 }
 
 /// Bounds, and what is found in the blocks by characters and by code units.
-static BOUNDED: [((usize, usize), Checked, Checked); 4] = [
+static BOUNDED: [((usize, usize), Checked, Checked); 5] = [
+    ((0, 0), Err(OutOfBounds::Upper), Err(OutOfBounds::Upper)),
     ((0, 1000), Ok(()), Ok(())),
     ((400, 400), Ok(()), Err(OutOfBounds::Upper)),
     ((500, 500), Err(OutOfBounds::Lower), Ok(())),
@@ -84,8 +85,11 @@ fn holds_each_count_against_its_bounds(rt: HostRuntime) {
     let alloc = rt.alloc();
     let h = DefaultI18n;
     let low = Some("length is lower than 3");
+    let none = Some("length is greater than 0");
     assert!(rt;
-        tells(bytes::apply(alloc, &MARKED, (3, 3), &h), None)
+        tells(bytes::apply(alloc, &"", (0, 0), &h), None)
+            && tells(bytes::apply(alloc, &MARKED, (0, 0), &h), none)
+            && tells(bytes::apply(alloc, &MARKED, (3, 3), &h), None)
             && tells(chars::apply(alloc, &MARKED, (3, 3), &h), low)
             && tells(graphemes::apply(alloc, &MARKED, (1, 1), &h), None)
             && tells(graphemes::apply(alloc, &MARKED, (3, 3), &h), low)
