@@ -7,6 +7,7 @@ import re
 
 DEEPEST = 128
 WHY = ("not JSON", "nested deeper than 128", "a lone surrogate")
+SURROGATE = re.compile("[\ud800-\udfff]")
 PLACE = r" at line \d+ column \d+"
 
 
@@ -46,13 +47,15 @@ def depth(value):
 
 
 def texts(value):
-    """All texts and names in a value."""
-    if is_text(value):
-        yield value
-    if isinstance(value, Pairs):
-        yield from (name for name, _ in value)
-    for part in parts_of(value):
-        yield from texts(part)
+    """All texts and names in a value, in any order."""
+    left = [value]
+    while left:
+        it = left.pop()
+        if isinstance(it, Pairs):
+            yield from (name for name, _ in it)
+        left += parts_of(it)
+        if is_text(it):
+            yield it
 
 
 def refused(constant):
@@ -70,7 +73,7 @@ def of_bytes(body):
         raise NoJson(f"not UTF-8 at line {line} column {column}") from None
     try:
         value = json.loads(text, object_pairs_hook=Pairs, parse_int=Number, parse_float=Number, parse_constant=refused)
-        found = {"nested deeper than 128": depth(value) > DEEPEST, "a lone surrogate": any(re.search("[\ud800-\udfff]", it) for it in texts(value))}
+        found = {"nested deeper than 128": depth(value) > DEEPEST, "a lone surrogate": any(map(SURROGATE.search, texts(value)))}
     except (ValueError, RecursionError):
         opened = text.count("[") + text.count("{") > DEEPEST
         found = {"not JSON": True, "nested deeper than 128": opened, "a lone surrogate": "\\u" in text}

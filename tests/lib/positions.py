@@ -3,6 +3,7 @@ library, and reads only what is JSON.
 
 A column counts characters from 1 on, and a tab is one of them. A line ends with a line feed.
 """
+import bisect
 import json
 import re
 import typing
@@ -10,6 +11,8 @@ import typing
 WORD = re.compile(r"[-+.\w]+")
 TEXT = re.compile(r'"(?:[^"\\]|\\.)*"', re.DOTALL)
 SPACE = re.compile(r"[ \t\r\n]*")
+# A reader of texts that takes control characters within them too.
+ANY_TEXT = json.JSONDecoder(strict=False)
 
 
 class Spot(typing.NamedTuple):
@@ -20,30 +23,31 @@ class Spot(typing.NamedTuple):
 
 
 class Reader:
-    """A text, and how far it is read."""
+    """A text, where its lines begin, and how far it is read."""
 
     def __init__(self, text):
-        self.text, self.at, self.line, self.column = text, 0, 1, 1
+        self.text, self.at = text, 0
+        self.lines = [0, *(it.end() for it in re.finditer("\n", text))]
 
     def take(self, pattern):
         """Goes past what matches here, and gives it."""
-        found = pattern.match(self.text, self.at).group()
-        self.at += len(found)
-        ends = found.count("\n")
-        self.line += ends
-        self.column = len(found) - found.rindex("\n") if ends else self.column + len(found)
-        return found
+        begin, self.at = self.at, pattern.match(self.text, self.at).end()
+        return self.text[begin:self.at]
 
     def here(self):
         """The next character that is no white space."""
-        self.take(SPACE)
+        self.at = SPACE.match(self.text, self.at).end()
         return self.text[self.at]
+
+    def place(self):
+        """The line and the column."""
+        line = bisect.bisect_right(self.lines, self.at)
+        return line, self.at - self.lines[line - 1] + 1
 
     def past(self, mark):
         """Whether this mark stands here; goes past it."""
         is_here = self.here() == mark
-        if is_here:
-            self.take(re.compile(re.escape(mark)))
+        self.at += is_here
         return is_here
 
     def parts(self, end, part):
@@ -54,12 +58,12 @@ class Reader:
 
     def member(self):
         self.here()
-        place, name = (self.line, self.column), json.loads(self.take(TEXT), strict=False)
+        place, name = self.place(), ANY_TEXT.decode(self.take(TEXT))
         self.past(":")
         return name, place, self.value()
 
     def value(self):
-        first, place = self.here(), (self.line, self.column)
+        first, place = self.here(), self.place()
         if self.past("{"):
             return Spot(place, members=tuple(self.parts("}", self.member)))
         if self.past("["):

@@ -4,12 +4,17 @@ import re
 from lib.faults import ENGLISH
 
 SHORT = {"\\": "\\\\", "\n": "\\n", "\r": "\\r", "\t": "\\t"}
-ACTING = re.compile("[\\x00-\\x1f\\x7f-\\x9f\\u061c\\u200e\\u200f\\u2028-\\u202e\\u2066-\\u2069]")
+# What acts in place of being shown, and what may be escaped by a letter.
+ESCAPED = re.compile("[\"\\\\\\x00-\\x1f\\x7f-\\x9f\\u061c\\u200e\\u200f\\u2028-\\u202e\\u2066-\\u2069]")
 
 
 def escaped(text, short=SHORT):
     """A text with the characters escaped that act in place of being shown; `short` has those that are escaped by a letter."""
-    return "".join(short.get(c) or (f"\\u{{{ord(c):x}}}" if ACTING.match(c) else c) for c in text)
+
+    def of(found):
+        return short.get(found[0]) or (found[0] if found[0] == '"' else f"\\u{{{ord(found[0]):x}}}")
+
+    return ESCAPED.sub(of, text)
 
 
 def quoted(text):

@@ -16,6 +16,8 @@ NAMES = ["", "a", "Name", "name ", "a.b", "lines[0]", "[0]", "a/b", "m~n", "~1",
 NAMES += ["name", "code", "port", "\u202e", "\x1b[2K"]
 PIECES = [b"\xff", b"\xc0\x80", b"\xed\xa0\x80", b"\xe2\x82", b"\xf4\x90\x80\x80", b"\xf0\x9f\x98", b"\x80", b"\xef\xbb\xbf", b"\x00"]
 PIECES += [b"\r\n", b"\xc2\xa0", b"{}", b" null", b"//", b"=", b"&", b"%", b"+", b"'", b'"', b",", b"#"]
+# Writers of JSON, with the characters beyond ASCII as escapes or as they are.
+IN_ASCII, IN_UNICODE = json.JSONEncoder(), json.JSONEncoder(ensure_ascii=False)
 SPACES = ("", "", "", " ", "\t", "\r ", "\n")
 MANY = (0, 2, 3, 4, 20, 21, 50, 51, 100, 101)
 DEEP = (1, 2, 9, 100, 124, 125, 126, 127, 128, 129, 130, 200, 300)
@@ -124,7 +126,7 @@ def some_of(dice, form, some=some_value, ways=WAYS):
 
 def quoted(dice, text):
     """A text in JSON, in which some letters are escapes."""
-    written = json.dumps(text, ensure_ascii=dice.random() < 0.2)
+    written = (IN_ASCII if dice.random() < 0.2 else IN_UNICODE).encode(text)
     if "\\" in written or dice.random() < 0.95:
         return written
     return '"' + "".join(f"\\u{ord(c):04X}" if c.isascii() else c for c in text) + '"'
@@ -139,7 +141,7 @@ def json_text(dice, value, space="", escapes=True):
         return "[" + space + f",{space}".join(json_text(dice, part, space, escapes) for part in value) + "]"
     if isinstance(value, (Number, Raw)):
         return str.__str__(value)
-    return quoted(dice, value) if escapes and isinstance(value, str) else json.dumps(value, ensure_ascii=False)
+    return quoted(dice, value) if escapes and isinstance(value, str) else IN_UNICODE.encode(value)
 
 
 def cut(dice, body, pieces=PIECES):

@@ -42,6 +42,11 @@ def pairs_of(pairs):
     return dict(enumerate(value for _, value in pairs))
 
 
+# Readers of Python. Most texts are refused by the quicker one, at once.
+QUICK = json.JSONDecoder(parse_int=str, parse_float=str)
+EXACT = json.JSONDecoder(parse_constant=no_constant, object_pairs_hook=pairs_of, parse_int=str, parse_float=str)
+
+
 def text_ok(value):
     if isinstance(value, str):
         return not lone(value)
@@ -54,9 +59,8 @@ def is_json(text):
     if text.strip(" \t\r\n") != text.strip():
         return False
     try:
-        # most texts are refused here, at once
-        json.loads(text, parse_int=str, parse_float=str)
-        return text_ok(json.loads(text, parse_constant=no_constant, object_pairs_hook=pairs_of, parse_int=str, parse_float=str))
+        QUICK.decode(text)
+        return text_ok(EXACT.decode(text))
     except (ValueError, RecursionError):
         return False
 
@@ -86,7 +90,7 @@ def begins_json(text):
 def told_of(text):
     """The place that Python's reader tells of a text: often the one where it stops."""
     try:
-        json.loads(text, parse_int=str, parse_float=str)
+        QUICK.decode(text)
     except json.JSONDecodeError as error:
         return error.pos
     except RecursionError:

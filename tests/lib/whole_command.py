@@ -14,8 +14,14 @@ from lib.forked import Command
 from lib.repository import ROOT
 
 WHY = Command(ROOT / "tools/why")
-# the types of `example_valid`
-VALID = "basket::Basket, bill::Bill, level::Level, page::Page, panel::Reading, parcel::Parcel, seat::Seat, tariff::Tariff"
+# the types of `example_types`
+TYPES = (
+    "contact::Contact, data::Data, ledger::Ledger, login::Login, names::Names, order::Order, payment::Payment, profile::Profile, "
+    "recursive::comment::Comment, recursive::expr::Expr, recursive::folder::Folder, recursive::menu::Menu, recursive::question::Entry, "
+    "recursive::tree::Tree, signup::Signup, stay::Stay, stock::Stock, table::Table, tag::Tag, team::Member, team::Team, "
+    "username::Username, username::NumberedUsername, username::User, valid::basket::Basket, valid::bill::Bill, valid::level::Level, "
+    "valid::page::Page, valid::panel::Reading, valid::parcel::Parcel, valid::seat::Seat, valid::tariff::Tariff"
+)
 # a library that was never built, and a type above it
 LOW = {"crates.txt": "low:\nhigh: low\n", "crates/low/src/lib.rt": "#![tactic(auto)]\n"}
 
@@ -110,8 +116,8 @@ def faults_of_words(mistake):
 
 
 def unknown_type(crate, name):
-    """What the command says of a type of `example_valid` that is not there."""
-    return f"why: {crate.name}: no type of the name `{name}` with `impl Validate`: it has {VALID}\n"
+    """What the command says of a type of `example_types` that is not there."""
+    return f"why: {crate.name}: no type of the name `{name}` with `impl Validate`: it has {TYPES}\n"
 
 
 def faults_without_library(mistake):

@@ -18,3 +18,4 @@ pub mod table;
 pub mod tag;
 pub mod team;
 pub mod username;
+pub mod valid;

@@ -8,6 +8,7 @@ mod counted;
 mod couple;
 mod custom;
 mod documents;
+mod examples;
 mod first;
 mod handed_on;
 mod handlers;
@@ -96,11 +97,11 @@ fn address(rt: &impl Abort, alloc: Global, city: &str) -> Address {
     }
 }
 
-/// A list of these tags.
-fn tags_of(rt: &impl Abort, alloc: Global, tags: &[&str]) -> Vec<String> {
+/// These texts, in order.
+fn texts_of(rt: &impl Abort, alloc: Global, texts: &[&str]) -> Vec<String> {
     let mut kept = Vec::new(alloc);
-    for tag in tags {
-        kept.push(text_of(rt, alloc, tag)).or_end(rt);
+    for text in texts {
+        kept.push(text_of(rt, alloc, text)).or_end(rt);
     }
     kept
 }
@@ -110,7 +111,7 @@ fn wrong_form(rt: &impl Abort, alloc: Global, tags: &[&str], city: &str) -> Sign
     Signup {
         name: text_of(rt, alloc, "é"),
         password: text_of(rt, alloc, "short"),
-        tags: tags_of(rt, alloc, tags),
+        tags: texts_of(rt, alloc, tags),
         address: address(rt, alloc, city),
     }
 }

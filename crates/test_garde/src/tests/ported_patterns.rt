@@ -1,6 +1,6 @@
 //! Types of `example_ported` whose texts are asked for compiled patterns.
 use super::told::tells_all;
-use super::{OrEnd, tags_of, text_of};
+use super::{OrEnd, text_of, texts_of};
 use example_ported::visitor::{Badge, BadgePatterns, Desk, Patterns, Visitor};
 use garde::Validate;
 use garde::rules::pattern::regex::Regex;
@@ -39,7 +39,7 @@ fn is_told_of_a_badge(
     };
     let badge = Badge {
         number: text_of(rt, alloc, from[0]),
-        colors: tags_of(rt, alloc, &[from[1]]),
+        colors: texts_of(rt, alloc, &[from[1]]),
         desk: Desk { floor },
     };
     tells_all(alloc, badge.validate_with(alloc, &patterns), told)

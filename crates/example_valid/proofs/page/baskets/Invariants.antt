@@ -1,6 +1,0 @@
-use Rattle.std.proofs.Common.{◌≡◌, ◌++◌}
-use Rattle.example_valid.proofs.page.baskets.Given as goal
-
--- the baskets so far, and those that are left
-abbrev pub invariant-loop-basket : goal.invariant-loop-basket
-invariant-loop-basket l = l.baskets.items ++ l.basket-iterator.rest.items ≡ l.fn.page.entries.items
