@@ -1,21 +1,12 @@
 -- The place of a value in its text.
-use Rattle.std.specs.Prelude.{◌≡◌, ℕ, ◌+◌, ◌==◌, List, take, drop, reverse, map, not, count_by, take_while, MatchOption, Some, [], ◌∷◌, ◌++◌, ◌⊎◌}
+use Rattle.std.specs.Prelude.{◌≡◌, ℕ, ◌+◌, ◌==◌, List, take, drop, reverse, not, count_by, take_while, MatchOption, [], ◌∷◌, ◌++◌, ◌⊎◌}
 use Rattle.json.specs.Token.{Token}
 use Rattle.json.specs.Lex.{tokens}
-use Rattle.json.specs.Json.{Json, document}
-use Rattle.json.specs.Find.{BeginsWith, HasValue, get}
-use Rattle.json.specs.Tape.{node_token, Linked}
-use Rattle.json.specs.declared.tape.Node.{Node}
+use Rattle.json.specs.Json.{Json}
+use Rattle.json.specs.Find.{BeginsWith, get}
 use Rattle.garde_places.specs.declared.place.Place.{Place}
-use Rattle.garde_places.specs.declared.lex.Mode.TheVariants.{Between}
-use Rattle.garde_places.specs.declared.find.Mark.{Mark}
-use Rattle.garde_places.specs.declared.index.Index.{Index}
-use Rattle.garde_places.specs.Marks.{MarksHold}
-use Rattle.garde_places.specs.Index.{IndexHolds}
 use Rattle.garde_report.specs.Part.{Part}
-use Rattle.garde_tape.specs.Reading.{json_of}
 use Rattle.garde_places.specs.Place.{goes_on}
-use Rattle.garde_places.specs.Scan.{spots, text_start}
 use Rattle.garde_places.specs.Text.{BeginsAt}
 use Rattle.garde_places.specs.Steps.{reached, tokens_before, before_name}
 
@@ -58,12 +49,3 @@ abbrev pub IsNamePlace : List ℕ → List Part → Json → Place → Type 0
 IsNamePlace text path j place =
     ((before : List Part) × (last : Part) × (path ≡ before ++ last ∷ []) × IsNamePlaceOf text before last.text j place)
     ⊎ ((path ≡ []) × IsPlaceOf text [] j place)
-
--- what the places of a text are made of: the tape of the text, the place of each token, the marks, and the names of wide objects
-pub record ArePlaces (text : List ℕ) (nodes : List Node) (found : List Place) (marks : List Mark) (index : Index) : Type 0 where
-  pub read : document text ≡ Some (json_of (map node_token nodes))
-  pub value : HasValue (map node_token nodes)
-  pub links : Linked (map node_token nodes) 0 nodes
-  pub places : found ≡ spots Between text_start text
-  pub hold : MarksHold (map node_token nodes) marks
-  pub names : IndexHolds (map node_token nodes) index

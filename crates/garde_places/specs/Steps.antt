@@ -1,5 +1,5 @@
 -- Where a path leads inside a value.
-use Rattle.std.specs.Prelude.{◌≡◌, ℕ, zero, suc, ◌+◌, ◌-◌, List, [], ◌∷◌, ◌++◌, length, Option, Some, None, option_map}
+use Rattle.std.specs.Prelude.{◌≡◌, ℕ, zero, suc, ◌+◌, ◌-◌, List, [], ◌∷◌, ◌++◌, ◌⊎◌, length, Bool, true, false, Option, Some, None, option_map}
 use Rattle.json.specs.Token.{Token}
 use Rattle.json.specs.Json.{Json, null, boolean, number, string, array, object, Items, no_items, item, Members, no_members, member}
 use Rattle.json.specs.Tree.{json_tokens, items_tokens, members_tokens}
@@ -134,3 +134,15 @@ SpellItems ts js = (rest : List Token) × (ts ≡ items_tokens js ++ rest)
 
 abbrev pub SpellMembers : List Token → Members → Type 0
 SpellMembers ts ms = (rest : List Token) × (ts ≡ members_tokens ms ++ rest)
+
+-- ---- the token of a value, or of the name of its member
+
+-- the token of the name of the member that a whole path leads to; at the root, of the whole value
+abbrev pub IsNameToken : List Part → Json → ℕ → Type 0
+IsNameToken path j n =
+    ((before : List Part) × (last : Part) × (path ≡ before ++ last ∷ []) × (n ≡ tokens_before before j + before_name last.text (reached before j)))
+    ⊎ ((path ≡ []) × (n ≡ 0))
+
+abbrev pub IsTokenBy : Bool → List Part → Json → ℕ → Type 0
+IsTokenBy true path j n = IsNameToken path j n
+IsTokenBy false path j n = n ≡ tokens_before path j

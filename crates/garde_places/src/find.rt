@@ -9,7 +9,7 @@ ghost use Rattle.garde_places.specs.Marks.{MarkHolds, MarksHold, mark_of};
 ghost use Rattle.garde_report.specs.Part.{item_part};
 ghost use Rattle.garde_tape.specs.Number.{unsigned_of};
 ghost use Rattle.garde_places.specs.Steps.{Spells, SpellItems, item_spot};
-ghost use Rattle.garde_places.specs.Steps.{inside_spot, step_spot, tokens_before, before_name};
+ghost use Rattle.garde_places.specs.Steps.{inside_spot, step_spot, tokens_before, before_name, IsTokenBy};
 
 use crate::index::Index;
 use crate::walk::after;
@@ -188,7 +188,7 @@ fn mark_at(marks: &[Mark], depth: usize) -> Mark
 
 /// The value that a path leads to, or the last one on its way where it leads to none. There is a mark
 /// for each of the first steps of a path.
-pub(crate) fn find<'a>(
+fn find<'a>(
     nodes: &[Node<'a>],
     index: &mut Index<'a>,
     marks: &mut [Mark],
@@ -219,7 +219,7 @@ pub(crate) fn find<'a>(
 
 /// The name of the last member of that name, of the object at a node. It is the node itself where there
 /// is no such member.
-pub(crate) fn name_at<'a>(nodes: &[Node<'a>], index: &mut Index<'a>, at: usize, name: &str) -> usize
+fn name_at<'a>(nodes: &[Node<'a>], index: &mut Index<'a>, at: usize, name: &str) -> usize
     requires links { Linked (map node_token nodes.now) 0 nodes.now }
     requires names { IndexHolds (map node_token nodes.now) index.old }
     ensures value { (j : Json) → Spells (drop at (map node_token nodes.now)) j
@@ -237,4 +237,31 @@ pub(crate) fn name_at<'a>(nodes: &[Node<'a>], index: &mut Index<'a>, at: usize, 
     } else {
         at
     }
+}
+
+/// The token with which the value begins that a path leads to, or that of the name of its member. At the
+/// root the value has no name, and begins with the first token.
+pub(crate) fn find_token<'a>(
+    nodes: &[Node<'a>],
+    index: &mut Index<'a>,
+    marks: &mut [Mark],
+    way: &[(Kind, &str)],
+    by_name: bool,
+) -> usize
+    requires links { Linked (map node_token nodes.now) 0 nodes.now }
+    requires hold { MarksHold (map node_token nodes.now) marks.old }
+    requires names { IndexHolds (map node_token nodes.now) index.old }
+    ensures value { (j : Json) → Spells (map node_token nodes.now) j
+        → IsTokenBy by_name (map item_part way.now) j result }
+    ensures hold { MarksHold (map node_token nodes.now) marks.new }
+    ensures names { IndexHolds (map node_token nodes.now) index.new }
+{
+    if !by_name {
+        return find(nodes, index, marks, way);
+    }
+    let Some((last, before)) = way.split_last() else {
+        return 0;
+    };
+    let found = find(nodes, index, marks, before);
+    name_at(nodes, index, found, last.1)
 }

@@ -1,15 +1,15 @@
 //! The places of the values of a text that was written as JSON.
-ghost use Rattle.std.specs.Prelude.{◌≡◌, ◌≤◌, length, map, Some, IfOk, IsOk};
+ghost use Rattle.std.specs.Prelude.{◌≡◌, ◌≤◌, length, map, slice_index_or, Some, IfOk, IsOk};
 ghost use Rattle.json.specs.Json.{Json, document};
 ghost use Rattle.garde_tape.specs.Reading.{json_of};
+ghost use Rattle.garde_places.specs.Scan.{text_start};
 ghost use Rattle.garde_places.specs.Fault.{fault_entry};
-ghost use Rattle.garde_places.specs.Listed.{AreListed, IsFaultSpot, IsNameSpot, value_spot};
+ghost use Rattle.garde_places.specs.Listed.{AreListed, IsFaultSpot, IsSpotBy};
 
 use crate::fault::{Fault, speaks_of_name};
-use crate::find::{Mark, find, name_at, no_marks};
+use crate::find::{Mark, find_token, no_marks};
 use crate::index::Index;
 use crate::place::Place;
-use crate::places::place_at_token;
 use crate::way::way_of;
 use garde_problem::Coded;
 use garde_report::{Error, Path, Report};
@@ -41,6 +41,16 @@ impl<'t, 'a> Model for ListedPlaces<'t, 'a> {
     ghost invariant = { λ a. IsTapeOf a.json.now a.nodes.now a.marks a.index };
 }
 
+/// The place of a token of that index.
+fn place_at_token(places: &[Place], token: usize) -> Place
+    ensures { result ≡ slice_index_or places.now token text_start }
+{
+    match places.get(token) {
+        Some(place) => *place,
+        None => Place { line: 1, column: 1 },
+    }
+}
+
 impl<'t, 'a> ListedPlaces<'t, 'a> {
     /// The places of a text. The tape is what `garde_tape::parse` gives of the JSON text, and the list
     /// has a place for each of its tokens in their order: a bracket, a name, and a value without parts
@@ -61,33 +71,31 @@ impl<'t, 'a> ListedPlaces<'t, 'a> {
         }
     }
 
-    // The place of the value that a path leads to, as `Places` has it.
-    fn locate(&mut self, alloc: Global, path: &Path) -> Result<Place, AllocError>
+    /// The place of the value that a path leads to, or that of the name of its member, as `Places` has it.
+    pub(crate) fn place_of(
+        &mut self,
+        alloc: Global,
+        path: &Path,
+        by_name: bool,
+    ) -> Result<Place, AllocError>
         ensures place { IfOk result (λ place. (j : Json) → document self.old.0 ≡ Some j
-            → place ≡ value_spot self.old.1 path.now j) }
+            → IsSpotBy by_name self.old.1 path.now j place) }
         ensures text { self.new ≡ self.old }
+        ensures inline { length path.now ≤ 8 → IsOk result }
     {
         let way = way_of(alloc, path)?;
-        let found = find(self.nodes, &mut self.index, &mut self.marks, way.as_slice());
-        Ok(place_at_token(&self.places, found))
+        let token = find_token(
+            self.nodes,
+            &mut self.index,
+            &mut self.marks,
+            way.as_slice(),
+            by_name,
+        );
+        Ok(place_at_token(&self.places, token))
     }
 
-    // The place of the name of the member that a path leads to.
-    fn locate_name(&mut self, alloc: Global, path: &Path) -> Result<Place, AllocError>
-        ensures place { IfOk result (λ place. (j : Json) → document self.old.0 ≡ Some j
-            → IsNameSpot self.old.1 path.now j place) }
-        ensures text { self.new ≡ self.old }
-    {
-        let way = way_of(alloc, path)?;
-        let Some((last, before)) = way.as_slice().split_last() else {
-            return Ok(place_at_token(&self.places, 0));
-        };
-        let found = find(self.nodes, &mut self.index, &mut self.marks, before);
-        let name = name_at(self.nodes, &mut self.index, found, last.1);
-        Ok(place_at_token(&self.places, name))
-    }
-
-    fn locate_fault(
+    /// Where a fault stands, as `Places` has it.
+    pub(crate) fn place_of_fault(
         &mut self,
         alloc: Global,
         path: &Path,
@@ -96,12 +104,10 @@ impl<'t, 'a> ListedPlaces<'t, 'a> {
         ensures place { IfOk result (λ place. (j : Json) → document self.old.0 ≡ Some j
             → IsFaultSpot self.old.1 path.now error.now j place) }
         ensures text { self.new ≡ self.old }
+        ensures inline { length path.now ≤ 8 → IsOk result }
     {
-        if speaks_of_name(Coded::of(error.message()).code) {
-            self.locate_name(alloc, path)
-        } else {
-            self.locate(alloc, path)
-        }
+        let by_name = speaks_of_name(Coded::of(error.message()).code);
+        self.place_of(alloc, path, by_name)
     }
 
     /// The faults of a report, in its order, each with its place: that of the token with which the
@@ -118,7 +124,7 @@ impl<'t, 'a> ListedPlaces<'t, 'a> {
     {
         let mut faults = Vec::new(alloc);
         for (path, error) in report.iter() {
-            let place = self.locate_fault(alloc, path, error)?;
+            let place = self.place_of_fault(alloc, path, error)?;
             faults.push(Fault { place, path, error })?;
         }
         Ok(faults)

@@ -1,53 +1,36 @@
 //! The places of the values of a JSON text.
-ghost use Rattle.std.specs.Prelude.{◌≡◌, ◌≤◌, length, map, Some, IfOk, IsOk, slice_index_or};
+ghost use Rattle.std.specs.Prelude.{◌≡◌, ◌≤◌, length, map, Some, IfOk, IsOk};
 ghost use Rattle.json.specs.Json.{Json, document};
 ghost use Rattle.garde_tape.specs.Reading.{json_of};
-ghost use Rattle.garde_places.specs.Scan.{text_start};
 ghost use Rattle.garde_places.specs.Places.{IsPlaceOf, IsNamePlace};
 ghost use Rattle.garde_places.specs.Fault.{ArePlaced, IsFaultPlace, fault_entry};
 
-use crate::fault::{Fault, speaks_of_name};
-use crate::find::{Mark, find, name_at, no_marks};
-use crate::index::Index;
+use crate::fault::Fault;
+use crate::listed::ListedPlaces;
 use crate::place::Place;
 use crate::scan::scan;
-use crate::way::way_of;
-use garde_problem::Coded;
 use garde_report::{Error, Path, Report};
 use garde_tape::Tape;
-use json::Node;
 use std::alloc::{AllocError, Global};
 use std::marker::Model;
 
 /// The places of the values of a JSON text. A contract sees the text.
 #[derive(Drop)]
 pub struct Places<'t, 'a> {
-    text: &'a str,
-    nodes: &'t [Node<'a>],
-    spots: Vec<Place>,
-    marks: [Mark; 128],
-    index: Index<'a>,
+    // The list has the place of each token of the text itself.
+    listed: ListedPlaces<'t, 'a>,
 }
 
 impl<'t, 'a> Model for Places<'t, 'a> {
-    ghost use Rattle.std.specs.Prelude.{ℕ, List};
-    ghost use Rattle.garde_places.specs.Places.{ArePlaces};
+    ghost use Rattle.std.specs.Prelude.{◌≡◌, ℕ, List};
+    ghost use Rattle.garde_places.specs.Scan.{spots, text_start};
+    ghost use Rattle.garde_places.specs.declared.lex.Mode.TheVariants.{Between};
 
     ghost Value = { List ℕ };
 
-    ghost view = { λ a. a.text.now };
+    ghost view = { λ a. a.listed.0 };
 
-    ghost invariant = { λ a. ArePlaces a.text.now a.nodes.now a.spots.items a.marks a.index };
-}
-
-/// The place of a token of that index.
-pub(crate) fn place_at_token(spots: &[Place], token: usize) -> Place
-    ensures { result ≡ slice_index_or spots.now token text_start }
-{
-    match spots.get(token) {
-        Some(place) => *place,
-        None => Place { line: 1, column: 1 },
-    }
+    ghost invariant = { λ a. a.listed.1 ≡ spots Between text_start a.listed.0 };
 }
 
 impl<'t, 'a> Places<'t, 'a> {
@@ -60,16 +43,9 @@ impl<'t, 'a> Places<'t, 'a> {
         requires { document text.now ≡ Some (json_of tape.now) }
         ensures { IfOk result (λ places. places ≡ text.now) }
     {
-        // So it is known that a value begins in the tape.
-        let _root = tape.root();
-        let spots = scan(alloc, text)?;
-        Ok(Places {
-            text,
-            nodes: tape.nodes(),
-            spots,
-            marks: no_marks(),
-            index: Index::new(alloc),
-        })
+        let places = scan(alloc, text)?;
+        let listed = ListedPlaces::of(text, tape, places);
+        Ok(Places { listed })
     }
 
     /// Where the value begins that the path leads to. Where it leads to none, it is the last value on
@@ -87,9 +63,7 @@ impl<'t, 'a> Places<'t, 'a> {
         ensures text { self.new ≡ self.old }
         ensures inline { length path.now ≤ 8 → IsOk result }
     {
-        let way = way_of(alloc, path)?;
-        let found = find(self.nodes, &mut self.index, &mut self.marks, way.as_slice());
-        Ok(place_at_token(&self.spots, found))
+        self.listed.place_of(alloc, path, false)
     }
 
     /// Where the name of the member begins that the path leads to. It is the place of the value on the
@@ -101,13 +75,7 @@ impl<'t, 'a> Places<'t, 'a> {
         ensures text { self.new ≡ self.old }
         ensures inline { length path.now ≤ 8 → IsOk result }
     {
-        let way = way_of(alloc, path)?;
-        let Some((last, before)) = way.as_slice().split_last() else {
-            return Ok(place_at_token(&self.spots, 0));
-        };
-        let found = find(self.nodes, &mut self.index, &mut self.marks, before);
-        let name = name_at(self.nodes, &mut self.index, found, last.1);
-        Ok(place_at_token(&self.spots, name))
+        self.listed.place_of(alloc, path, true)
     }
 
     /// Where a fault stands: at the name of its member, if its message has the code of a member that is
@@ -124,11 +92,7 @@ impl<'t, 'a> Places<'t, 'a> {
         ensures text { self.new ≡ self.old }
         ensures inline { length path.now ≤ 8 → IsOk result }
     {
-        if speaks_of_name(Coded::of(error.message()).code) {
-            self.locate_name(alloc, path)
-        } else {
-            self.locate(alloc, path)
-        }
+        self.listed.place_of_fault(alloc, path, error)
     }
 
     /// The faults of a report, in its order, each with its place.
@@ -142,11 +106,6 @@ impl<'t, 'a> Places<'t, 'a> {
             → ArePlaced self.old j faults.items) }
         ensures text { self.new ≡ self.old }
     {
-        let mut faults = Vec::new(alloc);
-        for (path, error) in report.iter() {
-            let place = self.locate_fault(alloc, path, error)?;
-            faults.push(Fault { place, path, error })?;
-        }
-        Ok(faults)
+        self.listed.locate_all(alloc, report)
     }
 }

@@ -8,10 +8,10 @@ ghost use Rattle.garde_places.specs.Listed.{AreListed};
 use crate::fault::Fault;
 use crate::listed::ListedPlaces;
 use crate::place::Place;
-use crate::places::Places;
+use crate::scan::scan;
 use garde_report::Report;
 use garde_tape::{ParseError, Scratch, Tape, parse};
-use std::alloc::{AllocError, Global};
+use std::alloc::Global;
 
 /// The faults of a report of a JSON text, in its order, each with its place, as `Places::locate_all` has
 /// it. The text is read once more, so ask where there is a fault.
@@ -30,24 +30,29 @@ pub fn faults_of<'r>(
 {
     let mut scratch = Scratch::new(alloc);
     let tape = parse(alloc, text, &mut scratch)?;
-    match place_all(alloc, text, &tape, report) {
-        Ok(faults) => Ok(faults),
+    match scan(alloc, text) {
+        Ok(places) => list_all(alloc, text, &tape, places, report),
         Err(_) => Err(ParseError::Memory),
     }
 }
 
-fn place_all<'a, 'r>(
+// The places are those of the tokens of the text.
+fn list_all<'a, 'r>(
     alloc: Global,
     text: &'a str,
     tape: &Tape<'a>,
+    places: Vec<Place>,
     report: &'r Report,
-) -> Result<Vec<Fault<'r>>, AllocError>
+) -> Result<Vec<Fault<'r>>, ParseError>
     requires { document text.now ≡ Some (json_of tape.now) }
     ensures faults { IfOk result (λ faults. map fault_entry faults.items ≡ report.now) }
     ensures places { IfOk result (λ faults. (j : Json) → document text.now ≡ Some j
-        → ArePlaced text.now j faults.items) }
+        → AreListed places.items j faults.items) }
 {
-    Places::of(alloc, text, tape)?.locate_all(alloc, report)
+    match ListedPlaces::of(text, tape, places).locate_all(alloc, report) {
+        Ok(faults) => Ok(faults),
+        Err(_) => Err(ParseError::Memory),
+    }
 }
 
 /// The same of a text in another format that was written as JSON, with a place for each token of it, as
@@ -68,8 +73,5 @@ pub fn listed_faults_of<'r>(
 {
     let mut scratch = Scratch::new(alloc);
     let tape = parse(alloc, json, &mut scratch)?;
-    match ListedPlaces::of(json, &tape, places).locate_all(alloc, report) {
-        Ok(faults) => Ok(faults),
-        Err(_) => Err(ParseError::Memory),
-    }
+    list_all(alloc, json, &tape, places, report)
 }

@@ -1,22 +1,13 @@
-use Rattle.std.proofs.Common.{◌≡◌, map, get_or, sym, ap, ap₂, ◌∙◌, subst}
+use Rattle.std.proofs.Common.{false, ap, ◌∙◌, subst}
+use Rattle.std.proofs.lemmas.Result.{IfOk-weaker}
 use Rattle.json.specs.Json.{document}
-use Rattle.json.specs.Tape.{node_token}
-use Rattle.garde_report.specs.Part.{item_part}
-use Rattle.garde_places.specs.Scan.{text_start}
-use Rattle.garde_places.specs.Steps.{tokens_before}
 use Rattle.garde_places.specs.Places.{IsPlaceOf}
-use Rattle.garde_places.proofs.Locating.{located, nodes_spell}
+use Rattle.garde_places.proofs.Listing.{placed_by}
 use Rattle.garde_places.proofs.places.Places.locate.Goals as goal
 
 pub returns-clause-place : goal.returns-clause-place
-returns-clause-place c j e =
-    let a = c.self.inside in
-    let text = a.text.now in
-    let path = c.args.path.now in
+returns-clause-place c =
+    let a = c.self.inside.listed in
+    IfOk-weaker c.place_of.result _ _ (λ place spot j e.
     let read = ap document c.self.view_is ∙ e in
-    let way : map item_part c.as_slice.result.now ≡ path = ap (map item_part) c.as_slice.ensures ∙ c.in_ok-way.ensures.items in
-    let spelled = nodes_spell text j read (map node_token a.nodes.now) c.self.invariant.read c.self.invariant.value in
-    let found = c.find-found.ensures.value j spelled ∙ ap (λ p. tokens_before p j) way in
-    let same = c.place_at_token.ensures ∙ ap₂ (λ ps n. get_or ps n text_start) c.deref.ensures.value found in
-    subst (λ t. IsPlaceOf t path j c.place_at_token.result) c.self.view_is
-    (subst (IsPlaceOf text path j) (sym same) (located text j read path a.spots.items text_start c.self.invariant.places))
+    subst (λ t. IsPlaceOf t c.args.path.now j place) c.self.view_is (placed_by a.0 j read a.1 c.self.invariant false c.args.path.now place (spot j read))) c.place_of.ensures.place

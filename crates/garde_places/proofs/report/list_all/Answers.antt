@@ -2,7 +2,7 @@ use Rattle.std.proofs.Common.{ℕ, List, ap, subst, ◌∙◌}
 use Rattle.json.specs.Json.{document}
 use Rattle.garde_places.specs.Listed.{AreListed}
 use Rattle.garde_places.specs.declared.place.Place.{Place}
-use Rattle.garde_places.proofs.report.listed_faults_of.Goals as goal
+use Rattle.garde_places.proofs.report.list_all.Goals as goal
 
 -- the places are those of the list that is given, in the text that is given
 pub returns-in-Ok-clause-places : goal.returns-in-Ok-clause-places
