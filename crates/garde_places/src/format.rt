@@ -62,9 +62,9 @@ impl fmt::Display for Line<'_, '_> {
     fn fmt<W: fmt::Write>(&self, f: &mut fmt::Formatter<W>) -> fmt::Result {
         let Line(alloc, format, file, fault) = *self;
         match format {
-            Format::Short => write!(f, "{}", Short(alloc, file, fault)),
-            Format::Json => write!(f, "{}", JsonLine(alloc, file, fault)),
-            Format::GitHub => write!(f, "{}", GitHub(alloc, file, fault)),
+            Format::Short => Short(alloc, file, fault).fmt(f),
+            Format::Json => JsonLine(alloc, file, fault).fmt(f),
+            Format::GitHub => GitHub(alloc, file, fault).fmt(f),
         }
     }
 }

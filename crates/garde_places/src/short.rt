@@ -29,7 +29,7 @@ impl fmt::Display for Short<'_, '_> {
         write_file(alloc, file, f)?;
         f.write_str(":")?;
         write_spot(fault.place, f)?;
-        write!(f, "{}", Told(alloc, fault))
+        Told(alloc, fault).fmt(f)
     }
 }
 
