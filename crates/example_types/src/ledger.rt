@@ -28,9 +28,10 @@ impl<T> Inner<T> for Pairs<T> {
     }
 
     fn item(&self, index: usize) -> Option<&T> {
-        match self.rows.get(index) {
-            Some(row) => Some(&row.1),
-            None => None,
+        if index < self.rows.len() {
+            Some(&self.rows[index].1)
+        } else {
+            None
         }
     }
 
