@@ -9,7 +9,7 @@ use std::alloc::{AllocError, Global};
 
 /// An article: how many pieces of it there are, what one of them costs in cents, and its page.
 /// A field that is to be a number and is none is read as `None`, which is a fault as any other.
-#[derive(Debug, Drop)]
+#[derive(Drop)]
 pub struct Row {
     pub code: String,
     pub name: String,
