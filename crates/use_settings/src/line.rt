@@ -9,12 +9,16 @@ pub fn matches_of<'a>(alloc: Global, words: &'a [String]) -> Result<ArgMatches<'
 
 /// The options and the files.
 fn command<'a>(alloc: Global) -> Result<Command<'a>, AllocError> {
+    options(alloc)?.arg(files(alloc))
+}
+
+/// The options.
+fn options<'a>(alloc: Global) -> Result<Command<'a>, AllocError> {
     Command::new(alloc, "use_settings")
         .about("Copies files")
         .arg(jobs(alloc))?
         .arg(remote(alloc))?
-        .arg(upload(alloc))?
-        .arg(files(alloc))
+        .arg(upload(alloc))
 }
 
 fn jobs<'a>(alloc: Global) -> Arg<'a> {

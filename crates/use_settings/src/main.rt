@@ -8,6 +8,7 @@ mod settings;
 use crate::line::matches_of;
 use crate::settings::{Settings, share};
 use anyhow::{Context, Result, bail};
+use clap::ArgMatches;
 use garde::error::Report;
 use garde::{IntoValidError, Unvalidated, Valid};
 use std::process::ExitCode;
@@ -54,26 +55,33 @@ fn plan(rt: &HostRuntime, settings: &Valid<Settings>) -> Result<ExitCode> {
     Ok(ExitCode::SUCCESS)
 }
 
-fn run(rt: &HostRuntime) -> Result<ExitCode> {
+/// Prints why there are no settings, and returns the status.
+fn stop(rt: &HostRuntime, words: &[String], error: &clap::Error) -> Result<ExitCode> {
+    show(rt, words, error)?;
+    Ok(if error.use_stderr() {
+        ExitCode::from(USAGE)
+    } else {
+        ExitCode::SUCCESS
+    })
+}
+
+/// Validates the settings that a command line spells.
+fn check(rt: &HostRuntime, matches: &ArgMatches<'_>) -> Result<ExitCode> {
     let alloc = rt.alloc();
-    let all = env::args(rt).context("the command line is not read")?;
-    let words: Vec<String> = all.collect(alloc)?;
-    let matches = match matches_of(alloc, &words) {
-        Ok(matches) => matches,
-        Err(error) => {
-            show(rt, &words, &error)?;
-            return Ok(if error.use_stderr() {
-                ExitCode::from(USAGE)
-            } else {
-                ExitCode::SUCCESS
-            });
-        }
-    };
-    let settings = Settings::of(alloc, &matches)?;
+    let settings = Settings::of(alloc, matches)?;
     match Unvalidated::new(settings).validate(alloc) {
         Ok(settings) => plan(rt, &settings),
         Err(IntoValidError::Report(report)) => refuse(rt, &report),
         Err(IntoValidError::Memory(_)) => bail!("out of memory"),
+    }
+}
+
+fn run(rt: &HostRuntime) -> Result<ExitCode> {
+    let all = env::args(rt).context("the command line is not read")?;
+    let words: Vec<String> = all.collect(rt.alloc())?;
+    match matches_of(rt.alloc(), &words) {
+        Ok(matches) => check(rt, &matches),
+        Err(error) => stop(rt, &words, &error),
     }
 }
 
