@@ -13,10 +13,10 @@ use crate::options::{Options, Task, USAGE};
 use crate::order::{Order, Page};
 use crate::rely::{cost, destination, first};
 use anyhow::{Result, bail};
-use garde::{DefaultI18n, Report, Valid};
+use garde::{DefaultI18n, I18n, Report, Valid};
 use garde_places::{Printed, stop_of};
 use garde_problem::{Escaped, WithCodes};
-use garde_schema::{FirstReadError, ReadBody, Scratch};
+use garde_schema::{FirstReadError, FormI18n, ReadBody, Scratch};
 use std::io::Read;
 use std::process::ExitCode;
 use std::{env, fs, io};
@@ -46,12 +46,12 @@ fn confirm(rt: &impl Print, order: &Valid<Order<'_>>) -> io::Result<()> {
 
 /// Confirms each order of a page.
 #[tactic(auto, unfolding(garde::specs::Fields::Known))]
-fn confirm_all(rt: &impl Print, page: Valid<Page<'_>>) -> io::Result<()> {
+fn confirm_all(rt: &impl Print, page: Valid<Page<'_>>) -> Result<ExitCode> {
     for order in page.into_inner().entries.into_vec() {
         let order = Valid::known(order, &());
         confirm(rt, &order)?;
     }
-    Ok(())
+    Ok(ExitCode::SUCCESS)
 }
 
 /// The bytes of a file, or of standard input.
@@ -67,72 +67,79 @@ fn read(rt: &HostRuntime, file: Option<&str>) -> Result<Vec<u8>> {
     }
 }
 
-/// Confirms each order of a page, or prints its faults with their paths, so many at most.
-fn judge(rt: &HostRuntime, body: &[u8], most: usize) -> Result<ExitCode> {
-    let alloc = rt.alloc();
-    let mut scratch = Scratch::new(alloc);
-    match Page::read_body(alloc, body, &mut scratch, most, &DefaultI18n) {
-        Ok(page) => {
-            confirm_all(rt, Valid::known(page, &()))?;
-            Ok(ExitCode::SUCCESS)
-        }
-        Err(FirstReadError::All(report)) => {
-            print!(rt; "{}", Escaped(alloc, &report))?;
-            Ok(ExitCode::FAILURE)
-        }
-        Err(FirstReadError::First(report)) => {
-            println!(rt; "{}there are more", Escaped(alloc, &report))?;
-            Ok(ExitCode::FAILURE)
-        }
-        Err(error) => Err(error.into()),
-    }
-}
-
-/// The same, with the place of each fault.
-fn judge_places(
+/// Confirms each order of a page, or prints its faults, so many at most: with their paths, and with
+/// their places where that is asked for.
+fn judge<H: I18n + FormI18n>(
     rt: &HostRuntime,
-    printed: Printed<'_>,
+    printed: Option<Printed<'_>>,
     body: &[u8],
     most: usize,
+    h: &H,
 ) -> Result<ExitCode> {
-    let alloc = rt.alloc();
-    let mut scratch = Scratch::new(alloc);
-    match Page::read_body(alloc, body, &mut scratch, most, &WithCodes(DefaultI18n)) {
-        Ok(page) => {
-            confirm_all(rt, Valid::known(page, &()))?;
-            Ok(ExitCode::SUCCESS)
-        }
+    let mut scratch = Scratch::new(rt.alloc());
+    match Page::read_body(rt.alloc(), body, &mut scratch, most, h) {
+        Ok(page) => confirm_all(rt, Valid::known(page, &())),
         Err(FirstReadError::All(report)) => show(rt, printed, body, &report),
-        Err(FirstReadError::First(report)) => {
-            let status = show(rt, printed, body, &report)?;
-            eprintln!(rt; "use_order: there are more")?;
-            Ok(status)
-        }
+        Err(FirstReadError::First(report)) => show_first(rt, printed, body, &report),
         Err(error) => show_stop(rt, printed, body, error),
     }
 }
 
 /// Prints the faults of a report.
-fn show(rt: &HostRuntime, printed: Printed<'_>, body: &[u8], report: &Report) -> Result<ExitCode> {
+fn show(
+    rt: &HostRuntime,
+    printed: Option<Printed<'_>>,
+    body: &[u8],
+    report: &Report,
+) -> Result<ExitCode> {
+    let Some(printed) = printed else {
+        print!(rt; "{}", Escaped(rt.alloc(), report))?;
+        return Ok(ExitCode::FAILURE);
+    };
     let text = str::from_utf8(without_mark(body))?;
-    let lines = report_lines(rt.alloc(), printed, text, report)?;
-    print!(rt; "{lines}")?;
-    Ok(ExitCode::FAILURE)
+    let lines = report_lines(rt.alloc(), printed, text, report);
+    show_lines(rt, lines, ExitCode::FAILURE)
 }
 
-/// Prints where a page stops being JSON. Where it is JSON, it was not read for another reason.
+/// Prints the faults of a report, and that there are more.
+fn show_first(
+    rt: &HostRuntime,
+    printed: Option<Printed<'_>>,
+    body: &[u8],
+    report: &Report,
+) -> Result<ExitCode> {
+    let status = show(rt, printed, body, report)?;
+    match printed {
+        Some(_) => eprintln!(rt; "use_order: there are more")?,
+        None => println!(rt; "there are more")?,
+    }
+    Ok(status)
+}
+
+/// Prints lines, and returns this status.
+fn show_lines(rt: &HostRuntime, lines: Result<String>, status: ExitCode) -> Result<ExitCode> {
+    print!(rt; "{}", lines?)?;
+    Ok(status)
+}
+
+/// Prints where a page stops being JSON, where places are asked for. Where it is JSON, it was not read
+/// for another reason.
 fn show_stop(
     rt: &HostRuntime,
-    printed: Printed<'_>,
+    printed: Option<Printed<'_>>,
     body: &[u8],
     error: FirstReadError,
 ) -> Result<ExitCode> {
-    let Some(stop) = stop_of(rt.alloc(), without_mark(body))? else {
+    let Some(printed) = printed else {
         return Err(error.into());
     };
-    let line = stop_line(rt.alloc(), printed, &stop)?;
-    print!(rt; "{line}")?;
-    Ok(ExitCode::from(NOT_JUDGED))
+    match stop_of(rt.alloc(), without_mark(body))? {
+        Some(stop) => {
+            let line = stop_line(rt.alloc(), printed, &stop);
+            show_lines(rt, line, ExitCode::from(NOT_JUDGED))
+        }
+        None => Err(error.into()),
+    }
 }
 
 /// The bytes behind a byte order mark, which is no part of a page.
@@ -146,8 +153,8 @@ fn check(rt: &HostRuntime, options: Options<'_>) -> Result<ExitCode> {
     let body = read(rt, asked.file())?;
     let most = most.unwrap_or(usize::MAX);
     match asked.printed() {
-        Some(printed) => judge_places(rt, printed, &body, most),
-        None => judge(rt, &body, most),
+        None => judge(rt, None, &body, most, &DefaultI18n),
+        printed => judge(rt, printed, &body, most, &WithCodes(DefaultI18n)),
     }
 }
 
