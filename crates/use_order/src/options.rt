@@ -14,7 +14,7 @@ Reads a page of orders in JSON, and confirms each of them or prints every fault.
   --help           prints this";
 
 /// How a page is to be judged.
-#[derive(Debug, Clone, Copy)]
+#[derive(Clone, Copy)]
 pub struct Options<'w> {
     /// Which page is read, and how its faults are printed.
     pub asked: Asked<'w>,
@@ -23,7 +23,7 @@ pub struct Options<'w> {
 }
 
 /// What is to be done.
-#[derive(Debug, Clone, Copy)]
+#[derive(Clone, Copy)]
 pub enum Task<'w> {
     /// The usage is printed.
     Help,
@@ -36,12 +36,20 @@ impl<'w> Task<'w> {
     pub fn of(words: &'w [String]) -> Result<Task<'w>, &'static str> {
         match words {
             [word] if word.as_str() == "--help" => Ok(Task::Help),
-            _ if words.iter().any(|word| word.as_str() == "--help") => Err(
-                "--help must stand alone",
-            ),
+            _ if has_help(words) => Err("--help must stand alone"),
             _ => Ok(Task::Judge(Options::of(words)?)),
         }
     }
+}
+
+// Whether one of these words asks for the usage.
+fn has_help(words: &[String]) -> bool {
+    for word in words {
+        if word.as_str() == "--help" {
+            return true;
+        }
+    }
+    false
 }
 
 impl<'w> Options<'w> {
