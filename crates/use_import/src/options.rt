@@ -20,7 +20,7 @@ Reads a stock list in CSV, and prints every fault of each row.
   --help           prints this";
 
 /// How a list is to be checked.
-#[derive(Debug, Clone, Copy)]
+#[derive(Clone, Copy)]
 pub struct Options<'w> {
     /// The name of the file, and none for standard input.
     pub file: Option<&'w str>,
@@ -37,7 +37,7 @@ pub struct Options<'w> {
 }
 
 /// What is to be done.
-#[derive(Debug, Clone, Copy)]
+#[derive(Clone, Copy)]
 pub enum Task<'w> {
     /// The usage is printed.
     Help,
@@ -60,6 +60,8 @@ impl<'w> Task<'w> {
 struct Words<'w> {
     most: Option<usize>,
     first_row: Option<usize>,
+    // Whether the next word is the number of `--first-row`.
+    wants_first_row: bool,
     has_header: bool,
     lines: bool,
     asked: Asked<'w>,
@@ -71,28 +73,34 @@ impl<'w> Words<'w> {
         let mut taken = Words {
             most: None,
             first_row: None,
+            wants_first_row: false,
             has_header: true,
             lines: false,
             asked: Asked::new(),
             spoken: Spoken::new(),
         };
-        let mut is_first_row = false;
         for word in words {
-            if is_first_row {
-                taken.first_row = Some(first_row(word)?);
-                is_first_row = false;
-            } else if !taken.asked.is_open && taken.spoken.take(word)? {
-                continue;
-            } else if word.as_str() == "--first-row" && taken.can_be_first_row() {
-                is_first_row = true;
-            } else if !taken.asked.take(word)? {
-                taken.take(word)?;
-            }
+            taken.take(word)?;
         }
-        if is_first_row {
+        if taken.wants_first_row {
             return Err(NO_FIRST_ROW);
         }
         Ok(taken)
+    }
+
+    // Takes the next word.
+    fn take(&mut self, word: &'w str) -> Result<(), &'static str> {
+        if self.wants_first_row {
+            self.first_row = Some(first_row(word)?);
+            self.wants_first_row = false;
+        } else if !self.asked.is_open && self.spoken.take(word)? {
+            return Ok(());
+        } else if word == "--first-row" && self.can_be_first_row() {
+            self.wants_first_row = true;
+        } else if !self.asked.take(word)? {
+            return self.take_alone(word);
+        }
+        Ok(())
     }
 
     // Whether `--first-row` may stand here.
@@ -101,7 +109,7 @@ impl<'w> Words<'w> {
     }
 
     // Takes a word that stands alone, and names no file.
-    fn take(&mut self, word: &str) -> Result<(), &'static str> {
+    fn take_alone(&mut self, word: &str) -> Result<(), &'static str> {
         match word {
             "--no-header" if self.has_header => self.has_header = false,
             "--lines" if !self.lines => self.lines = true,

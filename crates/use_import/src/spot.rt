@@ -8,7 +8,7 @@ use std::alloc::Global;
 use std::io::Write;
 
 /// How rows are named.
-#[derive(Debug, Clone, Copy)]
+#[derive(Clone, Copy)]
 pub enum Naming<'w> {
     /// By their numbers in the list.
     Index,
@@ -19,7 +19,7 @@ pub enum Naming<'w> {
 }
 
 /// A row that was read: where it stands, and how it is named.
-#[derive(Debug, Clone, Copy)]
+#[derive(Clone, Copy)]
 pub struct Spot<'w> {
     pub naming: Naming<'w>,
     /// Its number in the list, from 0, without the header and empty lines.
