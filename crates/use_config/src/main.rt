@@ -14,9 +14,10 @@ use crate::options::{Options, Task, USAGE, Written};
 use crate::placed::check_placed;
 use crate::texts::{fallback, read_texts};
 use anyhow::{Context, Error, Result, bail};
-use garde_catalog::{Catalog, ENGLISH, languages};
+use garde::Report;
+use garde_catalog::{Catalog, ENGLISH, Table, languages};
 use garde_problem::Escaped;
-use garde_schema::ReadError;
+use garde_schema::{ParseError, ReadError};
 use garde_toml::toml_to_json;
 use std::alloc::Global;
 use std::fmt::Write;
@@ -51,17 +52,32 @@ fn to_json(alloc: Global, text: &str) -> Result<String> {
     }
 }
 
+/// Prints each fault with its path.
+fn show_report(rt: &HostRuntime, report: &Report) -> Result<ExitCode> {
+    print!(rt; "{}", Escaped(rt.alloc(), report))?;
+    Ok(ExitCode::FAILURE)
+}
+
+/// Fails with the reason for which an input is no JSON.
+fn stop(alloc: Global, catalog: &Catalog<'_>, error: &ParseError) -> Result<ExitCode> {
+    bail!("{}", catalog.parse_error(alloc, error)?)
+}
+
 /// Prints what a configuration in JSON asks for, or each fault with its path.
 fn check_plain(rt: &HostRuntime, catalog: &Catalog<'_>, json: &[u8]) -> Result<ExitCode> {
     match Configuration.judge(rt, json, catalog)? {
         None => Ok(ExitCode::SUCCESS),
-        Some(ReadError::Report(report)) => {
-            print!(rt; "{}", Escaped(rt.alloc(), &report))?;
-            Ok(ExitCode::FAILURE)
-        }
-        Some(ReadError::Parse(error)) => bail!("{}", catalog.parse_error(rt.alloc(), &error)?),
+        Some(ReadError::Report(report)) => show_report(rt, &report),
+        Some(ReadError::Parse(error)) => stop(rt.alloc(), catalog, &error),
         Some(error) => Err(error.into()),
     }
+}
+
+/// Judges a configuration in TOML, and prints its faults with their paths.
+fn check_toml(rt: &HostRuntime, catalog: &Catalog<'_>, body: &[u8]) -> Result<ExitCode> {
+    let text = str::from_utf8(body).context("the configuration is not read")?;
+    let json = to_json(rt.alloc(), text)?;
+    check_plain(rt, catalog, json.as_bytes())
 }
 
 /// Reads a configuration, and judges it.
@@ -73,27 +89,28 @@ fn check(rt: &HostRuntime, options: &Options<'_>, catalog: &Catalog<'_>) -> Resu
     }
     match written {
         Written::Json => check_plain(rt, catalog, &body),
-        Written::Toml => {
-            let text = str::from_utf8(&body).context("the configuration is not read")?;
-            let json = to_json(rt.alloc(), text)?;
-            check_plain(rt, catalog, json.as_bytes())
-        }
+        Written::Toml => check_toml(rt, catalog, &body),
     }
+}
+
+/// Reads a configuration, and judges it by these texts.
+fn check_by(rt: &HostRuntime, options: &Options<'_>, table: &Table) -> Result<ExitCode> {
+    let alloc = rt.alloc();
+    let lines = table.lines(alloc)?;
+    let others = fallback(&options.spoken).unwrap_or(&[]);
+    check(rt, options, &Catalog::lent(alloc, &lines, others)?)
 }
 
 /// Reads a configuration, and judges it by the texts of a file, if there is one.
 fn check_in(rt: &HostRuntime, options: &Options<'_>) -> Result<ExitCode> {
-    let alloc = rt.alloc();
-    let catalog = options.spoken.catalog(alloc, &languages(), &ENGLISH)?;
+    let catalog = options.spoken.catalog(rt.alloc(), &languages(), &ENGLISH)?;
     let Some(file) = options.texts else {
         return check(rt, options, &catalog);
     };
-    let Some(table) = read_texts(rt, options, &catalog, file)? else {
-        return Ok(ExitCode::from(NOT_JUDGED));
-    };
-    let lines = table.lines(alloc)?;
-    let others = fallback(&options.spoken).unwrap_or(&[]);
-    check(rt, options, &Catalog::lent(alloc, &lines, others)?)
+    match read_texts(rt, options, &catalog, file)? {
+        Some(table) => check_by(rt, options, &table),
+        None => Ok(ExitCode::from(NOT_JUDGED)),
+    }
 }
 
 /// Does what the words of the command line ask for.

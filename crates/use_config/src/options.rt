@@ -20,7 +20,7 @@ Reads the configuration of a service, and prints what it asks for or every fault
   --help           prints this";
 
 /// How a configuration is written.
-#[derive(Clone, Copy, Debug)]
+#[derive(Clone, Copy)]
 pub enum Written {
     Toml,
     Json,
@@ -28,7 +28,7 @@ pub enum Written {
 
 /// Which configuration is to be read, and how, in which language and by which texts its faults are
 /// printed.
-#[derive(Clone, Copy, Debug)]
+#[derive(Clone, Copy)]
 pub struct Options<'w> {
     pub written: Written,
     pub asked: Asked<'w>,
@@ -37,7 +37,7 @@ pub struct Options<'w> {
 }
 
 /// What is to be done.
-#[derive(Clone, Copy, Debug)]
+#[derive(Clone, Copy)]
 pub enum Task<'w> {
     /// The usage is printed.
     Help,
@@ -58,49 +58,69 @@ impl<'w> Task<'w> {
 impl<'w> Options<'w> {
     // The options of these words, each of which may be left out and stands once.
     fn of(words: &'w [String]) -> Result<Options<'w>, &'static str> {
-        let mut asked = Asked::new();
-        let (mut spoken, mut texts) = (Spoken::new(), TextsFile::new());
-        let mut written = None;
+        let mut taken = Words {
+            written: None,
+            asked: Asked::new(),
+            spoken: Spoken::new(),
+            texts: TextsFile::new(),
+        };
         for word in words {
-            if !asked.is_open && take_texts(&mut texts, &mut spoken, word)? {
-                continue;
-            }
-            match written_named(word) {
-                Some(_) if !asked.is_open && written.is_some() => {
-                    return Err("there must be one of toml and json at most");
-                }
-                Some(named) if !asked.is_open => written = Some(named),
-                _ => take(&mut asked, word)?,
-            }
+            taken.take(word)?;
         }
-        let asked = asked.finish()?;
-        Ok(Options {
-            written: written.unwrap_or(written_in(asked.file())),
-            asked,
-            spoken,
-            texts: texts.finish()?,
-        })
+        taken.options()
     }
 }
 
-// Takes a word about the texts, and returns whether it took the word.
-fn take_texts<'w>(
-    texts: &mut TextsFile<'w>,
-    spoken: &mut Spoken<'w>,
-    word: &'w str,
-) -> Result<bool, &'static str> {
-    if !spoken.is_open && texts.take(word)? {
-        return Ok(true);
-    }
-    spoken.take(word)
+// The words that were taken.
+#[derive(Clone, Copy)]
+struct Words<'w> {
+    written: Option<Written>,
+    asked: Asked<'w>,
+    spoken: Spoken<'w>,
+    texts: TextsFile<'w>,
 }
 
-// Takes a word about the file or the format.
-fn take<'w>(asked: &mut Asked<'w>, word: &'w str) -> Result<(), &'static str> {
-    if asked.take(word)? {
+impl<'w> Words<'w> {
+    // Takes the next word.
+    fn take(&mut self, word: &'w str) -> Result<(), &'static str> {
+        if !self.asked.is_open && self.take_texts(word)? {
+            return Ok(());
+        }
+        match written_named(word) {
+            Some(_) if !self.asked.is_open && self.written.is_some() => {
+                return Err("there must be one of toml and json at most");
+            }
+            Some(named) if !self.asked.is_open => self.written = Some(named),
+            _ => return self.take_input(word),
+        }
         Ok(())
-    } else {
-        Err("the word is no option, and no name of a file")
+    }
+
+    // Takes a word about the file or the format.
+    fn take_input(&mut self, word: &'w str) -> Result<(), &'static str> {
+        if self.asked.take(word)? {
+            Ok(())
+        } else {
+            Err("the word is no option, and no name of a file")
+        }
+    }
+
+    // Takes a word about the texts, and returns whether it took the word.
+    fn take_texts(&mut self, word: &'w str) -> Result<bool, &'static str> {
+        if !self.spoken.is_open && self.texts.take(word)? {
+            return Ok(true);
+        }
+        self.spoken.take(word)
+    }
+
+    fn options(self) -> Result<Options<'w>, &'static str> {
+        let asked = self.asked.finish()?;
+        Ok(Options {
+            written: self.written.unwrap_or(written_in(asked.file())),
+            asked,
+            spoken: self.spoken,
+            texts: self.texts.finish()?,
+        })
     }
 }
 

@@ -17,8 +17,9 @@ fn without_mark(body: &[u8]) -> &[u8] {
     body.strip_prefix(b"\xef\xbb\xbf").unwrap_or(body)
 }
 
-/// The faults of a report of a text in JSON.
-fn json_lines(alloc: Global, printed: Printed<'_>, text: &str, report: &Report) -> Result<String> {
+/// The faults of a report of an input in JSON.
+fn json_lines(alloc: Global, printed: Printed<'_>, body: &[u8], report: &Report) -> Result<String> {
+    let text = str::from_utf8(without_mark(body))?;
     let mut faults = faults_of(alloc, text, report)?;
     Ok(printed.lines(alloc, &mut faults)?)
 }
@@ -28,6 +29,12 @@ fn toml_lines(alloc: Global, printed: Printed<'_>, text: &str, report: &Report) 
     let Placed { json, places } = toml_to_json_with_places(alloc, text)?;
     let mut faults = listed_faults_of(alloc, json.as_str(), places, report)?;
     Ok(printed.lines(alloc, &mut faults)?)
+}
+
+/// Prints the faults of an input.
+fn show_lines(rt: &HostRuntime, lines: Result<String>) -> Result<ExitCode> {
+    print!(rt; "{}", lines?)?;
+    Ok(ExitCode::FAILURE)
 }
 
 /// Prints where a text stops being what it is to be, which this code says.
@@ -44,6 +51,19 @@ fn show_stop(
     Ok(ExitCode::from(crate::NOT_JUDGED))
 }
 
+/// Prints where an input stops being JSON, if that is why it was not read.
+fn show_json_stop(
+    rt: &HostRuntime,
+    printed: Printed<'_>,
+    body: &[u8],
+    error: ReadError,
+) -> Result<ExitCode> {
+    match stop_of(rt.alloc(), without_mark(body))? {
+        Some(stop) => show_stop(rt, printed, "not_json", &stop),
+        None => Err(error.into()),
+    }
+}
+
 /// Judges an input in JSON.
 fn check_json<I: Input>(
     rt: &HostRuntime,
@@ -55,14 +75,9 @@ fn check_json<I: Input>(
     match input.judge(rt, body, &WithCodes(catalog))? {
         None => Ok(ExitCode::SUCCESS),
         Some(ReadError::Report(report)) => {
-            let text = str::from_utf8(without_mark(body))?;
-            print!(rt; "{}", json_lines(rt.alloc(), printed, text, &report)?)?;
-            Ok(ExitCode::FAILURE)
+            show_lines(rt, json_lines(rt.alloc(), printed, body, &report))
         }
-        Some(error) => match stop_of(rt.alloc(), without_mark(body))? {
-            Some(stop) => show_stop(rt, printed, "not_json", &stop),
-            None => Err(error.into()),
-        },
+        Some(error) => show_json_stop(rt, printed, body, error),
     }
 }
 
@@ -94,8 +109,7 @@ fn check_toml<I: Input>(
     match input.judge(rt, json.as_bytes(), &WithCodes(catalog))? {
         None => Ok(ExitCode::SUCCESS),
         Some(ReadError::Report(report)) => {
-            print!(rt; "{}", toml_lines(rt.alloc(), printed, text, &report)?)?;
-            Ok(ExitCode::FAILURE)
+            show_lines(rt, toml_lines(rt.alloc(), printed, text, &report))
         }
         Some(error) => Err(error.into()),
     }

@@ -10,7 +10,7 @@ use garde_places::{Format, Printed};
 use garde_schema::{Closed, FormI18n, Object, ReadError, Scratch, read_json};
 
 /// The name of the file behind `--catalog` among the words of a command line.
-#[derive(Clone, Copy, Debug)]
+#[derive(Clone, Copy)]
 pub struct TextsFile<'w> {
     name: Option<&'w str>,
     is_open: bool,
