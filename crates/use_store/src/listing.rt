@@ -74,13 +74,22 @@ fn write_rows<S: Alter + Drop, W: Write + Drop>(
     Ok(valid)
 }
 
+/// Writes the rows of a table as a list in CSV. The answer is whether each row is valid.
+fn write_list<S: Alter + Drop, W: Write + Drop>(
+    rt: &HostRuntime,
+    stock: &mut Stock<S>,
+    out: &mut Writer<W>,
+) -> Result<bool> {
+    out.write_fields(&[b"code", b"name", b"quantity", b"price", b"page"])?;
+    let valid = write_rows(rt, &mut stock.rows(rt.alloc()), out)?;
+    out.flush()?;
+    Ok(valid)
+}
+
 /// Prints the rows of a table as a list in CSV. The answer is whether each row is valid.
 fn print<S: Alter + Drop>(rt: &HostRuntime, stock: &mut Stock<S>) -> Result<bool> {
     let mut out = records_on(rt.alloc(), io::writer(rt))?;
-    out.write_fields(&[b"code", b"name", b"quantity", b"price", b"page"])?;
-    let valid = write_rows(rt, &mut stock.rows(rt.alloc()), &mut out)?;
-    out.flush()?;
-    Ok(valid)
+    write_list(rt, stock, &mut out)
 }
 
 /// Prints the rows of a table.

@@ -134,6 +134,28 @@ impl<'w, R: Read + Drop, W: Write + Drop, H: I18n> Work for Import<'w, R, W, H> 
     }
 }
 
+/// Imports a list into the table of a file, and writes its faults. The answer is whether all rows were
+/// stored.
+fn store_list<R: Read + Drop, W: Write + Drop, H: I18n>(
+    rt: &HostRuntime,
+    list: CsvList<'_, R>,
+    out: Faults<'_, W>,
+    options: &Options<'_>,
+    h: &H,
+) -> Result<bool> {
+    let batch = options.batch;
+    let mut work = Import {
+        list,
+        out,
+        batch,
+        h,
+    };
+    match file::with(rt, options.path, &mut work) {
+        Ok((stock, progress)) => end(rt, stock, progress, &mut work.out),
+        Err(error) => Err(error),
+    }
+}
+
 /// Imports the list of a source into the table of a file, with the texts of a handler. The answer is
 /// whether all rows were stored.
 fn store_source<R: Read + Drop, H: I18n>(
@@ -150,15 +172,7 @@ fn store_source<R: Read + Drop, H: I18n>(
         line: &line,
     };
     let list = CsvList::new(rt.alloc(), source, &line)?;
-    let batch = options.batch;
-    let mut work = Import {
-        list,
-        out,
-        batch,
-        h,
-    };
-    let (stock, progress) = file::with(rt, options.path, &mut work)?;
-    end(rt, stock, progress, &mut work.out)
+    store_list(rt, list, out, options, h)
 }
 
 /// Imports the list of a source into the table of a file, and prints faults in the language that is

@@ -21,7 +21,7 @@ Or prints the rows of such a file as a list in CSV.
   --help            prints this";
 
 /// How a list is to be stored.
-#[derive(Debug, Clone, Copy)]
+#[derive(Clone, Copy)]
 pub struct Options<'w> {
     /// The SQLite file.
     pub path: &'w str,
@@ -36,7 +36,7 @@ pub struct Options<'w> {
 }
 
 /// What is to be done.
-#[derive(Debug, Clone, Copy)]
+#[derive(Clone, Copy)]
 pub enum Task<'w> {
     /// The usage is printed.
     Help,
