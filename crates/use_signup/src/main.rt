@@ -42,7 +42,7 @@ const NOT_JUDGED: u8 = 2;
 
 /// Welcomes who signs up, and names the topics that were chosen. The name stands in quotes, with
 /// what is not shown escaped.
-fn welcome(rt: &impl Print, who: &SignUp<'_>, age: u8, words: &Words) -> io::Result<()> {
+fn welcome(rt: &impl Print, who: &SignUp<'_>, age: u8, words: &Words) -> Result<ExitCode> {
     let (welcome, name) = (words.welcome, who.name.text());
     println!(rt; "{welcome}, {name:?} ({age})")?;
     if let Some(topics) = &who.topics {
@@ -50,7 +50,7 @@ fn welcome(rt: &impl Print, who: &SignUp<'_>, age: u8, words: &Words) -> io::Res
             println!(rt; "    {}", topic.name())?;
         }
     }
-    Ok(())
+    Ok(ExitCode::SUCCESS)
 }
 
 /// Prints these faults, on the page of the form if there is one.
@@ -59,12 +59,12 @@ fn print_faults(
     page: Option<&Form<'_>>,
     fields: &[FormField<'_>],
     report: &Report,
-) -> Result<()> {
+) -> Result<ExitCode> {
     match page {
         Some(form) => print!(rt; "{}", write_page(rt.alloc(), form, fields, report)?)?,
         None => print!(rt; "{}", Escaped(rt.alloc(), report))?,
     }
-    Ok(())
+    Ok(ExitCode::FAILURE)
 }
 
 /// Prints the faults of a form, on its page if there is one, or welcomes who sent it.
@@ -81,13 +81,9 @@ fn answer<H: I18n + FormI18n>(
     match read_sign_up(alloc, fields.as_slice(), words, h) {
         Ok(who) => {
             let who = who.into_inner();
-            welcome(rt, &who, age(&who), words)?;
-            Ok(ExitCode::SUCCESS)
+            welcome(rt, &who, age(&who), words)
         }
-        Err(ValidateError::Report(report)) => {
-            print_faults(rt, page, fields.as_slice(), &report)?;
-            Ok(ExitCode::FAILURE)
-        }
+        Err(ValidateError::Report(report)) => print_faults(rt, page, fields.as_slice(), &report),
         Err(error) => Err(error.into()),
     }
 }

@@ -6,7 +6,7 @@ use garde_service::Rejected;
 use http::StatusCode;
 
 /// Why no form is judged.
-#[derive(Clone, Copy, Debug)]
+#[derive(Clone, Copy)]
 pub enum Refused {
     /// The path leads nowhere.
     NotFound,

@@ -9,7 +9,7 @@ use garde_service::has_type;
 use http::Request;
 
 /// What a request asks for.
-#[derive(Clone, Copy, Debug)]
+#[derive(Clone, Copy)]
 pub enum Route {
     /// The form.
     Form,

@@ -8,7 +8,7 @@ use std::alloc::Global;
 use std::borrow::CowStr;
 
 /// What is said in a language and is no text of its catalog.
-#[derive(Clone, Copy, Debug)]
+#[derive(Clone, Copy)]
 pub struct Words {
     pub welcome: &'static str,
     /// The message where the terms are not accepted.
@@ -165,7 +165,7 @@ impl Words {
 }
 
 /// The rule that the terms are accepted, with its message.
-#[derive(Clone, Copy, Debug)]
+#[derive(Clone, Copy)]
 pub struct Accepted<'c>(pub &'c Words);
 
 impl<T> Rule<Option<T>> for Accepted<'_> {

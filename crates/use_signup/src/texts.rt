@@ -7,7 +7,7 @@ use garde_catalog::Catalogs;
 use garde_html::Form;
 
 /// The form, the words of its rules, and the page of thanks, in one language.
-#[derive(Clone, Copy, Debug)]
+#[derive(Clone, Copy)]
 pub struct Texts {
     pub form: Form<'static>,
     pub words: Words,
@@ -60,7 +60,7 @@ pub fn texts_in(tag: &str) -> &'static Texts {
 }
 
 /// The languages of the service.
-#[derive(Clone, Copy, Debug)]
+#[derive(Clone, Copy)]
 pub struct Speech<'a> {
     /// The texts of faults.
     pub catalogs: &'a Catalogs,
