@@ -13,7 +13,7 @@ Answers the HTTP requests of standard input on standard output.
   --help     prints this";
 
 /// What the command line asks for.
-#[derive(Clone, Copy, Debug)]
+#[derive(Clone, Copy)]
 pub enum Command {
     /// The usage.
     Help,

@@ -5,7 +5,7 @@ use garde_service::Rejected;
 use http::StatusCode;
 
 /// Why no order is judged.
-#[derive(Clone, Copy, Debug)]
+#[derive(Clone, Copy)]
 pub enum Refused {
     /// What came is no request, or its target has no form that fits its method.
     BadRequest,

@@ -9,7 +9,7 @@ use garde_service::has_type;
 use http::Request;
 
 /// What a request asks for.
-#[derive(Clone, Copy, Debug)]
+#[derive(Clone, Copy)]
 pub enum Route {
     /// That an order in JSON is judged.
     Order,
