@@ -1,6 +1,8 @@
 //! Paths, errors and reports.
 
-use crate::tests::report::samples::{are_in_order, is_kept, path_of, path_to, report_of};
+use crate::tests::report::samples::{
+    are_in_order, have_messages, is_kept, path_of, path_to, report_of,
+};
 use crate::tests::{OrEnd, has_text, printed, shows};
 use garde_report::{Kind, NoKey, Path, PathComponentKind, Report, RuleError, select};
 use std::alloc::Global;
@@ -207,12 +209,6 @@ fn a_clone_is_equal(rt: HostRuntime) {
     assert!(rt; report.len() == 4 && report.iter().eq(faults.iter()));
 }
 
-/// Whether these messages are selected of a report.
-fn is_selected(report: &Report, way: &[&str], messages: &[&str]) -> bool {
-    let found = select(report, way).map(|error| error.message());
-    found.eq(messages.iter().copied())
-}
-
 /// The keys of a path, and the messages of the four faults that stand at it or under it.
 static SELECTED: [(&[&str], &[&str]); 5] = [
     (&["a", "b", "c"], &["that seems wrong", "pog"]),
@@ -226,7 +222,7 @@ static SELECTED: [(&[&str], &[&str]); 5] = [
 fn select_takes_what_stands_beneath(rt: HostRuntime) {
     let report = report_of(&rt, rt.alloc(), &FOUR);
     for (way, messages) in &SELECTED {
-        assert!(rt; is_selected(&report, way, messages));
+        assert!(rt; have_messages(select(&report, way), messages));
     }
 }
 

@@ -1,6 +1,6 @@
 //! Texts within HTML, and the faults of fields, beside what was written by hand.
 
-use crate::tests::report::samples::{path_of, report_of};
+use crate::tests::report::samples::{have_messages, path_of, report_of};
 use crate::tests::{OrEnd, has_text};
 use garde_html::{
     Control, Field, Form, HtmlText, Page, Piece, field_faults, field_of, form_page, laws,
@@ -63,17 +63,11 @@ static BESIDE: [(&str, &[&str]); 4] = [
     ("x", &["deep"]),
 ];
 
-// Whether these are the messages beside a field.
-fn stand_beside(report: &Report, field: &&str, messages: &[&str]) -> bool {
-    let found = field_faults(report, field).map(|error| error.message());
-    found.eq(messages.iter().copied())
-}
-
 #[test]
 fn faults_stand_beside_their_fields(rt: HostRuntime) {
     let report = report_of(&rt, rt.alloc(), FAULTS);
     for (field, messages) in &BESIDE {
-        assert!(rt; stand_beside(&report, field, messages));
+        assert!(rt; have_messages(field_faults(&report, field), messages));
     }
 }
 

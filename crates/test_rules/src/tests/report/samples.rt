@@ -2,7 +2,7 @@
 
 use crate::tests::OrEnd;
 use garde_places::Place;
-use garde_report::{Component, Error, Kind, Path, Report, RuleError, Trail};
+use garde_report::{Component, Error, Kind, Path, Report, RuleError, Select, Trail};
 use std::alloc::Global;
 use std::cmp::Ordering;
 use std::hash::{DefaultHasher, Hash, Hasher};
@@ -58,6 +58,17 @@ pub fn report_of(rt: &impl Abort, alloc: Global, faults: &[(&str, &str)]) -> Rep
         append(rt, alloc, &mut report, path_of(rt, alloc, words), message);
     }
     report
+}
+
+/// Whether the errors that are selected have these messages.
+pub fn have_messages(mut selected: Select<'_>, messages: &[&str]) -> bool {
+    for message in messages {
+        match selected.next() {
+            Some(error) if error.message() == *message => {}
+            _ => return false,
+        }
+    }
+    selected.next().is_none()
 }
 
 /// A place for each token, one a line: from the line `first` on, and before the line `end`.
