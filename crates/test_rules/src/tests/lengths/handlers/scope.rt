@@ -4,7 +4,7 @@ ghost use Rattle.std.specs.Cow.{cow_str_bytes};
 ghost use Rattle.garde_i18n.specs.Datum.{length_lower};
 
 use super::czech::Czech;
-use crate::tests::OrEnd;
+use super::is_said;
 use garde_i18n::{DefaultI18n, I18n, with_i18n};
 use std::alloc::{AllocError, Global};
 use std::borrow::CowStr;
@@ -27,10 +27,10 @@ fn hands_on_the_handler(rt: HostRuntime) {
     let one = "délka je menší než 1 znak";
     let inner = "length is lower than 3";
     // The default handler, within work under another one.
-    let within = with_i18n(Czech, |_| length_text_under(alloc, DefaultI18n, 3)).or_end(&rt);
+    let within = with_i18n(Czech, |_| length_text_under(alloc, DefaultI18n, 3));
     assert!(rt;
-        length_text_under(alloc, Czech, 3).or_end(&rt).as_str() == few
-            && length_text_under(alloc, &Czech, 1).or_end(&rt).as_str() == one
-            && within.as_str() == inner
+        is_said(within, inner)
+            && is_said(length_text_under(alloc, Czech, 3), few)
+            && is_said(length_text_under(alloc, &Czech, 1), one)
     );
 }
