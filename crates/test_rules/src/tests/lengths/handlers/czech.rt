@@ -55,7 +55,7 @@ const NOT_SET: &str = "hodnota chybí";
 pub struct Czech;
 
 /// A text, and a value behind it.
-fn with_value<D: Display + Drop>(
+pub fn with_value<D: Display + Drop>(
     alloc: Global,
     text: &str,
     value: D,

@@ -3,6 +3,7 @@ ghost use Rattle.std.specs.Prelude.{◌++◌, codes};
 ghost use Rattle.garde_i18n.specs.CodeText.{datum_code};
 
 use super::assert_answers;
+use super::czech::with_value;
 use garde_i18n::{Datum, InvalidCreditCard, InvalidPhoneNumber, InvalidUrl, IpKind, Texts};
 use std::alloc::{AllocError, Global};
 use std::borrow::CowStr;
@@ -15,9 +16,7 @@ impl Texts for Label<'_> {
     ghost texts = { λ label datum. label.0.now ++ (codes " " ++ (datum_code datum).0) };
 
     fn text_of(&self, alloc: Global, datum: Datum<'_>) -> Result<CowStr<'static>, AllocError> {
-        let label = self.0;
-        let code = datum.code().name;
-        Ok(CowStr::Owned(format!(in alloc; "{label} {code}")?))
+        with_value(alloc, self.0, datum.code().name)
     }
 }
 
