@@ -51,6 +51,14 @@ fn finds<T, R: Rule<T>>(alloc: Global, rule: &R, value: &T, fault: Option<&str>)
     tells(rule.find(alloc, value, &DefaultI18n), fault)
 }
 
+/// Whether a text was made, and is this one.
+fn is_text<E: Drop>(made: Result<String, E>, text: &str) -> bool {
+    match made {
+        Ok(made) => made.as_str() == text,
+        Err(_) => false,
+    }
+}
+
 /// The text of a value.
 fn printed<T: Display>(rt: &impl Abort, alloc: Global, value: &T) -> String {
     format!(in alloc; "{value}").or_end(rt)

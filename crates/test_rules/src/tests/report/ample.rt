@@ -1,8 +1,8 @@
 //! Ample memory: what is long, deep or many gets the answers of what is small.
 
-use crate::tests::OrEnd;
 use crate::tests::report::samples::{append, is_kept, path_of_one, path_to};
 use crate::tests::report::written::is_read_back;
+use crate::tests::{OrEnd, is_text};
 use garde_report::rc_list::List;
 use garde_report::{Component, Error, Kind, Path, PathIter, Report, RuleError, Trail};
 use std::alloc::Global;
@@ -167,8 +167,8 @@ fn each_control_character_is_read_back(rt: HostRuntime) {
 }
 
 // Whether a value prints as this text, whatever the width.
-fn is_unpadded<T: Display>(rt: &impl Abort, alloc: Global, value: &T, text: &str) -> bool {
-    format!(in alloc; "{value:>40}").or_end(rt).as_str() == text
+fn is_unpadded<T: Display>(alloc: Global, value: &T, text: &str) -> bool {
+    is_text(format!(in alloc; "{value:>40}"), text)
 }
 
 // The width is that of nothing: what has parts prints as if none were asked for.
@@ -177,9 +177,9 @@ fn a_width_pads_nothing(rt: HostRuntime) {
     let alloc = rt.alloc();
     let report = faults(&rt, alloc, 2, 1, "x");
     assert!(rt;
-        is_unpadded(&rt, alloc, &report, "[0].x: x\n[0].x: x\n") && Kind::default() == Kind::None
+        is_unpadded(alloc, &report, "[0].x: x\n[0].x: x\n") && Kind::default() == Kind::None
     );
     for (path, error) in report.iter() {
-        assert!(rt; is_unpadded(&rt, alloc, path, "[0].x") && is_unpadded(&rt, alloc, error, "x"));
+        assert!(rt; is_unpadded(alloc, path, "[0].x") && is_unpadded(alloc, error, "x"));
     }
 }

@@ -1,6 +1,6 @@
 //! What words of a command line ask for, and the lines of faults under the name of their file.
 
-use crate::tests::OrEnd;
+use crate::tests::is_text;
 use crate::tests::report::samples::{places_in_lines, report_of};
 use garde_places::{Asked, Format, Place, Printed, faults_of, listed_faults_of, stop_of_utf8};
 use garde_report::{Path, Report};
@@ -102,11 +102,11 @@ const FOR_PROGRAMS: &str = "\
 ";
 
 // Whether the faults of a report of the text are printed so in a format.
-fn print_as(rt: &impl Abort, alloc: Global, report: &Report, format: Format, text: &str) -> bool {
+fn print_as(alloc: Global, report: &Report, format: Format, text: &str) -> bool {
     match faults_of(alloc, TEXT, report) {
         Ok(mut faults) => {
             let printed = Printed { format, file: "f" };
-            printed.lines(alloc, &mut faults).or_end(rt).as_str() == text
+            is_text(printed.lines(alloc, &mut faults), text)
         }
         Err(_) => false,
     }
@@ -129,8 +129,8 @@ fn faults_are_sorted_for_people(rt: HostRuntime) {
     let alloc = rt.alloc();
     let report = report_of(&rt, alloc, &FAULTS);
     assert!(rt;
-        print_as(&rt, alloc, &report, Format::Json, FOR_PROGRAMS)
-            && print_as(&rt, alloc, &report, Format::Short, FOR_PEOPLE)
+        print_as(alloc, &report, Format::Json, FOR_PROGRAMS)
+            && print_as(alloc, &report, Format::Short, FOR_PEOPLE)
             && listed_line(&rt, alloc, &report) == Some(12)
     );
 }
@@ -143,10 +143,8 @@ fn a_fault_of_no_report_is_printed(rt: HostRuntime) {
     };
     let place = Place { line: 2, column: 1 };
     let message = "\u{1f}not_csv\u{1f}50%\u{1f}";
-    let line = printed
-        .line(rt.alloc(), place, &Path::empty(), message)
-        .or_end(&rt);
-    assert!(rt; line.as_str() == "::error file=f,line=2,col=1::50%25\n");
+    let line = printed.line(rt.alloc(), place, &Path::empty(), message);
+    assert!(rt; is_text(line, "::error file=f,line=2,col=1::50%25\n"));
 }
 
 #[test]

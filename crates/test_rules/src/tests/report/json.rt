@@ -1,8 +1,8 @@
 //! Written forms, and trees that are none.
 
-use crate::tests::OrEnd;
 use crate::tests::report::samples::{path_of, report_of};
 use crate::tests::report::written::{is_read, is_there_and_back};
+use crate::tests::{OrEnd, is_text};
 use garde_json::{JsonRefused, first_to_json_text, path_from_json, path_to_json};
 use garde_report::{Path, Report};
 use serde_json::Value;
@@ -13,7 +13,7 @@ use std::process::Abort;
 fn is_path_there_and_back(rt: &impl Abort, alloc: Global, path: &Path, text: &str) -> bool {
     let tree = path_to_json(alloc, path).or_end(rt);
     match path_from_json(alloc, &tree) {
-        Ok(read) => read == *path && tree.to_string(alloc).or_end(rt).as_str() == text,
+        Ok(read) => read == *path && is_text(tree.to_string(alloc), text),
         Err(_) => false,
     }
 }

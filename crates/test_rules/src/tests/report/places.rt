@@ -1,7 +1,7 @@
 //! Places of faults in a JSON text, beside lines and columns that were counted by hand.
 
-use crate::tests::OrEnd;
 use crate::tests::report::samples::{path_of, report_of};
+use crate::tests::{OrEnd, is_text};
 use garde_places::{Fault, Format, GitHub, Places, Short, sort_by_place};
 use garde_report::Report;
 use garde_tape::{Scratch, parse};
@@ -204,15 +204,9 @@ fn annotations(rt: &impl Abort, alloc: Global, faults: &[Fault<'_>]) -> String {
 static FORMATS: [(&str, &str); 3] = [("short", SHORT), ("github", ANNOTATIONS), ("json", OBJECTS)];
 
 // Whether faults are printed as this text in the format of this name.
-fn are_printed(
-    rt: &impl Abort,
-    alloc: Global,
-    faults: &[Fault<'_>],
-    name: &str,
-    text: &str,
-) -> bool {
+fn are_printed(alloc: Global, faults: &[Fault<'_>], name: &str, text: &str) -> bool {
     match Format::of(name) {
-        Some(format) => format.lines(alloc, FILE, faults).or_end(rt).as_str() == text,
+        Some(format) => is_text(format.lines(alloc, FILE, faults), text),
         None => false,
     }
 }
@@ -220,7 +214,7 @@ fn are_printed(
 // Asserts that faults are printed in each format.
 fn assert_printed(rt: &impl Abort, alloc: Global, faults: &[Fault<'_>]) {
     for (name, text) in &FORMATS {
-        assert!(rt; are_printed(rt, alloc, faults, name, text), "{name}");
+        assert!(rt; are_printed(alloc, faults, name, text), "{name}");
     }
 }
 

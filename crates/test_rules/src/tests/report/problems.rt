@@ -1,7 +1,7 @@
 //! Pointers, escaped reports and problem details, beside texts written by hand.
 
 use crate::tests::report::samples::{path_of, path_of_one, report_of};
-use crate::tests::{OrEnd, has_text, printed};
+use crate::tests::{OrEnd, has_text, is_text, printed};
 use garde_problem::{
     Coded, Escaped, JsonPointer, Problem, coded_message, laws, problem_to_json_text,
 };
@@ -180,8 +180,8 @@ fn is_report(
     (faults, lines, problem, text): &(&[(&str, &str)], &str, &Problem<'_>, &str),
 ) -> bool {
     let report = report_of(rt, alloc, faults);
-    let details = problem_to_json_text(alloc, &report, problem).or_end(rt);
-    details.as_str() == *text && has_text(rt, alloc, &Escaped(alloc, &report), lines)
+    is_text(problem_to_json_text(alloc, &report, problem), text)
+        && has_text(rt, alloc, &Escaped(alloc, &report), lines)
 }
 
 #[test]
@@ -255,8 +255,7 @@ static CODES: [((&str, &str), &[(&str, &str)], &str); 3] = [
 #[test]
 fn messages_with_codes(rt: HostRuntime) {
     for ((code, detail), params, text) in &CODES {
-        let message = coded_message(rt.alloc(), code, detail, params).or_end(&rt);
-        assert!(rt; message.as_str() == *text);
+        assert!(rt; is_text(coded_message(rt.alloc(), code, detail, params), text));
     }
 }
 

@@ -1,6 +1,6 @@
 //! Reports that are written in JSON and read back, by trees and by texts.
 
-use crate::tests::{OrEnd, has_text};
+use crate::tests::{OrEnd, has_text, is_text};
 use garde_json::{
     JsonRefused, report_from_json, report_from_json_text, report_to_json, report_to_json_text,
 };
@@ -41,8 +41,7 @@ pub fn is_read(rt: &impl Abort, alloc: Global, text: &str, wanted: Option<&str>)
 /// Whether the tree of a report is written as this text, and the report is read back from it.
 fn has_tree(rt: &impl Abort, alloc: Global, report: &Report, text: &str) -> bool {
     let tree = report_to_json(alloc, report).or_end(rt);
-    is_report(report_from_json(alloc, &tree), report)
-        && tree.to_string(alloc).or_end(rt).as_str() == text
+    is_report(report_from_json(alloc, &tree), report) && is_text(tree.to_string(alloc), text)
 }
 
 /// Whether both writers give this text of a report, and each reader the report again: from its tree, from
@@ -52,7 +51,7 @@ pub fn is_there_and_back(rt: &impl Abort, alloc: Global, report: &Report, text: 
     is_report(report_from_json(alloc, &tree), report)
         && is_report(report_from_json_text(alloc, text), report)
         && has_tree(rt, alloc, report, text)
-        && report_to_json_text(alloc, report).or_end(rt).as_str() == text
+        && is_text(report_to_json_text(alloc, report), text)
 }
 
 /// Whether each reader gives a report of its text again, which is that of its tree.
