@@ -8,10 +8,10 @@ use garde::{I18n, Valid};
 use garde_schema::{FormI18n, ReadError, Scratch};
 
 /// Prints what a valid configuration asks for, and returns no error of reading.
-fn show(rt: &HostRuntime, config: Valid<Config<'_>>) -> Result<Option<ReadError>> {
+fn show(rt: &HostRuntime, config: &Valid<Config<'_>>) -> Result<Option<ReadError>> {
     let server = &config.server;
     let (host, port, workers) = (server.host.text(), server.port, server.workers);
-    let most = share(&config);
+    let most = share(config);
     println!(rt; "{host}, port {port}: {workers} workers, {most} connections each")?;
     Ok(None)
 }
@@ -43,7 +43,7 @@ impl Input for Configuration {
         let names = Regex::new(alloc, NAME)?;
         let mut scratch = Scratch::new(alloc);
         match read_config(alloc, json, &mut scratch, &names, h) {
-            Ok(config) => show(rt, config),
+            Ok(config) => show(rt, &config),
             Err(error) => Ok(Some(error)),
         }
     }
