@@ -5,7 +5,7 @@ ghost use Rattle.garde_check.specs.Words.{first_task_of};
 use crate::form::Form;
 
 /// What is run.
-#[derive(Clone, Copy, PartialEq, Eq, Debug)]
+#[derive(Clone, Copy)]
 pub enum Command {
     /// The report of the lines is written as text.
     Text,

@@ -7,7 +7,7 @@ use std::alloc::AllocError;
 use std::fmt;
 
 /// What a run found.
-#[derive(Clone, Copy, PartialEq, Eq, Debug)]
+#[derive(Clone, Copy)]
 pub enum Outcome {
     /// No fault.
     Valid,
@@ -16,7 +16,7 @@ pub enum Outcome {
 }
 
 /// Why a run failed.
-#[derive(Clone, Copy, PartialEq, Eq, Debug)]
+#[derive(Clone, Copy, Debug)]
 pub enum RunError {
     /// The input is not UTF-8. Nothing was written.
     NotUtf8,

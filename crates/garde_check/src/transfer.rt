@@ -8,7 +8,7 @@ use std::io::{Read, Write};
 use std::marker::Model;
 
 /// A call of a reader or a writer failed.
-#[derive(Clone, Copy, PartialEq, Eq, Debug)]
+#[derive(Clone, Copy, Debug)]
 pub struct Failed;
 
 impl fmt::Display for Failed {
