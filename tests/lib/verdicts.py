@@ -13,6 +13,8 @@ PROVED, NAMED = "NOT REFUSED", "SAYS NOTHING"
 GOAL = re.compile(r"note: (?:\./)?src/\S+: it is not proved that")
 ERROR = re.compile(r"(?:\./)?(proofs/\S+/)(\w+)\.antt:\d+:\d+: error: (.*)")
 FOLLOWS_NOT = re.compile(r"`[\w-]+`: `\w+`:? (?:the goal does not follow|found no proof)")
+# the line by which a file of answers names places of its goals
+PLACES = re.compile(r"use \S+\.Goals\.\{(.*)\}$")
 # an error that names what the edit took away
 NAMES = re.compile(r"was not admitted|is not in scope|has no field|has no `|were not checked|\(nearest: ")
 
@@ -64,10 +66,13 @@ def unfit_answers(function, lines):
 
 
 def without_answers(text, goals):
-    """A file of answers without those of some goals."""
+    """A file of answers without those of some goals, and without the lines by which only these named places of their goals: a place
+    that no answer takes apart cannot be named."""
     kept, is_left_out = [], False
     for line in text.split("\n"):
         if word := re.match(r"(?:abbrev )?(?:pub )?([\w-]+)", line):
             is_left_out = word.group(1) in goals
         kept += [] if is_left_out else [line]
-    return "\n".join(kept)
+    answers = "\n".join(line for line in kept if not line.startswith("use "))
+    places = {line: PLACES.match(line)[1].split(", ") for line in kept if PLACES.match(line)}
+    return "\n".join(line for line in kept if line not in places or any(it in answers for it in places[line]))
