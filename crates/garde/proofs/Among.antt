@@ -1,16 +1,15 @@
 -- What is said of faults is the text of one of them.
-use Rattle.std.proofs.Common.{◌≡◌, ℕ, zero, suc, Option, Some, None, Result, Ok, Err, List, [], ◌∷◌, ◌++◌, ap, ◌∙◌, sym, subst, arith}
+use Rattle.std.proofs.Common.{◌≡◌, ℕ, zero, suc, Option, Some, None, Result, Ok, Err, List, [], ◌∷◌, ◌++◌, ap, sym, subst, arith}
 use Rattle.std.specs.List.{Contains}
 use Rattle.std.proofs.lemmas.List.Elements.{All-append, All-cons}
 use Rattle.garde_i18n.specs.Datum.{Datum}
-use Rattle.garde_report.specs.Part.{Part}
 use Rattle.garde_report.specs.Report.{Entry}
 use Rattle.garde_report.specs.declared.error.rule_error.RuleError.{RuleError}
 use Rattle.garde_report.specs.declared.error.rule_error.RuleError.TheVariants as errors
 use Rattle.garde_rules.specs.{Fault, fault_text, Applies}
 use Rattle.garde_rules.specs.Memory.{AppliesInMemory}
-use Rattle.garde.specs.Redaction.{IsAmong, FindsOnly, fault_texts, SaysOneOf, SaysOnly, SaysOnlyInMemory, AreAmong, SaysNoMore}
-use Rattle.garde.specs.Tree.{Tree, nothing, fault, under, flat}
+use Rattle.garde.specs.Redaction.{IsAmong, FindsOnly, fault_texts, SaysOneOf, SaysOnly, SaysOnlyInMemory, SaysNoMore}
+use Rattle.garde.specs.Tree.{nothing, fault, under, flat}
 
 later_of : {A : Type 0} (y : A) (xs : List A) (x : A) → Contains xs x → Contains (y ∷ xs) x
 later_of y xs x (k, within, is) = (suc k, omega (arith, within), is)

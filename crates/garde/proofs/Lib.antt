@@ -18,3 +18,4 @@ pub mod FirstItems
 pub mod Agreeing
 mod Answering
 mod Firsts
+mod OverLists

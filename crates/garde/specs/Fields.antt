@@ -6,18 +6,20 @@
 -- `str v.name`. A list that borrows, and a `LinkedList`, is given as it is, a `Vec` as `slice v.tags`, a `VecDeque` as `v.queue.items`, a
 -- set as `v.tags.keys`, and a map as `v.scores.entries`.
 use Prim.Native.String.{String as Literal}
-pub use Rattle.std.specs.Prelude.{codes, length, ◌≡◌, ◌==◌, Result, Ok, Err, nat_eq, nat_lt, nat_le, ◌||◌, ◌&&◌, not, true, false, Bool, Some, None, Option, is_some, if◌then◌else◌}
+pub use Rattle.std.specs.Prelude.{codes, length, ◌≡◌, ◌==◌, Result, Ok, Err, nat_eq, nat_lt, nat_le, int_lt, ◌||◌, ◌&&◌, not, true, false, Bool, Some, None, Option, is_some, if◌then◌else◌}
 pub use Rattle.std.specs.Option.{option_eq}
+pub use Rattle.std.specs.Ordering.{int_eq}
 pub use Rattle.garde.specs.Operators.{both, either, choose, product, quotient, remainder, Equals, IsAtMost}
 unfoldable pub use Rattle.garde.specs.Visits.{Known}
 pub use Rattle.garde.specs.Visits.{Visits, Visited, none, ◌and◌, under, item, when, each_of_option}
 pub use Rattle.garde.specs.Nest.{recursive_visits, child_visits, in_map, in_vec, nest_visits}
 pub use Rattle.garde.specs.Firsts.{AreApart, includes}
+pub use Rattle.garde.specs.OverLists.{all_of, any_of, distinct}
 pub use Rattle.garde_report.specs.Part.{key_part, index_part, signed_index_part, part_of}
 pub use Rattle.garde_rules.specs.Inner.{component_items}
 pub use Rattle.garde_rules.specs.{Fault, rule, own, byte_count, char_count, unit_count, grapheme_count}
 pub use Rattle.garde_i18n.specs.declared.reasons.IpKind.TheVariants.{Any, V4, V6}
-use Rattle.std.specs.Prelude.{ℕ, ℤ, ◌-◌, ◌^◌, pos, neg_ℤ, List, String, Vec, string_bytes, bytes_eq, option_map, unwrap_or}
+use Rattle.std.specs.Prelude.{ℕ, ℤ, ◌-◌, ◌^◌, pos, neg_ℤ, List, [], String, Vec, string_bytes, bytes_eq, option_map, unwrap_or}
 use Rattle.std.specs.Borrow.{Bor}
 use Rattle.std.specs.Fmt.{decimal, signed_decimal}
 use Rattle.std.specs.declared.alloc.Global.{Global}
@@ -206,6 +208,13 @@ asks message holds = asks_text (codes message) holds
 -- a rule, with this message in place of the handler's
 abbrev pub with_message : Literal → Option Fault → Option Fault
 with_message message fault = option_map (λ _. own (codes message)) fault
+
+-- the condition holds; else the fault of this code, whose text in English is this one
+abbrev pub asks_named : List ℕ → List ℕ → Bool → Option Fault
+asks_named code english holds = unless holds (datum.named (code, []) english)
+
+abbrev pub asks_as : Literal → Literal → Bool → Option Fault
+asks_as code english holds = asks_named (codes code) (codes english) holds
 
 -- a rule that is asked of an option as a whole: an option without a value passes. `if_some` asks the rule of what the option holds;
 -- both have the same trees.

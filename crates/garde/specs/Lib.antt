@@ -22,3 +22,4 @@ pub mod Cards
 pub mod Phones
 pub mod Urls
 pub mod IntoValid
+pub mod OverLists

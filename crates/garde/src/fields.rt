@@ -23,13 +23,16 @@ mod condition;
 mod each;
 mod field;
 mod if_some;
+mod lists;
+mod over_lists;
+mod question;
 mod redaction;
 mod required_if;
 mod rules;
 mod tuples;
 mod unique;
 
-pub use asks::Asks;
+pub use asks::{Asks, AsksAs};
 pub use check::{Check, Dive, check_under};
 pub use condition::When;
 pub use each::{Each, check_part};
@@ -41,6 +44,9 @@ pub use garde_rules::values::{
 };
 pub use garde_rules::{Discreet, DiscreetInMemory, Rule};
 pub use if_some::IfSome;
+pub use lists::{all_of, any_of, distinct};
+pub use over_lists::{AllOf, AnyOf, Distinct, Includes, Listed};
+pub use question::{Asked, Question};
 pub use redaction::DiscreetRules;
 pub use required_if::RequiredIf;
 pub use rules::{Is, IsInMemory, Rules, ask_under};

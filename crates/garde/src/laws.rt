@@ -1,5 +1,7 @@
 //! Laws of visit trees. Each function does nothing, and its contract is a law for all values.
+ghost use Rattle.std.specs.Prelude.{◌≡◌, ◌↔◌, Bool, true};
 ghost use Rattle.garde.specs.Nest.{NestLaw};
+ghost use Rattle.garde.specs.OverLists.{AreApart, distinct, OfItems};
 ghost use Rattle.garde.specs.Parts.{ItemsInParts, ReadInParts};
 ghost use Rattle.garde.specs.Reading.{ReadsUnder, ReadsByHandler};
 ghost use Rattle.garde.specs.Redaction.{AsksOnly, FindsOnly, SaysNoMore, SaysOnly, SaysOnlyInMemory};
@@ -70,4 +72,14 @@ pub fn messages_in_memory_hide_values<T, R: DiscreetInMemory<T>>()
 pub fn reports_hide_values<T, R: DiscreetRules<T>>()
     ensures found { AsksOnly R.may_find R.asks }
     ensures read { SaysNoMore }
+{}
+
+/// A condition of all items holds of each of them, and one of any item holds of some item.
+pub fn of_items<T>(items: &[T])
+    ensures { (holds : T → Bool) → OfItems holds items.now }
+{}
+
+/// In a list with distinct items no two items are the same.
+pub fn of_distinct<T>(items: &[T])
+    ensures { (same : T → T → Bool) → (distinct same items.now ≡ true) ↔ AreApart same items.now }
 {}

@@ -1,6 +1,6 @@
 //! Rules whose messages do not depend on the value that they are asked of.
 ghost use Rattle.std.specs.Prelude.{List, [], not, ◌||◌, is_some};
-ghost use Rattle.garde_i18n.specs.Datum.{not_set};
+ghost use Rattle.garde_i18n.specs.Datum.{named, not_set};
 ghost use Rattle.garde_rules.specs.{Fault};
 ghost use Rattle.garde_rules.specs.RedactionLaws.{unless_among};
 ghost use Rattle.garde.specs.Redaction.{AsksOnly, one_fault, own_fault};
@@ -8,7 +8,7 @@ ghost use Rattle.garde.specs.RedactionLaws.{asks_among, finds_none, finds_rule, 
 
 mod tuples;
 
-use super::asks::Asks;
+use super::asks::{Asks, AsksAs};
 use super::condition::When;
 use super::each::Each;
 use super::if_some::IfSome;
@@ -33,6 +33,13 @@ impl<T> Discreet<T> for Asks<'_> {
     ghost may_find = { λ asks. own_fault asks.0.now };
 
     ghost discreet = { λ asks _. asks_among asks.0.now asks.1 };
+}
+
+/// The fault of the code, where the condition does not hold.
+impl<T> Discreet<T> for AsksAs<'_> {
+    ghost may_find = { λ asks. one_fault (named (asks.0.now, []) asks.1.now) };
+
+    ghost discreet = { λ asks _. unless_among (named (asks.0.now, []) asks.1.now) asks.2 };
 }
 
 impl<T> Discreet<Option<T>> for RequiredIf {
