@@ -11,3 +11,5 @@ mod Making
 mod Recursion
 mod AllFaults
 mod EachObject
+mod Decimals
+mod Copied

@@ -1,6 +1,7 @@
 pub mod AsksNothing
 pub mod Bound
 pub mod Bytes
+pub mod Decimals
 pub mod FirstRead
 pub mod FormCode
 pub mod FormText
@@ -17,6 +18,7 @@ pub mod Whole
 pub mod Wide
 pub mod RulesOnValue
 pub mod Flat
+pub mod Kept
 pub mod Lists
 pub mod Maps
 pub mod formers
