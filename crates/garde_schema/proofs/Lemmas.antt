@@ -79,11 +79,11 @@ unfolding Known under
 sound_optional_repeated name texts each keeps value f is = subst (λ z. Sound (optional_visits name texts each z) (λ out. KeepsSome keeps out) (optional_value value z)) (sym is) (refused_is_fault (texts faults.Repeated))
 
 -- the members that were looked up are those of the tree
-members_some : (o : Option json.Members) (ms : List (List ℕ × Json)) {seen : Option (List (List ℕ × Json))} → seen ≡ Some ms → seen ≡ option_map member_list o → ms ≡ members_among o
+pub members_some : (o : Option json.Members) (ms : List (List ℕ × Json)) {seen : Option (List (List ℕ × Json))} → seen ≡ Some ms → seen ≡ option_map member_list o → ms ≡ members_among o
 members_some (Some all) ms some is = cc
 members_some None ms some is = let never : Some ms ≡ None = sym some ∙ is in cc
 
-members_none : (o : Option json.Members) {seen : Option (List (List ℕ × Json))} → seen ≡ None → seen ≡ option_map member_list o → members_among o ≡ []
+pub members_none : (o : Option json.Members) {seen : Option (List (List ℕ × Json))} → seen ≡ None → seen ≡ option_map member_list o → members_among o ≡ []
 members_none None none is = refl
 members_none (Some all) none is = let never : None ≡ Some (member_list all) = sym none ∙ is in cc
 

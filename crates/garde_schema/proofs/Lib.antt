@@ -8,8 +8,10 @@ mod Lists
 mod Maps
 mod Wide
 mod Making
+mod Flattened
 mod Recursion
 mod AllFaults
 mod EachObject
+mod Indexes
 mod Decimals
 mod Copied

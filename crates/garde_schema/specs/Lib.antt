@@ -1,11 +1,14 @@
 pub mod AsksNothing
 pub mod Bound
 pub mod Bytes
+pub mod Choice
 pub mod Decimals
 pub mod FirstRead
+pub mod Flattened
 pub mod FormCode
 pub mod FormText
 pub mod Forms
+pub mod Given
 pub mod Members
 pub mod Nested
 pub mod Nulls
@@ -22,3 +25,5 @@ pub mod Kept
 pub mod Lists
 pub mod Maps
 pub mod formers
+pub mod InOrder
+pub mod Empty

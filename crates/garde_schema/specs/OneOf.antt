@@ -1,5 +1,5 @@
 -- Names, each with the value beside it.
-use Rattle.std.specs.Prelude.{ℕ, List, [], ◌∷◌, cond, Option, Some, None, option_and_then}
+use Rattle.std.specs.Prelude.{ℕ, List, [], ◌∷◌, cond, Option, Some, None, option_and_then, option_map, unwrap_or}
 use Rattle.std.specs.Borrow.{Bor}
 use Rattle.std.specs.Str.{bytes_eq}
 use Rattle.json.specs.Json.{Json}
@@ -25,3 +25,7 @@ unknown_text j (Some text) = NotOneOf
 -- what is wrong with a value that is none of the known texts
 abbrev pub one_of_fault : Json → FormFault
 one_of_fault j = unknown_text j (as_str j)
+
+-- the value that the text of a tree stands for, and this one for a text beside which none stands
+abbrev pub known_or : {V : Type 0} → List (Bor (List ℕ) × V) → V → Json → Option V
+known_or rows other j = option_map (λ text. unwrap_or (beside rows text) other) (as_str j)

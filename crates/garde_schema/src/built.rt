@@ -1,7 +1,7 @@
 //! Values of user-defined types.
 ghost use Rattle.std.specs.Prelude.{◌≡◌, option_map};
 
-use crate::form::Form;
+use crate::form::{Form, Members};
 use crate::handler::FormI18n;
 use garde::{I18n, Report, Trail};
 use garde_tape::Tree;
@@ -32,7 +32,8 @@ pub trait FromParts: Drop {
 /// A struct is read by `Built(Object((Member(..), Member(..))), PhantomData)`, where `T` is the struct:
 /// a type of yours that implements `FromParts`. Where the compiler does not find it from the use, name it
 /// by `PhantomData::<&Line<'_>>`. No fault is added. What the rules ask is known of the parts of the
-/// value.
+/// value. Around members, as in `Built((Member(..), Member(..)), PhantomData)`, it stands among those of
+/// another object, as the members of a field under `flatten` do.
 #[derive(Clone, Copy)]
 pub struct Built<'a, F, T>(pub F, pub PhantomData<&'a T>);
 
@@ -58,5 +59,37 @@ impl<'a, T: FromParts, F: Form<'a, Out = T::Parts>> Form<'a> for Built<'a, F, T>
             Ok(None) => Ok(None),
             Err(refused) => Err(refused),
         }
+    }
+}
+
+/// The members of a struct, which stand among those of another one.
+impl<'a, T: FromParts, M: Members<'a, Out = T::Parts>> Members<'a> for Built<'a, M, T> {
+    type Out = T;
+
+    ghost visits = { λ members texts j. M.visits members.0 texts j };
+
+    ghost value = { λ members j. option_map (λ parts. T.builds parts) (M.value members.0 j) };
+
+    ghost keeps = { λ members out. M.keeps members.0 (T.parts_of out) };
+
+    ghost names = { λ members name. M.names members.0 name };
+
+    fn read_members<'t, H: I18n + FormI18n>(
+        &self,
+        alloc: Global,
+        object: &Tree<'t, 'a>,
+        trail: &mut Trail<'a>,
+        report: &mut Report,
+        h: &H,
+    ) -> Result<Option<T>, AllocError> {
+        match self.0.read_members(alloc, object, trail, report, h) {
+            Ok(Some(parts)) => Ok(Some(T::from_parts(parts))),
+            Ok(None) => Ok(None),
+            Err(refused) => Err(refused),
+        }
+    }
+
+    fn names(&self, name: &str) -> bool {
+        self.0.names(name)
     }
 }

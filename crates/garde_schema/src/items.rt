@@ -6,7 +6,7 @@ ghost use Rattle.garde.specs.RedactionLaws.{finds_items, finds_unique};
 ghost use Rattle.garde.specs.Visits.{items};
 ghost use Rattle.garde_schema.specs.Lists.{with_last};
 
-use garde::fields::{Check, DiscreetRules, Each, Rules, Same, Unique};
+use garde::fields::{Check, DiscreetRules, Each, Listed, Rules, Same, Unique};
 use garde::rules::length::HasSimpleLength;
 use garde::{I18n, Report, Trail};
 use std::alloc::{AllocError, Global};
@@ -81,6 +81,18 @@ impl<T> HasSimpleLength for Items<T> {
 
     fn length(&self) -> usize {
         self.0.len()
+    }
+}
+
+/// The values.
+impl<T> Listed for Items<T> {
+    type Item = T;
+
+    ghost items = { λ v. v };
+
+    #[inline]
+    fn listed(&self) -> &[T] {
+        self.as_slice()
     }
 }
 

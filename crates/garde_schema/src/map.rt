@@ -60,7 +60,7 @@ fn read_value<'t, 'a, F: Form<'a>, H: I18n + FormI18n>(
 }
 
 // Reads the value of a member under its name, or tells that the name is repeated.
-fn read_entry<'t, 'a, F: Form<'a>, H: I18n + FormI18n>(
+pub(crate) fn read_entry<'t, 'a, F: Form<'a>, H: I18n + FormI18n>(
     alloc: Global,
     form: &F,
     came: bool,

@@ -1,8 +1,11 @@
 //! Texts of which each stands for a value.
-ghost use Rattle.std.specs.Prelude.{◌≡◌};
+ghost use Rattle.std.specs.Prelude.{◌≡◌, unwrap_or};
 ghost use Rattle.garde.specs.Visits.{Known, none};
 ghost use Rattle.garde_schema.specs.Forms.{formed};
-ghost use Rattle.garde_schema.specs.OneOf.{beside, known_value, one_of_fault};
+ghost use Rattle.garde_tape.specs.Look.{kind_of};
+ghost use Rattle.garde_schema.specs.declared.fault.FormFault.TheVariants.{Wrong};
+ghost use Rattle.garde_schema.specs.declared.fault.Wanted.TheVariants as wanted;
+ghost use Rattle.garde_schema.specs.OneOf.{beside, known_or, known_value, one_of_fault};
 
 use crate::fault::{FormFault, Wanted};
 use crate::form::Form;
@@ -32,7 +35,7 @@ fn beside<V: Copy>(rows: &[(&str, V)], text: &str) -> Option<V>
 }
 
 // The value that the text of a tree stands for.
-fn value_of<V: Copy>(rows: &[(&str, V)], tree: &Tree<'_, '_>) -> Option<V>
+pub(crate) fn value_of<V: Copy>(rows: &[(&str, V)], tree: &Tree<'_, '_>) -> Option<V>
     ensures { result ≡ known_value rows.now tree.now }
 {
     match tree.as_str() {
@@ -75,5 +78,56 @@ impl<'a, 'n, V: Copy + Drop> Form<'a> for OneOf<'n, V> {
     ) -> Result<Option<V>, AllocError> {
         let seen = value_of(self.0, tree);
         read_seen(alloc, tree, &KnownText, seen, &(), trail, report, h)
+    }
+}
+
+/// One of these texts, each with the value that it stands for, and the last value for every other text,
+/// as serde reads a variant with `#[serde(other)]`: for instance
+/// `OneOfOr(&[("post", Delivery::Post)], Delivery::Unknown)`.
+///
+/// Of a text that stands there twice the first value counts. What is no text is a fault.
+#[derive(Clone, Copy)]
+pub struct OneOfOr<'n, V>(pub &'n [(&'n str, V)], pub V);
+
+// The value beside this text, and else the other one.
+fn beside_or<V: Copy>(rows: &[(&str, V)], other: V, text: &str) -> V
+    ensures { result ≡ unwrap_or (beside rows.now text.now) other }
+{
+    match beside(rows, text) {
+        Some(value) => value,
+        None => other,
+    }
+}
+
+// The value that the text of a tree stands for, and this one for another text.
+fn value_or<V: Copy>(rows: &[(&str, V)], other: V, tree: &Tree<'_, '_>) -> Option<V>
+    ensures { result ≡ known_or rows.now other tree.now }
+{
+    match tree.as_str() {
+        Some(text) => Some(beside_or(rows, other, text)),
+        None => None,
+    }
+}
+
+impl<'a, 'n, V: Copy + Drop> Form<'a> for OneOfOr<'n, V> {
+    type Out = V;
+
+    ghost visits = { λ form texts j. formed (texts (Wrong wanted.Text (kind_of j))) (λ _. none)
+        (known_or form.0.now form.1 j) };
+
+    ghost value = { λ form j. known_or form.0.now form.1 j };
+
+    ghost keeps = { λ _ _. Known none };
+
+    fn read<'t, H: I18n + FormI18n>(
+        &self,
+        alloc: Global,
+        tree: &Tree<'t, 'a>,
+        trail: &mut Trail<'a>,
+        report: &mut Report,
+        h: &H,
+    ) -> Result<Option<V>, AllocError> {
+        let seen = value_or(self.0, self.1, tree);
+        read_seen(alloc, tree, &Wanted::Text, seen, &(), trail, report, h)
     }
 }

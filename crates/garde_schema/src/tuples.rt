@@ -1,6 +1,6 @@
 //! Tuples of members, of one to six. More are tuples in tuples, by `all!`.
-ghost use Rattle.std.specs.Prelude.{◌≡◌, ◌||◌};
-ghost use Rattle.garde.specs.Visits.{◌and◌};
+ghost use Rattle.std.specs.Prelude.{◌≡◌, ◌||◌, Some, false};
+ghost use Rattle.garde.specs.Visits.{Known, none, ◌and◌};
 ghost use Rattle.garde_schema.specs.Flat.{all1};
 ghost use Rattle.garde_schema.specs.Forms.{both};
 
@@ -19,6 +19,34 @@ use crate::handler::FormI18n;
 use garde::{I18n, Report, Trail};
 use garde_tape::Tree;
 use std::alloc::{AllocError, Global};
+
+/// No member is asked for: `Object(())` is any object, and `Object(Closed(()))` one without members.
+impl<'a> Members<'a> for () {
+    type Out = ();
+
+    ghost visits = { λ _ _ _. none };
+
+    ghost value = { λ _ _. Some tt };
+
+    ghost keeps = { λ _ _. Known none };
+
+    ghost names = { λ _ _. false };
+
+    fn read_members<'t, H: I18n + FormI18n>(
+        &self,
+        _alloc: Global,
+        _object: &Tree<'t, 'a>,
+        _trail: &mut Trail<'a>,
+        _report: &mut Report,
+        _h: &H,
+    ) -> Result<Option<()>, AllocError> {
+        Ok(Some(()))
+    }
+
+    fn names(&self, _name: &str) -> bool {
+        false
+    }
+}
 
 /// One alone.
 impl<'a, A: Members<'a>> Members<'a> for (A,) {
@@ -54,7 +82,7 @@ impl<'a, A: Members<'a>> Members<'a> for (A,) {
 
 // Both values, where both are there.
 #[inline(always)]
-fn pair<A: Drop, B: Drop>(first: Option<A>, second: Option<B>) -> Option<(A, B)>
+pub(crate) fn pair<A: Drop, B: Drop>(first: Option<A>, second: Option<B>) -> Option<(A, B)>
     ensures { result ≡ both first second }
 {
     match (first, second) {

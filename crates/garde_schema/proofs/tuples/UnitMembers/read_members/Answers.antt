@@ -1,0 +1,5 @@
+use Rattle.garde.proofs.Author.{visited_none}
+use Rattle.garde_schema.proofs.tuples.UnitMembers.read_members.Goals as goal
+
+pub returns-clause-answer : goal.returns-clause-answer
+returns-clause-answer g c = visited_none
