@@ -14,6 +14,7 @@ mod parsed;
 mod put;
 mod reading;
 mod web_form;
+mod whole_key;
 
 pub use bare::write_bare;
 pub use character::Character;
@@ -22,3 +23,4 @@ pub use parse::Parse;
 pub use parsed::Parsed;
 pub use reading::read_form;
 pub use web_form::{FormField, form_fields};
+pub use whole_key::WholeKey;

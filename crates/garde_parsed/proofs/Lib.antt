@@ -6,3 +6,5 @@ mod DateLaw
 mod TimeLaw
 mod DateTimeLaw
 mod TimestampLaw
+mod Colons
+mod Layouts

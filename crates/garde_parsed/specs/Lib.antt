@@ -6,3 +6,5 @@ pub mod Dates
 pub mod Times
 pub mod DateTimes
 pub mod Timestamps
+pub mod Layouts
+pub mod Spelling
