@@ -2,19 +2,39 @@
 borrow from the input; and what of them no form reads."""
 from dataclasses import replace
 
-from .derives import CASES, SERDE, literal_function, named_function, options, type_names
-from .groups import others_of, own_rules, shared_rules
-from .names import of_field, of_variant, others_of_variant
+from .defaults import Defaults, is_skipped
+from .derives import CASES, OPTIONS, OWN, options, reading_case, type_names
+from .everyday import plain
+from .flattened import faults as faults_of_flattened, held_part, names_of
+from .groups import is_flat, others_of, own_rules, shared_rules
+from .holes import BY_IMPL, Holes
+from .in_order import faults as faults_of_tuple, is_tuple
+from .parsed import parser_of, value_type, way_out
+from .names import of_variant, others_of_variant
 from .scope import SIGNED, UNSIGNED, is_option, is_path, is_text
-from .source import Param, Type, all_rules, is_ported
-from .tokens import Refusal
+from .rules import no_attributes
+from .source import Item, Param, Type, all_rules, is_ported
+from .tokens import Refusal, meant
+from .unions import Shapes, is_other, is_unit
+from .values import DECIMAL, KEPT, as_read, canonical, is_any, is_float
 
 LIFE = "'t"
 # What each type that borrows has of the derives.
-HAS = {"TextRef": ("Debug", "PartialEq", "Eq"), "Items": ("Debug",), "Entries": ("Debug",)}
-AT_TYPE = ("rename", "rename_all", "rename_all_fields", "deny_unknown_fields", "tag", "content", "default", "transparent")
-AT_VARIANT = ("rename", "rename_all", "alias", "skip_serializing")
-AT_FIELD = ("rename", "default", "skip_serializing", "skip_serializing_if", "borrow")
+HAS = {"TextRef": ("Debug", "PartialEq", "Eq"), "Items": ("Debug",), "Entries": ("Debug",), "Url": ("Debug", "PartialEq"), DECIMAL: ("Debug",), KEPT: ("Debug",)}
+AT_TYPE = ("rename", "rename_all", "rename_all_fields", "deny_unknown_fields", "tag", "content", "untagged", "default", "transparent")
+AT_VARIANT = ("rename", "rename_all", "alias", "other", "skip_serializing")
+AT_FIELD = ("rename", "default", "flatten", "skip", "skip_deserializing", "skip_serializing", "skip_serializing_if", "borrow")
+# The attributes of serde that say nothing to what reads: how a value is written, bounds of an implementation, and a text of serde's own.
+SILENT = {
+    "type": ("into", "bound", "crate", "expecting"), "variant": ("serialize_with", "bound", "borrow"),
+    "field": ("serialize_with", "bound", "getter"), "": ("skip_serializing", "skip_serializing_if", "serialize_with", "bound", "rename", "borrow"),
+}
+WORDS_OF_SERDE = sorted({*AT_TYPE, *AT_VARIANT, *AT_FIELD, *(word for words in OPTIONS.values() for word in words)})
+# What a derive asks for besides.
+ASKS = {"Copy": ("Clone",), "Eq": ("PartialEq",), "PartialOrd": ("PartialEq",), "Ord": ("Eq", "PartialOrd"), "Hash": ("Eq",)}
+# The attributes that change what a type is read of, whoever derives it.
+TURNING = ("serde_as", "serde_inline_default", "serde_conv")
+READ_BY_HAND = "see docs/guide/attributes.md#types-that-no-form-reads"
 RESERVED = (
     "data record deriving module where use mod pub package open as unfoldable abbrev axiom unfold unfolding ruleset mutual infix "
     "infixl infixr elim let in do coe fcoe tcoe hcom com"
@@ -27,8 +47,13 @@ def is_read(item):
 
 
 def is_named(item):
-    """Whether each value of a type is one of some names: an enum without fields."""
-    return item.kind == "enum" and all(it.shape == "unit" for it in item.variants)
+    """Whether each value of a type is one of some names: an enum without fields. They may stand under a tag."""
+    return item.kind == "enum" and all(map(is_unit, item.variants)) and not {"content", "untagged"} & set(options(item))
+
+
+def hole(name):
+    """The type of a hole, which has no form here."""
+    return Item("hole", name, (), (), 0, no_attributes(), derives=("Deserialize",))
 
 
 def fields_of(item):
@@ -50,15 +75,36 @@ class Borrowed:
     """The types of a source. `is_walked` says that they have a walk too, `is_stated` that what an input spells is stated, and `has_context`
     that they may have a context."""
 
-    def __init__(self, source, left_out, is_stated=False, is_walked=False, has_context=False, input="json"):
+    def __init__(self, source, left_out, is_stated=False, is_walked=False, has_context=False, input="json", has_own=False):
         self.source, self.left_out, self.is_stated, self.is_walked = source, left_out, is_stated, is_walked
         self.has_context, self.input, self.context = has_context, input, None
+        source.items[:] = [self.canonical(it) if is_read(it) else it for it in source.items]
+        plain(source)
         self.items = {it.name: it for it in source.items if is_read(it)}
+        self.holes = self.found_holes() if has_own else {}
+        self.defaults = Defaults(source)
         self.borrowing = self.found_borrowing()
+
+    def canonical(self, item):
+        """A type whose fields of any kind are known by one name."""
+        fields = lambda variant: tuple(replace(it, type=canonical(it.type, self.source.imports)) for it in variant.fields)
+        return replace(item, variants=tuple(replace(it, fields=fields(it)) for it in item.variants))
+
+    def found_holes(self):
+        """The types whose reading stands elsewhere, by their names, each with why that is so. They are types of the source from here on."""
+        held = {it.name: it for it in self.source.items}
+        self.items = {name: it for name, it in self.items.items() if not any(word in options(it) for word in BY_IMPL)}
+        holes = Holes(held, lambda kind: is_option(kind) or is_path(kind, "Vec", *UNSIGNED, *SIGNED, "bool", *self.items) or is_map(kind) or is_float(kind) or is_any(kind) or parser_of(kind, self.source) is not None)
+        for at, item in enumerate(self.source.items):
+            if item.name in self.items:
+                self.source.items[at] = self.items[item.name] = holes.of_item(item)
+        self.source.items = [it for it in self.source.items if it.name not in holes.why]
+        self.items.update({name: hole(name) for name in holes.why})
+        return holes.why
 
     def found_borrowing(self):
         """The names of the types that hold a text or a map, or such a type."""
-        found, more = set(), True
+        found, more = set(self.holes), True
         while more:
             held = {it.name for it in self.items.values() if any(self.borrows(field.type, found) for field in fields_of(it))}
             more, found = held - found, found | held
@@ -67,7 +113,7 @@ class Borrowed:
     def borrows(self, kind, known):
         if isinstance(kind, str):
             return False
-        own = is_text(kind) or is_path(kind, "BTreeMap", "HashMap", "TextRef", "Entries") or (kind.kind == "path" and kind.name in known)
+        own = is_text(kind) or is_float(kind) or is_any(kind) or is_path(kind, "BTreeMap", "HashMap", "TextRef", "Entries", DECIMAL, KEPT) or (kind.kind == "path" and kind.name in known)
         return own or any(self.borrows(it, known) for it in kind.args)
 
     def unwalked(self):
@@ -89,14 +135,42 @@ class Borrowed:
                 self.source.items[at] = self.turned(item)
 
     def turned(self, item):
-        """A type with other texts, lists and maps, without what is serde's."""
+        """A type with other texts, lists and maps, without what is serde's. A variant with brackets that hold no field is one without."""
         params = (Param("lifetime", LIFE),) if item.name in self.borrowing else ()
         variants = tuple(replace(it, fields=tuple(map(self.turned_field, it.fields)), serde=()) for it in item.variants)
-        derives = tuple(it for it in item.derives if it not in (*SERDE, *self.left_out))
-        return replace(item, params=params, variants=variants, derives=derives, serde=())
+        if item.kind == "enum":
+            variants = tuple(it if it.fields else replace(it, shape="unit") for it in variants)
+        derives = self.derives_of(item)
+        said = tuple((line, path) for line, path in item.said if path[-1] in (*derives, "Validate"))
+        others = tuple((line, name) for line, name in item.others if name == "default" and "Default" in derives)
+        return replace(item, params=params, variants=variants, derives=derives, said=said, others=others, serde=())
+
+    def derives_of(self, item):
+        """The derives that a type has here: those of the source that all it holds have too. A form of names asks for two more."""
+        found = [it for it in item.derives if it not in self.left_out and (it == "Validate" or it in OWN and self.has(item, it, ()))]
+        found += [it for it in ("Clone", "Copy") if is_named(item) and it not in found]
+        while lost := [it for it in found if any(one not in found for one in ASKS.get(it, ()))]:
+            found = [it for it in found if it not in lost]
+        return tuple(found)
+
+    def has(self, item, derive, seen):
+        """Whether a derive of a type is here too: what it holds has it."""
+        if is_named(item) and derive in ("Clone", "Copy"):
+            return True
+        return derive in item.derives and all(self.is_derived(it.type, derive, (*seen, item.name)) for it in fields_of(item))
+
+    def is_derived(self, kind, derive, seen):
+        """Whether values of a type, as a form gives them, have a derive."""
+        if isinstance(kind, str) or kind.name in seen:
+            return True
+        turned, held = self.type_of(kind), self.items.get(kind.name)
+        if held is not None and not self.has(held, derive, seen) or turned.name in HAS and turned.name not in self.items and derive not in HAS[turned.name]:
+            return False
+        return is_text(kind) or all(self.is_derived(it, derive, seen) for it in kind.args)
 
     def turned_field(self, it):
-        return replace(it, type=self.type_of(it.type), serde=())
+        is_told = any(self.unread(it.type, None)) or any(self.of_lists(it.type, own_rules(it)))
+        return replace(it, type=Type("unread", "", it.line) if is_told else self.type_of(it.type), serde=(), flat=is_flat(it))
 
     def type_of(self, kind):
         """A type as a form gives its values."""
@@ -104,6 +178,11 @@ class Borrowed:
             return kind
         if is_text(kind):
             return Type("path", "TextRef", kind.line, path=("TextRef",), args=(LIFE,))
+        parser = parser_of(kind, self.source)
+        if parser:
+            return value_type(parser, kind.line)
+        if is_float(kind) or is_any(kind):
+            return as_read(kind, LIFE)
         args = tuple(self.type_of(it) for it in kind.args)
         if is_path(kind, "Vec") and len(args) == 1:
             return Type("path", "Items", kind.line, path=("Items",), args=args)
@@ -113,12 +192,7 @@ class Borrowed:
             return replace(kind, args=(LIFE,))
         return replace(kind, args=args)
 
-    # What no form reads.
-
     def faults(self, item):
-        if item.kind == "struct" and (not item.variants[0].fields or item.variants[0].shape != "named" and len(item.variants[0].fields) != 1):
-            told = f"`{item.name}`, which is a list or `null` in JSON, or has no fields"
-            yield item.line, f"{told}: `--schema` reads structs with named fields, those of one value, and enums"
         yield from ((item.line, f"the parameter `{it.name}` of `{item.name}`, which no form has") for it in item.params if it.kind != "lifetime")
         if item.attributes.context:
             yield from self.of_context(*item.attributes.context)
@@ -155,23 +229,24 @@ class Borrowed:
 
     def of_serde(self, item):
         """The attributes of serde that no form has."""
-        parts = [(item, AT_TYPE)] + [(it, AT_VARIANT) for it in item.variants if item.kind == "enum"]
-        parts += [(it, AT_FIELD if it.name else ("borrow",)) for it in fields_of(item)]
-        for part, known in parts:
+        parts = [(item, "type", AT_TYPE)] + [(it, "variant", AT_VARIANT) for it in item.variants if item.kind == "enum"]
+        parts += [(it, *(("field", AT_FIELD) if it.name else ("", ()))) for it in fields_of(item)]
+        for part, place, known in parts:
             for said in options(part).values():
-                if said.word not in known:
-                    yield said.line, f"`{said.word}` of serde, of which `--schema` writes no form"
-                elif said.word.startswith("rename_all") and said.value not in CASES:
-                    yield said.line, f"`{said.word}` of serde without one case of names, as \"camelCase\""
+                if said.word not in (*known, *SILENT[place]):
+                    yield said.line, f"`{said.word}` of serde, of which `--schema` writes no form{meant(said.word, WORDS_OF_SERDE)}"
+                elif said.word.startswith("rename_all") and reading_case(said) not in CASES:
+                    yield said.line, f"`{said.word}` of serde without one case of names, as \"camelCase\"{meant(said.value, CASES)}"
                 elif said.word == "transparent" and len(fields_of(item)) != 1:
                     yield said.line, f"`transparent` of serde at `{item.name}`, which has not just one field"
         yield from self.of_names(item)
+        yield from faults_of_flattened(item, self)
         if item.kind == "enum":
             yield from self.of_enum(item)
 
     def of_names(self, item):
         """The members and the variants whose name is that of one before."""
-        rows = [[(it.line, [of_field(it, variant, item)]) for it in variant.fields if it.name] for variant in item.variants]
+        rows = [[(it.line, names_of(it, variant, item, self.items)) for it in variant.fields if it.name] for variant in item.variants]
         if item.kind == "enum":
             rows.append([(it.line, [of_variant(it, item), *others_of_variant(it)]) for it in item.variants])
         for row in rows:
@@ -183,57 +258,34 @@ class Borrowed:
     def of_enum(self, item):
         """What a form of an enum wants."""
         said = options(item)
-        if is_named(item):
-            if "tag" in said:
-                yield said["tag"].line, "`tag` of serde at an enum without fields"
-            if "Copy" not in item.derives:
-                yield item.line, f"`{item.name}` without `Clone` and `Copy` among its derives, which a form of names asks for"
-            return
-        if len(item.variants) < 2:
-            yield item.line, f"`{item.name}`, an enum of one variant"
         for variant in item.variants:
-            if variant.shape == "named" and not variant.fields:
-                yield variant.line, f"the variant `{variant.name}` with brackets that hold no field: take them out"
-            if variant.shape == "tuple" and len(variant.fields) != 1:
-                yield variant.line, f"the variant `{variant.name}`, which is a list in JSON"
-            if variant.shape == "tuple" and "tag" in said and "content" not in said:
+            if is_other(variant) and ("untagged" in said or variant is not item.variants[-1] or not is_unit(variant)):
+                yield options(variant)["other"].line, "`other` of serde, which stands at the last variant, one without fields, of an enum that is not `untagged`"
+        if "untagged" in said and all(map(is_unit, item.variants)):
+            yield said["untagged"].line, "`untagged` of serde at an enum without fields, each of whose variants is `null`"
+        if is_named(item):
+            return
+        for variant in item.variants:
+            if variant.shape == "tuple" and "tag" in said and "content" not in said and not held_part(variant, item, self.items):
                 yield variant.line, f"the variant `{variant.name}` under `tag` without `content`: give it fields with names"
-            if variant.shape == "unit" and ("tag" not in said or "content" in said):
-                yield variant.line, f"the variant `{variant.name}` without fields: a form reads it under `tag` without `content`"
-            if "alias" in options(variant):
-                yield options(variant)["alias"].line, "`alias` of serde at a variant with fields beside it"
+        if "untagged" in said:
+            yield from Shapes(self).faults(item)
 
     def of_derives(self, item):
-        """The derives that the types in a form have not."""
-        for line in (line for line, path in item.said if path[-1] == "Serialize" and "Serialize" not in self.left_out):
-            yield line, "the derive `Serialize`: what borrows from its input has none here, so take it out, or leave it out by `--leave-out Serialize`"
-        held = set().union(*(self.names_in(it.type) for it in fields_of(item)))
-        for line, path in item.said:
-            lost = sorted(it for it in held if path[-1] not in (*HAS[it], "Validate", *SERDE, *self.left_out))
-            if lost:
-                told = f"the derive `{path[-1]}` of a type that holds {', '.join(f'`{it}`' for it in lost)}, which has none"
-                yield line, f"{told}: take it out, or leave it out by `--leave-out {path[-1]}`"
-
-    def names_in(self, kind):
-        """The names of types of `garde_schema` that a type becomes."""
-        if isinstance(kind, str):
-            return set()
-        turned = self.type_of(kind)
-        return ({turned.name} if turned.name in HAS else set()).union(*map(self.names_in, kind.args if not is_text(kind) else ()))
+        """The attributes that may change what is read."""
+        at_type = [it for it in item.others if it not in [one for part in (*item.variants, *fields_of(item)) for one in part.others]]
+        for line, name in item.others:
+            if name.split("::")[-1] in TURNING and (line, name) not in at_type:
+                yield line, f"the attribute `{name}`, which changes what a field is read of: {READ_BY_HAND}"
 
     def of_field(self, it, item):
         """What no form of a field asks or reads."""
-        if it.name in RESERVED:
-            yield it.line, f"the field `{it.name}`, whose name is a word of the statements"
         yield from self.of_rules(it)
         if it.attributes.adapter:
             yield it.line, "`adapt`, of which `--schema` writes no form"
-        try:
-            self.default(it, item)
-        except Refusal as refusal:
-            yield refusal.line, refusal.reason
+        yield from self.of_default(it, item)
         yield from self.of_lists(it.type, own_rules(it))
-        yield from ((it.line, f"{told}, which no form of `--schema` reads") for told in sorted(set(self.unread(it.type, item))))
+        yield from ((it.line, told) for told in sorted(set(self.unread(it.type, item))))
         yield from ((it.line, f"{told}, which no text of `--input {self.input}` writes") for told in sorted(set(self.unwritten(it.type))))
         held = self.items.get(it.type.name)
         if held is not None and held is not item and is_ported(held) and asks(held) and not below(held) and not any(rule.name == "dive" for rule in all_rules(it.attributes.rules)):
@@ -246,40 +298,41 @@ class Borrowed:
                 yield rule.line, "`dive` under a condition, which a form cannot leave out"
         for rule in all_rules(it.attributes.rules):
             if rule.name == "pattern" and (rule.place is None or not self.has_context):
-                yield rule.line, "`pattern` in quotes, of which a form has none: say `--spelled TYPE`, and name a pattern of the type's context"
+                told = "name a pattern of the type's context, as `pattern(patterns.mail)` (see docs/guide/attributes.md)"
+                yield rule.line, f"`pattern` in quotes, of which a form has none: {'' if self.has_context else 'say `--spelled TYPE`, and '}{told}"
             if rule.name == "dive" and rule.place is not None and rule.place.kind == "place" and len(rule.place.value) > 1:
                 yield rule.line, "`dive` with a part of the context, of which a form hands on the whole alone"
 
     def default(self, it, item):
-        """The value that stands for a missing member, as code, or nothing."""
-        own = options(it).get("default")
-        said, name = own or options(item).get("default"), named_function(own) if own else None
-        if said is None or is_option(it.type) and not name:
-            return None
-        if name:
-            found = literal_function(self.source.functions.get(name, ""))
-            if found is None:
-                raise Refusal(said.line, f"`default` by the function `{name}`, which gives no number and no `bool` as it stands")
-            return found.split("\n")[1].strip()
-        if is_text(it.type):
-            return 'TextRef::new("")'
-        if is_path(it.type, *UNSIGNED, *SIGNED, "bool"):
-            return "false" if it.type.name == "bool" else "0"
-        held = self.items.get(it.type.name)
-        marked = [one.name for one in held.variants if any(name == "default" for _, name in one.others)] if held and is_named(held) else []
-        if not marked:
-            raise Refusal(it.line, f"`default` of the type `{it.type.name}`, of which `--schema` knows no value")
-        return f"{held.name}::{marked[0]}"
+        """The value that stands for a missing member, where that is not the `None` of an option; or the value of one that is not read."""
+        found = self.defaults.of(it, item) if it.type.kind != "unread" else None
+        return None if found is not None and found.form == "none" and not is_skipped(it) else found
 
-    def of_lists(self, kind, rules):
-        """The rules of lists and maps that no form asks."""
+    def of_default(self, it, item):
+        """A default that is not known, or that its field's rules do not hold for."""
+        try:
+            found = self.default(it, item) if it.name else None
+        except Refusal as refusal:
+            yield refusal.line, refusal.reason
+            return
+        told = self.defaults.broken(found, own_rules(it)) if found is not None else None
+        if told:
+            yield it.line, f"the default of the field `{it.name}`: {told}: give another default, or read an `Option`"
+        if found is not None and below(item) is it:
+            yield it.line, f"the default of the field `{it.name}` of a type that holds itself, whose list has to be there: take it out"
+
+    def of_lists(self, kind, rules, way="write it within `inner(..)` for each item"):
+        """The rules of lists and maps that no form asks, and the way out."""
         if is_option(kind):
-            yield from self.of_lists(kind.args[0], within_option(rules))
+            is_within = any(it.name == "inner" for it in rules)
+            yield from self.of_lists(kind.args[0], within_option(rules), *["`inner` of an `Option` is of what that holds: write `inner(inner(..))` for each item"] * is_within)
         elif is_path(kind, "Vec") or is_map(kind):
             is_list = kind.name == "Vec"
             for it in rules:
                 if it.name not in OF_LISTS[is_list] or it.name == "length" and it.mode != "simple":
-                    yield it.line, f"`{it.name}` of a {'list' if is_list else 'map'}, which `--schema` does not write"
+                    name = f"{it.name}({it.mode}, ..)" if it.name == "length" else it.name
+                    told = {"keys": "it is asked of maps", "unique": "it is asked of lists", "if": "write a rule of your own, by `custom`"}.get(it.name, way)
+                    yield it.line, f"`{name}` of a {'list' if is_list else 'map'}, which `--schema` does not write: {told}"
             within = [found for it in rules if it.name == "inner" for found in it.rules]
             yield from self.of_lists(kind.args[-1], within)
 
@@ -291,8 +344,16 @@ class Borrowed:
             yield from self.unread(kind.args[0], item)
         elif is_map(kind):
             yield from self.unread(kind.args[1], item)
-        elif not is_path(kind, *UNSIGNED, *SIGNED, "bool", *self.items):
-            yield f"the type `{kind.name}`" if kind.kind == "path" else "a tuple, an array or a reference"
+        elif is_tuple(kind):
+            yield from faults_of_tuple(kind)
+            for it in kind.args:
+                yield from self.unread(it, item)
+                if it.name in self.items and asks(self.items[it.name]):
+                    yield f"the type `{it.name}` within a tuple, whose rules its form asks: give the tuple a name, as `struct Row(..);`, with `dive` at its fields"
+        elif not is_path(kind, *UNSIGNED, *SIGNED, "bool", *self.items) and not is_float(kind) and not is_any(kind) and not parser_of(kind, self.source):
+            way = way_out(kind, self.source)
+            told = f"the type `{kind.name}`" if kind.kind == "path" else "a tuple, an array or a reference"
+            yield f"{told}, which no form of `--schema` reads: {way or READ_BY_HAND}"
 
     def unwritten(self, kind, within=()):
         """The types within a type that no field of a web form and no cell of a table writes."""
@@ -303,9 +364,11 @@ class Borrowed:
             yield from self.unwritten(kind.args[0], (*within, kind.name))
         elif is_list or is_option(kind):
             yield f"`{kind.name}` within `{within[-1]}`" if within else f"the type `{kind.name}`"
-        elif is_path(kind, "u128", "i128") or is_map(kind):
+        elif is_path(kind, "u128", "i128") or is_map(kind) or is_float(kind) or is_any(kind):
             yield f"the type `{kind.name}`"
-        elif kind.name in self.items and not is_named(self.items[kind.name]):
+        elif is_tuple(kind):
+            yield "a tuple"
+        elif kind.name in self.items and (not is_named(self.items[kind.name]) or "tag" in options(self.items[kind.name])):
             yield f"the type `{kind.name}`, which has fields"
 
     def holds_itself(self, item, whole, seen):

@@ -103,10 +103,21 @@ def type_names(kind):
     return set() if isinstance(kind, str) else {kind.name}.union(*map(type_names, kind.args))
 
 
+def all_type_names(kind):
+    """The same, each as often as it stands there."""
+    return [] if isinstance(kind, str) else [kind.name, *(name for it in kind.args for name in all_type_names(it))]
+
+
 def literal_function(text):
     """A function that gives a number or a truth value, as it is laid out here, or nothing."""
     found = LITERAL.fullmatch(text.strip())
     return f"fn {found[1]}() -> {found[2]} {{\n    {found[3]}\n}}" if found else None
+
+
+def reading_case(said):
+    """The case of names that an option gives for reading, or nothing."""
+    split = re.search(r'\bdeserialize\s*=\s*"([^"]*)"', said.text)
+    return said.value if said.value is not None else split[1] if split else None
 
 
 def options(it):
@@ -124,9 +135,6 @@ class Derives:
 
     def faults(self, item):
         """All of a type."""
-        for it in (it for variant in item.variants for it in variant.fields):
-            for name in sorted(type_names(it.type) & self.source.aliases):
-                yield it.line, f"the type `{name}`, which is another name of a type in this file: write that type"
         yield from self.of_derives(item)
         yield from self.of_attributes(item)
         if not has_serde(item):
@@ -169,7 +177,7 @@ class Derives:
 
     def of_attributes(self, item):
         """The attributes that the port does not know."""
-        known = (*SILENT, *self.left_out, *(["default"] if "Default" in item.derives else []))
+        known = (*SILENT, *self.left_out, *(["default"] if any(path[-1] == "Default" for _, path in item.said) else []))
         for line, name in item.others:
             if name.split("::")[0] not in known:
                 told = f"the attribute `{name}`, which the port does not know"

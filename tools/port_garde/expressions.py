@@ -6,15 +6,18 @@ from .tokens import Refusal
 
 # How a place begins that is the value of which a rule is asked, and the context of its type, by whatever name a source has them.
 VALUE, CONTEXT = "{value}", "{context}"
+# How a place begins that is an item of a list, behind which the name stands that a closure gives it.
+ITEM = "{item}"
 # The types of addresses that a condition may name, and the rules that say whether a text is one.
 ADDRESSES = {"IpAddr": ("is_ipv4", "is_ipv6"), "Ipv4Addr": ("is_ipv4",), "Ipv6Addr": ("is_ipv6",)}
 
 
 @dataclass(frozen=True)
 class Expression:
-    """An expression. Its kind: `number` with its value, `bool`, `unit`, `place` with its names, `path` with its names, `text`,
+    """An expression. Its kind: `number` with its value, `decimal` with its text, `bool`, `unit`, `place` with its names, `path` with its names, `text`,
     `minus`, `not`, `and`, `or` with its parts, a comparison, `%` or `/` with its operator as kind, `call` of a method without arguments, with
-    its place and its name, `address` with its place and the type of addresses, `contains` with its place and what is asked for, `matches` with its place and the paths of variants."""
+    its place and its name, `address` with its place and the type of addresses, `contains` with its place and what is asked for, `matches` with its place and the paths of variants,
+    `all` and `any` with the name of an item, the place of the list and the condition."""
 
     kind: str
     line: int
@@ -66,20 +69,30 @@ def read_both(tokens):
 
 
 def read_comparison(tokens):
-    found = read_division(tokens)
+    found = read_sum(tokens)
     for mark in ("==", "!=", "<=", "<", ">"):
         if tokens.takes(mark):
             mark += "=" if mark == ">" and tokens.takes("=") else ""
-            return Expression(mark, tokens.line, parts=(found, read_division(tokens)))
+            return Expression(mark, tokens.line, parts=(found, read_sum(tokens)))
     return found
 
 
-def read_division(tokens):
-    """Reads what a division gives, or leaves over."""
-    found = read_unary(tokens)
-    while tokens.sees("%") or tokens.sees("/"):
+def read_sum(tokens):
+    """Reads numbers that are added or taken away."""
+    return read_chain(tokens, ("+", "-"), read_product)
+
+
+def read_product(tokens):
+    """Reads what is multiplied, and what a division gives, or leaves over."""
+    return read_chain(tokens, ("*", "%", "/"), read_unary)
+
+
+def read_chain(tokens, marks, read_part):
+    """Reads parts with these marks between them, from the left."""
+    found = read_part(tokens)
+    while any(map(tokens.sees, marks)):
         mark = tokens.take()
-        found = Expression(mark.text, mark.line, parts=(found, read_unary(tokens)))
+        found = Expression(mark.text, mark.line, parts=(found, read_part(tokens)))
     return found
 
 
@@ -103,6 +116,16 @@ def read_unary(tokens):
     if tokens.opens("("):
         return read_all(tokens.group())
     return read_place(tokens)
+
+
+def read_bound(tokens):
+    """Reads a bound: an expression, or a number with a fraction, whose value is its text as JSON writes it."""
+    at = tokens.at + (tokens.sees("-") and tokens.tokens[tokens.at + 1].kind == "float")
+    if tokens.tokens[at].kind != "float":
+        return read_expression(tokens)
+    line, minus = tokens.line, "-" if tokens.takes("-") else ""
+    digits = re.sub(r"_|f32$|f64$", "", tokens.take().text)
+    return Expression("decimal", line, value=minus + re.sub(r"^0+(?=[0-9])", "", digits))
 
 
 def read_number(tokens):
@@ -140,12 +163,41 @@ def read_place(tokens):
     if names[1:]:
         return Expression("path", line, value=tuple(names))
     while tokens.takes("."):
-        names.append(tokens.take().text)
+        names.append(tokens.take().text.removeprefix("r#"))
         if names[-1] == "parse" and tokens.sees("::"):
             return read_parse(tokens, names[:-1], line)
         if tokens.opens("("):
-            return read_method(tokens.group(), names, line)
+            inside = tokens.group()
+            if names[-1] == "iter" and inside.ended() and tokens.takes("."):
+                return read_over_items(tokens, names[:-1], line)
+            return read_method(inside, names, line)
     return Expression("place", line, value=tuple(names))
+
+
+def read_over_items(tokens, names, line):
+    """Reads a condition of the items of a list, as `self.hours.iter().all(|hour| hour <= 23)`."""
+    word = tokens.name("a method")
+    if word not in ("all", "any") or not tokens.opens("("):
+        raise Refusal(line, f"`iter().{word}`: of the items of a list the port reads `iter().all(|it| ..)` and `iter().any(|it| ..)`")
+    name, condition = read_of_item(tokens.group())
+    return Expression(word, line, name, (Expression("place", line, value=tuple(names)), condition))
+
+
+def read_of_item(tokens):
+    """Reads a closure of an item: the name of the item, and what is said of it."""
+    tokens.expect("|")
+    tokens.takes("&")
+    name = tokens.name("the name of an item")
+    if tokens.takes(":"):
+        tokens.skip_to("|")
+    tokens.expect("|")
+    found = read_all(tokens.group() if tokens.opens("{") else tokens)
+    return name, with_item(found, name, ITEM + name)
+
+
+def with_item(expression, name, other):
+    """An expression in which an item has another name."""
+    return with_places(expression, lambda place: (other, *place[1:]) if place[0] == name else place)
 
 
 def read_parse(tokens, names, line):
@@ -170,8 +222,8 @@ def read_method(tokens, names, line):
     place = (Expression("place", line, value=tuple(names[:-1])),)
     if names[-1] == "contains" and not tokens.ended():
         asked = read_all(tokens)
-        if asked.kind not in ("text", "number"):
-            raise Refusal(line, "`contains` of what is neither a text in quotes nor a number")
+        if asked.kind not in ("text", "number", "path"):
+            raise Refusal(line, "`contains` of what is neither a text in quotes nor a number nor a variant, as `&Event::Payment`")
         return Expression("contains", line, value=asked, parts=place)
     if not tokens.ended():
         raise Refusal(line, f"the method `{names[-1]}` with arguments")

@@ -1,5 +1,6 @@
 """The members of a form that rules look at together. A rule of a field that speaks of other fields is asked of a run of members: from the
-first one that it speaks of to the last."""
+first one that it speaks of to the last. A map under `flatten` stands behind a group of all others."""
+from .derives import options
 from .expressions import places_in
 from .source import all_rules
 
@@ -9,9 +10,9 @@ MOST = 6
 class Group(list):
     """Members in a row, by their numbers, and groups of such; `asked` are the numbers of the fields whose rules are asked of all of them."""
 
-    def __init__(self, parts, asked=()):
+    def __init__(self, parts, asked=(), is_rest=False):
         super().__init__(parts)
-        self.asked = tuple(asked)
+        self.asked, self.is_rest = tuple(asked), is_rest
 
 
 def places_of(rule):
@@ -35,8 +36,20 @@ def shared_rules(it):
     return tuple(rule for rule in it.attributes.rules if others_of(rule))
 
 
+def is_flat(it):
+    """Whether the members of a field's value stand among those of the whole: serde's `flatten`."""
+    return it.flat or "flatten" in options(it)
+
+
+def is_rest(it):
+    """Whether a field is a map of the members that no other one names."""
+    return is_flat(it) and it.type.kind == "path" and it.type.name in ("BTreeMap", "HashMap", "Entries")
+
+
 def grouped(fields):
     """The members of a form in groups: runs that overlap are one, and a run within another one is a group of that."""
+    if fields and is_rest(fields[-1]):
+        return Group([grouped(fields[:-1]), len(fields) - 1], is_rest=True)
     at = {it.name: number for number, it in enumerate(fields)}
     runs = {}
     for number, it in enumerate(fields):
@@ -70,11 +83,17 @@ def within(first, last, runs):
 
 
 def folded(group):
-    """The same with so many parts at most: the last one holds the rest."""
+    """The same with so many parts at most: the last one holds the rest. Of more each holds a share, since the compiler gives up on groups
+    that nest deep."""
     parts = [folded(it) if isinstance(it, Group) else it for it in group]
     while len(parts) > MOST:
         rest = MOST - 1
-        parts = [*parts[:rest], folded(Group(parts[rest:]))]
+        if len(parts) <= rest + MOST:
+            parts = [*parts[:rest], Group(parts[rest:])]
+        else:
+            shares = min(MOST, -(-len(parts) // MOST))
+            ends = [len(parts) * it // shares for it in range(shares + 1)]
+            parts = [folded(Group(parts[start:end])) for start, end in zip(ends, ends[1:])]
     return Group(parts, group.asked)
 
 

@@ -14,7 +14,7 @@ OWN = ("alloc", "trail", "report", "h", "self")
 STATED = (
     "field item none is is_in_memory when if_some each_of_option each each_in_any_order each_value each_value_in_any_order "
     "text_key index_part str slice range signed_range bytes chars graphemes utf16 items at_least at_most exactly between plus "
-    "asks length byte_count remainder quotient includes nat_eq nat_lt nat_le text_eq text_is "
+    "asks asks_as all_of any_of length byte_count remainder quotient includes nat_eq nat_lt nat_le text_eq text_is "
     "minus ascii alphanumeric contains prefix suffix pattern url ip required matches codes not reference_to yes no tt v x y z w u data "
     "record deriving module where use mod pub package open as unfoldable abbrev axiom unfold unfolding ruleset mutual "
     "infix infixl infixr elim let in do coe fcoe tcoe hcom com"
@@ -133,7 +133,7 @@ class Implementation:
             code, stated = self.fields(variant, names, stated_names, scope)
             arms.append(arm(self.pattern(f"{self.item.name}::{variant.name}", variant, names, scope), self.visit(code), 12))
             held = [name if self.is_bound(it, scope) else "_" for it, name in zip(variant.fields, stated_names)]
-            cases.append(f"      | {' '.join([variant.name, *held])} ↦ {' and '.join(stated)}")
+            cases.append(f"      | {' '.join([variant.word, *held])} ↦ {' and '.join(stated)}")
         return "\n".join(["        match self {", *arms, "        }"]), cases
 
     def scope(self, places):

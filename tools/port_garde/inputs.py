@@ -2,9 +2,12 @@
 import textwrap
 from dataclasses import dataclass
 
+from .defaults import is_skipped
 from .layout import WIDTH
 from .names import of_field
+from .parsed import KNOWN
 from .scope import SIGNED, UNSIGNED, is_option, is_path, is_text
+from .unborrowed import is_unborrowed, reader
 
 READ = """{constant}{docs}
 #[tactic(auto, unfolding(garde::specs::Fields::Known))]
@@ -125,8 +128,8 @@ def may_be_missing(kind, input):
 
 
 def is_plain(kind):
-    """Whether a type is one that a text field writes: a text, a number or a `bool`."""
-    return is_text(kind) or is_path(kind, *UNSIGNED, *SIGNED, "bool")
+    """Whether a type is one that a text field writes: a text, also one that is parsed, a number or a `bool`."""
+    return is_text(kind) or is_path(kind, *UNSIGNED, *SIGNED, "bool", *(name for _, name in KNOWN))
 
 
 class Reader:
@@ -153,12 +156,20 @@ class Reader:
         uses.paths |= set(given.ghosts)
         params = ["alloc: Global", *given.params, *([f"{context[1]}: &{context[0]}"] if context else []), "h: &H"]
         told = "at most so many faults" if self.writer.first else "every fault of its form and of its rules"
+        said = {
+            "docs": docs_of(f"Reads a value of the type `{self.item.name}` {given.told}, or reports {told}."), "vis": self.item.vis, "name": name,
+            "params": "\n".join(f"    {it}," for it in params), "error": given.error, "forms": lists + self.schema.forms(self.item, 4),
+        }
+        answer = clause(given.answer, spelling, self.stated(), "    ensures answer { ")
+        value = clause(given.value, spelling, self.stated(), "    ensures value { IfOk result (λ v. ", ")")
+        context = context[1] if context else "&()"
+        if is_unborrowed(self.item, self.writer):
+            clauses = f"\n    ensures answer {{ {answer} }}\n    ensures value {{ IfOk result (λ v. {value} }}\n"
+            said["clauses"] = lambda place: clauses if place == "v" else clauses.replace("Some v)", f"Some {place})")
+            return reader(self.item, self.schema, {**said, "made": f"Valid<{made}>", "value": f"Valid::known(value, {context})", "call": given.call.format(form="within_form")})
         return READ.format(
-            constant=self.constant(), docs=docs_of(f"Reads a value of the type `{self.item.name}` {given.told}, or reports {told}."),
-            vis=self.item.vis, name=name, lives=given.lives, params="\n".join(f"    {it}," for it in params), made=made, error=given.error,
-            answer=clause(given.answer, spelling, self.stated(), "    ensures answer { "),
-            value=clause(given.value, spelling, self.stated(), "    ensures value { IfOk result (λ v. ", ")"),
-            forms=lists + self.schema.forms(self.item, 4), call=given.call.format(form=f"{name}_form"), context=context[1] if context else "&()",
+            **said, constant=self.constant(), lives=given.lives, made=made, answer=answer, value=value, call=given.call.format(form=f"{name}_form"),
+            context=context,
         )
 
     def constant(self):
@@ -176,7 +187,7 @@ class Reader:
         return f"{COLUMNS}{line}\n\n"
 
     def names(self, fields):
-        return [f'"{of_field(it, self.item.variants[0], self.item)}"' for it in fields]
+        return [f'"{of_field(it, self.item.variants[0], self.item)}"' for it in fields if not is_skipped(it)]
 
     def lists(self):
         """The names of the members that are lists."""

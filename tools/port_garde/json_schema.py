@@ -1,12 +1,21 @@
 """The JSON Schema (draft 2020-12) of a source's type: it accepts what the form of `--schema` reads, but for what a `$comment` names."""
 import re
+from fractions import Fraction
 
 from .borrowed import fields_of, is_map, is_named, of_whole, within_option
+from .defaults import in_json, is_skipped
 from .derives import options, type_names
-from .groups import own_rules, shared_rules
-from .names import of_field, of_variant, others_of_variant
+from . import in_order
+from .everyday import UNKNOWN
+from .front import OF_CODE
+from .flattened import fields_among, flat_part, held_part, is_closed
+from .groups import is_flat, is_rest, own_rules, shared_rules
+from .names import of_field, of_variant
+from .parsed import parser_of
 from .scope import SIGNED, is_option, is_path, is_text
 from .tokens import Refusal
+from .unions import Shapes, beside_units, is_other, is_unit, names_of, units_of
+from .values import is_any, is_float
 from .words import camel
 
 DRAFT = "https://json-schema.org/draft/2020-12/schema"
@@ -16,6 +25,7 @@ COUNTED = {"bytes": "bytes in UTF-8", "simple": "bytes in UTF-8", "graphemes": "
 END = r"(?![\s\S])"
 TURNED = {"<": ">", "<=": ">=", ">": "<", ">=": "<=", "==": "==", "!=": "!="}
 COMPARED = {"<": "exclusiveMaximum", "<=": "maximum", ">": "exclusiveMinimum", ">=": "minimum"}
+KINDS = {"Text": "string", "Number": "number", "Boolean": "boolean", "Null": "null", "List": "array", "Object": "object"}
 NEVER = {"not": {}}
 NO_NULL = {"not": {"type": "null"}}
 
@@ -50,7 +60,7 @@ def or_null(schema):
 
 
 def kept_docs(docs):
-    text = " ".join(line[3:].strip() for line in docs).strip()
+    text = " ".join(line[3:].strip() for line in docs if not line.endswith(OF_CODE)).strip()
     return {"description": text} if text else {}
 
 
@@ -81,75 +91,153 @@ class JsonSchema:
         return any(item.name in type_names(it.type) for other in self.items.values() if other is not item for it in fields_of(other))
 
     def names_within(self, item, seen=()):
-        for name in (name for it in fields_of(item) for name in sorted(type_names(it.type)) if name in self.items and name not in seen):
-            yield name
+        among = [it for it, _ in fields_among(item, self.items)]
+        for it, name in ((it, name) for it in fields_of(item) for name in sorted(type_names(it.type)) if name in self.items and name not in seen):
+            yield from () if it in among else (name,)
             yield from self.names_within(self.items[name], (*seen, item.name, name))
 
     # Types.
 
     def of_type(self, item):
         if is_named(item):
-            return {**kept_docs(item.docs), "enum": [name for it in item.variants for name in (of_variant(it, item), *others_of_variant(it))]}
+            return {**kept_docs(item.docs), **self.under_tag(self.names_in(item.variants, item), item)}
         if item.kind == "enum":
             return {**kept_docs(item.docs), **self.of_enum(item)}
         variant = item.variants[0]
+        if in_order.is_list(variant) or variant.shape == "unit":
+            return {**kept_docs(item.docs), **self.listed(variant)}
         if variant.shape != "named" or "transparent" in options(item):
             return {**kept_docs(item.docs), **self.value(variant.fields[0].type, variant.fields[0].attributes.rules)}
         return {**kept_docs(item.docs), **self.object(variant, item)}
 
+    def names_in(self, variants, item):
+        """A text that is a name of some variants, or any, where one of them stands for every other name."""
+        return {"type": "string"} if any(map(is_other, variants)) else {"enum": [name for it in variants for name in names_of(it, item)]}
+
+    def under_tag(self, schema, item):
+        """The name of a variant without fields, which may stand in an object under a tag."""
+        tag = options(item).get("tag")
+        return self.closed({"type": "object", "properties": {tag.value: schema}, "required": [tag.value]}, "deny_unknown_fields" in options(item)) if tag else schema
+
     def of_enum(self, item):
-        """A union: by its tag, or by the name of its only member."""
+        """A union: by its tag, by the name of its only member, or by what tells its variants apart."""
         tag, content = (options(item).get(it) for it in ("tag", "content"))
-        variants = []
-        for it in item.variants:
-            name = of_variant(it, item)
-            inside = self.object(it, item) if it.shape == "named" else self.value(it.fields[0].type, own_rules(it.fields[0])) if it.fields else {}
+        if "untagged" in options(item):
+            return self.of_untagged(item)
+        variants = [self.names_in(units_of(item), item)] if units_of(item) else []
+        for it in beside_units(item):
+            by_name = self.by_name(it, item)
+            if part := held_part(it, item, self.items):
+                variants.append(self.object(part.variants[0], part, {tag.value: by_name}, is_closed(it, item, self.items)))
+                continue
+            inside = self.inside(it, item)
             if not tag:
-                variants.append({"type": "object", "properties": {name: inside}, "required": [name], "maxProperties": 1})
+                variants += [{"type": "object", "properties": {name: inside}, "required": [name], "maxProperties": 1} for name in names_of(it, item)]
             elif content:
-                variants.append(self.closed({"type": "object", "properties": {tag.value: {"const": name}, content.value: inside}, "required": [tag.value, content.value]}, item))
+                needed = [tag.value, *([] if is_unit(it) else [content.value])]
+                variants.append(self.closed({"type": "object", "properties": {tag.value: by_name, content.value: inside}, "required": needed}, "deny_unknown_fields" in options(item)))
             else:
-                variants.append(self.object(it, item, {tag.value: {"const": name}}))
+                variants.append(self.object(it, item, {tag.value: by_name}))
         return {"oneOf": variants}
 
-    def closed(self, schema, item):
-        return {**schema, "additionalProperties": False} if "deny_unknown_fields" in options(item) else schema
+    def inside(self, variant, item):
+        """What a variant holds, which has no name there."""
+        if is_unit(variant):
+            return {"type": "null"}
+        if in_order.is_list(variant):
+            return self.listed(variant)
+        return self.object(variant, item) if variant.shape == "named" else self.value(variant.fields[0].type, own_rules(variant.fields[0]))
 
-    def object(self, variant, item, before=None):
+    def by_name(self, variant, item):
+        """A tag that chooses a variant."""
+        if is_other(variant):
+            return {"type": "string", "not": {"enum": [name for it in item.variants if it is not variant for name in names_of(it, item)]}}
+        names = names_of(variant, item)
+        return {"const": names[0]} if len(names) == 1 else {"enum": names}
+
+    def of_untagged(self, item):
+        """A union whose variants are told apart by their kinds, or by tests, each of which chooses its variant."""
+        shapes = Shapes(self.writer.borrowed)
+        *front, whole = [self.inside(it, item) for it in item.variants]
+        if shapes.are_of_other_kinds(item):
+            return {"anyOf": [*front, whole]}
+        for schema, test in reversed([*zip(front, shapes.tests(item))]):
+            whole = {"if": self.test(test), "then": schema, "else": whole}
+        return whole
+
+    def test(self, test):
+        """A test by which a variant is chosen."""
+        word, *parts = test
+        if word == "kind":
+            return {"type": KINDS[parts[0]]}
+        if word == "among":
+            return {"enum": list(parts[0])}
+        if word in ("unsigned", "whole"):
+            return {"type": "integer", **({"minimum": 0, "maximum": 2**64 - 1} if word == "unsigned" else {})}
+        if word in ("has", "has_with"):
+            return {"type": "object", "required": parts[:1], **({"properties": {parts[0]: self.test(parts[1])}} if parts[1:] else {})}
+        if word == "not":
+            return {"not": self.test(parts[0])}
+        return {"anyOf" if word == "any" else "allOf": [self.test(it) for it in parts]}
+
+    def listed(self, variant):
+        """A list of the fields of a variant, or `null`."""
+        if variant.shape == "unit":
+            return {"type": "null"}
+        return in_order.schema_of([self.value(it.type, it.attributes.rules) for it in variant.fields])
+
+    def closed(self, schema, is_closed):
+        return {**schema, "additionalProperties": False} if is_closed else schema
+
+    def object(self, variant, item, before=None, is_closed=None):
         """An object with the members of a variant, behind those that stand before them."""
-        members, required = dict(before or {}), list(before or ())
-        for it in variant.fields:
+        members, required, asked = dict(before or {}), list(before or ()), []
+        for it in (it for it in variant.fields if not is_skipped(it)):
+            if is_flat(it):
+                found = self.flattened(it)
+                members.update(found.pop("properties", {}))
+                required += found.pop("required", [])
+                asked += [found] if found else []
+                continue
             name = of_field(it, variant, item)
             members[name], is_there = self.member(it, item)
             required += [name] * is_there
         whole = {"type": "object", "properties": members, **({"required": required} if required else {})}
-        return joined([self.closed(whole, item), *(found for it in variant.fields for found in self.shared(it, variant, item))])
+        whole = self.closed(whole, "deny_unknown_fields" in options(item) if is_closed is None else is_closed)
+        return joined([whole, *asked, *(found for it in variant.fields for found in self.shared(it, variant, item))])
+
+    def flattened(self, it):
+        """The schema of the members that a field stands for, or of all other members."""
+        rules = own_rules(it)
+        if is_rest(it):
+            inside = [found for one in rules for found in (one.rules if one.name == "inner" else [one])]
+            return {"additionalProperties": self.value(it.type.args[1], inside)}
+        part = flat_part(it, self.items)
+        found = self.object(part.variants[0], part, is_closed=False)
+        found.pop("type")
+        told = [{"$comment": self.own(rule)} for rule in rules if rule.name == "custom"]
+        if is_option(it.type):
+            names = found.pop("properties")
+            found = {"properties": names, "if": {"anyOf": [{"required": [name]} for name in names]}, "then": found}
+        return joined([found, *told])
 
     # Members.
 
     def member(self, it, item):
         """The schema of a member, and whether it has to be there."""
-        kind, rules = it.type, own_rules(it)
-        if is_option(kind):
+        kind, rules, default = it.type, own_rules(it), self.default(it, item)
+        if is_option(kind) and not default:
             asked, whole = of_whole(rules), self.value(kind.args[0], within_option(rules))
             is_there = any(rule.name == "required" for rule in asked)
             told = [{"$comment": self.own(rule)} for rule in asked if rule.name == "custom"]
             return joined([kept_docs(it.docs), whole if is_there else or_null(whole), *told]), is_there
-        default = self.default(it, item)
         schema = joined([kept_docs(it.docs), self.value(kind, rules)])
         return ({**schema, "default": default[0]}, False) if default else (schema, True)
 
     def default(self, it, item):
         """The value that stands for a missing member, as a list of one, or nothing."""
-        code = self.writer.borrowed.default(it, item)
-        if code is None:
-            return []
-        if is_text(it.type):
-            return [""]
-        if "::" in code:
-            held = self.items[it.type.name]
-            return [of_variant(next(one for one in held.variants if one.name == code.rpartition("::")[2]), held)]
-        return [{"true": True, "false": False}[code] if code in ("true", "false") else int(code.replace("_", ""), 0)]
+        found = self.writer.borrowed.default(it, item)
+        return [] if found is None else [in_json(found, is_map)]
 
     # Values.
 
@@ -159,6 +247,9 @@ class JsonSchema:
             whole = or_null(self.value(kind.args[0], within_option(rules)))
             asked = [NO_NULL if it.name == "required" else {"$comment": self.own(it)} for it in of_whole(rules)]
             return joined([whole, *asked])
+        if in_order.is_tuple(kind):
+            whole = in_order.schema_of([self.value(it, ()) for it in kind.args]) if kind.args else {"type": "null"}
+            return joined([whole, *self.said(kind, rules)])
         if is_path(kind, "Vec") or is_map(kind):
             inside = [found for it in rules if it.name in ("inner", "dive") for found in (it.rules if it.name == "inner" else [it])]
             whole = {"type": "array", "items": self.value(kind.args[0], inside)} if kind.name == "Vec" else {"type": "object", "additionalProperties": self.value(kind.args[1], inside)}
@@ -168,6 +259,13 @@ class JsonSchema:
             return joined([{"$ref": place}, *self.said(kind, [it for it in rules if it.name != "dive"])])
         if is_text(kind):
             return joined([{"type": "string"}, *self.said(kind, rules)])
+        parser = parser_of(kind, self.source)
+        if parser:
+            return joined([parser.schema, *self.said(kind, rules)])
+        if is_float(kind):
+            return joined([{"type": "number"}, *self.said(kind, rules)])
+        if is_any(kind):
+            return joined([{}, *self.said(kind, rules)])
         if is_path(kind, "bool"):
             return joined([{"type": "boolean"}, *self.said(kind, rules)])
         return joined([{"type": "integer", **self.bounds(kind, rules)}, *self.said(kind, [it for it in rules if it.name != "range"])])
@@ -188,6 +286,10 @@ class JsonSchema:
 
     def number(self, it):
         found = self.writer.resolved(it)
+        if found.kind == "decimal" and Fraction(repr(float(found.value))) == Fraction(found.value):
+            return float(found.value)
+        if found.kind == "decimal":
+            raise Unsaid(f"a bound that is {found.value}")
         if found.kind != "number":
             raise Unsaid(f"a bound that is `{'.'.join(it.value)}`")
         return found.value
@@ -228,6 +330,10 @@ class JsonSchema:
             return {word: joined(self.said(kind.args[-1], rule.rules))}
         if rule.name == "required":
             return NO_NULL
+        if rule.name == "whole_key":
+            return {"pattern": f"^{'-?' if rule.mode in SIGNED else ''}(0|[1-9][0-9]*){END}", "$comment": f"it is {rule.text.removeprefix('not ')}"}
+        if rule.message == UNKNOWN:
+            return {"enum": [it.parts[1].value for it in (rule.place.parts if rule.place.kind == "or" else [rule.place])]}
         raise Unsaid(self.own(rule))
 
     def own(self, rule):
@@ -268,23 +374,13 @@ class JsonSchema:
             condition = self.condition(rule.place, variant, item)
             return {"if": condition, "then": joined([self.asked(one, it, variant, item) for one in rule.rules])}
         kind = it.type.args[0] if is_option(it.type) and rule.name != "required" else it.type
+        if is_skipped(it):
+            raise Unsaid("a rule of what is not read")
         if rule.name == "required":
             return {"properties": {name: NO_NULL}, "required": [name]}
-        default = self.default(it, item)
-        is_needed = default and not self.passes(rule, default[0])
-        return {"properties": {name: self.rule(kind, rule, False)}, **({"required": [name]} if is_needed else {})}
-
-    def passes(self, rule, default):
-        """Whether a default, which is a text without a character or no text, passes a rule that a schema says."""
-        if rule.name in ("contains", "prefix", "suffix"):
-            return not rule.text
-        if rule.name == "multiple_of":
-            return default % self.number(rule.bounds["equal"]) == 0
-        if rule.name not in ("length", "range"):
-            return True
-        low, high = self.ends(rule)
-        size = len(default) if rule.name == "length" else default
-        return (low is None or size >= low) and (high is None or size <= high)
+        default, schema = self.writer.borrowed.default(it, item), self.rule(kind, rule, False)
+        is_needed = default is not None and self.writer.borrowed.defaults.broken(default, [rule])
+        return {"properties": {name: schema}, **({"required": [name]} if is_needed else {})}
 
     def condition(self, it, variant, item):
         """A condition as a schema of the object."""
@@ -296,6 +392,8 @@ class JsonSchema:
             return {"allOf" if it.kind == "and" else "anyOf": [self.condition(part, variant, item) for part in it.parts]}
         if it.kind == "place":
             return self.where(it, {"const": True}, lambda default: default is True, variant, item)
+        if it.kind == "call" and is_skipped(self.field(it.parts[0], variant)):
+            raise Unsaid(f"a condition on `{it.parts[0].value[-1]}`, which is not read")
         if it.kind == "call":
             some = {"properties": {self.name(it.parts[0], variant, item): NO_NULL}, "required": [self.name(it.parts[0], variant, item)]}
             return some if it.value == "is_some" else {"not": some}
@@ -311,10 +409,10 @@ class JsonSchema:
     def variants(self, place, paths, variant):
         """The names in JSON of variants; of an enum whose variants have fields a schema of the object says nothing."""
         held = self.items.get(self.field(place, variant).type.name)
-        if held is None or not is_named(held):
+        chosen = [it for it in held.variants if it.name in {path[-1] for path in paths}] if held else []
+        if held is None or not is_named(held) or "tag" in options(held) or any(map(is_other, chosen)):
             raise Unsaid(f"a condition on the variant of `{place.value[-1]}`")
-        chosen = [it for it in held.variants if it.name in {path[-1] for path in paths}]
-        return [name for it in chosen for name in (of_variant(it, held), *others_of_variant(it))]
+        return [name for it in chosen for name in names_of(it, held)]
 
     def contains(self, it, variant, item):
         place, asked = it.parts[0], it.value.value
@@ -344,6 +442,8 @@ class JsonSchema:
         """That a member has this schema: one that is missing has its default."""
         it = self.field(place, variant)
         name, default = of_field(it, variant, item), self.default(it, item)
+        if is_skipped(it):
+            return {} if holds(default[0]) else NEVER
         is_needed = not (default and holds(default[0]))
         return {"properties": {name: schema}, **({"required": [name]} if is_needed else {})}
 

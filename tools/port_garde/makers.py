@@ -1,10 +1,11 @@
 """How values are made: what `Built` makes a value of a type of."""
-import textwrap
 from dataclasses import replace
 
 from .borrowed import below
 from .groups import filled, grouped
-from .layout import WIDTH, Angles, Call, Literal, Word, arm, call, statement
+from .in_order import names as names_in_code
+from .layout import WIDTH, Angles, Call, Literal, Word, arm, call, flat, may_be_flat, statement
+from .unions import SIDES, along, paths_of, tree_of
 
 NESTED = """/// A value of the type `{name}` is made of what its form reads, and of such values.
 impl{life} FromNested for {made} {{
@@ -63,19 +64,11 @@ def tuple_text(parts):
     return texts[0] if len(texts) == 1 else f"({', '.join(texts)})"
 
 
-def side(at, count, inside):
-    """What stands for one of several variants: each but the last is the left one of those that are left."""
-    text = f"Left {inside}" if at < count - 1 else inside
-    for _ in range(at):
-        text = f"Right ({text})" if " " in text and text[0] != "(" else f"Right {text}"
-    return text
-
-
-def side_pattern(at, count, inside):
-    """The same as a pattern of the code."""
-    tree = Call("Either::Left", (inside,), WIDTH) if at < count - 1 else inside
-    for _ in range(at):
-        tree = Call("Either::Right", (tree,), WIDTH)
+def side_pattern(path, inside):
+    """What stands at the end of a path, as a pattern or a value of the code."""
+    tree = inside
+    for it in reversed(path):
+        tree = Call(f"Either::{SIDES[it]}", (tree,), WIDTH)
     return tree
 
 
@@ -92,13 +85,35 @@ def ghost(name, head, flat, rows):
     return "\n".join([f"    ghost {name} = {{ {head} {{", *(f"      {it}" for it in rows), "    } };"])
 
 
-def wrapped(name, head, text):
-    """A ghost member whose text may fill several lines."""
-    line = f"    ghost {name} = {{ {head} {text} }};"
-    if len(line) <= WIDTH:
-        return line
-    rows = textwrap.wrap(f"{text} }};", WIDTH - 8, break_long_words=False, break_on_hyphens=False)
-    return "\n".join([f"    ghost {name} = {{ {head}", *(f"        {it}" for it in rows)])
+def taking(pattern, indent):
+    """The line that takes the parts by a pattern, or the lines where `parts` does not fit behind it."""
+    head, line = f"{' ' * indent}let {flat(pattern)} =", f"{' ' * (indent + 4)}parts;"
+    fits = may_be_flat(pattern) and len(head) <= WIDTH < len(head) + len(" parts;")
+    return f"{head}\n{line}" if fits else statement(pattern, indent, "let ", " = parts;")
+
+
+def ghost_tuple(name, head, parts):
+    """A ghost member that is a tuple: on its own line or the next one where it fits, and else with a line for each part."""
+    first, rest, rows = f"    ghost {name} = {{ {head}", f"{tuple_text(parts)} }};", tuple_rows(parts, 6)
+    if len(first) + 1 + len(rest) <= WIDTH or len(rows) == 1:
+        return f"{first} {rest}"
+    return f"{first}\n        {rest}" if 8 + len(rest) <= WIDTH else "\n".join([f"{first} (", *rows, "    ) };"])
+
+
+def lined(name, text):
+    """A ghost member, whose text stands on the next line where it does not fit."""
+    line = f"    ghost {name} = {{ {text} }};"
+    return line if len(line) <= WIDTH else f"    ghost {name} = {{\n        {text} }};"
+
+
+def tuple_rows(parts, indent):
+    """The lines of the parts of a tuple."""
+    rows = []
+    for it in parts[0] if len(parts) == 1 and isinstance(parts[0], list) else parts:
+        text = f"{' ' * indent}{tuple_text(it) if isinstance(it, list) else it},"
+        is_wide = isinstance(it, list) and len(text) > WIDTH
+        rows += [f"{' ' * indent}(", *tuple_rows(it, indent + 2), f"{' ' * indent}),"] if is_wide else [text]
+    return rows
 
 
 def ghost_cases(name, cases):
@@ -173,50 +188,77 @@ class Makers:
 
     def of_struct(self, item):
         variant = item.variants[0]
+        if not variant.fields:
+            made = {"unit": item.name, "named": f"{item.name} {{}}", "tuple": f"{item.name}()"}[variant.shape]
+            return Word("()"), "    ghost builds = { λ _. record {} };", "    ghost parts_of = { λ _. tt };", "    ghost kept = { λ _. refl };", f"        {made}"
         names = [it.name or str(at) for at, it in enumerate(variant.fields)]
         rows = [f"{name} = {place}" for name, place in zip(names, places(self.tree(variant, names), "parts"))]
         builds = ghost("builds", "λ parts. record", "{ " + "; ".join(rows) + " }", [f"{it};" for it in rows])
-        given = tuple_text(self.tree(variant, [f"v.{it}" for it in names]))
-        parts_of = wrapped("parts_of", "λ v.", given)
+        parts_of = ghost_tuple("parts_of", "λ v.", self.tree(variant, [f"v.{it}" for it in names]))
         return self.types(variant), builds, parts_of, "    ghost kept = { λ _. refl };", self.body(item, variant)
 
     def body(self, item, variant):
         """What a struct is made by."""
         names = [it.name for it in variant.fields]
-        if variant.shape != "named":
+        if variant.shape != "named" and len(names) == 1:
             return f"        {item.name}(parts)"
+        if variant.shape != "named":
+            names = names_in_code(variant.fields)
+            return statement(wide(tuple_of(self.tree(variant, names))), 8, "let ", " = parts;") + "\n" + statement(call(item.name, *names), 8)
         if len(names) == 1:
             return statement(Literal(item.name, ((names[0], Word("parts")),)), 8)
-        taken = statement(wide(tuple_of(self.tree(variant, names))), 8, "let ", " = parts;")
+        taken = taking(wide(tuple_of(self.tree(variant, names))), 8)
         return taken + "\n" + statement(Literal(item.name, tuple((it, Word(it)) for it in names)), 8)
 
     def of_enum(self, item):
         """The same of an enum, by cases."""
-        self.schema.use("Either")
-        self.writer.uses.sides = True
-        count, variants = len(item.variants), item.variants
-        types = self.types(variants[-1])
-        for it in reversed(variants[:-1]):
-            types = Angles("Either", (self.types(it), types))
+        tree = tree_of(self.schema.items[item.name])
+        sides = paths_of(tree)
+        if len(item.variants) > 1:
+            self.schema.use("Either")
+            self.writer.uses.sides = True
+        types, variants = self.of_tree(tree, {it.name: it for it in item.variants}), item.variants
         builds, parts_of, kept, arms = [], [], [], []
-        for at, it in enumerate(variants):
-            names = [field.name or "value" for field in it.fields]
+        for it in variants:
+            path, names = sides[it.name], names_in_code(it.fields)
             values = places(self.tree(it, names), "parts") if names else []
-            builds.append(f"{side(at, count, 'parts' if names else '_')} ↦ {' '.join([it.name, *values])}")
+            builds.append(f"{along(path, 'parts' if names else '_')} ↦ {' '.join([it.word, *values])}")
             given = tuple_text(self.tree(it, names)) if names else "tt"
-            parts_of.append(f"{' '.join([it.name, *names])} ↦ {side(at, count, given)}")
-            kept.append(f"{side(at, count, '_')} ↦ refl")
-            arms.append(self.arm(item, it, at, count, names))
+            parts_of.append(f"{' '.join([it.word, *names])} ↦ {along(path, given)}")
+            kept.append(f"{along(path, '_')} ↦ refl")
+            arms.append(self.arm(item, it, path, names))
+        if len(variants) == 1:
+            return self.of_one(item, types, builds[0], ghost_cases("parts_of", parts_of))
         cases = [ghost_cases("builds", builds), ghost_cases("parts_of", parts_of), ghost_cases("kept", kept)]
         return (types, *cases, "\n".join(["        match parts {", *arms, "        }"]))
 
-    def arm(self, item, variant, at, count, names):
+    def of_one(self, item, types, builds, parts_of):
+        """The same of an enum of one variant, whose value the form has as it is."""
+        variant, made = item.variants[0], builds.replace(" ↦ ", ". ", 1)
+        names = [it.name or "value" for it in variant.fields]
+        taken = [statement(wide(tuple_of(self.tree(variant, names))), 8, "let ", " = parts;")] if names else ["        let () = parts;"]
+        body = "\n".join([*taken, statement(self.made(item, variant, names), 8)])
+        return types, lined("builds", f"λ {made}"), parts_of, "    ghost kept = { λ _. refl };", body
+
+    def of_tree(self, tree, variants):
+        """The type of the parts of an enum."""
+        if not isinstance(tree, tuple):
+            return self.types(variants[tree.name])
+        return Angles("Either", tuple(self.of_tree(it, variants) for it in tree))
+
+    def made(self, item, variant, names):
+        """A variant, made of the names of its parts."""
+        path = f"{item.name}::{variant.name}"
+        if variant.shape == "named":
+            return Literal(path, tuple((it, Word(it)) for it in names))
+        return call(path, *names) if names else Word(path)
+
+    def arm(self, item, variant, path, names):
         """The arm that makes a variant. The borrow checker takes no parts of parts out of a variant, so such are bound in the arm."""
         tree = self.tree(variant, names) if names else []
         taken = wide(tuple_of(tree)) if names else Word("()")
-        path = f"{item.name}::{variant.name}"
-        made = Literal(path, tuple((it, Word(it)) for it in names)) if variant.shape == "named" else call(path, *names) if names else Word(path)
+        made = self.made(item, variant, names)
         if any(isinstance(it, list) for it in tree):
-            head = statement(side_pattern(at, count, Word("parts")), 12, "", " => {")
-            return "\n".join([head, statement(taken, 16, "let ", " = parts;"), statement(made, 16), "            }"])
-        return arm(side_pattern(at, count, taken), made, 12)
+            head = statement(side_pattern(path, Word("parts")), 12, "", " => {")
+            return "\n".join([head, taking(taken, 16), statement(made, 16), "            }"])
+        return arm(side_pattern(path, taken), made, 12)

@@ -1,7 +1,7 @@
 """The names that serde gives to fields and variants in JSON."""
 import re
 
-from .derives import options
+from .derives import options, reading_case
 
 
 def words_joined(name, mark):
@@ -32,15 +32,12 @@ OF_VARIANTS = {
 def renamed(it):
     """The name for reading that an option `rename` gives, or nothing."""
     said = options(it).get("rename")
-    if said is None:
-        return None
-    split = re.search(r'deserialize\s*=\s*"([^"]*)"', said.text)
-    return said.value if said.value is not None else split[1] if split else None
+    return reading_case(said) if said else None
 
 
 def case_of(it, word):
     said = options(it).get(word)
-    return said.value if said else ""
+    return reading_case(said) if said else ""
 
 
 def of_field(field, variant, item):

@@ -78,8 +78,9 @@ def codes_of(items):
     found = {"wrong_form", "member_missing", "member_repeated"}
     found |= {"value_unknown"} if any(is_named(it) or it.kind == "enum" for it in items) else set()
     found |= {"member_unknown"} if any("deny_unknown_fields" in options(it) or it.kind == "enum" for it in items) else set()
-    numbers = {name for it in items for field in fields_of(it) for name in type_names(field.type)} & {*UNSIGNED, *SIGNED}
-    found |= {"out_of_range"} if numbers else set()
+    names = {name for it in items for field in fields_of(it) for name in type_names(field.type)}
+    found |= {"out_of_range"} if names & {*UNSIGNED, *SIGNED} else set()
+    found |= {"not_a_number"} if names & {"f32", "f64"} else set()
     found |= {CODES[it.name] for it in rules if it.name in CODES}
     found |= {f"{it.name}_{end}" for it in rules if it.name in ("length", "range") for word in it.bounds for end in BOUNDS[word]}
     return sorted(found), any(it.name in OWN for it in rules)

@@ -1,5 +1,6 @@
 """Rules of one's own that the port reads: a message, and the condition under which it is not said. They are written as `asks("..", ..)`, or as
 a closure or a function that returns `Ok(())` where the condition holds, and else an error with the message."""
+import re
 from dataclasses import replace
 
 from .expressions import CONTEXT, VALUE, Expression, read_expression, read_text, with_places
@@ -11,12 +12,22 @@ OTHERWISE = {"==": "!=", "!=": "==", "<": ">=", ">=": "<", ">": "<=", "<=": ">"}
 
 
 def read_asks(tokens, line):
-    """Reads a message and a condition behind it, in which `value` is the value that is asked."""
-    message = read_text(tokens, line)
+    """Reads a message, a code that may stand before it, and a condition behind it, in which `value` is the value that is asked."""
+    code, message = None, read_text(tokens, line)
     tokens.expect(",")
+    if tokens.first.kind in ("text", "raw") and tokens.tokens[tokens.at + 1].text == ",":
+        code, message = code_of(message, line), read_text(tokens, line)
+        tokens.expect(",")
     condition = read_expression(tokens)
     tokens.takes(",")
-    return message, named(condition, {"value": VALUE})
+    return code, message, named(condition, {"value": VALUE})
+
+
+def code_of(text, line):
+    """A code, which is a name as those of the rules of the library."""
+    if not re.fullmatch(r"[a-z][a-z0-9_]*", text):
+        raise Refusal(line, f"the code `{text}`: a code is made of small letters, digits and `_`, as `given_twice`")
+    return text
 
 
 def named(condition, names):

@@ -1,28 +1,33 @@
 """What the attributes `#[garde(..)]` ask."""
 import re
 from dataclasses import dataclass, field
+from fractions import Fraction
 
-from .expressions import Expression, inside_of, read_all, read_expression, read_text
+from .expressions import Expression, inside_of, read_all, read_bound, read_expression, read_of_item, read_text
 from .own import WANTED, read_asks, read_closure
-from .tokens import Refusal
+from .tokens import Refusal, meant
 
 PLAIN = ("required", "ascii", "alphanumeric", "url", "ip", "ipv4", "ipv6")
 TEXTS = ("contains", "prefix", "suffix")
 MODES = ("simple", "bytes", "chars", "graphemes", "utf16")
 NO_PORT = {
-    "email": "the rule `email` is not ported: write a rule of your own, by `custom`",
-    "credit_card": "the rule `credit_card` is not ported: give the number a type of its own that implements `CreditCard`",
-    "phone_number": "the rule `phone_number` is not ported: give the number a type of its own that implements `PhoneNumber`",
+    "email": "the rule `email` is not ported: write `pattern(patterns.mail)` with a pattern of yours (see docs/guide/attributes.md), or a rule of your own, by `custom`",
+    "credit_card": "the rule `credit_card` is not ported: give the number a type of its own that implements `CreditCard`, as docs/guide/own-rules.md#cards-and-phones has it",
+    "phone_number": "the rule `phone_number` is not ported: give the number a type of its own that implements `PhoneNumber`, as docs/guide/own-rules.md#cards-and-phones has it",
 }
+# The words of an attribute, for one that is none of them.
+KNOWN = (*PLAIN, *TEXTS, "length", "range", "pattern", "matches", "inner", "if", "dive", "custom", "skip", "rename", "adapt", "context", "allow_unvalidated", "transparent")
 # Rules that the Rust crate does not have, within `custom`.
-OURS = ("unique", "keys", "multiple_of", "asks")
+OURS = ("unique", "unique_by", "keys", "multiple_of", "asks")
+# What is said of an item of a set that stands in it before.
+REPEATED = "repeated"
 ABOUT_TYPES = ("context", "allow_unvalidated", "transparent")
 
 
 @dataclass(frozen=True)
 class Rule:
     """A rule: its name, and of its arguments those that it has. One of one's own that the port reads has its condition as `place`, and the
-    `message` that is said where it does not hold."""
+    `message` that is said where it does not hold, and may have a `code`, by which handlers word it."""
 
     name: str
     line: int
@@ -33,6 +38,12 @@ class Rule:
     rules: tuple = ()
     source: str = ""
     message: str = None
+    code: str = None
+
+    def asks(self):
+        """The word of one's own rule that the port reads, with what it is given before the condition: as a value, and as it is stated."""
+        code = f'"{self.code}"' if self.code else None
+        return ("AsksAs", (code, f'"{self.message}"')) if code else ("Asks", (f'"{self.message}"',))
 
 
 @dataclass(frozen=True)
@@ -104,7 +115,7 @@ def read_rule(tokens):
     readers = {"length": read_length, "range": read_range, "matches": read_matches, "inner": read_inner, "if": read_if}
     readers.update({name: read_pattern for name in (*TEXTS, "pattern")})
     if word not in readers:
-        raise Refusal(line, f"the attribute `{word}` is not known")
+        raise Refusal(line, f"the attribute `{word}` is not known{meant(word, KNOWN)}")
     inside = argument(tokens, word)
     rule = readers[word](inside, word, line)
     if not inside.ended():
@@ -142,15 +153,16 @@ def read_bounds(tokens, word, line):
     while not tokens.ended():
         name = tokens.name("a bound")
         if name not in ("min", "max", "equal") or name in bounds:
-            raise Refusal(line, f"`{word}` with `{name}`, which is not read there")
+            known = ("min", "max", "equal", *(MODES if word == "length" else ()))
+            raise Refusal(line, f"`{word}` with `{name}`, which is not read there{meant(name, known)}")
         tokens.expect("=")
-        bounds[name] = read_expression(tokens)
+        bounds[name] = read_bound(tokens)
         if not tokens.ended() and not tokens.takes(","):
             raise Refusal(line, f"a bound that the port cannot read, from `{tokens.first.text}` on")
     if not bounds or ("equal" in bounds and len(bounds) > 1):
         raise Refusal(line, f"`{word}` wants `min`, `max` or both, or `equal` alone")
     low, high = bounds.get("min"), bounds.get("max")
-    if low and high and low.kind == high.kind == "number" and low.value > high.value:
+    if low and high and {low.kind, high.kind} <= {"number", "decimal"} and Fraction(low.value) > Fraction(high.value):
         raise Refusal(line, f"the `min` of `{word}` is greater than its `max`")
     return bounds
 
@@ -211,25 +223,35 @@ def read_own_closure(tokens, line):
 
 
 def read_ours(tokens, line):
-    """Reads a rule that the Rust crate does not have: `unique` with its message, `keys` with rules, `multiple_of` with a number, `asks` with a
-    message and a condition."""
+    """Reads a rule that the Rust crate does not have: `unique` with its message, `unique_by` with a message and the key of an item, `keys`
+    with rules, `multiple_of` with a number, `asks` with a message and a condition."""
     source, word = tokens.source(), tokens.take().text
     if word == "unique" and tokens.ended():
         return Rule(word, line, text="stands before")
     inside = argument(tokens, word)
     if word == "unique":
         found = Rule(word, line, text=read_text(inside, line))
+    elif word == "unique_by":
+        found = read_unique_by(inside, source, line)
     elif word == "keys":
         found = Rule(word, line, rules=present(inside.items(read_rule)))
     elif word == "asks":
-        message, place = read_asks(inside, line)
-        found = Rule("custom", line, source=source, message=message, place=place)
+        code, message, place = read_asks(inside, line)
+        found = Rule("custom", line, source=source, code=code, message=message, place=place)
     else:
-        found = Rule(word, line, bounds={"equal": read_expression(inside)})
+        found = Rule(word, line, bounds={"equal": read_bound(inside)})
     for it in (inside, tokens):
         if not it.ended():
             raise Refusal(line, f"`{word}` with more than the port reads, from `{it.first.text}` on")
     return found
+
+
+def read_unique_by(tokens, source, line):
+    """Reads a message and a closure that gives the key of an item. The key has a place as its list has: the name of the item stands first."""
+    message = read_text(tokens, line)
+    tokens.expect(",")
+    name, key = read_of_item(tokens)
+    return Rule("unique", line, text=message, source=source, place=Expression("key", line, name, (key,)))
 
 
 def read_names(tokens, word):

@@ -1,18 +1,26 @@
 """The forms of `garde_schema` that read values of a source's types, the makers of these values, and the functions that read them."""
 import re
+from collections import Counter
 from dataclasses import replace
 
 from .borrowed import below, fields_of, is_map, is_named, of_whole, within_option
-from .derives import options, type_names
-from .groups import Group, filled, grouped, groups_in, numbers_in, own_rules, shared_rules
+from .defaults import Making, is_skipped
+from .derives import all_type_names, options, type_names
+from .flattened import fields_among, held_part, is_closed, is_closed_as_one
+from . import in_order
+from .groups import Group, filled, grouped, groups_in, numbers_in, is_flat, is_rest, own_rules, shared_rules
 from .layout import WIDTH, Method, Rows, Word, call, flat, statement
-from .makers import Makers, places, tuple_of, wide
+from .makers import Makers, places, side_pattern, tuple_of, wide
+from .parsed import form as parsed_form, parser_of
 from .names import of_field, of_variant, others_of_variant
 from .implementation import OWN
 from .inputs import may_be_missing
 from .scope import Place, Seen, is_option, is_path, is_text
 from .source import is_ported
 from .spelled import Spellings
+from .unborrowed import is_unborrowed, reader
+from .unions import TESTS, Shapes, beside_units, is_other, is_unit, nested, paths_of, units_of
+from .values import is_any, is_float
 from .words import Checks, camel, together
 
 # The rules of a list or a map that its form takes; where what is spelled is stated, it takes those of the number and of the names.
@@ -62,6 +70,11 @@ def within_rule(stated, context):
     return re.sub(rf"(?<![\w.]){context}(?!\w)", "rule.0.now", stated)
 
 
+def items_rules(rules):
+    """The rules of each item of a list, or of each value of a map."""
+    return [found for it in rules if it.name in ("inner", "dive") for found in (it.rules if it.name == "inner" else [it])]
+
+
 def snake(name):
     return "".join(f"_{it.lower()}" if it.isupper() and at else it.lower() for at, it in enumerate(name))
 
@@ -72,8 +85,8 @@ class Schema:
     def __init__(self, writer):
         self.writer, self.borrowed, self.items = writer, writer.borrowed, writer.borrowed.items
         self.turned = {it.name: it for it in writer.source.items}
-        self.makers = Makers(self)
-        self.holding = set()
+        self.makers, self.making = Makers(self), Making(self)
+        self.holding, self.lent = set(), set()
         self.spellings = Spellings(self, writer.checked) if writer.checked else None
 
     def use(self, *names):
@@ -88,8 +101,8 @@ class Schema:
 
     def texts(self):
         """The makers and the functions that read; or of a body, the statements and the implementation by which a library reads it."""
-        made = [it for it in self.items.values() if not is_named(it)]
-        makers = [text for it in made for text in (self.makers.text(self.turned[it.name]), *self.shared_texts(it))]
+        made = [it for it in self.items.values() if not is_named(it) and it.name not in self.borrowed.holes]
+        makers = [text for it in made for text in (self.makers.text(self.turned[it.name]), *self.shared_texts(it), *self.making.texts(it))]
         if self.spellings:
             return [*makers, *self.spellings.texts()]
         return [*makers, *(self.reader(it) for it in made if not self.is_held(it))]
@@ -107,8 +120,15 @@ class Schema:
         is_valid = is_ported(item) and not self.writer.is_nested(item)
         told = "so many faults at most" if self.writer.first else "every fault of its form" + (" and of its rules" if is_ported(item) else "")
         docs = f"/// Reads a value of the type `{item.name}` in JSON, or reports {told}."
-        call = f"{call}(alloc, bytes, scratch, &{name}_form, {'most, ' if self.writer.first else ''}h)"
-        said = {"docs": docs, "vis": item.vis, "name": name, "forms": forms, "error": error, "most": "    most: usize,\n" if self.writer.first else ""}
+        most = "    most: usize,\n" if self.writer.first else ""
+        said = {"docs": docs, "vis": item.vis, "name": name, "forms": forms, "error": error}
+        if is_unborrowed(item, self.writer):
+            kind, value = (f"Valid<{made}>", "Valid::known(value, &())") if is_valid else (made, "value")
+            self.writer.uses.others |= {"garde::Valid"} if is_valid else set()
+            call = f"{call}(alloc, bytes, scratch, &within_form, {'most, ' if most else ''}h)"
+            params = f"    alloc: Global,\n    bytes: &'a [u8],\n    scratch: &'a mut Scratch,\n{most}    h: &H,"
+            return reader(item, self, {**said, "made": kind, "value": value, "call": call, "params": params, "clauses": lambda place: " "})
+        call, said["most"] = f"{call}(alloc, bytes, scratch, &{name}_form, {'most, ' if most else ''}h)", most
         if not is_valid:
             return READ.format(**said, tactic="", kind=made, read=f"    {call}")
         self.writer.uses.others.add("garde::Valid")
@@ -120,8 +140,18 @@ class Schema:
         return snake(item.name), self.makers.type_name(self.turned[item.name]).replace("'t", "'a")
 
     def forms(self, item, indent):
-        """The forms of a type and of those that it holds."""
-        return "\n".join(statement(self.form_of_type(it), indent, f"let {snake(it.name)}_form = ", ";") for it in self.order(item))
+        """The forms of a type and of those that it holds. One that is used at several places is lent to each of them."""
+        order, lines = self.order(item), []
+        among = Counter(part.name for it in order for _, part in fields_among(it, self.items))
+        used = Counter(name for it in order for field in fields_of(it) for name in all_type_names(field.type) if name != it.name) - among
+        self.lent = {f"{snake(name)}_form" for name, count in used.items() if count > 1}
+        self.lent |= {f"{snake(name)}_members" for name, count in among.items() if count > 1}
+        for it in order:
+            if it is item or used[it.name]:
+                lines.append(statement(self.form_of_type(it), indent, f"let {snake(it.name)}_form = ", ";"))
+            if among[it.name]:
+                lines.append(statement(self.members_of_type(it), indent, f"let {snake(it.name)}_members = ", ";"))
+        return "\n".join(lines)
 
     def order(self, item):
         """The types that a type holds, each behind those that it holds, and the type itself."""
@@ -197,13 +227,19 @@ class Schema:
     def form_of_type(self, item):
         """The form of a type, whose parts have their forms before it."""
         self.writer.item = item
+        if item.name in self.borrowed.holes:
+            return Word(self.writer.hole(item.name))
         if is_named(item):
-            rows = [call("", f'"{name}"', f"{item.name}::{it.name}") for it in item.variants for name in self.names(it, item)]
-            return call(self.use("OneOf"), Rows(tuple(rows)))
+            return self.under_tag(self.texts_of(item.variants, item, lambda it: f"{item.name}::{it.name}"), item)
         if below(item):
             return self.of_nested(item)
         form = self.of_enum(item) if item.kind == "enum" else self.of_struct(item)
         return call(self.use("Built"), form, self.makers.value(self.turned[item.name]))
+
+    def members_of_type(self, item):
+        """The members of a struct, which stand among those of another type."""
+        self.writer.item = item
+        return call(self.use("Built"), self.members(item.variants[0], item), self.makers.value(self.turned[item.name]))
 
     def of_nested(self, item):
         """An object that holds a list of objects of the same form."""
@@ -217,9 +253,19 @@ class Schema:
 
     def of_struct(self, item):
         variant = item.variants[0]
+        if not variant.fields:
+            return in_order.without_parts(self, variant, item)
+        if in_order.is_list(variant):
+            return self.in_order(variant, item)
         if variant.shape != "named" or "transparent" in options(item):
             return self.value(variant.fields[0])
         return self.object(variant, item)
+
+    def in_order(self, variant, item):
+        """A list of the fields of a variant."""
+        group = grouped(variant.fields)
+        members = self.of_group(group, variant, item) if group else Word("()")
+        return call(self.use("InOrder"), str(len(variant.fields)), members)
 
     def object(self, variant, item):
         """An object with the members of a variant."""
@@ -234,8 +280,8 @@ class Schema:
     def of_group(self, group, variant, item):
         """Members, and then the rules that are asked of all of them, each under its own member."""
         fields = variant.fields
-        parts = [self.of_group(it, variant, item) if isinstance(it, Group) else self.member(fields[it], variant, item) for it in group]
-        whole = parts[0] if len(parts) == 1 else call("", *parts)
+        parts = [self.of_group(it, variant, item) if isinstance(it, Group) else self.part(it, variant, item) for it in group]
+        whole = parts[0] if len(parts) == 1 else call(self.use("Rest") if group.is_rest else "", *parts) if parts else Word("()")
         if not group.asked:
             return whole
         self.use("Checked", "Under")
@@ -247,30 +293,82 @@ class Schema:
         name = self.shared_name(it, variant, item)
         return call(name, self.writer.context_of(item)[1]) if name in self.holding else Word(name)
 
-    def of_enum(self, item):
-        """A union: by its tag, or by the name of its only member."""
+    def texts_of(self, variants, item, value):
+        """One of the names of some variants, each with its value. Every other name has that of the variant that stands for it."""
+        rows = [call("", f'"{name}"', value(it)) for it in variants if not is_other(it) for name in self.names(it, item)]
+        others = [value(it) for it in variants if is_other(it)]
+        return call(self.use("OneOfOr" if others else "OneOf"), Rows(tuple(rows)), *others)
+
+    def under_tag(self, form, item):
+        """The name that says which value of an enum without fields it is, which may stand in an object under a tag."""
         tag = options(item).get("tag")
-        variants = [self.variant(it, item, tag) for it in item.variants]
+        return call(self.use("Object"), self.closed(call(self.use("Member"), f'"{tag.value}"', form), item)) if tag else form
+
+    def of_enum(self, item):
+        """A union: by its tag, by the name of its only member, or by what tells its variants apart."""
+        if "untagged" in options(item):
+            return self.of_untagged(item)
+        tag, units, as_one = options(item).get("tag"), units_of(item), is_closed_as_one(item, self.items)
+        variants = [self.variant(it, item, tag) for it in beside_units(item)]
+        if tag and not as_one:
+            variants = [call(self.use("Closed"), form) if is_closed(it, item, self.items) else form for form, it in zip(variants, item.variants)]
         while len(variants) > 1:
             variants = [*variants[:-2], call("", *variants[-2:])]
         if tag:
-            return call(self.use("Tagged"), f'"{tag.value}"', self.closed(variants[0], item))
+            is_whole = as_one and is_closed(item.variants[0], item, self.items)
+            return call(self.use("Tagged"), f'"{tag.value}"', call(self.use("Closed"), variants[0]) if is_whole else variants[0])
         self.writer.uses.others.add("std::marker::PhantomData")
-        return call(self.use("OneMember"), variants[0], "PhantomData")
+        whole = call(self.use("OneMember"), variants[0], "PhantomData")
+        if not units:
+            return whole
+        sides = paths_of(nested(units))
+        return call(self.use("TextOr"), self.texts_of(units, item, lambda it: side_pattern(sides[it.name], Word("()"))), whole)
+
+    def of_untagged(self, item):
+        """A union whose variants are told apart by tests."""
+        *front, whole = [self.inside(it, item) for it in item.variants]
+        for form, test in reversed([*zip(front, Shapes(self.borrowed).tests(item))]):
+            whole = call(self.use("Choice"), self.test(test), form, whole)
+        return whole
+
+    def test(self, test):
+        """A test by which a variant is chosen."""
+        word, *parts = test
+        if word == "kind":
+            # by its path, since types of a source may be called so
+            return Word(f"garde_schema::Kind::{parts[0]}")
+        if word == "among":
+            return call(self.use("OneOf"), Rows(tuple(call("", f'"{it}"', "()") for it in parts[0])))
+        name = TESTS[word][0]
+        return call(self.use(name) if name else "", *(f'"{it}"' if isinstance(it, str) else self.test(it) for it in parts)) if parts else Word(self.use(name))
+
+    def inside(self, variant, item):
+        """The form of what a variant holds, which has no name there."""
+        if is_unit(variant):
+            return Word(self.use("Null"))
+        if in_order.is_list(variant):
+            return self.in_order(variant, item)
+        return self.object(variant, item) if variant.shape == "named" else self.value(variant.fields[0])
 
     def variant(self, variant, item, tag):
-        """A variant of a union. One without members asks for the tag alone, which is there."""
-        name, content = f'"{of_variant(variant, item)}"', options(item).get("content")
-        if not tag or content:
-            inside = self.object(variant, item) if variant.shape == "named" else self.value(variant.fields[0])
-            if not tag:
-                return call(self.use("Member"), name, inside)
-            members = call(self.use("Member"), f'"{content.value}"', inside)
-        elif variant.fields:
-            members = self.members(variant, item)
+        """A variant of a union, under each of its names. One without members asks for the tag alone, which is there."""
+        content = options(item).get("content")
+        if not tag:
+            word, members = self.use("Member"), self.inside(variant, item)
+        elif content and is_unit(variant):
+            word, members = self.use("Variant"), call(self.use("WithDefault"), f'"{content.value}"', self.use("Null"), "()")
+        elif content:
+            word, members = self.use("Variant"), call(self.use("Member"), f'"{content.value}"', self.inside(variant, item))
+        elif held_part(variant, item, self.items):
+            word, members = self.use("Variant"), self.flattened(variant.fields[0])
         else:
-            members = call(self.use("Member", "Any"), f'"{tag.value}"', "Any")
-        return call(self.use("Variant"), name, members)
+            word, members = self.use("Variant"), self.members(variant, item) if variant.fields else call(self.use("Member", "Any"), f'"{tag.value}"', "Any")
+        if is_other(variant):
+            return call(self.use("Otherwise"), members)
+        named = [call(word, f'"{name}"', members) for name in self.names(variant, item)]
+        while len(named) > 1:
+            named = [*named[:-2], call(self.use("Same"), *named[-2:])]
+        return named[0]
 
     def value(self, it):
         """The form of a field without a name, or of the only one."""
@@ -279,19 +377,42 @@ class Schema:
 
     # Members.
 
+    def part(self, at, variant, item):
+        """A member of an object, or an item of a list."""
+        it = variant.fields[at]
+        if not in_order.is_list(variant):
+            return self.member(it, variant, item)
+        self.writer.spot = f"value_{at}"
+        return in_order.nth(self, at, self.form(it.type, it.attributes.rules))
+
     def member(self, it, variant, item):
         """A member of an object."""
+        if is_flat(it):
+            return self.flattened(it)
         self.writer.spot = it.name
         name, kind, rules = f'"{of_field(it, variant, item)}"', it.type, own_rules(it)
-        if is_option(kind) and may_be_missing(kind, self.writer.input):
+        default = self.borrowed.default(it, item)
+        if is_skipped(it):
+            return self.making.given(default, it, variant, item)
+        if default is None and is_option(kind) and may_be_missing(kind, self.writer.input):
             word = "Nullish" if self.writer.input == "json" else "Optional"
             form, asked = call(self.use(word), name, self.form(kind.args[0], within_option(rules))), of_whole(rules)
             return call(self.use("Checked", "Under"), form, call("Under", name, self.checks(kind, asked))) if asked else form
-        default = self.borrowed.default(it, item)
         if default is None:
             return call(self.use("Member"), name, self.form(kind, rules))
-        self.use(*(["TextRef"] if default.startswith("TextRef") else []), "WithDefault")
-        return call("WithDefault", name, self.form(kind, rules), default)
+        return call(self.use("WithDefault"), name, self.form(kind, rules), self.making.maker(default, it, variant, item))
+
+    def flattened(self, it):
+        """The members that a field stands for, or the form of the values of all other members."""
+        self.writer.spot = it.name or "value"
+        kind, rules = it.type, own_rules(it)
+        if is_rest(it):
+            return self.form(kind.args[1], items_rules(rules))
+        if is_option(kind):
+            part = self.before(f"{snake(kind.args[0].name)}_members")
+            inside = self.ruled(part, kind.args[0], [one for one in within_option(rules) if one.name != "dive"])
+            return self.ruled(call(self.use("IfAny"), inside), kind, of_whole(rules))
+        return self.ruled(self.before(f"{snake(kind.name)}_members"), kind, [one for one in rules if one.name != "dive"])
 
     # Values.
 
@@ -300,14 +421,23 @@ class Schema:
         if is_option(kind):
             word = self.use("Nullable") if self.writer.input == "json" else self.use_form("OrEmpty")
             return self.ruled(call(word, self.form(kind.args[0], within_option(rules))), kind, of_whole(rules))
+        if in_order.is_tuple(kind):
+            return self.ruled(in_order.of_tuple(self, kind), kind, rules)
         if is_path(kind, "Vec"):
             return self.list(kind, rules)
         if is_map(kind):
             return self.map(kind, rules)
         if kind.name in self.items:
-            return self.ruled(Word(f"{snake(kind.name)}_form"), kind, [it for it in rules if it.name != "dive"])
+            return self.ruled(self.form_of_part(kind.name), kind, [it for it in rules if it.name != "dive"])
         if is_text(kind):
             return call(self.use("Text"), self.checks(kind, rules))
+        parser = parser_of(kind, self.writer.source)
+        if parser:
+            return self.ruled(parsed_form(parser, self), kind, rules)
+        if is_float(kind):
+            return call(self.use("DecimalNumber"), self.checks(kind, rules))
+        if is_any(kind):
+            return self.ruled(Word(self.use("Kept")), kind, rules)
         if is_path(kind, "bool"):
             flag = Word(self.use("Flag"))
             return self.ruled(flag if self.writer.input == "json" else call(self.use_form("Parsed"), flag, "()"), kind, rules)
@@ -315,16 +445,22 @@ class Schema:
         word = self.use("Whole") if self.writer.input == "json" else self.use_form("Parsed")
         return call(word, number, self.checks(kind, rules))
 
+    def form_of_part(self, name):
+        """The form of a type of the file, which stands before."""
+        return self.before(f"{snake(name)}_form", is_named(self.items[name]))
+
+    def before(self, name, is_copied=False):
+        """What stands before under this name. It is lent where it is used at several places."""
+        return Word(f"{'&' if name in self.lent and not is_copied else ''}{name}")
+
     def list(self, kind, rules):
         """A list: rules of how many items it has and of all of them, those of each item, and then one's own of the whole."""
-        of_items = [found for it in rules if it.name in ("inner", "dive") for found in (it.rules if it.name == "inner" else [it])]
-        inside = self.form(kind.args[0], of_items)
+        inside = self.form(kind.args[0], items_rules(rules))
         return self.several(kind, rules, "List", inside)
 
     def map(self, kind, rules):
         """A map: rules of how many members it has and of their names, those of each value, and then one's own of the whole."""
-        of_items = [found for it in rules if it.name in ("inner", "dive") for found in (it.rules if it.name == "inner" else [it])]
-        inside = self.form(kind.args[1], of_items)
+        inside = self.form(kind.args[1], items_rules(rules))
         return self.several(kind, rules, "Map", inside)
 
     def several(self, kind, rules, name, inside):

@@ -1,8 +1,10 @@
 """What rules may speak of: the value, its fields and its context; and the conditions of `if`."""
+import re
 from dataclasses import dataclass, field
 
 from .layout import Chain
-from .expressions import ADDRESSES, CONTEXT, VALUE, Expression
+from .expressions import ADDRESSES, CONTEXT, ITEM, VALUE, Expression
+from .over_lists import over_items
 from .source import Type
 from .tokens import Refusal
 
@@ -14,12 +16,18 @@ fn is_address(text: &str) -> bool
 {
     is_ipv4(text) || is_ipv6(text)
 }"""
+# What becomes of two constants.
+MADE_OF = {"+": int.__add__, "-": int.__sub__, "*": int.__mul__}
 VARIABLES = ("x", "y", "z", "w", "u")
 # What stands behind the name of a variant in a pattern that looks at nothing in it.
 SHAPES = {"unit": "", "tuple": "(..)", "named": " { .. }"}
 COMPARISONS = {
     "==": "nat_eq {0} {1}", "!=": "not (nat_eq {0} {1})", "<": "nat_lt {0} {1}", "<=": "nat_le {0} {1}",
     ">": "nat_lt {1} {0}", ">=": "nat_le {1} {0}",
+}
+SIGNED_COMPARISONS = {
+    "==": "int_eq {0} {1}", "!=": "not (int_eq {0} {1})", "<": "int_lt {0} {1}", "<=": "not (int_lt {1} {0})",
+    ">": "int_lt {1} {0}", ">=": "not (int_lt {0} {1})",
 }
 
 
@@ -37,7 +45,10 @@ class Uses:
     paths: set = field(default_factory=set)
     spelled: set = field(default_factory=set)
     unions: set = field(default_factory=set)
+    flattened: set = field(default_factory=set)
     written: set = field(default_factory=set)
+    stated: set = field(default_factory=set)
+    decimals: set = field(default_factory=set)
     rules: dict = field(default_factory=dict)
 
 
@@ -77,6 +88,28 @@ def is_text(kind):
     return is_path(kind, "String", "TextRef") or borrowed or (is_path(kind, "Cow") and any(is_path(it, "str") for it in kind.args[1:]))
 
 
+def range_of(name):
+    """The least and the greatest number of a type of whole numbers."""
+    bits, signed = 64 if name.endswith("size") else int(name[1:]), name in SIGNED
+    return -(2 ** (bits - 1)) * signed, 2 ** (bits - signed) - 1
+
+
+def resolved(it, numbers):
+    """An expression, and of a constant its number: of one of these of the file, or of the greatest or least one of a type."""
+    if it.kind == "minus":
+        part = resolved(it.parts[0], numbers)
+        return Expression("number", it.line, -part.value) if part.kind == "number" else it
+    if it.kind in MADE_OF:
+        one, other = (resolved(part, numbers) for part in it.parts)
+        return Expression("number", it.line, MADE_OF[it.kind](one.value, other.value)) if one.kind == other.kind == "number" else it
+    found = None
+    if it.kind == "path" and len(it.value) == 2 and it.value[0] in (*UNSIGNED, *SIGNED) and it.value[1] in ("MIN", "MAX"):
+        found = range_of(it.value[0])[it.value[1] == "MAX"]
+    if found is None and (it.kind == "place" and len(it.value) == 1 or it.kind == "path"):
+        found = numbers.get(it.value[-1])
+    return it if found is None else Expression("number", it.line, found)
+
+
 class Scope:
     """The fields and the context that rules of one type may speak of, and the `value` of which a rule of one's own is asked, with its
     `fields`, by their names, where it has such."""
@@ -84,7 +117,22 @@ class Scope:
     def __init__(self, context, places, params, unit, value=None, fields=()):
         self.context, self.places, self.params, self.unit = context, places, params, unit
         self.value, self.fields = value, dict(fields)
-        self.bound, self.asks_context = set(), False
+        self.bound, self.asks_context, self.items = set(), False, {}
+
+    def with_item(self, name, place, fields):
+        """The same, and an item of a list, which is a place with these fields."""
+        found = Scope(self.context, self.places, self.params, self.unit, self.value, self.fields)
+        found.items = dict(self.items)
+        found.add_item(name, place, fields)
+        return found
+
+    def of_question(self, held):
+        """What a question of an item may speak of, which holds these places."""
+        places = {name: place for name, place in held.items() if name not in (CONTEXT, VALUE)}
+        return Scope(self.context, places, self.params, self.unit or CONTEXT not in held, held.get(VALUE), self.fields)
+
+    def add_item(self, name, place, fields):
+        self.items[name] = (place, dict(fields))
 
     def the_context(self):
         self.asks_context = True
@@ -94,7 +142,9 @@ class Scope:
         """A place as code and as it is stated, with its type where that is known."""
         names = (self.context, *names[1:]) if names[0] == CONTEXT else names
         if names[0] == VALUE and self.value is not None:
-            return self.of_value(names[1:], line)
+            return of_place(self.value, self.fields, names, line)
+        if names[0] in self.items:
+            return of_place(*self.items[names[0]], names, line)
         if names[0] == self.context and len(names) > 1 and not self.unit:
             return f"{self.the_context()}.{'.'.join(names[1:])}", ".".join(names), None
         if names[0] == "self" and len(names) == 2 and names[1] in self.places:
@@ -103,18 +153,19 @@ class Scope:
             return f"*{found.binding}", found.name, found.type if found.type.kind != "unread" else None
         raise Refusal(line, f"the port cannot read `{spoken(names)}`: it reads fields of `self` and of the context")
 
-    def of_value(self, names, line):
-        """The value of which a rule is asked, or a field of it."""
-        if not names:
-            return f"*{self.value.binding}", self.value.name, self.value.type
-        if len(names) > 1 or names[0] not in self.fields:
-            raise Refusal(line, f"`{spoken((VALUE, *names))}`, which is no field of a struct of this file")
-        return f"{self.value.binding}.{names[0]}", f"{self.value.name}.{names[0]}", self.fields[names[0]]
+
+def of_place(place, fields, names, line):
+    """A place that stands by itself, or a field of it."""
+    if not names[1:]:
+        return f"*{place.binding}", place.name, place.type
+    if len(names) > 2 or names[1] not in fields:
+        raise Refusal(line, f"`{spoken(names)}`, which is no field of a struct of this file")
+    return f"{place.binding}.{names[1]}", f"{place.name}.{names[1]}", fields[names[1]]
 
 
 def spoken(names):
     """A place as a message has it."""
-    return ".".join({VALUE: "value", CONTEXT: "context"}.get(it, it) for it in names)
+    return ".".join({VALUE: "value", CONTEXT: "context"}.get(it, it.removeprefix(ITEM)) for it in names)
 
 
 class Conditions:
@@ -127,6 +178,7 @@ class Conditions:
         """A condition that stands in a place where it needs brackets if it has parts."""
         readers = {"bool": self.truth, "place": self.flag, "not": self.negation, "call": self.method}
         readers.update({"and": self.both, "or": self.both, "matches": self.variants, "contains": self.contains, "address": self.address})
+        readers.update(dict.fromkeys(("all", "any"), lambda it: over_items(self, it)))
         if it.kind in readers:
             return readers[it.kind](it)
         if it.kind in ("==", "!=") and it.parts[1].kind in ("path", "text") and it.parts[0].kind == "place":
@@ -175,7 +227,7 @@ class Conditions:
         return Chain(mark, tuple(codes)), f"({f' {mark} '.join(specs)})"
 
     def grouped(self, it, code):
-        return code if it.kind in ("place", "call", "bool", "not", "matches", "contains", "address") else f"({code})"
+        return code if it.kind in ("place", "call", "bool", "not", "matches", "contains", "address", "all", "any") else f"({code})"
 
     def method(self, it):
         """`is_some` and `is_none` of an option."""
@@ -221,14 +273,14 @@ class Conditions:
             raise Refusal(it.line, "a condition on an enum, whose statement names its module: say it by `--module CRATE::MODULE`")
         known = {one.name: one for one in item.variants}
         for path in it.value:
-            if path[:-1] != (item.name,) or path[-1] not in known:
+            if path[:-1] not in ((item.name,), (item.known,)) or path[-1] not in known:
                 raise Refusal(it.line, f"`{'::'.join(path)}`, which is no variant of `{item.name}`")
         self.uses.words |= {"Bool", "true"}
         self.uses.cited.add(item.name)
         names = list(dict.fromkeys(path[-1] for path in it.value))
         rest = [] if len(names) == len(known) else ["_ ↦ false"]
         self.uses.words |= {"false"} if rest else set()
-        cases = [f"{' '.join([name, *'_' * len(known[name].fields)])} ↦ true" for name in names]
+        cases = [f"{' '.join([known[name].word, *'_' * len(known[name].fields)])} ↦ true" for name in names]
         patterns = " | ".join(f"{item.name}::{name}{SHAPES[known[name].shape]}" for name in names)
         return f"matches!({code.lstrip('*')}, {patterns})", f"(elim {spec} as (λ _. Bool) [ {' | '.join([*cases, *rest])} ])"
 
@@ -240,6 +292,8 @@ class Conditions:
         if kind is not None and is_path(kind, "TextRef") and asked.kind == "text":
             return self.part_of_text(code, spec, asked)
         held = kind.args[0] if kind is not None and is_path(kind, "Vec", "Items") and kind.args else None
+        if asked.kind == "path":
+            return self.contains_variant(it, code, spec, kind, held)
         texts = held is not None and is_path(held, "TextRef") and asked.kind == "text"
         if not texts and not (held is not None and is_path(held, *UNSIGNED) and asked.kind == "number" and asked.value >= 0):
             told = f"`contains` of `{spoken(place.value)}`"
@@ -250,6 +304,19 @@ class Conditions:
         listed = f"(slice {spec})" if kind.name == "Vec" else spec
         item, same, stated = (f'&TextRef::new("{asked.value}")', "text_eq", f'(codes "{asked.value}")') if texts else (f"&{asked.value}", "nat_eq", asked.value)
         return f"includes({code}.as_slice(), &Equal, {item})", f"(includes {same} {listed} {stated})"
+
+    def contains_variant(self, it, code, spec, kind, held):
+        """Whether a list has this variant of an enum of the file, which derives `PartialEq`."""
+        item, path = self.writer.enum(held.name) if held is not None else None, it.value.value
+        if item is None or path[:-1] != (item.name,) or path[-1] not in [one.name for one in item.variants if one.shape == "unit"]:
+            raise Refusal(it.line, f"`contains(&{'::'.join(path)})`, which is no variant without fields of what `{spoken(it.parts[0].value)}` lists")
+        if "PartialEq" not in item.derives:
+            raise Refusal(it.line, f"`contains` of a list of `{item.name}`: write `PartialEq` among its derives")
+        self.uses.fields |= {"includes", "Equal"}
+        self.uses.words |= {"includes"} | ({"slice"} if kind.name == "Vec" else set())
+        self.uses.cited.add(item.name)
+        listed = f"(slice {spec})" if kind.name == "Vec" else spec
+        return f"includes({code}.as_slice(), &Equal, &{'::'.join(path)})", f"(includes ⟦<{item.name} as PartialEq>⟧.eq {listed} {path[-1]})"
 
     def address(self, it):
         """Whether a text is an address."""
@@ -277,17 +344,88 @@ class Conditions:
         return f'contains::Contains::validate_contains({code}, "{asked.value}")', f'(has_part (codes "{asked.value}") {spec})'
 
     def comparison(self, it):
-        """A comparison of numbers without a sign, or of two texts."""
+        """A comparison of numbers, of two texts, or of two values of an enum."""
         if it.kind in ("==", "!=") and all(part.kind == "place" for part in it.parts):
             texts = [self.text_at(part) for part in it.parts]
             if None not in texts:
                 self.uses.words |= {"text_eq"} | ({"not"} if it.kind == "!=" else set())
                 spec = f"(text_eq {texts[0][1]} {texts[1][1]})"
                 return f"{texts[0][0]} {it.kind} {texts[1][0]}", spec if it.kind == "==" else f"(not {spec})"
-        (left, low), (right, high) = (self.number(part) for part in it.parts)
-        spec = COMPARISONS[it.kind].format(low, high)
-        self.uses.words |= {word for word in ("nat_eq", "nat_lt", "nat_le", "not") if word in spec.split() or f"({word}" in spec}
+            same = self.same_values(it)
+            if same:
+                return same
+        signed = any(map(self.is_signed, it.parts))
+        (left, low), (right, high) = map(self.signed if signed else self.number, self.widened(it.parts))
+        spec = (SIGNED_COMPARISONS if signed else COMPARISONS)[it.kind].format(low, high)
+        self.uses.words |= set(re.findall(r"\b(?:nat_eq|nat_lt|nat_le|int_eq|int_lt|not)\b", spec))
         return f"{left} {it.kind} {right}", f"({spec})"
+
+    def same_values(self, it):
+        """Whether two places have the same value of an enum of the file, or nothing where they have none."""
+        (code, spec, kind), (other, like, another) = (self.scope.place(part.value, it.line) if self.writer.resolved(part).kind == "place" else (None,) * 3 for part in it.parts)
+        item = self.writer.enum(kind.name) if kind is not None and another is not None and kind.name == another.name else None
+        if item is None or "PartialEq" not in item.derives:
+            return None
+        self.uses.words |= {"not"} if it.kind == "!=" else set()
+        stated = f"(⟦<{self.writer.type_text(kind)} as PartialEq>⟧.eq {spec} {like})"
+        return f"{code} {it.kind} {other}", stated if it.kind == "==" else f"(not {stated})"
+
+    def is_signed(self, it):
+        """Whether a number has a sign."""
+        it = self.writer.resolved(it)
+        if it.kind != "place":
+            return it.kind == "number" and it.value < 0
+        kind = self.scope.place(it.value, it.line)[2]
+        return kind is not None and is_path(kind, *SIGNED)
+
+    def signed(self, it):
+        """A number that is compared with one that has a sign."""
+        it = self.writer.resolved(it)
+        if it.kind == "number":
+            word = "minus" if it.value < 0 else "plus"
+            self.uses.words.add(word)
+            return str(it.value), f"({word} {abs(it.value)})"
+        if it.kind != "place" or not self.is_signed(it):
+            raise Refusal(it.line, "a comparison of a number with a sign and one without, or of a sum of such: compare numbers of one type")
+        return self.scope.place(it.value, it.line)[:2]
+
+    def widened(self, parts):
+        """The parts of a comparison; where numbers are added or multiplied, all as numbers of 128 bits, which hold what comes of it."""
+        if not any(it.kind in ("+", "*", "-") for it in map(self.writer.resolved, parts)):
+            return parts
+        for it in parts:
+            if self.bits(it) > 128:
+                raise Refusal(it.line, "a sum or a product that 128 bits may not hold: bound the fields, and write a rule of your own")
+        return tuple(Expression("wide", it.line, parts=(it,)) for it in parts)
+
+    def bits(self, it):
+        """How many bits a number takes at most."""
+        it = self.writer.resolved(it)
+        if it.kind == "number" and it.value >= 0:
+            return it.value.bit_length()
+        if it.kind == "call":
+            return 64
+        if it.kind in ("+", "*"):
+            one, other = map(self.bits, it.parts)
+            return max(one, other) + 1 if it.kind == "+" else one + other
+        if it.kind in ("%", "/"):
+            return self.bits(it.parts[0])
+        kind = self.scope.place(it.value, it.line)[2] if it.kind == "place" else None
+        if kind is None or not is_path(kind, *UNSIGNED):
+            told = "write what is added on the other side" if it.kind == "-" else "the port adds and multiplies fields that are numbers without a sign"
+            raise Refusal(it.line, f"a sum or a product that the port cannot read: {told}")
+        return 64 if kind.name == "usize" else int(kind.name[1:])
+
+    def wide(self, it):
+        """A number, a sum or a product, as one of 128 bits."""
+        it = self.writer.resolved(it)
+        if it.kind in ("+", "*"):
+            self.uses.prelude.add(f"◌{it.kind}◌")
+            (one, low), (other, high) = map(self.wide, it.parts)
+            grouped = [f"({code})" if it.kind == "*" and part.kind == "+" else code for code, part in zip((one, other), it.parts)]
+            return f" {it.kind} ".join(grouped), f"({low} {it.kind} {high})"
+        code, spec = self.number(it)
+        return (code if it.kind == "number" else f"({code} as u128)"), spec
 
     def text_at(self, it):
         """A text at a place as code and as it is stated, or nothing where there is none."""
@@ -332,6 +470,8 @@ class Conditions:
 
     def number(self, it):
         it = self.writer.resolved(it)
+        if it.kind == "wide":
+            return self.wide(it.parts[0])
         if it.kind == "number" and it.value >= 0:
             return str(it.value), str(it.value)
         if it.kind in ("%", "/"):

@@ -2,9 +2,16 @@
 holds each number, text and name of the attributes."""
 import re
 from collections import Counter
+from fractions import Fraction
+
+from .derives import options
 
 QUOTED = re.compile(r'''//[^\n]*|b?r(#*)".*?"\1|b?"(?:\\.|[^"\\])*"|b?'(?:\\[^\n]+?|[^\\'\n])'|/\*''', re.S)
-NUMBER = r"(-\s*)?(?<![\w.])(0x[\da-fA-F_]+?|0o[0-7_]+|0b[01_]+|\d[\d_]*)(?:[iu](?:8|16|32|64|128|size))?(?![\w])"
+NUMBER = r"(-\s*)?(?<![\w.])(0x[\da-fA-F_]+?|0o[0-7_]+|0b[01_]+|\d[\d_]*(?:\.\d[\d_]*)?(?:[eE][+-]?\d+)?)(?:[iu](?:8|16|32|64|128|size)|_?f(?:32|64))?(?![\w])"
+# What is stated of a number with a fraction.
+DECIMAL = r'decimal_(?:range \(\w+|multiple_of)((?: "[^"]*")+)'
+# A bound that is a sum or a product, of which its value is written.
+SUM = r"=[^=,()]*[\w)]\s*[-+*][^=,()]*"
 
 
 def blank(text, keep=False):
@@ -48,10 +55,11 @@ def faults_of_values(text, item, written):
     stated = "".join(re.findall(r"ghost visits = \{.*? \};\n", written[-1], re.S))
     numbers = Counter([-int(it) for it in re.findall(r"\(minus (\d+)\)", stated)])
     numbers += Counter(int(it) for it in re.findall(r"(?<!minus )(?<![\w.])\d+(?!\w)", re.sub(r'"[^"]*"', "", stated)))
+    numbers += Counter(Fraction(it.strip('"')) for found in re.findall(DECIMAL, stated) for it in found.split())
     texts, words = Counter(re.findall(r'"([^"]*)"', stated)), set(re.findall(r"\w+", stated))
     for line, attribute in attributes_of(text, item):
-        plain = blank(attribute)
-        own = [int(sign.strip() + digits.replace("_", ""), 0 if digits[:2] in ("0x", "0o", "0b") else 10) for sign, digits in re.findall(NUMBER, plain)]
+        plain = re.sub(SUM, "=", blank(attribute))
+        own = [number_of(sign.strip() + digits.replace("_", "")) for sign, digits in re.findall(NUMBER, plain)]
         lost = list(map(str, (Counter(own) - numbers).elements()))
         numbers -= Counter(own)
         for quoted in re.findall(r'r(#*)"(.*?)"\1|"((?:[^"\\]|\\.)*)"', attribute, re.S):
@@ -60,15 +68,20 @@ def faults_of_values(text, item, written):
                 texts[value] -= 1
             else:
                 lost.append(f'"{value}"')
-        lost += [it for it in re.findall(r"\bself\s*\.\s*(\w+)", plain) if not words & {it, f"the_{it}"}]
+        lost += [it for it in re.findall(r"\bself\s*\.\s*(?:r#)?(\w+)", plain) if not words & {it, f"the_{it}", f"{it}_"}]
         if lost:
             yield line, f"what the port wrote does not hold {', '.join(lost)} of this line: this is a fault of the port"
+
+
+def number_of(text):
+    """The number that a text of a source says."""
+    return int(text, 0) if text.lstrip("-")[:2] in ("0x", "0o", "0b") else Fraction(text)
 
 
 def lost_of_serde(text, item, declaration):
     """The derives and the attributes of serde that a type's declaration does not hold, with the line of the type."""
     plain = blank(text[item.start : item.end])
-    given = len(re.findall(r"#\s*\[\s*serde\s*\(\s*[^\s)]", plain))
+    given = len(re.findall(r"(?:#\s*\[|\bcfg_attr\s*\([^\[\]]*?,)\s*serde\s*\(\s*[^\s)]", plain))
     derives = " ".join(re.findall(r"\bderive\s*\(([^()]*)\)", plain))
     lost = [it for it in ("Deserialize", "Serialize") if re.search(rf"\b{it}\b", derives) and not re.search(rf"\b{it}\b", declaration)]
     lost += ["an attribute of serde"] if declaration.count("#[serde(") != given else []
@@ -77,16 +90,27 @@ def lost_of_serde(text, item, declaration):
 
 
 def lost_of_names(text, items, written):
-    """The names in quotes of attributes of serde that the forms do not hold, each with its line."""
+    """The names in quotes of attributes of serde that the forms do not hold, each with its line. At a type itself those of an enum's tag
+    and content are such names: what renames a type, and the tag of a struct, which is written and not read, have none."""
     stated = "\n".join(written)
     for item in items:
         plain, whole = blank(text[item.start : item.end]), blank(text[item.start : item.end], keep=True)
+        begin = next((it.start() for it in re.finditer(r"\b(?:struct|enum)\b", plain)), 0)
         for found in re.finditer(r"#\s*\[\s*serde\s*\(", plain):
-            shown = whole[found.end() : group_end(plain, found.end())]
-            for name in re.findall(r'\b(?:rename|deserialize|tag|content|alias)\s*=\s*"([^"]*)"', shown):
+            shown = re.sub(r"\brename_all\w*\s*\([^()]*\)", "", whole[found.end() : group_end(plain, found.end())])
+            words = "rename|deserialize|alias" if found.start() > begin else "tag|content" if item.kind == "enum" else "(?!)"
+            for name in sorted(set(re.findall(rf'\b(?:{words})\s*=\s*"([^"]*)"', shown)) - unnamed(item)):
                 if f'"{name}"' not in stated and item.kind + item.variants[0].shape != "structtuple":
                     line = text.count("\n", 0, item.start + found.start()) + 1
                     yield line, f"what the port wrote does not hold the name `{name}` of this line: this is a fault of the port"
+
+
+def unnamed(item):
+    """The names at what has none in JSON: the variants of an `untagged` enum, the field of a `transparent` type, fields that are not read."""
+    parts = [it for it in item.variants if "untagged" in options(item)]
+    fields = [it for variant in item.variants for it in variant.fields]
+    parts += [it for it in fields if {"skip", "skip_deserializing"} & set(options(it)) or "transparent" in options(item)]
+    return {name for part in parts for group in part.serde for said in group for name in re.findall(r'"([^"]*)"', said.text)}
 
 
 def attributes_of(text, item):

@@ -5,13 +5,13 @@ from .derives import read_serde, type_names
 from .expressions import number_of
 from .own import at_field
 from .rules import Attributes, no_attributes, present, read_attributes
-from .tokens import Notes, Refusal, Tokens, tokens_of
+from .tokens import Notes, Refusal, Token, Tokens, tokens_of
 
 
 @dataclass(frozen=True)
 class Type:
-    """A type: its kind is `path`, `ref`, `slice`, `array`, `tuple`, or `unread` where the port cannot read it, and its name is
-    the last one of its path."""
+    """A type: its kind is `path`, `ref`, `slice`, `array`, `tuple`, `const` for a number among the arguments, or `unread` where the port
+    cannot read it. Its name is the last one of its path; `front` gives a type of another crate its whole path as its name."""
 
     kind: str
     name: str
@@ -34,11 +34,12 @@ class Field:
     vis: str = ""
     serde: tuple = ()
     others: tuple = ()
+    flat: bool = False
 
 
 @dataclass(frozen=True)
 class Variant:
-    """A variant, or the fields of a struct: its shape is `named`, `tuple` or `unit`."""
+    """A variant, or the fields of a struct: its shape is `named`, `tuple` or `unit`. A variant may have a number, as it is written."""
 
     name: str
     shape: str
@@ -47,21 +48,42 @@ class Variant:
     docs: tuple = ()
     serde: tuple = ()
     others: tuple = ()
+    stated: str = ""
+    number: str = ""
+
+    @property
+    def word(self):
+        """What statements call the variant: by its name, or by another one where that stands for something else."""
+        return self.stated or self.name
 
 
 @dataclass(frozen=True)
 class Param:
-    """A parameter of a type: its kind is `lifetime`, `type` or `const`."""
+    """A parameter of a type: its kind is `lifetime`, `type` or `const`, and a type may have a default."""
 
     kind: str
     name: str
     bounds: str = ""
+    default: Type = None
+
+
+@dataclass(frozen=True)
+class Alias:
+    """Another name of a type, with its parameters; or the reason why the port cannot read it."""
+
+    name: str
+    line: int
+    params: tuple = ()
+    type: Type = None
+    fault: str = ""
 
 
 @dataclass(frozen=True)
 class Item:
     """A struct, which has one variant, or an enum. It stands in the text from `start` to `end`. `said` are its derives, each with
-    its line and its path, `serde` its attributes of serde, and `others` all other attributes in it, each with its line."""
+    its line and its path, `serde` its attributes of serde, and `others` all other attributes in it, each with its line. `known` is its name
+    in the source, `renames` what its fields are called here in place of their names there. `faults` are those that count where the type is
+    written, and `later` those where it has no form."""
 
     kind: str
     name: str
@@ -77,6 +99,10 @@ class Item:
     said: tuple = ()
     serde: tuple = ()
     others: tuple = ()
+    known: str = ""
+    renames: tuple = ()
+    faults: tuple = ()
+    later: tuple = ()
 
 
 @dataclass
@@ -99,7 +125,7 @@ class Outer:
 
 @dataclass
 class Source:
-    """What a file declares."""
+    """What a file declares. `parts` are its functions, constants and implementations, each with whether it stands under a condition."""
 
     head: list = field(default_factory=list)
     items: list = field(default_factory=list)
@@ -107,7 +133,10 @@ class Source:
     functions: dict = field(default_factory=dict)
     numbers: dict = field(default_factory=dict)
     sums: dict = field(default_factory=dict)
-    aliases: set = field(default_factory=set)
+    parts: list = field(default_factory=list)
+    aliases: dict = field(default_factory=dict)
+    modules: set = field(default_factory=set)
+    globs: list = field(default_factory=list)
     notes: Notes = field(default_factory=Notes)
 
 
@@ -160,7 +189,7 @@ def read_item(tokens, source, text):
 
 def read_known_item(tokens, source, text, outer, begin):
     """Reads an item behind its attributes."""
-    start, line = tokens.first.at, tokens.line
+    start, line, first = tokens.first.at, tokens.line, tokens.at
     vis = read_vis(tokens)
     before = tokens.at
     while any(map(tokens.sees, ("unsafe", "async"))) or any(tokens.sees("const", it) for it in ("fn", "unsafe", "async", "extern")):
@@ -181,29 +210,50 @@ def read_known_item(tokens, source, text, outer, begin):
     elif word == "const":
         read_constant(tokens, source, bool(outer.condition))
     elif word == "type":
-        source.aliases.add(tokens.first.text)
-        pass_to_end(tokens)
+        read_alias(tokens, source, bool(outer.condition))
     elif word != ";":
+        source.modules |= {tokens.first.text} if word == "mod" else set()
         tokens.at = before
         pass_over(tokens)
+    if word in ("fn", "const", "impl"):
+        source.parts.append((tokens.taken(first), bool(outer.condition)))
+
+
+def read_alias(tokens, source, conditional):
+    """Reads another name of a type. What cannot be read of it is told where a field has the type."""
+    line, faults, later = tokens.line, len(source.notes.faults), len(source.notes.later)
+    alias = Alias(tokens.name("the name of a type"), line, fault="which stands under a condition of the build" if conditional else "")
+    at = tokens.at
+    try:
+        params = read_params(tokens)
+        tokens.expect("=")
+        alias = replace(alias, params=params, type=read_type(tokens))
+    except Refusal as refusal:
+        alias = replace(alias, fault=f"which cannot be read: {refusal.reason}")
+        tokens.at = at
+    del source.notes.faults[faults:], source.notes.later[later:]
+    source.aliases[alias.name] = alias if alias.name not in source.aliases else replace(alias, fault="which stands in the file twice")
+    pass_to_end(tokens)
 
 
 def read_type_item(tokens, source, outer, head):
-    """Reads a struct or an enum behind its keyword."""
+    """Reads a struct or an enum behind its keyword. Its faults are those of the type, which count where that is written."""
     word, vis, line, begin = head
+    notes, faults, later = source.notes, len(source.notes.faults), len(source.notes.later)
     unconditional(tokens, outer)
     name, params, variants = (read_struct if word == "struct" else read_enum)(tokens)
-    item = Item(word, name, params, variants, line, outer.attributes, outer.derives, outer.docs, vis, begin, tokens.first.at)
+    lost = None in variants or any(None in it.fields for it in variants if it is not None)
+    variants = tuple(replace(it, fields=tuple(present(it.fields))) for it in present(variants))
+    item = Item(word, name, params, variants, line, outer.attributes, outer.derives, outer.docs, vis, begin, tokens.first.at, known=name)
     item = replace(item, said=outer.said, serde=outer.serde, others=outer.others + others_within(variants))
-    source.notes.told += outer.conditions
-    if None in variants or any(None in it.fields for it in variants):
-        source.notes.told.append((begin, item.end))
-        return
+    notes.told += outer.conditions
     asked = [outer.attributes.asked, *(it.attributes.asked for variant in variants for it in variant.fields)]
     if not is_ported(item) and any(asked):
-        source.notes.told.append((begin, item.end))
-        raise Refusal(line, f"`garde` attributes at `{name}`, which has no `Validate` among its derives")
-    source.notes.read |= outer.read
+        notes.refuse(line, f"`garde` attributes at `{name}`, which has no `Validate` among its derives")
+    notes.told += [(begin, item.end)] if lost or not is_ported(item) and any(asked) else []
+    item = replace(item, faults=tuple(notes.faults[faults:]), later=tuple(notes.later[later:]))
+    del notes.faults[faults:], notes.later[later:]
+    notes.read |= outer.read
     source.items.append(item)
 
 
@@ -221,6 +271,7 @@ def read_use(tokens, source):
         if path[0] == "garde" and path[-1] == "Validate" and name not in ("Validate", "_"):
             source.notes.refuse(line, f"the derive `Validate` under the name `{name}`: import it under its own")
     source.imports += found
+    source.globs += [(line, path) for path, name in found if name == "*"]
 
 
 def read_constant(tokens, source, conditional):
@@ -275,7 +326,7 @@ def read_factor(tokens, known):
 
 def read_outer(tokens):
     """Reads docs and attributes."""
-    docs, asked, outer = [], [], Outer()
+    docs, asked, outer, faulty = [], [], Outer(), False
     while tokens.first.kind in ("doc", "head") or tokens.opens("#"):
         mark = tokens.take()
         if mark.kind != "mark":
@@ -285,10 +336,16 @@ def read_outer(tokens):
         if not tokens.opens("["):
             raise Refusal(mark.line, "`#` with no attribute behind it")
         inside = tokens.group()
-        read_attribute_of(inside, outer, asked, mark, of_the_file)
+        try:
+            read_attribute_of(inside, outer, asked, mark, of_the_file)
+        except Refusal as refusal:
+            tokens.notes.faults.append(refusal)
+            tokens.notes.told.append((mark.at, tokens.first.at))
+            faulty = True
         if outer.conditions and outer.conditions[-1][1] is None:
             outer.conditions[-1] = (mark.at, tokens.first.at)
     outer.docs, outer.attributes = tuple(docs), read_attributes(asked) if asked else no_attributes()
+    outer.attributes = replace(outer.attributes, faulty=outer.attributes.faulty or faulty)
     return outer
 
 
@@ -310,6 +367,8 @@ def read_attribute_of(inside, outer, asked, mark, of_the_file):
         inside.notes.read.add(mark.at)
     elif word == "cfg" and inside.opens("(") and is_test(inside.group()) and not of_the_file:
         outer.tests = True
+    elif word == "cfg_attr" and inside.opens("(") and not of_the_file and read_conditional(inside.group(), outer, asked, mark):
+        pass
     elif word in ("cfg", "cfg_attr"):
         outer.condition = mark.line
         outer.conditions.append((mark.at, None))
@@ -317,6 +376,24 @@ def read_attribute_of(inside, outer, asked, mark, of_the_file):
         outer.serde += (read_serde(inside.group()),)
     else:
         outer.others += ((mark.line, "::".join(path)),)
+
+
+def read_conditional(tokens, outer, asked, mark):
+    """Reads what stands within `cfg_attr`, and says whether the port can judge that. Attributes under the feature of serde hold where serde
+    reads the type; of those under another condition none may speak of what is read or asked."""
+    is_serde = tokens.sees("feature", "=") and "serde" in tokens.tokens[tokens.at + 2].text
+    tokens.skip_to(",")
+    found = []
+    while tokens.takes(","):
+        start = tokens.at
+        tokens.skip_to(",")
+        if tokens.at > start:
+            end = tokens.tokens[tokens.at - 1]
+            found.append(Tokens([*tokens.tokens[start : tokens.at], Token("end", end.text, end.line, end.at)], tokens.text, tokens.notes))
+    for it in found if is_serde else ():
+        read_attribute_of(it, outer, asked, mark, False)
+    words = {token.text for it in found for token in it.tokens}
+    return is_serde or not words & {"serde", "garde", "Deserialize", "Validate", "cfg_attr"}
 
 
 def is_test(tokens):
@@ -390,9 +467,10 @@ def read_imports(tokens, before):
         if tokens.takes("*"):
             return [((*path, "*"), "*")]
         tokens.takes("::")
-        if tokens.opens("{"):
+        if tokens.opens("{") or tokens.sees("*"):
             continue
         path = (*path, tokens.name("a path"))
+        path = path[:-1] if path[-1] == "self" and path[1:] else path
         if tokens.takes("as"):
             return [(path, tokens.name("a name"))]
         if not tokens.sees("::"):
@@ -414,7 +492,11 @@ def read_enum(tokens):
     name = tokens.name("the name of an enum")
     params = read_params(tokens)
     no_where(tokens)
-    return name, params, tuple(tokens.group().items(read_variant))
+    variants = tuple(tokens.group().items(read_variant))
+    read = [it for it in variants if it is not None]
+    for it in (it for it in read if it.number and any(one.shape != "unit" for one in read)):
+        tokens.notes.refuse(it.line, f"the variant `{it.name}` with a number, beside variants with fields: take the number out")
+    return name, params, variants
 
 
 def read_variant(tokens):
@@ -424,10 +506,18 @@ def read_variant(tokens):
     if outer.attributes.asked:
         tokens.notes.refuse(line, f"an attribute at the variant `{name}`: attributes stand at types and at fields")
     variant = read_variant_body(tokens, name, line, outer.docs)
-    if tokens.sees("="):
-        tokens.notes.refuse(line, f"the variant `{name}` has a number")
+    return replace(variant, serde=outer.serde, others=outer.others, number=read_discriminant(tokens, name) if tokens.takes("=") else "")
+
+
+def read_discriminant(tokens, name):
+    """Reads the number of a variant, which stands there as it is."""
+    line, number = tokens.line, "-" * tokens.takes("-")
+    if tokens.first.kind == "number":
+        number += tokens.take().text
+    if not tokens.ended() and not tokens.sees(",") or number in ("", "-"):
+        tokens.notes.refuse_walk(line, f"the variant `{name}` whose number is computed: write the number itself")
         tokens.skip_to(",")
-    return replace(variant, serde=outer.serde, others=outer.others)
+    return number
 
 
 def read_variant_body(tokens, name, line, docs):
@@ -444,7 +534,7 @@ def read_variant_body(tokens, name, line, docs):
 
 def no_where(tokens):
     if tokens.sees("where"):
-        tokens.notes.refuse(tokens.line, "a `where` clause: write the bounds at the parameters")
+        tokens.notes.refuse_walk(tokens.line, "a `where` clause: write the bounds at the parameters")
         tokens.skip_to("{", ";")
 
 
@@ -496,24 +586,35 @@ def read_param(tokens):
     if tokens.first.kind == "lifetime":
         line, name = tokens.line, tokens.take().text
         if tokens.sees(":"):
-            tokens.notes.refuse(line, f"the lifetime `{name}` has bounds")
+            tokens.notes.refuse_walk(line, f"the lifetime `{name}` has bounds")
             tokens.skip_to(",", ">")
         return Param("lifetime", name)
     kind = "const" if tokens.takes("const") else "type"
     line, name = tokens.line, tokens.name("a parameter")
     if name == "H":
-        tokens.notes.refuse(line, "a parameter of the name `H`, which the method has for the handler")
+        tokens.notes.refuse_walk(line, "a parameter of the name `H`, which the method has for the handler")
     bounds = read_bounds(tokens) if tokens.takes(":") else ""
-    if tokens.sees("="):
-        tokens.notes.refuse(tokens.line, f"the parameter `{name}` has a default")
+    default = read_default(tokens, name) if tokens.sees("=") else None
+    return Param(kind, name, bounds, default)
+
+
+def read_default(tokens, name):
+    """Reads the default of a parameter, or passes over one that cannot be read."""
+    tokens.notes.refuse_walk(tokens.line, f"the parameter `{name}` has a default")
+    at = tokens.at
+    try:
+        tokens.expect("=")
+        return read_argument(tokens)
+    except Refusal:
+        tokens.at = at
         tokens.skip_to(",", ">")
-    return Param(kind, name, bounds)
+    return None
 
 
 def read_bounds(tokens):
     """Reads bounds as text, up to the `,` or the `>` that ends them."""
     text, depth = "", 0
-    while depth or not (tokens.sees(",") or tokens.sees(">")):
+    while depth or not any(map(tokens.sees, (",", ">", "="))):
         if tokens.ended():
             raise Refusal(tokens.line, "bounds that do not end")
         word = tokens.take().text
@@ -525,6 +626,7 @@ def read_bounds(tokens):
 def read_type(tokens):
     """Reads a type."""
     line = tokens.line
+    tokens.takes("::")
     if tokens.takes("&"):
         lifetime = tokens.take().text if tokens.first.kind == "lifetime" else ""
         if tokens.sees("mut"):
@@ -565,10 +667,20 @@ def read_path_type(tokens, line):
         path.append(tokens.name("a type"))
     if tokens.takes("<"):
         while not tokens.takes(">"):
-            args.append(tokens.take().text if tokens.first.kind == "lifetime" else read_type(tokens))
+            args.append(read_argument(tokens))
             if not tokens.sees(">"):
                 tokens.expect(",")
     return Type("path", path[-1], line, path=tuple(path), args=tuple(args))
+
+
+def read_argument(tokens):
+    """Reads an argument of a type: a lifetime, a number or a type."""
+    if tokens.first.kind == "lifetime":
+        return tokens.take().text
+    if tokens.first.kind == "number":
+        token = tokens.take()
+        return Type("const", str(number_of(token)), token.line)
+    return read_type(tokens)
 
 
 def is_ported(item):

@@ -1,4 +1,5 @@
 """The tokens of a Rust source file."""
+import difflib
 import re
 import textwrap
 from dataclasses import dataclass, field
@@ -26,17 +27,29 @@ def shown(character):
     return character if character.isprintable() else repr(character)[1:-1]
 
 
+def meant(word, known):
+    """What one may have meant by a word, to stand behind what is said of it."""
+    near = difflib.get_close_matches(word or "", [it for it in known if it != word], 1, 0.6)
+    return f": did you mean `{near[0]}`?" if near else ""
+
+
 @dataclass
 class Notes:
     """What the reading of a source found out: its faults; where it read a `derive` and a `garde` attribute, by their places in
-    the text; and the stretches of the text of which it told a fault, or which are for tests alone."""
+    the text; and the stretches of the text of which it told a fault, or which are for tests alone. `later` are the faults of a type that
+    a walk alone has: a form says nothing of them."""
 
     faults: list = field(default_factory=list)
+    later: list = field(default_factory=list)
     read: set = field(default_factory=set)
     told: list = field(default_factory=list)
 
     def refuse(self, line, reason):
         self.faults.append(Refusal(line, reason))
+
+    def refuse_walk(self, line, reason):
+        """Notes what cannot be ported of a type that no form reads."""
+        self.later.append(Refusal(line, reason))
 
 
 @dataclass(frozen=True)
@@ -164,9 +177,7 @@ class Tokens:
         token = self.take()
         if token.kind != "name":
             raise Refusal(token.line, f"{what} is expected in place of `{token.text}`")
-        if token.text.startswith("r#"):
-            raise Refusal(token.line, f"the name `{token.text}` is a keyword, which the port cannot write")
-        return token.text
+        return token.text.removeprefix("r#")
 
     def group(self):
         """Takes a group of brackets, and answers the tokens within."""
@@ -181,6 +192,18 @@ class Tokens:
         self.at = at
         inside = [*self.tokens[start : at - 1], Token("end", token.text, token.line, token.at)]
         return Tokens(inside, self.text, self.notes)
+
+    def taken(self, start):
+        """The tokens that were taken since this place, as tokens of their own."""
+        end = self.tokens[self.at - 1]
+        return Tokens([*self.tokens[start : self.at], Token("end", end.text, end.line, end.at)], self.text, self.notes)
+
+    def taken_to_end(self):
+        """The tokens that are left, all taken, but for a `;` at their end."""
+        start = self.at
+        while not self.ended() and not self.sees(";"):
+            self.take()
+        return self.taken(start)
 
     def source(self):
         """The text of all tokens, its lines without what stands before each of them but the first."""

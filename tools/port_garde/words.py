@@ -3,10 +3,12 @@ from dataclasses import replace
 
 from .expressions import CONTEXT, places_in
 from .layout import Lent, Literal, Word, call
-from .rules import OURS, PLAIN, TEXTS
+from .over_lists import same_by
+from .rules import OURS, PLAIN, REPEATED, TEXTS
 from .scope import SIGNED, UNSIGNED, Conditions, Place, Scope, Seen, is_option, is_path, is_text
 from .source import Type, type_names
 from .tokens import Refusal
+from .values import DECIMAL, KEPT, is_decimal, is_made, multiple_of, range_of
 
 # The word for what a `length` counts of a text.
 COUNTS = {"simple": "bytes", "bytes": "bytes", "chars": "chars", "graphemes": "graphemes", "utf16": "utf16"}
@@ -119,16 +121,26 @@ class Checks:
         """That no two items of a list are the same."""
         kind = seen.type
         item = kind.args[0] if is_path(kind, "Vec", "Items") and kind.args else None
-        same = SAME.get(item.name) if item is not None and item.kind == "path" else None
-        if same is None:
-            told = f"`unique` of the type `{self.writer.type_text(kind, True)}`"
-            raise Refusal(rule.line, f"{told}: it is written of lists of texts and of numbers without a sign")
         if kind.name == "Items":
             self.refuse_walk(rule)
-        self.uses.words |= {"unique", same.split()[0]} | ({"str"} if "str" in same else set())
-        code = call(self.field("Unique"), f'"{rule.text}"', self.field("Equal"))
-        stated = f"(λ x y. {same})" if " " in same else same
+        self.word("unique")
+        if rule.place is not None and item is not None:
+            same, stated = same_by(self, rule, item)
+        else:
+            same, stated = self.field("Equal"), self.equality(rule, kind, item)
+        code = call(self.field("Unique"), f'"{rule.text}"', same)
         return code, f'unique "{rule.text}" {stated} {self.held(kind, seen)}'
+
+    def equality(self, rule, kind, item):
+        """How two items of a list are compared, as it is stated."""
+        same = SAME.get(item.name) if item is not None and item.kind == "path" else None
+        if same is None and item is not None and self.writer.is_compared(item):
+            return f"⟦<{self.writer.type_text(item)} as PartialEq>⟧.eq"
+        if same is None:
+            told = f"`unique` of the type `{self.writer.type_text(kind, True)}`"
+            raise Refusal(rule.line, f"{told}: it is written of lists of texts, of numbers and of types of this file that derive `PartialEq`")
+        self.uses.words |= {same.split()[0]} | ({"str"} if "str" in same else set())
+        return f"(λ x y. {same})" if " " in same else same
 
     def keys(self, rule, seen, adapter):
         """Rules of the names of a map that a form reads."""
@@ -145,7 +157,8 @@ class Checks:
     def refuse_walk(self, rule):
         """Refuses a rule that a form alone asks, of a type with a walk."""
         if self.writer.item.name not in self.writer.unwalked:
-            raise Refusal(rule.line, f"`{rule.name}` of what a form reads, in a type with a walk, which has no such rule: say `--no-walk`")
+            told = "a set" if rule.text == REPEATED else f"`{rule.name}`"
+            raise Refusal(rule.line, f"{told} of what a form reads, in a type with a walk, which has no such rule: say `--no-walk`")
 
     def held(self, kind, seen):
         """What a collection holds, as a list."""
@@ -166,7 +179,7 @@ class Checks:
         name = seen.name
         while (is_path(kind, "Box", "Rc") and len(kind.args) == 1) or kind.kind == "ref":
             name, kind = name + (".now" if kind.kind == "ref" else ".value"), kind.args[0]
-        if kind.kind != "path" or kind.name in (*SIMPLE, *EACH, *EACH_VALUE):
+        if kind.kind != "path" or kind.name in (*SIMPLE, *EACH, *EACH_VALUE) or is_made(kind, DECIMAL, KEPT):
             raise Refusal(rule.line, f"`dive` into the type `{self.writer.type_text(kind, True)}`")
         self.writer.dives_into(kind.name, rule)
         owner = kind.name if kind.name in self.scope.params else f"⟦<{self.writer.type_text(kind)} as Stated>⟧"
@@ -213,14 +226,15 @@ class Checks:
         given = {it: Place("the_value" if it == "value" else outer.places[it].binding, at[it], outer.places[it].type) for it in others}
         inner = Scope(outer.context, given, outer.params, outer.unit, Place("value", "value", seen.type), fields)
         holds = Conditions(inner, self.uses, self.writer).whole(rule.place)
-        self.uses.fields |= {"Asks", "Rule"}
+        word, given = rule.asks()
+        self.uses.fields |= {word, "Rule"}
         self.uses.others |= {"garde::I18n", "garde::RuleError", "std::alloc::Global"}
         self.writer.written_rule(name, rule, self.writer.type_text(seen.type), holds, inner)
         inner.value, inner.places = replace(inner.value, name=seen.name), outer.places
         _, stated = Conditions(inner, self.uses, self.writer).whole(rule.place)
         outer.bound |= inner.bound
         value = call(name, *(outer.places[it].binding if it in given else it for it in held)) if held else Word(name)
-        return self.asked(value, f'{self.word("asks")} "{rule.message}" {stated}', False)
+        return self.asked(value, " ".join([self.word("asks_as" if rule.code else "asks"), *given, stated]), False)
 
     def adapted(self, rule, seen, adapter):
         """A rule of a text that a view shows of the value."""
@@ -240,6 +254,8 @@ class Checks:
             return (*self.range(rule, seen), False)
         if rule.name == "multiple_of":
             return (*self.multiple(rule, seen), False)
+        if rule.name == "whole_key":
+            return (*self.whole_key(rule, seen), False)
         if rule.name == "required":
             if not is_option(seen.type):
                 raise Refusal(rule.line, "`required` of a value that is no `Option`")
@@ -280,6 +296,7 @@ class Checks:
         if other is None:
             raise Refusal(rule.line, f"`matches` of the field `{rule.text}`, which is not there")
         self.scope.bound.add(rule.text)
+        rule = replace(rule, text=next((known for known, name in self.writer.item.renames if name == rule.text), rule.text))
         fields = (("field", Word(f'"{rule.text}"')), ("other", Word(other.binding)))
         return Literal(self.field("Matches"), fields), self.equal(rule, seen, other)
 
@@ -297,6 +314,14 @@ class Checks:
             raise Refusal(rule.line, f"`matches` of {told}: it is written of two texts, options of texts or numbers without a sign, each of one type, so compare others by a rule of your own, by `custom`")
         self.uses.words |= {"matches", same.split()[0]} | {it for it in ("text_eq", "str") if it in same}
         return f'matches "{rule.text}" ({same} {seen.name} {other.name})'
+
+    def whole_key(self, rule, seen):
+        """The rule that a name of a map is a whole number."""
+        number = rule.mode[:1].upper() + rule.mode[1:]
+        self.uses.others |= {"garde_form::WholeKey", f"garde_schema::{number}"}
+        self.uses.stated.add(("Rattle.garde_form.specs.Keys", "whole_key"))
+        self.uses.written.add(f"{rule.mode}_texts")
+        return call("WholeKey", f'"{rule.text}"', number), f'whole_key "{rule.text}" {rule.mode}_texts {seen.name}'
 
     def pattern(self, rule, seen):
         """The rule that a compiled pattern of the context matches."""
@@ -330,6 +355,8 @@ class Checks:
     def range(self, rule, seen):
         """The rule about a number, by its type."""
         kind = seen.type.name
+        if is_decimal(seen.type):
+            return range_of(self, rule, seen)
         if not is_path(seen.type, *UNSIGNED, *SIGNED):
             floats = " of floating-point numbers" if kind in ("f32", "f64") else ""
             told = f"`range` of the type `{self.writer.type_text(seen.type, True)}`"
@@ -342,6 +369,8 @@ class Checks:
     def multiple(self, rule, seen):
         """The rule that a number is a multiple of another one, by its type."""
         kind = seen.type.name
+        if is_decimal(seen.type):
+            return multiple_of(self, rule, seen)
         if not is_path(seen.type, *UNSIGNED, *SIGNED):
             raise Refusal(rule.line, f"`multiple_of` of the type `{self.writer.type_text(seen.type, True)}`, which is no whole number")
         it, signed = self.writer.resolved(rule.bounds["equal"]), kind in SIGNED
@@ -368,6 +397,8 @@ class Checks:
     def bound(self, it, signed):
         """A bound as code and as it is stated."""
         it = self.writer.resolved(it)
+        if it.kind == "decimal":
+            raise Refusal(it.line, f"the floating-point number `{it.value}`")
         if it.kind == "number":
             if it.value < 0 and not signed:
                 raise Refusal(it.line, f"the bound {it.value} of what has no sign")

@@ -4,21 +4,23 @@ from dataclasses import replace
 
 from .borrowed import Borrowed, below, is_named
 from .derives import SERDE, Derives, kept_derives, literal_function, named_function, options, serde_lines
-from .expressions import Expression
+from .front import Front, place_named
+from .holes import HOLE
 from .implementation import Implementation
 from .layout import CALL, VARIANT, WIDTH, Method, Word, call, statement, use_line
 from .own import read_function
-from .schema import Schema, within_rule
-from .scope import SIGNED, UNSIGNED, Scope, Uses
+from .parsed import KNOWN
+from .schema import Schema, snake, within_rule
+from .scope import SIGNED, Scope, Uses, resolved
 from .second import faults_of_values, lost_of_names, lost_of_serde, passed_by
-from .source import all_rules, is_ported, read_type, type_names
+from .source import all_rules, is_ported, read_source, read_type
 from .tokens import Refusal, Refusals, Tokens
 from .words import camel
 
 COLLECTIONS = ("BTreeMap", "BTreeSet", "BinaryHeap", "HashMap", "HashSet", "LinkedList", "VecDeque")
 IMPORTS = {name: f"std::collections::{name}" for name in COLLECTIONS}
-IMPORTS.update({name: f"garde_schema::{name}" for name in ("TextRef", "Items", "Entries")})
-IMPORTS.update({"Rc": "std::rc::Rc", "Regex": "garde::rules::pattern::regex::Regex"})
+IMPORTS.update({name: f"garde_schema::{name}" for name in ("TextRef", "Items", "Entries", "Decimal", "KeptValue")})
+IMPORTS.update({"Rc": "std::rc::Rc", **{name: f"std::net::{name}" for name in ("IpAddr", "Ipv4Addr", "Ipv6Addr")}, "Regex": "garde::rules::pattern::regex::Regex"})
 # The crates whose names are imported as the output has them.
 WRITTEN = ("std", "core", "alloc", "garde", "regex", "serde", "serde_derive")
 GARDE = {"I18n", "Report", "Stated", "Trail", "Validate", "AllocError", "Global", "Rule", "View", "RuleError"}
@@ -69,12 +71,17 @@ class Writer:
     """Writes what stands for a source. `module` is the path of what is written, `own` that of the rules of one's own, and
     `left_out` are the derives and attributes that are left out without a word. With `walks` types that a form reads have a walk too.
     `body` is the type that a static library checks, and `spelled` one of which JSON spells what a program reads: then they have none.
-    What reads reports the `first` faults alone, or all. What is spelled is read from an `input`: JSON, a web form or rows."""
+    What reads reports the `first` faults alone, or all. What is spelled is read from an `input`: JSON, a web form or rows. The types and the
+    variants that are `taken` have names that stand for something else in what is written."""
 
-    def __init__(self, source, module=None, own=None, left_out=(), schema=False, walks=True, body=None, first=False, spelled=None, input="json"):
+    def __init__(self, source, module=None, own=None, left_out=(), schema=False, walks=True, body=None, first=False, spelled=None, input="json", taken=()):
+        self.given = (module, own, left_out, schema, walks, body, first, spelled, input)
         self.source, self.module, self.own, self.first, self.input = source, module, own, first, input
-        self.checked, self.is_library = body or spelled, body is not None
-        self.borrowed = Borrowed(source, left_out, bool(self.checked), walks, spelled is not None, input) if schema or self.checked else None
+        self.taken, self.clashes = frozenset(taken), set()
+        front = Front(source, bool(schema or body or spelled), body or spelled, self.taken)
+        front.turn()
+        self.checked, self.is_library = front.called(body or spelled), body is not None
+        self.borrowed = Borrowed(source, left_out, bool(self.checked), walks, spelled is not None, input, bool(own)) if schema or self.checked else None
         self.unwalked = self.borrowed.unwalked() if self.checked or schema and not walks else set()
         self.derives = Derives(source, left_out)
         self.uses = Uses()
@@ -84,16 +91,29 @@ class Writer:
         self.notes = source.notes
 
     def text(self, rust):
-        """The whole file for a Rust source, or all that cannot be ported of it."""
+        """The whole file for a Rust source, or all that cannot be ported of it. Where a name stands for something else in it, it is written
+        once more with other names."""
+        found = self.attempt(rust)
+        while self.clashes - self.taken:
+            self.__init__(read_source(rust), *self.given, taken=self.taken | self.clashes)
+            found = self.attempt(rust)
+        return found
+
+    def attempt(self, rust):
+        """The whole file with the names as they are taken so far."""
         if self.borrowed:
             self.borrowed.turn()
         items = [text for item in self.source.items for text in self.tried(item, rust)]
         items += self.schema_texts(rust) if self.borrowed and not self.notes.faults else []
-        self.refuse_names()
+        self.find_clashes()
         for line, reason in passed_by(rust, self.notes):
             self.notes.refuse(line, reason)
+        if self.module is None and not self.notes.faults:
+            self.refuse_declared()
         if self.notes.faults:
             raise Refusals(self.notes.faults)
+        if self.clashes - self.taken:
+            return ""
         parts = [self.ghost_uses(), self.use_lines(), *items, *self.skeleton_texts()]
         return "\n\n".join(part for part in parts if part) + "\n"
 
@@ -122,7 +142,9 @@ class Writer:
         texts = [] if self.notes.faults else schema.texts()
         if self.notes.faults:
             return []
-        read = [it for it in self.borrowed.items.values() if not is_named(it) or schema.is_held(it)]
+        read = [it for it in self.borrowed.items.values() if it.name not in self.borrowed.holes and (not is_named(it) or schema.is_held(it))]
+        # a type that a form by hand alone reads has no form here
+        read = [it for it in read if re.search(rf"\b{snake(it.name)}_(?:form|members)\b", "\n".join(texts))]
         for line, reason in lost_of_names(rust, read, texts):
             self.notes.refuse(line, reason)
         return texts
@@ -154,18 +176,17 @@ class Writer:
         self.uses.fields, self.uses.others = fields, others
         return text
 
-    def refuse_names(self):
-        """Refuses types whose names are imported, and variants whose names stand for something else in a statement."""
+    def find_clashes(self):
+        """Finds the types whose names are imported, and the variants whose names stand for something else in a statement."""
         imported = GARDE | self.uses.fields | {path.rpartition("::")[2] for path in self.uses.others}
         taken = self.uses.words | {"Some", "None", "Ok", "Err"} | ({"Left", "Right"} if self.uses.sides else set())
         for item in self.source.items:
             if item.name in imported:
-                self.notes.refuse(item.line, f"the name `{item.name}` is one that the port imports")
+                self.clashes.add(item.known)
             for variant in self.stated_variants(item):
-                if variant.name in taken:
-                    told = f"the name `{variant.name}` stands for something else in this file"
-                    self.notes.refuse(variant.line, f"{told}: give the enum a file of its own, or the variant another name")
-                taken.add(variant.name)
+                if variant.word in taken:
+                    self.clashes.add((item.known, variant.name))
+                taken.add(variant.word)
 
     def stated_variants(self, item):
         """The variants that statements name."""
@@ -195,7 +216,7 @@ class Writer:
         if variant.shape == "unit":
             return ";"
         if variant.shape == "named":
-            return " {\n" + "".join(self.field_lines(it, 4) for it in variant.fields) + "}"
+            return " {\n" + "".join(self.field_lines(it, 4) for it in variant.fields) + "}" if variant.fields else " {}"
         inside = ", ".join(self.in_tuple(it) for it in variant.fields)
         if len(inside) <= CALL and before + len(inside) + 3 <= WIDTH and not any(it.docs for it in variant.fields):
             return f"({inside});"
@@ -234,7 +255,7 @@ class Writer:
     def variant_text(self, variant, tall):
         """A variant of an enum; where one of them is tall, so are all with named fields."""
         if variant.shape == "unit":
-            return variant.name
+            return f"{variant.name} = {variant.number}" if variant.number else variant.name
         opening, closing = (" {", "}") if variant.shape == "named" else ("(", ")")
         inside = ", ".join((f"{it.name}: " if it.name else "") + self.in_tuple(it) for it in variant.fields)
         fits = len(inside) <= VARIANT and not tall if variant.shape == "named" else len(variant.name + inside) + 7 <= WIDTH
@@ -249,8 +270,8 @@ class Writer:
         if isinstance(kind, str):
             return kind if declared else self.renamed.get(kind, kind)
         inside = [self.type_text(it, declared) for it in kind.args]
-        if kind.kind == "unread":
-            return "_"
+        if kind.kind in ("unread", "const"):
+            return kind.name or "_"
         if kind.kind == "ref":
             life = self.type_text(kind.lifetime, declared) + " " if kind.lifetime else ""
             return f"&{life}{inside[0]}"
@@ -270,8 +291,8 @@ class Writer:
             self.uses.others.add("std::borrow::CowStr")
             return f"CowStr<{inside[0]}>"
         name = kind.name if kind.path[0] in ("std", "regex", "garde") else "::".join(kind.path)
-        if name in IMPORTS:
-            self.uses.others.add(IMPORTS[name])
+        if kind.name in IMPORTS:
+            self.uses.others.add(IMPORTS[kind.name])
         return f"{name}<{', '.join(inside)}>" if inside else name
 
     def params_text(self, params, bounds, names=False):
@@ -299,20 +320,17 @@ class Writer:
         return Scope(context[1] if context else "ctx", places or {}, set(), context is None)
 
     def resolved(self, it):
-        """An expression, and of a constant its number: of one of the file, or of the greatest or least one of a type."""
-        if it.kind == "minus":
-            part = self.resolved(it.parts[0])
-            return Expression("number", it.line, -part.value) if part.kind == "number" else it
-        found = None
-        if it.kind == "path" and len(it.value) == 2:
-            found = end_of(*it.value)
-        if found is None and (it.kind == "place" and len(it.value) == 1 or it.kind == "path"):
-            found = self.source.numbers.get(it.value[-1])
-        return it if found is None else Expression("number", it.line, found)
+        """An expression, and of a constant its number."""
+        return resolved(it, self.source.numbers)
 
     def enum(self, name):
         """The enum of this name in the file, or nothing."""
-        return next((it for it in self.source.items if it.name == name and it.kind == "enum"), None)
+        return next((it for it in self.source.items if name in (it.name, it.known) and it.kind == "enum"), None)
+
+    def is_compared(self, kind):
+        """Whether values of a type are compared by `==`: numbers with a sign, and types of the file that derive `PartialEq`."""
+        found = next((it for it in self.source.items if it.name == kind.name), None)
+        return kind.kind == "path" and (kind.name in SIGNED or found is not None and "PartialEq" in found.derives)
 
     def new_pattern(self, rule):
         """A place in the context of the type for a pattern in quotes, and its name."""
@@ -379,11 +397,15 @@ class Writer:
 
     def closure_name(self, rule):
         """A name for a closure, after the type and the field, with a number for each further one of the field."""
-        name = f"{self.item.name}{camel(self.spot)}Rule"
+        return self.numbered("Rule", rule.source)
+
+    def numbered(self, word, source):
+        """A name after the type and the field that ends with this word, with a number for each further source of the field."""
+        name = f"{self.item.name}{camel(self.spot)}{word}"
         found = self.closures.setdefault(name, [])
-        if rule.source not in found:
-            found.append(rule.source)
-        number = found.index(rule.source)
+        if source not in found:
+            found.append(source)
+        number = found.index(source)
         return f"{name}{number + 1}" if number else name
 
     def own_rule(self, name, rule, kind, unit):
@@ -404,7 +426,7 @@ class Writer:
             message, place = read_function(self.source.functions[rule.text])
         except Refusal:
             return rule
-        return replace(rule, message=message, place=place)
+        return replace(rule, message=message, place=place_named(place, dict(self.item.renames)))
 
     def fields_within(self, kind):
         """The fields of a struct of the file, with their types."""
@@ -414,17 +436,16 @@ class Writer:
     def written_rule(self, name, rule, kind, holds, scope):
         """A rule of one's own that the port reads, with its condition as code and as it is stated. It holds the context, where the condition
         names that, and then the other fields of the scope."""
-        if any(it.name == name for it in self.source.items):
-            raise Refusal(rule.line, f"a rule of your own, which is a type `{name}`: give that of the file another name")
         condition, stated = holds
         held = [(scope.context, self.context)] if scope.asks_context else []
         held += [(it.binding, self.type_text(it.type)) for it in scope.places.values()]
         stated = within_rule(stated, scope.context) if scope.asks_context else stated
         head = f"    ghost finds = {{ λ {'rule' if held else '_'} value."
         parts = [f"&'c {text}" for _, text in held]
-        said, both = f'asks "{rule.message}" {stated} }};', " ".join(text for _, text in held)
+        word, given = rule.asks()
+        said, both = " ".join(["asks_as" if rule.code else "asks", *given, stated, "};"]), " ".join(text for _, text in held)
         told = f"What the function `{rule.text}` asks of a value." if rule.text else f"What a rule of the field `{self.spot}` of `{self.item.name}` asks of its value."
-        asked = Method(call("Asks", f'"{rule.message}"', condition), "find", tuple(map(Word, ("alloc", "value", "h"))))
+        asked = Method(call(word, *given, condition), "find", tuple(map(Word, ("alloc", "value", "h"))))
         find = f"    fn find<H: I18n>(&self, alloc: Global, value: &{kind}, h: &H) -> Result<(), RuleError> {{"
         text = OWN.format(
             docs=told, name=name, kind=kind, bound=lifetimes_of(f"{kind} {both}"), asked=statement(asked, 8),
@@ -434,12 +455,24 @@ class Writer:
             head=find if len(find) <= WIDTH else FIND.format(kind=kind),
             taken="".join(f"        let {it} = self.{number};\n" for number, (it, _) in enumerate(held)),
         )
+        self.write_once(name, rule.line, text, rule.text)
+
+    def write_once(self, name, line, text, function=None):
+        """Writes a type that a rule of one's own needs."""
+        if any(it.name == name for it in self.source.items):
+            raise Refusal(line, f"a rule of your own, which is a type `{name}`: give that of the file another name")
         if self.copied.setdefault(name, text) != text:
-            raise Refusal(rule.line, f"`{rule.text}` of values of two types: write a function for each")
+            raise Refusal(line, f"`{function or name}` of values of two types: write a function for each")
 
     def own_view(self, name, path, kind):
         docs = f"/// A view to be written, in place of the module `{'::'.join(path)}`: the text of which the rules are asked."
         self.skeletons[name] = ("View", VIEW.format(docs=docs, vis=self.item.vis, name=name, kind=kind, bound=lifetimes_of(kind)))
+
+    def hole(self, name):
+        """The form of a type whose reading stands in the module of one's own, with the type itself."""
+        self.skeletons[name] = ("", HOLE.format(name=name, why=self.borrowed.holes[name]))
+        self.skeletons[f"{name}Form"] = ("", "")
+        return f"{name}Form"
 
     def skeleton_texts(self):
         """The functions that are copied, and the beginnings of rules, views and functions."""
@@ -453,15 +486,25 @@ class Writer:
         prelude = {f"Rattle.std.specs.Prelude.{{{', '.join(sorted(uses.prelude))}}}"} if uses.prelude else set()
         cow = {"Rattle.std.specs.Cow.{cow_str_bytes}"} if uses.cow else set()
         lines += [f"ghost use {it};" for it in (*prelude, *cow, *sorted(uses.paths))]
+        modules = sorted({module for module, _ in uses.stated})
+        lines += [f"ghost use {it}.{{{', '.join(sorted(word for module, word in uses.stated if module == it))}}};" for it in modules]
         if uses.words:
             lines.append(f"ghost use Rattle.garde.specs.Fields.{{{', '.join(sorted(uses.words, key=word_order))}}};")
         lines += [f"ghost use Rattle.garde_schema.specs.Spelling.{{{', '.join(sorted(uses.spelled))}}};"] if uses.spelled else []
         lines += [f"ghost use Rattle.garde_schema.specs.Unions.{{{', '.join(sorted(uses.unions))}}};"] if uses.unions else []
+        lines += [f"ghost use Rattle.garde_schema.specs.Decimals.{{{', '.join(sorted(uses.decimals))}}};"] if uses.decimals else []
+        lines += [f"ghost use Rattle.garde_schema.specs.Flattened.{{{', '.join(sorted(uses.flattened))}}};"] if uses.flattened else []
         lines += [f"ghost use Rattle.garde_form.specs.Spelling.{{{', '.join(sorted(uses.written))}}};"] if uses.written else []
         lines += ["ghost use Rattle.garde_schema.specs.declared.either.Either.TheVariants.{Left, Right};"] if uses.sides else []
         lines += [self.variants_use(it) for it in self.source.items if self.stated_variants(it)]
         lines += [self.nested_use(it) for it in self.source.items if self.is_nested(it)]
         return "\n".join(lines)
+
+    def refuse_declared(self):
+        """Refuses the types of which a statement names what the toolchain declares of them."""
+        for item in self.source.items:
+            if self.stated_variants(item) or self.is_nested(item):
+                self.notes.refuse(item.line, f"`{item.name}`, whose statement names its module: say it by `--module CRATE::MODULE`")
 
     def declared(self, item):
         """The path of what the toolchain declares of a type."""
@@ -470,7 +513,8 @@ class Writer:
 
     def variants_use(self, item):
         """What imports the variants of an enum."""
-        return f"ghost use {self.declared(item)}.TheVariants.{{{', '.join(it.name for it in item.variants)}}};"
+        names = ", ".join(it.name + (f" as {it.word}" if it.stated else "") for it in item.variants)
+        return f"ghost use {self.declared(item)}.TheVariants.{{{names}}};"
 
     def nested_use(self, item):
         """What imports how a value of a type that holds itself is made of its fields."""
@@ -497,17 +541,9 @@ class Writer:
         named = {name for item in self.source.items for name in names_of(item)}
         kept = set()
         for path, name in self.source.imports:
-            if path[0] not in WRITTEN and name in named:
+            if path[0] not in WRITTEN and name in named and (path[0], path[-1]) not in KNOWN and not (self.borrowed and name in self.borrowed.holes):
                 kept.add("::".join(path) + (f" as {name}" if name != path[-1] else ""))
         return kept
-
-
-def end_of(name, end):
-    """The greatest or the least number of a type, as `u8::MAX`, or nothing."""
-    if name not in (*UNSIGNED, *SIGNED) or end not in ("MIN", "MAX"):
-        return None
-    bits, signed = 64 if name.endswith("size") else int(name[1:]), name in SIGNED
-    return 2 ** (bits - signed) - 1 if end == "MAX" else -(2 ** (bits - 1)) * signed
 
 
 def begun(what, source):
@@ -522,10 +558,15 @@ def has_pattern(rules):
 
 
 def names_of(item):
-    """The names that a type's declaration and its attributes speak of."""
-    names = {name for variant in item.variants for it in variant.fields for name in type_names(it.type)}
+    """The names that a type's declaration and its attributes speak of, as the source imports them."""
+    names = {name for variant in item.variants for it in variant.fields for name in first_names(it.type)}
     names |= {token.text for token in item.attributes.context[1].tokens} if item.attributes.context else set()
     return names
+
+
+def first_names(kind):
+    """The names that the paths in a type begin with."""
+    return set() if isinstance(kind, str) else set(kind.path[:1]).union(*map(first_names, kind.args))
 
 
 def lifetimes_of(kind):

@@ -1,0 +1,107 @@
+"""Members of one type among those of another one: fields under serde's `flatten`, and variants under `tag` that hold a struct."""
+from .defaults import is_skipped
+from .derives import options
+from .groups import is_flat, is_rest, shared_rules
+from .names import of_field
+from .scope import is_option
+
+
+def part_of(kind, items):
+    """The struct of the file whose members a type stands for, or nothing."""
+    found = items.get(getattr(kind, "name", None))
+    is_struct = found is not None and found.kind == "struct" and found.variants[0].shape == "named" and found.variants[0].fields
+    return found if is_struct and "transparent" not in options(found) else None
+
+
+def flat_part(it, items):
+    """The struct whose members a flattened field or an option of one stands for, or nothing."""
+    return part_of(it.type.args[0] if is_option(it.type) else it.type, items) if is_flat(it) else None
+
+
+def held_part(variant, item, items):
+    """The struct whose members a variant under `tag` stands for, or nothing."""
+    said = options(item)
+    is_held = item.kind == "enum" and "tag" in said and "content" not in said and variant.shape == "tuple" and len(variant.fields) == 1
+    return part_of(variant.fields[0].type, items) if is_held else None
+
+
+def fields_among(item, items):
+    """The fields of a type that stand for the members of a struct, each with that struct."""
+    found = [(it, flat_part(it, items) or held_part(variant, item, items)) for variant in item.variants for it in variant.fields]
+    return [(it, part) for it, part in found if part]
+
+
+def is_closed(variant, item, items):
+    """Whether a variant under `tag` knows no further member: serde asks a struct that it holds, and else the enum."""
+    return "deny_unknown_fields" in options(held_part(variant, item, items) or item)
+
+
+def is_closed_as_one(item, items):
+    """Whether all variants under `tag` or none of them know no further member."""
+    return len({is_closed(it, item, items) for it in item.variants}) == 1
+
+
+def names_of(it, variant, item, items):
+    """The names in JSON of the members that a field stands for."""
+    part = flat_part(it, items)
+    if part is None:
+        return [] if is_flat(it) else [of_field(it, variant, item)]
+    return [name for one in part.variants[0].fields for name in names_of(one, part.variants[0], part, items)]
+
+
+def must_be_there(it, item, borrowed):
+    """Whether serde reads no value of a type where the members that a field stands for are missing."""
+    if is_flat(it):
+        part = part_of(it.type, borrowed.items)
+        return part is not None and any(must_be_there(one, part, borrowed) for one in part.variants[0].fields)
+    return not is_option(it.type) and not is_skipped(it) and not {"default"} & {*options(it), *options(item)}
+
+
+def faults(item, borrowed):
+    """Why the members of fields and variants cannot stand among those of a type."""
+    for variant in item.variants:
+        flat = [it for it in variant.fields if is_flat(it)]
+        for it in flat:
+            line = options(it)["flatten"].line
+            yield from ((line, f"`flatten` at the field `{it.name}`: {told}") for told in of_field_faults(it, variant, item, borrowed))
+        tag = options(item).get("tag")
+        if tag and "content" not in options(item):
+            part = held_part(variant, item, borrowed.items)
+            fields, of = (part.variants[0].fields, (part.variants[0], part)) if part else (variant.fields, (variant, item))
+            names = [name for it in fields if it.name for name in names_of(it, *of, borrowed.items)]
+            if tag.value in names:
+                yield variant.line, f"the variant `{variant.name}` with a member `{tag.value}`, which is the tag: give one of them another name"
+
+
+def of_field_faults(it, variant, item, borrowed):
+    """Why a field has no form under `flatten`."""
+    if borrowed.input != "json":
+        yield f"no text of `--input {borrowed.input}` has one, so write the members of its type here"
+    if item.kind == "struct" and "deny_unknown_fields" in options(item):
+        yield f"serde has none beside `deny_unknown_fields`, so take that out at `{item.name}`, or write the members here"
+    if shared_rules(it):
+        yield "its rules speak of other fields, so write them at one of those"
+    if is_rest(it):
+        yield from of_rest_faults(it, variant)
+        return
+    part = flat_part(it, borrowed.items)
+    if part is None:
+        yield f"its type is no struct of this file with named fields, no option of one and no map, so write `{it.name}` as a member, without `flatten`"
+        return
+    if borrowed.holds_itself(part, part, ()):
+        yield f"`{part.name}` holds itself, so write it as a member"
+    if any(is_rest(one) for one in part.variants[0].fields) and variant.fields[-1] is not it:
+        yield f"`{part.name}` takes every other member, so write this field last"
+    if is_option(it.type) and not any(must_be_there(one, part, borrowed) for one in part.variants[0].fields):
+        yield f"each member of `{part.name}` may be missing, so serde always gives a value: write `{part.name}` in place of the option"
+
+
+def of_rest_faults(it, variant):
+    """Why a map has no form under `flatten`."""
+    if variant.fields[-1] is not it:
+        yield "it takes every other member, so write this field last"
+    if len(variant.fields) == 1:
+        yield "it is the only field, so write `#[serde(transparent)]` at the type"
+    asked = sorted({rule.name for rule in it.attributes.rules} - {"inner", "dive"})
+    if asked:
+        yield f"a form asks rules of its values alone, so take out `{asked[0]}`"

@@ -1,0 +1,119 @@
+"""What a crate lacks of what its written modules name: a line that declares a module, items that are written by hand, and names of a copy
+of `garde` in which what was not needed is left out."""
+import re
+
+from .tokens import shown
+
+SKIPPED = re.compile(r'//[^\n]*|"(?:\\.|[^"\\])*"|\'(?:\\[^\'\n]*|[^\\\'\n])\'', re.S)
+USE = re.compile(r"^use ([\w:]+)::(?:\{([^}]*)\}|(\w+));", re.M)
+STATED = re.compile(r"^ghost use Rattle\.(\w+)\.specs\.(\w+)", re.M)
+ITEM = r"\b(?:struct|enum|fn|type|trait|const|mod|macro_rules!)\s+{0}\b|\buse\b[^;]*\b{0}\b|\buse\b[^;]*::\*"
+CUT = "call tools/vendor again"
+OPENING = re.compile(r"(?<![\w>!\])])\s*\(")
+OF_TUPLE = re.compile(r"\bimpl\b[^{;]*?\bfor\s*(\([^{]*?\))\s*(?:where\b[^{]*)?\{")
+
+
+def notes_of(crate, written):
+    """What a crate lacks of what modules name: their outputs, each with its text, and the beginnings of what is written by hand for it."""
+    found = []
+    for output, (text, begun) in sorted(written.items()):
+        names = names_of(crate, output)
+        found += undeclared(crate, names, f"without it {shown_path(output)} is no part of the crate")
+        found += unwritten(crate, output, SKIPPED.sub("", text), begun)
+        found += left_out(crate, output, SKIPPED.sub("", text))
+    return list(dict.fromkeys(found))
+
+
+def shown_path(path):
+    return "".join(map(shown, str(path)))
+
+
+def names_of(crate, output):
+    """The names of the module that stands in a file, from the root of its crate on."""
+    names = output.relative_to(crate / "src").with_suffix("").parts
+    return names[:-1] if names[-1] == "mod" else names
+
+
+def file_of(crate, names):
+    """The file of a module, or None."""
+    places = [f"src/{'/'.join(names)}.rt", f"src/{'/'.join([*names, 'mod'])}.rt"] if names else ["src/main.rt", "src/lib.rt"]
+    return next((crate / it for it in places if (crate / it).is_file()), None)
+
+
+def code_of(file):
+    """The code of a file, without comments and texts in quotes."""
+    return SKIPPED.sub("", file.read_text(encoding="utf-8", errors="replace"))
+
+
+def undeclared(crate, names, why):
+    """That the line is missing which makes a module a part of its crate."""
+    above = file_of(crate, names[:-1])
+    if above and not re.search(rf"\bmod\s+{names[-1]}\b", code_of(above)):
+        yield f"{shown_path(above)}: write the line `mod {names[-1]};`: {why}"
+
+
+def unwritten(crate, output, text, begun):
+    """The items of the crate's own modules that a module imports and that are not there, each with how it begins."""
+    for path, listed, one in USE.findall(text):
+        first, *names = path.split("::")
+        if first != "crate" or not names:
+            continue
+        file = file_of(crate, names)
+        wanted = [it for it in re.findall(r"\w+", listed or one) if not (file and re.search(ITEM.format(it), code_of(file)))]
+        is_inline = not file and re.search(rf"\bmod\s+{names[-1]}\s*\{{", code_of(file_of(crate, names[:-1]) or output))
+        if is_inline or not file and not file_of(crate, ()):
+            continue
+        yield from undeclared(crate, names, f"{shown_path(output)} takes {', '.join(wanted) or 'items'} from it")
+        place = shown_path(file or crate / f"src/{'/'.join(names)}.rt")
+        for name in wanted:
+            begins = f", beginning so:\n{begun[name]}" if name in begun else ""
+            yield f"{place}: {'it has no' if file else 'it is not there, with'} `{name}`, which {output.name} takes from it: write it{begins}"
+
+
+def left_out(crate, output, text):
+    """What a module names of libraries that is left out of their copies."""
+    crates = {it: crate.parent / it for it in re.findall(r"\bgarde\w*", text)}
+    cut = {name: folder for name, folder in crates.items() if (folder / "src/lib.rt").is_file() and CUT in (folder / "src/lib.rt").read_text(encoding="utf-8")}
+    found = [name for path, listed, one in USE.findall(text) for name in lacking(cut, path.split("::"), re.findall(r"\w+", listed or one))]
+    found += [f"{name}.specs.{file}" for name, file in STATED.findall(text) if name in cut and not (cut[name] / f"specs/{file}.antt").is_file()]
+    if cut and not found:
+        there = {size for folder in cut.values() for file in folder.glob("src/**/*.rt") for size in map(parts_of, OF_TUPLE.findall(code_of(file)))}
+        found = [f"tuples of {it}" for it in sorted(sizes_in(text) - there) if 2 < it < 7]
+    if found:
+        yield f"{shown_path(output)}: your copy of garde lacks {', '.join(dict.fromkeys(found))}: call `tools/vendor` again, which adds what your crates need now"
+
+
+def lacking(cut, path, names):
+    """Which of the names behind a path into a library are left out there."""
+    folder = cut.get(path[0])
+    file = folder and file_of(folder, path[1:])
+    if not file or "::*" in (code := code_of(file)):
+        return []
+    every = "".join(map(code_of, folder.glob("src/**/*.rt")))
+    return [it for it in names if not re.search(rf"\b{it}\b", code) and f"macro_rules! {it} " not in every]
+
+
+def sizes_in(text):
+    """How many parts the tuples of a module's code have."""
+    ends = (closed(text, it.end() - 1) for it in OPENING.finditer(text))
+    return {parts_of(text[start:end]) for start, end in ends}
+
+
+def closed(text, start):
+    """Where a bracket stands, and what is behind the one that closes it."""
+    depth = 0
+    for at in range(start, len(text)):
+        depth += (text[at] in "([{") - (text[at] in ")]}")
+        if depth == 0:
+            return start, at + 1
+    return start, len(text)
+
+
+def parts_of(text):
+    """How many parts a tuple of this text has."""
+    count, depth, part = 0, 0, ""
+    for letter in re.sub(r" [<>]=? |[-=]>", "", text[1:-1]) + ",":
+        depth += (letter in "([{<") - (letter in ")]}>")
+        count += letter == "," and depth == 0 and bool(part.strip())
+        part = "" if letter == "," and depth == 0 else part + letter
+    return count

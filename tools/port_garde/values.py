@@ -1,0 +1,102 @@
+"""Numbers with a fraction, and JSON values of any kind, as the forms of `garde_schema` read them."""
+from dataclasses import replace
+from fractions import Fraction
+
+from .layout import Word, call
+from .scope import is_path, is_text
+from .source import Type
+from .tokens import Refusal
+
+# What each of them is where a form reads it.
+DECIMAL, KEPT = "Decimal", "KeptValue"
+# The crates whose values of any kind are read, with the paths behind them; the last name of an object's type is the other one.
+ANY = {"serde_json": ("Value", "Map"), "toml": ("Value", "Table")}
+ENDS = {"min": "at_least", "max": "at_most", "equal": "exactly"}
+
+
+def is_float(kind):
+    """Whether a type of the source is read as an exact decimal."""
+    return is_path(kind, "f32", "f64")
+
+
+def is_any(kind):
+    """Whether a type of the source is read as whatever is there."""
+    return is_path(kind, "Value") and kind.path == ("serde_json", "Value")
+
+
+def is_made(kind, *names):
+    """Whether a type is one of these, which a form makes."""
+    return is_path(kind, *names) and kind.path == (kind.name,) and len(kind.args) == 1 and isinstance(kind.args[0], str)
+
+
+def is_decimal(kind):
+    """Whether a type is that of the decimals that a form reads."""
+    return is_made(kind, DECIMAL)
+
+
+def as_read(kind, life):
+    """The type of the value that a form makes of one of these."""
+    name = DECIMAL if is_float(kind) else KEPT
+    return Type("path", name, kind.line, path=(name,), args=(life,))
+
+
+def canonical(kind, imports):
+    """A type of the source in which each value of any kind is `serde_json::Value`, each object of such a map, and each number of serde_json an
+    `f64`. `imports` are those of the source, each a path with the name that it gets."""
+    if isinstance(kind, str) or kind.kind == "unread":
+        return kind
+    if kind.kind == "ref" and kind.args and crate_and_name(kind.args[0], imports)[1:] == ("RawValue",):
+        kind = kind.args[0]
+    if is_path(kind, "Box") and len(kind.args) == 1 and crate_and_name(kind.args[0], imports) == ("serde_json", "RawValue"):
+        kind = kind.args[0]
+    crate, name = crate_and_name(kind, imports)
+    known = Type("path", "Value", kind.line, path=("serde_json", "Value"))
+    if name in ("Value", "RawValue") and (crate == "serde_json" or name == "Value" and crate == "toml"):
+        return known
+    if crate == "serde_json" and name == "Number":
+        return Type("path", "f64", kind.line, path=("f64",))
+    if crate == "toml" and name == "Table" or crate in ANY and name == "Map" and (not kind.args or len(kind.args) == 2 and is_text(kind.args[0])):
+        held = canonical(kind.args[1], imports) if kind.args else known
+        return Type("path", "HashMap", kind.line, path=("HashMap",), args=(Type("path", "String", kind.line, path=("String",)), held))
+    return replace(kind, args=tuple(canonical(it, imports) for it in kind.args))
+
+
+def crate_and_name(kind, imports):
+    """The crate that a type is of, where an import or its path says that, and its name there."""
+    if isinstance(kind, str) or kind.kind != "path":
+        return None, None
+    path = kind.path
+    found = next((whole for whole, name in imports if name == path[0] and whole[0] != path[0]), None)
+    path = (*found, *path[1:]) if found else path
+    return (path[0], path[-1]) if len(path) > 1 else (None, path[-1])
+
+
+# The rules on decimals.
+
+
+def text_of(it):
+    """The text of a number that stands in an attribute, as JSON writes it."""
+    if it.kind not in ("number", "decimal"):
+        raise Refusal(it.line, "a bound of a number with a fraction that is no number: write its digits, as `0.5`")
+    return str(it.value)
+
+
+def range_of(checks, rule, seen):
+    """The rule that a decimal is within bounds: as code and as it is stated."""
+    checks.uses.others.add("garde_schema::decimal_range")
+    texts = {it: text_of(checks.writer.resolved(rule.bounds[it])) for it in ("min", "max", "equal") if it in rule.bounds}
+    end = "between" if len(texts) == 2 else ENDS[next(iter(texts))]
+    given, stated = ", ".join(f'{name} = "{text}"' for name, text in texts.items()), " ".join(f'"{text}"' for text in texts.values())
+    checks.uses.decimals.add("decimal_range")
+    return Word(f"decimal_range!({given})"), f"decimal_range ({checks.word(end)} {stated}) {seen.name}"
+
+
+def multiple_of(checks, rule, seen):
+    """The rule that a decimal is a multiple of another one."""
+    it = checks.writer.resolved(rule.bounds["equal"])
+    text = text_of(it)
+    if Fraction(text) <= 0 or int(text.lower().partition("e")[0].replace(".", "")) >= 2**64:
+        raise Refusal(rule.line, f"`multiple_of({text})`: write a number above 0 whose digits fit 64 bits")
+    checks.uses.others.add("garde_schema::DecimalMultiple")
+    checks.uses.decimals.add("decimal_multiple_of")
+    return call("DecimalMultiple", f'"{text}"'), f'decimal_multiple_of "{text}" {seen.name}'
