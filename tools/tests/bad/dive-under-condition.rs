@@ -9,7 +9,7 @@ pub struct Bad {
     pub is_there: bool,
     #[garde(if(cond = self.is_there, dive))] //~ `dive` under a condition, which a form cannot leave out
     pub part: Part,
-    #[garde(if(cond = true, length(max = 3)))] //~ `if` of a list, which `--schema` does not write
+    #[garde(if(cond = true, length(max = 3)))] //~ `if` of a list, which `--schema` does not write: write a rule of your own, by `custom`
     pub parts: Vec<u8>,
 }
 

@@ -6,7 +6,7 @@ use std::collections::BTreeMap;
 
 #[derive(Deserialize, Validate)]
 pub struct Bag {
-    #[garde(custom(keys(ascii)))] //~ `keys` of a list, which `--schema` does not write //~ `keys` of the type `Items<TextRef<'t>>`: it is asked of maps that are read by `--schema --no-walk` or `--spelled`
+    #[garde(custom(keys(ascii)))] //~ `keys` of a list, which `--schema` does not write: it is asked of maps
     pub things: Vec<String>,
     #[garde(custom(keys(range(max = 3))))] //~ `range` of the type `TextRef<'t>`: there are no bounds here
     pub places: BTreeMap<String, u8>,

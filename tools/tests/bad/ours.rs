@@ -10,10 +10,10 @@ pub enum Kind {
 
 #[derive(Validate)]
 pub struct Bad {
-    #[garde(custom(unique))] //~ `unique` of the type `String`: it is written of lists of texts and of numbers without a sign
+    #[garde(custom(unique))] //~ `unique` of the type `String`: it is written of lists of texts, of numbers and of types of this file that derive `PartialEq`
     pub name: String,
-    #[garde(custom(unique))] //~ `unique` of the type `Vec<i8>`: it is written of lists of texts and of numbers without a sign
-    pub signs: Vec<i8>,
+    #[garde(custom(unique))] //~ `unique` of the type `Vec<Kind>`: it is written of lists of texts, of numbers and of types of this file that derive `PartialEq`
+    pub kinds: Vec<Kind>,
     #[garde(custom(unique(3)))] //~ a text in quotes is expected in place of `3`
     pub parts: Vec<u8>,
     #[garde(custom(unique("a", "b")))] //~ `unique` with more than the port reads, from `,` on
@@ -50,7 +50,7 @@ pub struct Bad {
     pub number: u8,
     #[garde(if(cond = self.set.contains("x"), range(max = 3)))] //~ `contains` of `self.set`: it is written of texts and lists of texts that a form reads, and of lists of numbers without a sign
     pub within: u8,
-    #[garde(if(cond = self.name.contains(self.name), range(max = 3)))] //~ `contains` of what is neither a text in quotes nor a number
+    #[garde(if(cond = self.name.contains(self.name), range(max = 3)))] //~ `contains` of what is neither a text in quotes nor a number nor a variant, as `&Event::Payment`
     pub itself: u8,
     #[garde(skip)]
     pub kind: Kind,

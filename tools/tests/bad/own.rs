@@ -22,11 +22,11 @@ pub struct Stay {
     pub some: u8,
     #[garde(custom(asks("too few")))] //~ `,` is expected in place of `)`
     pub more: u8,
-    #[garde(custom(asks("too few", value + 1 > 3)))] //~ `asks` with more than the port reads, from `+` on
+    #[garde(custom(asks("too few", value - 1 > 3)))] //~ a sum or a product that the port cannot read: write what is added on the other side
     pub sum: u8,
     #[garde(custom(asks("not even", value % 0 == 0)))] //~ `%` by what is no number from 1 on
     pub even: u8,
-    #[garde(custom(asks("below", value < self.from)))] //~ a comparison of `value`, which is no number without a sign
+    #[garde(custom(asks("below", value < self.from)))] //~ a comparison of a number with a sign and one without, or of a sum of such: compare numbers of one type
     pub least: i8,
     #[garde(custom(asks("short", value.len() > 3)))] //~ `len` of `value`, which is neither a text nor a list nor a map that a form reads
     pub short: u8,

@@ -7,32 +7,26 @@ use serde::Deserialize;
 #[serde(tag = "kind")]
 pub enum Fee {
     Fixed(#[garde(range(max = 9))] u8), //~ the variant `Fixed` under `tag` without `content`: give it fields with names
-    Share(#[garde(skip)] u8, #[garde(skip)] u8), //~ the variant `Share`, which is a list in JSON //~ the variant `Share` under `tag` without `content`: give it fields with names
-    #[serde(other)] //~ `other` of serde, of which `--schema` writes no form
-    None, //~ the name `None` stands for something else in this file: give the enum a file of its own, or the variant another name
+    Share(#[garde(skip)] u8, #[garde(skip)] u8), //~ the variant `Share` under `tag` without `content`: give it fields with names
+    #[serde(other)]
+    None,
 }
 
 #[derive(Deserialize, Validate)]
 pub enum Place {
     Site { #[garde(ascii)] host: String },
     #[serde(skip)] //~ `skip` of serde, of which `--schema` writes no form
-    Nowhere, //~ the variant `Nowhere` without fields: a form reads it under `tag` without `content`
-}
-
-#[derive(Deserialize, Validate)]
-pub enum Only { //~ `Only`, an enum of one variant
-    One { #[garde(ascii)] host: String },
+    Nowhere,
 }
 
 #[derive(Clone, Deserialize)]
-#[serde(tag = "speed")] //~ `tag` of serde at an enum without fields
-pub enum Speed { //~ `Speed` without `Clone` and `Copy` among its derives, which a form of names asks for
+pub enum Speed {
     Slow,
     Fast,
 }
 
 #[derive(Deserialize, Validate)]
-pub struct Pair(#[garde(skip)] u8, #[garde(skip)] u8); //~ `Pair`, which is a list or `null` in JSON, or has no fields: `--schema` reads structs with named fields, those of one value, and enums
+pub struct Pair(#[garde(skip)] u8, #[garde(skip)] u8);
 
 #[derive(Deserialize, Validate)]
 #[garde(context(Terms))] //~ a context: the form of `--schema` has none, so say `--spelled TYPE`
@@ -48,15 +42,15 @@ pub struct Folder { //~ `Folder`, whose values hold values of its own type other
 }
 
 #[derive(Deserialize, Validate)]
-pub struct Of<T> { //~ the parameter `T` of `Of`, which no form has
+pub struct Of<T> { //~ `Of` has the parameter `T` and no use at which that is a type: write `type NAME = Of<..>;` with what it holds
     #[garde(skip)]
-    value: T, //~ the type `T`, which no form of `--schema` reads
+    value: T,
 }
 
 #[derive(Deserialize, Validate)]
 pub struct Words {
     #[garde(range(max = 9))]
-    data: u8, //~ the field `data`, whose name is a word of the statements
+    data: u8,
     #[garde(adapt(crate::own::tag_text), ascii)]
     tag: u8, //~ `adapt`, of which `--schema` writes no form
     #[garde(skip)]
@@ -65,7 +59,7 @@ pub struct Words {
 }
 
 #[derive(Deserialize, Validate)]
-#[serde(rename_all(deserialize = "camelCase"))] //~ `rename_all` of serde without one case of names, as "camelCase"
+#[serde(rename_all(deserialize = "camelCase"))]
 pub struct Cases(#[garde(skip)] #[serde(default)] u8); //~ `default` of serde, of which `--schema` writes no form
 
 #[derive(Deserialize, Validate)]

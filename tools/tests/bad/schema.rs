@@ -5,19 +5,19 @@ use serde::{Deserialize, Serialize};
 use std::collections::{BTreeMap, HashSet};
 
 #[derive(Deserialize, Validate)]
-#[serde(untagged)] //~ `untagged` of serde, of which `--schema` writes no form
+#[serde(untagged)]
 pub enum Sum {
-    Cents { #[garde(skip)] cents: u64 },
-    Text { #[garde(skip)] text: String },
+    Cents { #[garde(skip)] cents: u64 }, //~ the variant `Cents` of an `untagged` enum, which no test tells from `Marked`: put the one that asks for more before the other, or give it a member that the other has not
+    Marked { #[garde(skip)] cents: u64, #[garde(skip)] text: String },
 }
 
-#[derive(Clone, Deserialize, Serialize, Validate)] //~ the derive `Serialize`: what borrows from its input has none here, so take it out, or leave it out by `--leave-out Serialize` //~ the derive `Clone` of a type that holds `Entries`, `Items`, `TextRef`, which has none: take it out, or leave it out by `--leave-out Clone`
-#[serde(expecting = "an order")] //~ `expecting` of serde, of which `--schema` writes no form
+#[derive(Clone, Deserialize, Serialize, Validate)]
+#[serde(expecting = "an order")]
 pub struct Order {
     #[garde(ascii)]
     pub code: String,
     #[garde(dive)]
-    #[serde(flatten)] //~ `flatten` of serde, of which `--schema` writes no form
+    #[serde(flatten)] //~ `flatten` at the field `sum`: its type is no struct of this file with named fields, no option of one and no map, so write `sum` as a member, without `flatten`
     pub sum: Sum,
     #[garde(matches(code))]
     pub again: String,
@@ -25,24 +25,24 @@ pub struct Order {
     pub count: u8,
     #[garde(range(min = 1))]
     #[serde(default)]
-    pub most: u8,
+    pub most: u8, //~ the default of the field `most`: 0 breaks `range(min = 1)`: give another default, or read an `Option`
     #[garde(length(max = 3))]
     #[serde(default)]
-    pub tags: Vec<String>, //~ `default` of the type `Vec`, of which `--schema` knows no value
+    pub tags: Vec<String>,
     #[garde(skip)]
-    #[serde(default = "few")] //~ `default` by the function `few`, which gives no number and no `bool` as it stands
+    #[serde(default = "few")] //~ the default of the field `few`: `Order::MOST` is no constant of this file: write a constant, or read an `Option` and fill it in by your code
     pub few: u8,
     #[garde(skip)]
     #[serde(alias = "rate")] //~ `alias` of serde, of which `--schema` writes no form
-    pub share: f64, //~ the type `f64`, which no form of `--schema` reads
+    pub share: Duration, //~ the type `Duration`, which no form of `--schema` reads: see docs/guide/attributes.md#types-that-no-form-reads
     #[garde(skip)]
-    pub ends: (u8, u8), //~ a tuple, an array or a reference, which no form of `--schema` reads
+    pub ends: (u8,), //~ a tuple of one value, which no form of `--schema` reads: write the value, or a list
     #[garde(skip)]
-    pub seen: HashSet<String>, //~ the type `HashSet`, which no form of `--schema` reads
+    pub seen: HashSet<String>, //~ a set of what a form reads, in a type with a walk, which has no such rule: say `--no-walk`
     #[garde(skip)]
-    #[serde(skip)] //~ `skip` of serde, of which `--schema` writes no form
+    #[serde(skip)]
     pub own: bool,
-    #[garde(pattern("a+"))] //~ `pattern` in quotes, of which a form has none: say `--spelled TYPE`, and name a pattern of the type's context
+    #[garde(pattern("a+"))] //~ `pattern` in quotes, of which a form has none: say `--spelled TYPE`, and name a pattern of the type's context, as `pattern(patterns.mail)` (see docs/guide/attributes.md)
     pub mark: String,
     #[garde(inner(ascii))]
     pub names: BTreeMap<String, String>,

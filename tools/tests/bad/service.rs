@@ -54,7 +54,7 @@ pub enum Room {
 
 #[derive(Debug, Clone, Copy, PartialEq, Eq, Hash, Serialize, Deserialize)]
 #[repr(u8)]
-pub enum Level { Low = 1, High = 2 } //~ the variant `Low` has a number //~ the variant `High` has a number
+pub enum Level { Low = 1, High = 2 }
 
 #[derive(Debug, thiserror::Error)] //~ the derive `thiserror::Error`, which the port does not know: take it out, or leave it out by `--leave-out Error`
 pub enum AppError {

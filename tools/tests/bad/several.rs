@@ -4,7 +4,7 @@ const MOST: u8 = most();
 
 #[derive(Validate)]
 pub struct Bad {
-    #[garde(email, ascii)] //~ the rule `email` is not ported: write a rule of your own, by `custom`
+    #[garde(email, ascii)] //~ the rule `email` is not ported: write `pattern(patterns.mail)` with a pattern of yours (see docs/guide/attributes.md), or a rule of your own, by `custom`
     pub name: String,
     #[garde(ascii)] //~ `ascii` of the type `u8`, which is no text
     pub age: u8,

@@ -17,7 +17,7 @@ static WORDS: [&str; 2] = ["a", "b"];
 pub struct User {
     #[garde(length(min = 3, max = 2))] //~ the `min` of `length` is greater than its `max`
     pub name: String,
-    #[garde(email)] //~ the rule `email` is not ported: write a rule of your own, by `custom`
+    #[garde(email)] //~ the rule `email` is not ported: write `pattern(patterns.mail)` with a pattern of yours (see docs/guide/attributes.md), or a rule of your own, by `custom`
     pub mail: Option<String>,
     #[garde(range(min = 0, max = 300))] //~ the bound 300, which is no `u8`
     pub age: u8,
@@ -38,8 +38,8 @@ pub struct Address {
     pub street: String,
     #[garde(length(graphemes, min = 1), custom(is_town(&self.street)))] //~ `custom` wants a path or a closure, and `(` stands there
     pub town: String,
-    #[garde(inner(inner(ascii)))] //~ `inner` of the type `Names`, whose items the port does not know
-    pub lines: Vec<Names>, //~ the type `Names`, which is another name of a type in this file: write that type
+    #[garde(inner(inner(ascii)))]
+    pub lines: Vec<Names>,
     #[garde(required, inner(length(max = MAX)))] //~ the port cannot read `MAX`: it reads fields of `self` and of the context
     pub zip: Option<String>,
 }
@@ -51,7 +51,7 @@ pub struct Rules { pub most: usize }
 pub enum Event {
     Login { #[garde(ascii)] user: String, #[garde(ip)] from: std::net::IpAddr }, //~ `ip` of the type `IpAddr`, which is no text
     Logout(#[garde(dive)] User, #[garde(skip)] u8), //~ `dive` into `User`, whose patterns make a context of it: give both types a context with compiled patterns
-    Code = 3, //~ the variant `Code` has a number
+    Code = 3, //~ the variant `Code` with a number, beside variants with fields: take the number out
     #[garde(skip)]
     Other, //~ an attribute at the variant `Other`: attributes stand at types and at fields
 }
@@ -61,7 +61,7 @@ pub enum Event {
 pub struct Wrapper<T: Validate> where T: Clone { //~ a `where` clause: write the bounds at the parameters
     #[garde(dive)]
     pub value: T,
-    #[garde(email)] //~ the rule `email` is not ported: write a rule of your own, by `custom`
+    #[garde(email)] //~ the rule `email` is not ported: write `pattern(patterns.mail)` with a pattern of yours (see docs/guide/attributes.md), or a rule of your own, by `custom`
     pub mail: String,
 }
 
@@ -75,7 +75,7 @@ pub struct Tags(#[garde(inner(alphanumeric), length(min = 1.5))] Vec<String>); /
 pub struct Node {
     #[garde(dive)] //~ `dive` of `Node` into itself: such a type is walked by a function of its own
     pub left: Option<Box<Node>>,
-    #[garde(range(min = 0.0, max = 1.0))] //~ the floating-point number `0.0`
+    #[garde(range(min = 0.0, max = 1.0))] //~ `range` of the type `f64`: there are no bounds of floating-point numbers here
     pub weight: f64,
     #[garde(matches(weigth))] //~ `matches` of the field `weigth`, which is not there
     pub other: f64,
@@ -99,7 +99,7 @@ pub struct Conditional<'a> {
 /// Eight.
 #[derive(Validate, sqlx::FromRow)] //~ the derive `sqlx::FromRow`, which the port does not know: take it out, or leave it out by `--leave-out FromRow`
 pub struct Row {
-    #[garde(credit_card, phone_number)] //~ the rule `credit_card` is not ported: give the number a type of its own that implements `CreditCard` //~ the rule `phone_number` is not ported: give the number a type of its own that implements `PhoneNumber`
+    #[garde(credit_card, phone_number)] //~ the rule `credit_card` is not ported: give the number a type of its own that implements `CreditCard`, as docs/guide/own-rules.md#cards-and-phones has it //~ the rule `phone_number` is not ported: give the number a type of its own that implements `PhoneNumber`, as docs/guide/own-rules.md#cards-and-phones has it
     #[sqlx(rename = "nr")] //~ the attribute `sqlx`, which the port does not know: take it out, or leave it out by `--leave-out sqlx`
     pub number: String,
     #[garde(range(min = Self::LOW))] //~ a bound that the port cannot read: it reads numbers and fields of `self` and of the context
@@ -113,9 +113,9 @@ pub struct Row {
 /// Nine.
 #[derive(Validate)]
 pub(crate) struct Plain {
-    #[garde(asci)] //~ the attribute `asci` is not known
+    #[garde(asci)] //~ the attribute `asci` is not known: did you mean `ascii`?
     pub a: String,
-    #[garde(length(min = 1, characters))] //~ `length` with `characters`, which is not read there
+    #[garde(length(min = 1, characters))] //~ `length` with `characters`, which is not read there: did you mean `chars`?
     pub b: String,
     #[garde(length())] //~ `length` wants `min`, `max` or both, or `equal` alone
     pub c: String,
@@ -129,7 +129,7 @@ pub(crate) struct Plain {
 
 /// Ten.
 #[derive(Validate)]
-#[garde(allow_unvalidate)] //~ the attribute `allow_unvalidate` is not known
+#[garde(allow_unvalidate)] //~ the attribute `allow_unvalidate` is not known: did you mean `allow_unvalidated`?
 #[garde(context(Rules, as r))] //~ a context that the port cannot read, from `,` on: write `context(TYPE as NAME)`
 pub struct Last {
     #[garde(range(max = r.most))] //~ the port cannot read `r.most`: it reads fields of `self` and of the context
