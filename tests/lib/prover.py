@@ -4,6 +4,7 @@ import pathlib
 import shutil
 import subprocess
 import tempfile
+import time
 
 from lib import repository
 from lib.copies import Copy
@@ -22,7 +23,7 @@ def kit():
 
 def command(crate, functions, jobs, root=repository.ROOT, verb="check"):
     """A check of some functions of a crate, over the libraries as they were built last, by so many jobs."""
-    libraries, rlibs, crates = repository.libraries(root), kit() / "rlibs", root / "crates"
+    libraries, rlibs, crates = repository.libraries(root), kit() / "rlibs", repository.folder(root)
     main = "src/main.rt" if (crates / crate / "src/main.rt").is_file() else "src/lib.rt"
     words = [f"{kit()}/bin/rattle", verb, "--crate-name", crate, main, "--extern", f"std={rlibs}/std.rlib"]
     for it in libraries[crate]:
@@ -37,9 +38,27 @@ def command(crate, functions, jobs, root=repository.ROOT, verb="check"):
     return words
 
 
-def quick(crate, root=repository.ROOT):
-    """The compiler's quick pass over a crate: it compiles the crate over the sources of the libraries below, and proves nothing."""
-    libraries, rlibs, crates = repository.libraries(root), kit() / "rlibs", root / "crates"
+def quick(crate, room, root=repository.ROOT):
+    """The lines that the compiler's quick pass prints of a crate in a folder: it compiles the crate over the sources of the libraries
+    below, and proves nothing. It is ended once the crate has compiled, before it reads the logic, which takes longer; then there are none."""
+    with tempfile.TemporaryDirectory(prefix="quick-") as folder:
+        stages, printed = pathlib.Path(folder, "stages"), pathlib.Path(folder, "printed")
+        with printed.open("w") as out:
+            words = [*quick_words(crate, root), "--stage-times", stages]
+            ran = subprocess.Popen(words, cwd=room, stdin=subprocess.DEVNULL, stdout=out, stderr=subprocess.STDOUT)
+            try:
+                while (ended := ran.poll()) is None and not (stages.is_file() and "stage tree " in stages.read_text()):
+                    time.sleep(0.05)
+            finally:
+                ran.kill()
+                ran.wait()
+        killed = [f"error: the compiler was ended by the signal {-ended}"] if ended is not None and ended < 0 else []
+        return [*printed.read_text(errors="replace").splitlines(), *killed]
+
+
+def quick_words(crate, root):
+    """The words of the compiler's quick pass."""
+    libraries, rlibs, crates = repository.libraries(root), kit() / "rlibs", repository.folder(root)
     main = "src/main.rt" if (crates / crate / "src/main.rt").is_file() else "src/lib.rt"
     words = [f"{kit()}/bin/rattle", "check", "--crate-name", crate, main]
     below = repository.below(crate, root)
@@ -105,9 +124,9 @@ def lines(words, room):
 def unbuilt(crates, root=repository.ROOT):
     """The libraries below these crates that are missing, or older than a source, lowest first."""
     for name in dict.fromkeys(it for crate in crates for it in repository.below(crate, root)):
-        made = root / "crates" / name / f"out/rlib/{name}.rlib"
+        made = repository.folder(root) / name / f"out/rlib/{name}.rlib"
         below = [*repository.below(name, root), name]
-        folders = [root / "crates" / it / part for it in below for part in ("src", "specs", "proofs")]
+        folders = [repository.folder(root) / it / part for it in below for part in ("src", "specs", "proofs")]
         newest = max(file.stat().st_mtime for folder in folders for file in folder.rglob("*.*"))
         if not made.is_dir() or made.stat().st_mtime < newest:
             yield name
@@ -116,7 +135,7 @@ def unbuilt(crates, root=repository.ROOT):
 def build(crates, root=repository.ROOT):
     """Builds the libraries below these crates that are missing, or older than a source."""
     for name in unbuilt(crates, root):
-        subprocess.run(["rt", "lib"], cwd=root / "crates" / name, check=True, stdout=subprocess.DEVNULL)
+        subprocess.run(["rt", "lib"], cwd=repository.folder(root) / name, check=True, stdout=subprocess.DEVNULL)
 
 
 def static_library(crate, made):

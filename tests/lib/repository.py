@@ -37,6 +37,16 @@ def libraries(root=ROOT):
     return {name.split()[0]: uses.split() for name, _, uses in rows if name.strip()}
 
 
+def folder(root=ROOT):
+    """The folder of a repository that has the folders of its crates."""
+    return root / "crates" if (root / "crates").is_dir() else root
+
+
+def top(crate):
+    """The folder of the repository that a crate in a folder is of: the nearest above with a crates.txt that lists it, or None."""
+    return next((it for it in crate.parents if (it / "crates.txt").is_file() and crate.name in libraries(it)), None)
+
+
 def crates():
     """The names of the crates of crates.txt."""
     return list(libraries())

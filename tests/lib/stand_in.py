@@ -1,6 +1,8 @@
 """A stand-in for the toolchain: an `rt` whose prover prints what is stored of the checks that it is asked for."""
+import os
 import pathlib
 import re
+import signal
 import sys
 import time
 
@@ -16,7 +18,7 @@ exec {python} -S {here} {stored} {own} "$@"
 
 def put(kit, stored, own, lib=0):
     """Puts the stand-in into a folder: its prover prints the checks of the file `stored`, of a crate in the folder `own`, and of the
-    compiler's quick pass the file `stored.quick`, where there is one. `rt lib` ends with the status `lib`. Gives the folder for PATH."""
+    compiler's quick pass the file `stored.quick`, where there is one; where there is `stored.compiles` it goes on to the logic. `rt lib` ends with the status `lib`. Gives the folder for PATH."""
     here = pathlib.Path(__file__).resolve()
     for name, text in {
         "path/rt": RT.format(kit=kit, lib=lib),
@@ -46,7 +48,12 @@ def main():
     stored, own, *words = sys.argv[1:]
     functions = [word for before, word in zip(words, words[1:]) if before == "--only"]
     if functions == [""]:
+        if pathlib.Path(f"{stored}.compiles").exists():
+            pathlib.Path(words[words.index("--stage-times") + 1]).write_text("stage front-end 7.1 9\nstage tree 2.1 9\npeak 9\n", encoding="utf-8")
+            time.sleep(60)
         quick = pathlib.Path(f"{stored}.quick")
+        if quick.exists() and quick.read_text(encoding="utf-8") == "killed":
+            os.kill(os.getpid(), signal.SIGKILL)
         print(quick.read_text(encoding="utf-8") if quick.exists() else "only=0 proved=0")
         return
     given = files_of(pathlib.Path.cwd()) - files_of(pathlib.Path(own))

@@ -137,6 +137,36 @@ def faults_without_library(mistake):
         yield from run.faults(("crates/high", mistake.type), 2, says)
 
 
+def faults_of_look():
+    """What is wrong with the answers of a crate alone: of one that compiles, of errors of its own, of a form that does not fit, and of a
+    copy of a library of which something is left out."""
+    text = (ROOT / "crates/use_order/src/order.rt").read_text(encoding="utf-8")
+    unknown, unfit = "src/order.rt:9:1: error[unknown-name]: unresolved import: there is no `Flag` in crate `garde_schema`", "src/order.rt:9:1: error[overflowing-bound]: overflow"
+    line, parts = (text[: text.index(it)].count("\n") + 1 for it in ('"count", Whole(U32,', "type Parts = (TextRef<'t>, u32"))
+    member, cut = f"src/order.rt:{line}: member `count` of `Line`: its form reads `u16`, and the parts have `u32` there (line {parts})", "// What is not needed: call tools/vendor again.\n"
+    again = "your copy of garde may lack this: call `tools/vendor` again, which adds what your crates need now"
+    fix = "`rt check --fix-imports` writes imports that are missing (docs/guide/rejected.md)"
+    with tempfile.TemporaryDirectory(prefix="why-test-") as name:
+        room = pathlib.Path(name)
+        for part in ("mine", "other", "garde_schema"):
+            (room / part / "src").mkdir(parents=True)
+        (room / "crates.txt").write_text("mine: garde_schema\n")
+        run = Run(room, room / "mine", "")
+        for printed, order, library, says in (
+            (None, text, "", ["mine: it compiles. Nothing of it is proved by that"]), ("only=0 proved=0", text, "", ["mine: it compiles. Nothing of it is proved by that"]),
+            (f"{unknown}\n  a line below", text, "", [unknown, "  a line below", fix]), (unknown, text, cut, [unknown, again]), (unfit, text, cut, [unfit]),
+            ("killed", text, "", ["error: the compiler was ended by the signal 9"]),
+            (unfit, text.replace('"count", Whole(U32,', '"count", Whole(U16,'), "", [member, unfit]),
+        ):
+            (room / "mine/src/order.rt").write_text(order, encoding="utf-8")
+            (room / "garde_schema/src/lib.rt").write_text(library, encoding="utf-8")
+            for end, it in ((".quick", printed), (".compiles", printed is None)):
+                pathlib.Path(f"{run.stored}{end}").write_text(str(it), encoding="utf-8") if it else pathlib.Path(f"{run.stored}{end}").unlink(missing_ok=True)
+            yield from run.faults((str(run.crate),), 0 if "compiles" in says[0] else 1, says)
+        for path, reason in (("other", "no crates.txt above it has a line of this crate"), ("none", "there is no crate in it: it has no folder `src`")):
+            yield from run.faults((str(room / path),), 2, [], f"why: {room / path}: {reason}\n")
+
+
 # What a form of `use_order` has in place of what, and what the command says where the quick pass has an error.
 FORMS = (
     ('"count", Whole(U32,', '"count", Whole(U16,', "member `count` of `Line`: its form reads `u16`, and the parts have `u32` there"),

@@ -5,7 +5,7 @@ import shutil
 import tempfile
 from dataclasses import dataclass, field
 
-from lib import prover
+from lib import prover, repository
 from lib.edits import OPEN
 from lib.verdicts import PROVED, verdicts
 
@@ -27,6 +27,9 @@ class Answer:
     lines: list = field(default_factory=list)
 
 
+# what stands in a library of which something is left out, and what the compiler says where a name or an implementation is missing
+LEFT_OUT = "call tools/vendor again"
+LACKS = re.compile(r"there is no `\w+` in (?:crate|module)|not supported yet|bounds are not met|not satisfied|not implemented")
 # how many errors of a crate that does not compile are printed
 MOST = 5
 # a check of fields that has no `visit` for the types of its values
@@ -131,7 +134,7 @@ class Room:
     several copies of one crate."""
 
     def __init__(self, place, jobs, kept=None):
-        self.place, self.jobs, self.root = place, jobs, place.folder.parent.parent
+        self.place, self.jobs, self.root = place, jobs, top_of(place.folder)
         self.kept, self.given = kept, set()
 
     def __enter__(self):
@@ -157,7 +160,7 @@ class Room:
     def quick(self, files):
         """The lines that the compiler's quick pass prints, which proves nothing, with these texts in place of the crate's own."""
         self.give(files)
-        return prover.lines(prover.quick(self.place.crate, self.root), self.at)
+        return prover.quick(self.place.crate, self.at, self.root)
 
     def check(self, functions, files):
         """The lines that a check of some functions prints, with these texts in place of the crate's own."""
@@ -224,6 +227,31 @@ def formed(place, told, quick):
         return Answer(1, found)
     errors = [*dict.fromkeys(it[0] for it in printed)][:MOST]
     return Answer(2, [f"{place.name()}: the crate does not compile:", *errors, *imports(errors)])
+
+
+def top_of(folder):
+    """The top of the repository that a crate is of."""
+    found = repository.top(folder)
+    if not found:
+        raise Unknown(f"{folder}: no crates.txt above it has a line of this crate")
+    return found
+
+
+def look(folder):
+    """What the compiler says of a crate, by its quick pass, behind the members of forms whose values are not the parts of their type."""
+    folder = folder.resolve()
+    if not (folder / "src").is_dir():
+        raise Unknown(f"{folder}: there is no crate in it: it has no folder `src`")
+    printed = prover.quick(folder.name, folder, top_of(folder))
+    if not printed or printed[-1].startswith("only="):
+        return Answer(0, [f"{folder.name}: it compiles. Nothing of it is proved by that"])
+    return Answer(1, [*forms.differences(folder), *printed, *(lacks(folder, printed) or imports(printed))])
+
+
+def lacks(folder, errors):
+    """What to do about what a copy of the libraries lacks, in which what was not needed is left out."""
+    is_cut = any(LEFT_OUT in it.read_text(encoding="utf-8", errors="replace") for it in folder.parent.glob("garde*/src/lib.rt"))
+    return ["your copy of garde may lack this: call `tools/vendor` again, which adds what your crates need now"] if is_cut and any(map(LACKS.search, errors)) else []
 
 
 def imports(errors):

@@ -5,7 +5,7 @@ import pathlib
 import shutil
 
 from .listing import with_lines
-from .origin import TOOL, Refusal, read_line
+from .origin import COMMANDS, TOOL, Refusal, read_line
 from .record import NAME, Record, hash_of, read_record
 
 PART = ".vendored-garde.part"
@@ -123,7 +123,7 @@ class Folder:
         if changed or gone or plan.program or self.record.begun:
             self.put(NAME, self.record.with_new(plan.record, plan.program.name if plan.program else "").text())
             for path in changed:
-                self.put(self.under(path), plan.files[path], 0o755 if path == TOOL[0] else None)
+                self.put(self.under(path), plan.files[path], 0o755 if path in COMMANDS else None)
             for path in gone:
                 self.drop(path)
             for copy in plan.program.copies if plan.program else ():

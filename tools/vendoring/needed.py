@@ -18,18 +18,26 @@ INLINE = re.compile(r"\{(\w+)")
 FAMILY = re.compile(r"(\$crate(?:\s*::\s*\w+)*)\s*::\s*\$")
 REFERENCE = re.compile(r"(?:&\s*(?:'\w+\s+)?(?:mut\s+)?)*")
 TYPE = re.compile(r"(?<![\w'])[A-Za-z_]\w*(?:\s*::\s*[A-Za-z_]\w*)*")
-TUPLE = re.compile(r"(?:(?:^|[=,({\[&|:;]|=>|->|\b(?:in|return|match|if|let|mut|else|as|move|ref|where))\s*)\(")
+TUPLE = re.compile(r"(?:(?:^|[=,({\[&|:;<]|=>|->|\b(?:in|return|break|match|if|let|mut|else|as|move|ref|where))\s*)\(")
 PROVED = ("fn", "impl", "trait", "const", "static")
 NO_TYPES = ("mut", "const", "dyn", "Self")
-# The macro of the library that writes tuples of any number of parts.
-ANY_NUMBER = re.compile(r"\ball!")
+# The most parts of a tuple.
+MOST = 16
 
 
 @functools.cache
-def counts(text):
-    """How many parts the tuples of a text have: both where `<` opens a bracket and where it compares."""
+def counts(text, most):
+    """How many parts the tuples of a text have: both where `<` opens a bracket and where it compares. One whose parts a macro
+    repeats has any number of them up to `most`."""
     found = [it for it in map(functools.partial(inner, text), TUPLE.finditer(text)) if it is not None]
-    return frozenset(len(paths.split(it)) for part in found for it in (part, re.sub(r"[<>]", " ", part)))
+    parts = [paths.split(it) for part in found for it in (part, re.sub(r"[<>]", " ", part))]
+    repeats = any(it.startswith("$(") for one in parts for it in one)
+    return frozenset(map(len, parts)).union(range(most + 1) if repeats else ())
+
+
+def parts_of(text):
+    """How many parts a tuple has whose text this is; None of what is no tuple."""
+    return len(paths.split(text[1 : text.rfind(")")])) if text.startswith("(") else None
 
 
 def inner(text, opening):
@@ -141,8 +149,9 @@ class Needed:
         called = {name for found in CALLED.findall(text) for name in found} | self.members(module, text)
         self.words |= names_in(text)
         self.called |= called
-        if not node.of.strip().startswith("("):
-            self.counts |= set(range(17)) if ANY_NUMBER.search(text) else counts(text)
+        if node.item.kind != "macro_rules!":
+            of = parts_of(node.of.strip())
+            self.counts |= counts(text, MOST if of is None else of)
         for way in module.scope:
             for it in self.sources.items(module, (way,)):
                 if it.item.kind == "trait" and called & {one.name for one in it.item.members if one.kind == "fn"}:
@@ -199,7 +208,7 @@ class Needed:
         """Whether all types are in use that the head of an impl block names: those of these crates, and by their names those of
         others. Of a tuple the number of its parts is."""
         text = text[REFERENCE.match(text.strip()).end() :].strip() if text.strip().startswith("&") else text.strip()
-        if text.startswith("(") and len(paths.split(text[1 : text.rfind(")")])) not in self.counts:
+        if (parts_of(text) or 0) not in self.counts:
             return False
         for found in TYPE.findall(text):
             way = way_of(found)

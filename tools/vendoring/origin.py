@@ -12,10 +12,15 @@ WITH_FORM = {"use_library": ("example_order", "order")}
 LICENCES = ("LICENSE-MIT", "LICENSE-APACHE")
 # Mutants, which the prover has to reject: a test of the crates' contracts, which is run where the crates are written.
 NOT_COPIED = ("must-fail", "wrong-bodies")
-# The command that writes modules of sources with attributes, which stands in the copy under the same paths.
-TOOL = ("tools/port-garde", "tools/port_garde/")
+# The commands that write modules of sources with attributes, and that say why something is rejected, which stand in the copy under the
+# same paths, and the modules of tests that the second one takes, which stand below it there.
+COMMANDS = ("tools/port-garde", "tools/why")
+TOOL = (*COMMANDS, "tools/port_garde/", "tools/explaining/")
+SHARED = ("__init__", "copies", "edits", "paths", "prover", "repository", "source", "verdicts")
 PROGRAM_FILES = ("stdin", "stdout", "args", "status")
 PROGRAM_FOLDERS = ("src", "specs", "proofs", "data")
+LINK = re.compile(r"\[([^]]+)\]\(\.\./([^)/]+)/([^)]+)\)")
+TOLD = "A copy of `{program}` of `garde` by `tools/vendor`. The tests and documents that it names are in that repository."
 
 
 class Refusal(Exception):
@@ -51,10 +56,24 @@ def names_of(program, copy):
     return {**form, program: copy}
 
 
-def renamed(text, names):
-    """Bytes of a source with other names. One that ends in `_` is the beginning of a name."""
+def renamed(text, names, before=""):
+    """Bytes of a source with other names. One that ends in `_` is the beginning of a name. `before` is what has to stand before them."""
     words = "|".join(it if it.endswith("_") else rf"{it}\b" for it in names)
-    return re.sub(rf"\b(?:{words})".encode(), lambda found: names[found.group().decode()].encode(), text)
+    return re.sub(rf"{before}\b(?:{words})".encode(), lambda found: names[found.group().decode()].encode(), text)
+
+
+def readme_of(text, program, names):
+    """The README of a program under the names of its copy. A link to what is not copied becomes the path of that."""
+
+    def linked(found):
+        text, first, rest = found.groups()
+        if is_product(first) or first in names:
+            return found[0]
+        return f"{text} (`{rest if first == '..' else f'crates/{first}/{rest}'}` of `garde`)"
+
+    text = LINK.sub(linked, text.decode()).replace(f"lib{program}.a", f"lib{names[program]}.a")
+    title, _, rest = renamed(text.encode(), names, "(?<!FOLDER )").decode().partition("\n")
+    return f"{title}\n\n{TOLD.format(program=program)}\n{rest}".encode()
 
 
 class Origin:
@@ -74,7 +93,7 @@ class Origin:
         for it in ("crates.txt", *LICENCES):
             if it not in self.paths:
                 raise Refusal(f"{root}: there is no {it}")
-        listing, *_ = self.texts(["crates.txt", *LICENCES, *(it for it in self.paths if it.startswith(TOOL))])
+        listing, *_ = self.texts(["crates.txt", *LICENCES, *self.tool_paths().values()])
         lines = filter(None, map(read_line, listing.decode().splitlines()))
         self.lines = {it.name: it for it in lines}
 
@@ -118,10 +137,15 @@ class Origin:
                     self.own(it, line.name)
         return lines
 
+    def tool_paths(self):
+        """Where the files of the commands stand here, by their paths in a copy."""
+        shared = {f"tools/explaining/lib/{it}.py": f"tests/lib/{it}.py" for it in SHARED}
+        return {it: it for it in self.paths if it.startswith(TOOL)} | {place: it for place, it in shared.items() if it in self.paths}
+
     def tool_files(self):
-        """The files of the command that writes modules, by their paths."""
-        paths = [it for it in self.paths if it.startswith(TOOL)]
-        return dict(zip(paths, self.texts(paths)))
+        """The files of the commands, by their paths in a copy."""
+        paths = self.tool_paths()
+        return dict(zip(paths, self.texts(paths.values())))
 
     def load(self, lines):
         """Reads the files of crates at once, which takes one command in place of one for each."""
@@ -133,8 +157,7 @@ class Origin:
         return {path: it for path, it in self.files(f"crates/{name}").items() if path.split("/")[0] not in NOT_COPIED}
 
     def program_files(self, name, program, copy):
-        """The files of a crate of a program, under the names of its copy. Its README speaks of tests that stay here, and its header
-        for C is written anew."""
+        """The files of a crate of a program, under the names of its copy. Its header for C is written anew."""
         names, kept = names_of(program, copy), {}
         if name == program and program in WITH_FORM:
             prefix = WITH_FORM[program][1]
@@ -145,6 +168,8 @@ class Origin:
                 kept[path] = renamed(it, names)
             elif path in PROGRAM_FILES or first == "data":
                 kept[path] = it
+            elif path == "README.md":
+                kept[path] = readme_of(it, name, names)
         return kept
 
     def refuse_changes(self, paths):

@@ -55,7 +55,7 @@ def plan_of(origin, folder, more, program, name, is_whole):
     lines = [*crates, *sources]
     origin.load(lines)
     tool = origin.tool_files()
-    origin.refuse_changes(["crates.txt", *LICENCES, *(f"crates/{it.name}" for it in lines), *(TOOL if tool else ())])
+    origin.refuse_changes(["crates.txt", *LICENCES, *(f"crates/{it.name}" for it in lines), *(TOOL if tool else ()), *origin.tool_paths().values()])
     copied = program_of(origin, folder, sources, name or program) if program else None
     refuse_names(folder, crates, lines, [it.name for it in sources])
     folder.refuse_tool(tool)

@@ -9,7 +9,7 @@ NAME = re.compile(r"[A-Za-z_]\w*")
 PATH = re.compile(r"(?<![\w'$])(?<!(?<!\.)\.)(?<!\bfn )(?:\$crate|[A-Za-z_]\w*)(?:\s*::\s*[A-Za-z_]\w*)*")
 GHOST = re.compile(r"\bghost\b")
 IMPORT = re.compile(r"(?:pub(?:\s*\([^)]*\))?\s+)?use\s+")
-CALL = re.compile(r"(\$crate\s*::\s*)?\b(\w+)!\s*[(\[{]\s*(\w*)")
+CALL = re.compile(r"((?:(?:\$crate|\w+)\s*::\s*)*\b\w+)!\s*[(\[{]\s*(\w*)")
 
 
 @functools.lru_cache(maxsize=4096)
@@ -43,7 +43,7 @@ def names_in(text):
 
 @functools.cache
 def calls_in(text):
-    """The calls of macros in a text: whether `$crate` stands in front, the name, and the first word."""
+    """The calls of macros in a text: the path of each, and the first word."""
     return frozenset(found.groups() for found in CALL.finditer(text))
 
 
@@ -222,14 +222,14 @@ class Sources:
 
     def macros(self, module, text):
         """The macros of these crates that a text calls, each with the bodies of the arms that such a call may take."""
-        for crate, name, word in calls_in(text):
-            for it in set(self.called(module.crate.root if crate else module, name)):
+        for path, word in calls_in(text):
+            for it in set(self.called(module, way_of(path))):
                 yield it, [body for pattern, body in arms_of(it) if takes(pattern, word)]
 
-    def called(self, module, name):
-        """The macros of this name that can be called in a module."""
-        found = self.items(module, (name,))
-        found += [it for above in module.above() for it in above.nodes if it.item.name == name]
+    def called(self, module, way):
+        """The macros that a path calls in a module."""
+        found = self.items(module, way)
+        found += [it for above in module.above() for it in above.nodes if way == (it.item.name,)]
         return [it for it in found if it.item.kind == "macro_rules!"]
 
 
