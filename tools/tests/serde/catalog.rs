@@ -38,6 +38,16 @@ pub struct Size {
     pub wide: u16,
 }
 
+impl Default for Size {
+    fn default() -> Self {
+        Size { high: 3, wide: Self::WIDE }
+    }
+}
+
+impl Size {
+    const WIDE: u16 = u8::MAX as u16 + 1;
+}
+
 /// A note.
 #[derive(Debug, PartialEq, Deserialize)]
 pub struct Note<'a> {
@@ -69,6 +79,7 @@ pub struct Article {
 #[derive(Clone, Copy, Debug, Deserialize, Validate)]
 #[serde(transparent)]
 pub struct Cents {
+    #[serde(rename = "value")]
     #[garde(range(max = 100_000))]
     pub cents: u32,
 }
