@@ -3,8 +3,9 @@
 use garde::Validate;
 use serde::Deserialize;
 
-/// A weight.
+/// A weight, whose tag is written and never read.
 #[derive(Deserialize, Validate)]
+#[serde(tag = "type", rename = "weight")]
 pub struct Weight {
     #[garde(range(max = 30000))]
     pub grams: u16,
