@@ -19,6 +19,7 @@ mod long;
 mod many;
 mod names;
 mod nested;
+mod over_lists;
 mod parts;
 mod paths;
 mod patterns;

@@ -1,7 +1,10 @@
 //! The bodies of each form of these tests, and what each reads as.
 
 use super::told::{Case, Coded, Codes, Tells, check};
-use super::{checked, enums, list_rules, lists, maps, nested, nulls, only_members, signup, unions};
+use super::{
+    checked, choices, enums, flattened, list_rules, lists, maps, nested, nulls, only_members,
+    signup, unions,
+};
 use std::alloc::Global;
 use std::process::Abort;
 
@@ -34,6 +37,12 @@ fn reads_lists(rt: HostRuntime) {
         rt.alloc(),
         &Case::Lists(lists::Case::Deep),
         lists::DEEP,
+    );
+    compare(
+        &rt,
+        rt.alloc(),
+        &Case::Lists(lists::Case::Pair),
+        lists::PAIR,
     );
 }
 
@@ -155,6 +164,12 @@ fn reads_defaults(rt: HostRuntime) {
         &Coded::Nulls(nulls::Case::Defaults),
         nulls::DEFAULTS,
     );
+    compare(
+        &rt,
+        rt.alloc(),
+        &Coded::Nulls(nulls::Case::Made),
+        nulls::MADE,
+    );
 }
 
 #[test]
@@ -185,8 +200,37 @@ fn reads_objects_of_one_member(rt: HostRuntime) {
 }
 
 #[test]
+fn reads_choices(rt: HostRuntime) {
+    for (form, rows) in choices::ROWS {
+        compare_codes(&rt, rt.alloc(), form, rows);
+    }
+}
+
+#[test]
 fn reads_unions_that_are_eight_deep(rt: HostRuntime) {
     compare(&rt, rt.alloc(), &Case::Deep, only_members::DEEP);
+}
+
+#[test]
+fn reads_flattened_members(rt: HostRuntime) {
+    compare(
+        &rt,
+        rt.alloc(),
+        &Case::Flattened(flattened::Case::Lent),
+        flattened::LENT,
+    );
+    compare(
+        &rt,
+        rt.alloc(),
+        &Case::Flattened(flattened::Case::Closed),
+        flattened::CLOSED,
+    );
+    compare(
+        &rt,
+        rt.alloc(),
+        &Case::Flattened(flattened::Case::Rest),
+        flattened::REST,
+    );
 }
 
 #[test]

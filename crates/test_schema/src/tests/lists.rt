@@ -6,7 +6,8 @@ use super::told::told;
 use garde::fields::{Ascii, Is};
 use garde::{DefaultI18n, length, range};
 use garde_schema::{
-    Flag, List, ListUnder, Member, Object, Optional, Scratch, Text, U8, U16, Whole, read_json,
+    Closed, Flag, InOrder, List, ListUnder, Member, Nth, Object, Optional, Scratch, Text, U8, U16,
+    Whole, read_json,
 };
 use garde_tape::Tree;
 use std::alloc::{AllocError, Global};
@@ -17,6 +18,7 @@ pub enum Case {
     Few,
     Numbers,
     Deep,
+    Pair,
 }
 
 /// The value of a tree of this form, as text, or its report.
@@ -39,6 +41,11 @@ pub fn told_by(alloc: Global, tree: &Tree<'_, '_>, case: &Case) -> Result<String
         Case::Deep => {
             let five = List(List(List(List(List(Whole(U8, ()))))));
             told(alloc, tree, &List(List(List(List(List(five))))))
+        }
+        // A number, and then an object without members.
+        Case::Pair => {
+            let pair = (Nth(0, Whole(U8, ())), Nth(1, Object(Closed(()))));
+            told(alloc, tree, &InOrder(2, pair))
         }
     }
 }
@@ -96,6 +103,23 @@ pub const DEEP: &[(&str, &str)] = &[
         "[[[[[[[[[[1,[]],2]]]]]]]],3]",
         "[0][0][0][0][0][0][0][0][0][1]: not a whole number\n[0][0][0][0][0][0][0][0][1]: not a list\n[1]: not a list\n",
     ),
+];
+
+/// Bodies, and what each reads as.
+pub const PAIR: &[(&str, &str)] = &[
+    ("[7,{}]", "(7, ())"),
+    ("[]", "[0]: missing\n[1]: missing\n"),
+    ("[7]", "[1]: missing\n"),
+    ("[7,{},0,0]", "[2]: not known here\n"),
+    (
+        "[256,{\"a\":1}]",
+        "[0]: out of range: 0 to 255\n[1].a: not known here\n",
+    ),
+    (
+        "[{},7,8]",
+        "[0]: not a whole number\n[1]: not an object\n[2]: not known here\n",
+    ),
+    ("{\"0\":7,\"1\":{}}", "not a list\n"),
 ];
 
 // A list of the numbers from 0 to 299.

@@ -1,18 +1,33 @@
 //! Values that may be null, and members that may be null or missing, beside those that may not.
+ghost use Rattle.std.specs.Prelude.{Some, codes};
 
 use super::told::told_with;
 use garde::fields::Is;
 use garde::{I18n, length, range};
 use garde_schema::{
-    Any, Closed, Duplicate, Flag, FormI18n, Member, Null, Nullable, Nullish, Object, Optional,
-    Text, TextRef, Tree, U8, Whole, WithDefault,
+    Any, Closed, Duplicate, Empty, Entries, Flag, FormI18n, Given, Items, List, Makes, Map, Member,
+    Null, Nullable, Nullish, Object, Optional, Text, TextRef, Tree, U8, Whole, WithDefault,
 };
 use std::alloc::{AllocError, Global};
+use std::marker::PhantomData;
 
 /// The forms of this module.
 pub enum Case {
     Texts,
     Defaults,
+    Made,
+}
+
+/// Makes the text `home`, as one that is there.
+#[derive(Clone, Copy)]
+struct AtHome;
+
+impl<'a> Makes<Option<TextRef<'a>>> for AtHome {
+    ghost made = { λ _. Some (codes "home") };
+
+    fn make(&self, _alloc: Global) -> Option<TextRef<'a>> {
+        Some(TextRef::new("home"))
+    }
 }
 
 /// The value of a tree of this form, as text, or its report.
@@ -43,6 +58,19 @@ pub fn told_by<H: I18n + FormI18n>(
                 ((Nullish("null", Null), Nullish("any", Any)), twice),
             );
             told_with(alloc, tree, &Nullable(Object(defaults)), h)
+        }
+        // Members whose defaults are made, and members that are not read.
+        Case::Made => {
+            let text = Text(Is(length!(max = 5)));
+            let tags = WithDefault("tags", List(text), Empty);
+            let made = (
+                (WithDefault("name", text, "no name"), tags),
+                WithDefault("at", Nullable(text), AtHome),
+                WithDefault("flags", Map(Flag), Empty),
+                Given(Empty, PhantomData::<&Entries<'_, u8>>),
+                Given(7, PhantomData::<&u8>),
+            );
+            told_with(alloc, tree, &Object(Closed(made)), h)
         }
     }
 }
@@ -114,6 +142,26 @@ pub const DEFAULTS: &[(&str, &str)] = &[
     ("[null]", "not an object\n"),
 ];
 
+/// Bodies, and what each reads as.
+pub const MADE: &[(&str, &str)] = &[
+    (
+        "{}",
+        "((TextRef(\"no name\"), Items([])), Some(TextRef(\"home\")), Items([]), Items([]), 7)",
+    ),
+    (
+        "{\"flags\":{\"a\":true},\"at\":null,\"tags\":[\"b\"],\"name\":\"c\"}",
+        "((TextRef(\"c\"), Items([TextRef(\"b\")])), None, Items([(TextRef(\"a\"), true)]), Items([]), 7)",
+    ),
+    (
+        "{\"name\":null,\"tags\":\"\",\"at\":0,\"flags\":[],\"\":7}",
+        "name: not a text\ntags: not a list\nat: not a text\nflags: not an object\n: not known here\n",
+    ),
+    (
+        "{\"name\":\"no name\",\"tags\":[],\"tags\":[]}",
+        "name: length is greater than 5\ntags: repeated\n",
+    ),
+];
+
 // A text that is longer than what lies in a value.
 const LONG: &str = "a text of more than twenty-two bytes";
 
@@ -124,4 +172,12 @@ fn duplicates_values(rt: HostRuntime) {
             && Some(true).duplicate() == Some(true)
             && TextRef::new(LONG).duplicate().text() == LONG
     );
+}
+
+#[test]
+fn makes_values(rt: HostRuntime) {
+    let text: TextRef<'_> = LONG.make(rt.alloc());
+    let none: Items<u8> = Empty.make(rt.alloc());
+    let seven: u8 = 7.make(rt.alloc());
+    assert!(rt; text.text() == LONG && none.is_empty() && seven == 7);
 }

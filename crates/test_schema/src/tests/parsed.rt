@@ -4,6 +4,7 @@ mod addresses;
 mod booking;
 mod clocks;
 mod dates;
+mod layouts;
 mod texts;
 mod urls;
 mod uuids;

@@ -1,8 +1,8 @@
 //! What a body reads as by a form: its value, as it prints for debugging, or its whole report.
 
 use super::{
-    OrEnd, checked, enums, json_texts, list_rules, lists, maps, nested, nulls, only_members,
-    signup, tuples, unions, wide_numbers,
+    OrEnd, checked, choices, decimals, enums, flattened, json_texts, kept, list_rules, lists, maps,
+    nested, nulls, only_members, signup, tuples, unions, wide_numbers,
 };
 use garde::{CodeI18n, DefaultI18n, I18n};
 use garde_schema::{Form, FormI18n, read};
@@ -20,13 +20,18 @@ pub trait Tells {
 /// The forms of these tests, by the module that has them. Their faults are printed in English.
 pub enum Case {
     Checked(checked::Case),
+    Flattened(flattened::Case),
     /// A list of unions by the only member, eight deep.
     Deep,
     Json,
+    /// Any value.
+    Kept,
     Lists(lists::Case),
     ListRules(list_rules::Case),
     Maps(maps::Case),
     Nested(nested::Case),
+    /// A number with a fraction.
+    Price,
     /// So many members.
     Tuples(usize),
     /// Of 128 bits, without a sign or with one.
@@ -35,6 +40,7 @@ pub enum Case {
 
 /// The forms whose faults are printed in English, and by `Codes` as codes.
 pub enum Coded {
+    Choices(choices::Case),
     Enums,
     Nulls(nulls::Case),
     OnlyMembers(only_members::Case),
@@ -83,12 +89,15 @@ impl Tells for Case {
     fn tell(&self, alloc: Global, tree: &Tree<'_, '_>) -> Result<String, AllocError> {
         match self {
             Case::Checked(case) => checked::told_by(alloc, tree, case),
+            Case::Flattened(case) => flattened::told_by(alloc, tree, case),
             Case::Deep => only_members::deep(alloc, tree),
             Case::Json => json_texts::person(alloc, tree),
+            Case::Kept => kept::any(alloc, tree),
             Case::Lists(case) => lists::told_by(alloc, tree, case),
             Case::ListRules(case) => list_rules::told_by(alloc, tree, case),
             Case::Maps(case) => maps::told_by(alloc, tree, case),
             Case::Nested(case) => nested::told_by(alloc, tree, case),
+            Case::Price => decimals::price(alloc, tree),
             Case::Tuples(size) => tuples::told_by(alloc, tree, *size),
             Case::Wide(signed) => wide_numbers::number(alloc, tree, *signed),
         }
@@ -102,6 +111,7 @@ fn coded_by<H: I18n + FormI18n>(
     h: &H,
 ) -> Result<String, AllocError> {
     match case {
+        Coded::Choices(case) => choices::told_by(alloc, tree, case, h),
         Coded::Enums => enums::order(alloc, tree, h),
         Coded::Nulls(case) => nulls::told_by(alloc, tree, case, h),
         Coded::OnlyMembers(case) => only_members::told_by(alloc, tree, case, h),

@@ -1,10 +1,10 @@
 //! A parser, and a table of texts with what each is read as.
 
-use super::{addresses, clocks, dates, uuids};
+use super::{addresses, clocks, dates, layouts, uuids};
 use crate::tests::is_text;
 use garde::DefaultI18n;
 use garde_form::{Parse, Parsed};
-use garde_parsed::{Date, DateTime, Ipv4, Ipv6, Time, Timestamp, Uuid};
+use garde_parsed::{Date, DateTime, InText, Ip, Ipv4, Ipv6, Layout, Time, Timestamp, Uuid};
 use garde_schema::{Scratch, read_json};
 use std::alloc::{AllocError, Global};
 use std::fmt::Display;
@@ -46,4 +46,17 @@ fn reads_texts_of_each_kind(rt: HostRuntime) {
     check(&rt, rt.alloc(), DateTime, &dates::DATE_TIMES);
     check(&rt, rt.alloc(), Time, &clocks::TIMES);
     check(&rt, rt.alloc(), Timestamp, &clocks::TIMESTAMPS);
+}
+
+#[test]
+fn reads_texts_of_a_layout(rt: HostRuntime) {
+    let (date, time) = (InText(Date, Layout::Date), InText(Time, Layout::Time));
+    check(&rt, rt.alloc(), date, &layouts::DATES);
+    check(&rt, rt.alloc(), time, &layouts::TIMES);
+    let both = InText(DateTime, Layout::DateTime);
+    check(&rt, rt.alloc(), both, &layouts::DATE_TIMES);
+    let moment = InText(Timestamp, Layout::Timestamp);
+    check(&rt, rt.alloc(), moment, &layouts::TIMESTAMPS);
+    check(&rt, rt.alloc(), InText(Date, Layout::Any), &layouts::ANY);
+    check(&rt, rt.alloc(), Ip, &layouts::ADDRESSES);
 }
