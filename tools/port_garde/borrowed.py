@@ -2,16 +2,17 @@
 borrow from the input; and what of them no form reads."""
 from dataclasses import replace
 
-from .defaults import Defaults, is_skipped
+from .defaults import WAY, Defaults, Value, fitted, is_skipped
 from .derives import CASES, OPTIONS, OWN, options, reading_case, type_names
 from .everyday import plain
-from .flattened import faults as faults_of_flattened, held_part, names_of
-from .groups import is_flat, others_of, own_rules, shared_rules
-from .holes import BY_IMPL, Holes
+from .flattened import always_there, faults as faults_of_flattened, flat_part, held_part, names_of
+from .groups import is_flat, is_rest, others_of, own_rules, shared_rules
+from .holes import BY_IMPL, Hole, Holes, nothing, optional
 from .in_order import faults as faults_of_tuple, is_tuple
 from .parsed import parser_of, value_type, way_out
 from .names import of_variant, others_of_variant
 from .scope import SIGNED, UNSIGNED, is_option, is_path, is_text
+from .quoted import BESIDE_CONTEXT
 from .rules import no_attributes
 from .source import Item, Param, Type, all_rules, is_ported
 from .tokens import Refusal, meant
@@ -24,6 +25,8 @@ HAS = {"TextRef": ("Debug", "PartialEq", "Eq"), "Items": ("Debug",), "Entries": 
 AT_TYPE = ("rename", "rename_all", "rename_all_fields", "deny_unknown_fields", "tag", "content", "untagged", "default", "transparent")
 AT_VARIANT = ("rename", "rename_all", "alias", "other", "skip_serializing")
 AT_FIELD = ("rename", "default", "flatten", "skip", "skip_deserializing", "skip_serializing", "skip_serializing_if", "borrow")
+# Those of fields that a form of one's own reads.
+AT_OWN = ("alias", "with", "deserialize_with")
 # The attributes of serde that say nothing to what reads: how a value is written, bounds of an implementation, and a text of serde's own.
 SILENT = {
     "type": ("into", "bound", "crate", "expecting"), "variant": ("serialize_with", "bound", "borrow"),
@@ -56,6 +59,11 @@ def hole(name):
     return Item("hole", name, (), (), 0, no_attributes(), derives=("Deserialize",))
 
 
+def seen_in(vis):
+    """How far a visibility goes."""
+    return 0 if not vis else 2 if vis == "pub " else 1
+
+
 def fields_of(item):
     return [it for variant in item.variants for it in variant.fields]
 
@@ -71,36 +79,116 @@ def below(item):
     return held[0] if is_list and item.kind == "struct" and item.variants[0].shape == "named" and fields_of(item)[1:] else None
 
 
+def without_dive(rules):
+    """Rules without `dive`."""
+    kept = [replace(it, rules=without_dive(it.rules)) for it in rules if it.name != "dive"]
+    return tuple(it for it in kept if it.rules or it.name not in ("inner", "if"))
+
+
 class Borrowed:
     """The types of a source. `is_walked` says that they have a walk too, `is_stated` that what an input spells is stated, and `has_context`
     that they may have a context."""
 
-    def __init__(self, source, left_out, is_stated=False, is_walked=False, has_context=False, input="json", has_own=False):
+    def __init__(self, source, left_out, is_stated=False, is_walked=False, has_context=False, input="json", own=None, root=None):
         self.source, self.left_out, self.is_stated, self.is_walked = source, left_out, is_stated, is_walked
-        self.has_context, self.input, self.context = has_context, input, None
+        self.has_context, self.input, self.own, self.root, self.context = has_context, input, own, root, None
         source.items[:] = [self.canonical(it) if is_read(it) else it for it in source.items]
-        plain(source)
+        plain(source, bool(own))
         self.items = {it.name: it for it in source.items if is_read(it)}
-        self.holes = self.found_holes() if has_own else {}
-        self.defaults = Defaults(source)
+        self.holes = self.found_holes(root) if own else {}
         self.borrowing = self.found_borrowing()
+        self.each_field(self.with_rules_of_sets)
+        self.each_field(lambda it: always_there(it, self))
+        self.defaults = Defaults(source)
+        self.let_be_missing()
+        self.show_parts(root)
+
+    def show_parts(self, root):
+        """Lets the type that is read be seen, and a part wherever the type is that holds it, since what makes a value of that type names it."""
+        if root in self.items and not self.items[root].vis:
+            self.items[root] = replace(self.items[root], vis="pub ")
+        hidden = [None]
+        while hidden:
+            hidden = [(name, it.vis) for it in self.items.values() for field in fields_of(it) for name in type_names(field.type) if name in self.items and seen_in(self.items[name].vis) < seen_in(it.vis)]
+            for name, vis in hidden:
+                self.items[name] = replace(self.items[name], vis=vis)
+        self.source.items[:] = [self.items[it.name] if it.name in self.items and it.name not in self.holes else it for it in self.source.items]
+
+    def each_field(self, change):
+        """Changes each field of the types."""
+        for at, item in enumerate(self.source.items):
+            if item.name in self.items and item.name not in self.holes:
+                variants = tuple(replace(it, fields=tuple(map(change, it.fields))) for it in item.variants)
+                self.source.items[at] = self.items[item.name] = replace(item, variants=variants)
+
+    def let_be_missing(self):
+        """Lets each member be missing whose default is not known, where the source has a module of one's own."""
+        found = {id(it): told for item in self.items.values() for it in fields_of(item) for told in [self.unknown_default(it, item)] if told}
+        self.each_field(lambda it: self.unmade(it, found[id(it)]) if id(it) in found else it)
+
+    def unknown_default(self, it, item):
+        """Why the default of a member is not known, or nothing. Where rules speak of it besides others it has to be."""
+        is_asked = shared_rules(it) or any(it.name in others_of(rule) for one in fields_of(item) for rule in one.attributes.rules)
+        if it.unmade or not self.own or self.input != "json" or not it.name or it.type.kind == "unread" or is_asked or any(rule.name == "if" for rule in it.attributes.rules):
+            return None
+        try:
+            self.defaults.of(it, item)
+        except Refusal as refusal:
+            return refusal.reason.removesuffix(WAY).removesuffix(": ")
+        return None
+
+    def unmade(self, it, told):
+        """Such a field: an option of what is there, or nothing at all of a member that is not read."""
+        value = "not read, and `()` here" if is_skipped(it) else "`None` where it is missing"
+        self.source.notes.holes.append(Hole(it.line, f"{it.name}: {told}: it is {value}; fill it in by your code"))
+        docs = (*it.docs, *(["///"] if it.docs else []), f"/// It is {value}: its default is not known.")
+        return replace(nothing(it) if is_skipped(it) else optional(it), docs=docs)
 
     def canonical(self, item):
         """A type whose fields of any kind are known by one name."""
         fields = lambda variant: tuple(replace(it, type=canonical(it.type, self.source.imports)) for it in variant.fields)
         return replace(item, variants=tuple(replace(it, fields=fields(it)) for it in item.variants))
 
-    def found_holes(self):
-        """The types whose reading stands elsewhere, by their names, each with why that is so. They are types of the source from here on."""
+    def found_holes(self, root):
+        """The types whose reading stands elsewhere, by their names, each with why that is so. They are types of the source from here on, and
+        those are no more that the type which is read does not hold."""
         held = {it.name: it for it in self.source.items}
-        self.items = {name: it for name, it in self.items.items() if not any(word in options(it) for word in BY_IMPL)}
-        holes = Holes(held, lambda kind: is_option(kind) or is_path(kind, "Vec", *UNSIGNED, *SIGNED, "bool", *self.items) or is_map(kind) or is_float(kind) or is_any(kind) or parser_of(kind, self.source) is not None)
-        for at, item in enumerate(self.source.items):
-            if item.name in self.items:
-                self.source.items[at] = self.items[item.name] = holes.of_item(item)
-        self.source.items = [it for it in self.source.items if it.name not in holes.why]
+        nested = {name for name, it in self.items.items() if root and name != root and self.holds_itself(it, it, ())}
+        self.items = {name: it for name, it in self.items.items() if name not in nested and not any(word in options(it) for word in BY_IMPL)}
+        reads = lambda kind: is_option(kind) or is_path(kind, "Vec", *UNSIGNED, *SIGNED, "bool", *self.items) or is_map(kind) or is_float(kind) or is_any(kind) or parser_of(kind, self.source) is not None
+        holes = Holes(held, reads, lambda it: is_rest(it) or flat_part(it, self.items), self.own, self.source.notes)
+        turned, left = {}, [root] if root in self.items else list(self.items)
+        while left:
+            name = left.pop()
+            item = turned[name] = holes.of_item(self.items[name])
+            left += [name for it in fields_of(item) for name in sorted(type_names(it.type)) if name in self.items and name not in turned and name not in left]
+        starts = {it.line: any(one.line == it.line and one.name in turned for one in held.values()) for it in held.values()}
+        self.source.notes.holes[:] = [it for it in self.source.notes.holes if starts.get(max((line for line in starts if line <= it.line), default=0), True)]
+        self.items = {name: turned[name] for name in self.items if name in turned}
+        self.source.items = [self.items.get(it.name, it) for it in self.source.items]
+        self.source.items = [it for it in self.source.items if it.name in self.items or it.name == root or not is_read(it) and it.name not in holes.why]
         self.items.update({name: hole(name) for name in holes.why})
         return holes.why
+
+    def with_rules_of_sets(self, it):
+        """A field of which no set asks that its items differ, where they are of a type that is not compared."""
+        rules = tuple(self.rules_of_sets(it.type, it.attributes.rules))
+        skip = it.attributes.skip or not rules and bool(it.attributes.rules)
+        return replace(it, attributes=replace(it.attributes, rules=rules, skip=skip))
+
+    def rules_of_sets(self, kind, rules):
+        """Rules of a type, but for those of sets whose items are not compared."""
+        for it in rules:
+            if it.added and it.name == "inner":
+                inside = tuple(self.rules_of_sets(kind.args[-1], (replace(one, added=True) for one in it.rules)))
+                yield from [replace(it, rules=inside)] if inside else []
+            elif not it.added or it.name != "unique" or self.is_compared(within_options(kind).args[0]):
+                yield it
+
+    def is_compared(self, kind):
+        """Whether items of a list are compared."""
+        held = self.items.get(kind.name)
+        return is_text(kind) or is_path(kind, *UNSIGNED, *SIGNED) or held is not None and kind.name not in self.holes and self.has(held, "PartialEq", ())
 
     def found_borrowing(self):
         """The names of the types that hold a text or a map, or such a type."""
@@ -137,7 +225,8 @@ class Borrowed:
     def turned(self, item):
         """A type with other texts, lists and maps, without what is serde's. A variant with brackets that hold no field is one without."""
         params = (Param("lifetime", LIFE),) if item.name in self.borrowing else ()
-        variants = tuple(replace(it, fields=tuple(map(self.turned_field, it.fields)), serde=()) for it in item.variants)
+        fields = lambda variant: tuple(self.turned_field(self.stated_field(it, item)) for it in variant.fields)
+        variants = tuple(replace(it, fields=fields(it), serde=()) for it in item.variants)
         if item.kind == "enum":
             variants = tuple(it if it.fields else replace(it, shape="unit") for it in variants)
         derives = self.derives_of(item)
@@ -167,6 +256,14 @@ class Borrowed:
         if held is not None and not self.has(held, derive, seen) or turned.name in HAS and turned.name not in self.items and derive not in HAS[turned.name]:
             return False
         return is_text(kind) or all(self.is_derived(it, derive, seen) for it in kind.args)
+
+    def stated_field(self, it, item):
+        """A field without what no statement says: that the rules of a type hold which holds itself."""
+        nested = any(name in self.items and below(self.items[name]) for name in type_names(it.type))
+        if not nested or below(item):
+            return it
+        rules = without_dive(it.attributes.rules)
+        return replace(it, attributes=replace(it.attributes, rules=rules, skip=not rules))
 
     def turned_field(self, it):
         is_told = any(self.unread(it.type, None)) or any(self.of_lists(it.type, own_rules(it)))
@@ -203,9 +300,6 @@ class Borrowed:
                 yield from self.of_field(it, item)
         if self.holds_itself(item, item, ()):
             yield from self.of_nested(item)
-        elif is_ported(item):
-            nested = [it for it in fields_of(item) for name in type_names(it.type) if name in self.items and below(self.items[name])]
-            yield from ((it.line, f"the field `{it.name}` of a type that holds itself, whose rules `{item.name}` cannot state: take `Validate` out of its derives") for it in nested)
 
     def of_context(self, line, tokens):
         """Why a form has no such context."""
@@ -223,9 +317,9 @@ class Borrowed:
             yield item.line, f"`{item.name}`, whose values hold values of its own type otherwise than in one list, beside other fields"
             return
         if any(rule.name != "dive" for rule in held.attributes.rules) or any(held.name in others_of(rule) for it in fields_of(item) for rule in it.attributes.rules):
-            yield held.line, f"the field `{held.name}` of a type that holds itself, with more than `dive`"
+            yield held.line, f"the field `{held.name}` of a type that holds itself, with more than `dive`: no form asks a rule of that list, so ask it by your code"
         if self.is_walked or self.is_stated:
-            yield item.line, f"`{item.name}`, which holds itself: it has no walk, so say `--schema --no-walk`"
+            yield item.line, f"`{item.name}`, which holds itself: {'what JSON spells of it is not stated' if self.is_stated else 'it has no walk'}, so say `--schema --no-walk`"
 
     def of_serde(self, item):
         """The attributes of serde that no form has."""
@@ -234,7 +328,8 @@ class Borrowed:
         for part, place, known in parts:
             for said in options(part).values():
                 if said.word not in (*known, *SILENT[place]):
-                    yield said.line, f"`{said.word}` of serde, of which `--schema` writes no form{meant(said.word, WORDS_OF_SERDE)}"
+                    way = ": say `--own` for a form of your own" if said.word in AT_OWN and place == "field" else meant(said.word, WORDS_OF_SERDE)
+                    yield said.line, f"`{said.word}` of serde, of which `--schema` writes no form{way}"
                 elif said.word.startswith("rename_all") and reading_case(said) not in CASES:
                     yield said.line, f"`{said.word}` of serde without one case of names, as \"camelCase\"{meant(said.value, CASES)}"
                 elif said.word == "transparent" and len(fields_of(item)) != 1:
@@ -297,15 +392,18 @@ class Borrowed:
             if rule.name == "dive":
                 yield rule.line, "`dive` under a condition, which a form cannot leave out"
         for rule in all_rules(it.attributes.rules):
-            if rule.name == "pattern" and (rule.place is None or not self.has_context):
-                told = "name a pattern of the type's context, as `pattern(patterns.mail)` (see docs/guide/attributes.md)"
-                yield rule.line, f"`pattern` in quotes, of which a form has none: {'' if self.has_context else 'say `--spelled TYPE`, and '}{told}"
+            if rule.name == "pattern" and rule.place is None:
+                way = "say `--spelled TYPE`" if self.root is None else "write a rule of your own, by `custom`"
+                yield rule.line, BESIDE_CONTEXT if self.has_context else f"`pattern` in quotes, which no form of `--{'schema' if self.root is None else 'body'}` holds compiled: {way}"
             if rule.name == "dive" and rule.place is not None and rule.place.kind == "place" and len(rule.place.value) > 1:
                 yield rule.line, "`dive` with a part of the context, of which a form hands on the whole alone"
 
     def default(self, it, item):
         """The value that stands for a missing member, where that is not the `None` of an option; or the value of one that is not read."""
+        if it.unmade:
+            return Value("tuple", it.type) if is_skipped(it) else None
         found = self.defaults.of(it, item) if it.type.kind != "unread" else None
+        found = fitted(found, self.items) if found is not None else None
         return None if found is not None and found.form == "none" and not is_skipped(it) else found
 
     def of_default(self, it, item):
@@ -319,7 +417,7 @@ class Borrowed:
         if told:
             yield it.line, f"the default of the field `{it.name}`: {told}: give another default, or read an `Option`"
         if found is not None and below(item) is it:
-            yield it.line, f"the default of the field `{it.name}` of a type that holds itself, whose list has to be there: take it out"
+            yield it.line, f"the default of the field `{it.name}` of a type that holds itself, whose list has to be there: take it out, and write `[]` in the input"
 
     def of_lists(self, kind, rules, way="write it within `inner(..)` for each item"):
         """The rules of lists and maps that no form asks, and the way out."""
@@ -385,6 +483,11 @@ def of_whole(rules):
     return [it for it in rules if it.name in ("required", "custom")]
 
 
+def within_options(kind):
+    """What options of a type hold."""
+    return within_options(kind.args[0]) if is_option(kind) else kind
+
+
 def within_option(rules):
     """The rules of what an option holds."""
     whole = of_whole(rules)
@@ -396,5 +499,5 @@ def is_map(kind):
 
 
 def asks(item):
-    """Whether something is asked of a type's fields."""
-    return any(it.attributes.rules for it in fields_of(item))
+    """Whether attributes ask something of a type's fields."""
+    return any(not rule.added for it in fields_of(item) for rule in it.attributes.rules)

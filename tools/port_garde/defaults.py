@@ -1,16 +1,18 @@
 """Defaults: the values that stand for members that are missing or skipped, where they are constant expressions of the source. One value
 gives its code, its statement and its JSON, and says which of the rules it breaks."""
 import re
-from dataclasses import dataclass
+from dataclasses import dataclass, replace
 
 from .derives import options
 from .expressions import inside_of, number_of
 from .groups import own_rules
 from .layout import WIDTH, Literal, Method, Word, call, statement
 from .names import of_field, of_variant
+from .prelude import is_declared
 from .scope import SIGNED, UNSIGNED, is_option, is_path, is_text, range_of, resolved
 from .source import Type, read_path, read_type
 from .tokens import Refusal, Refusals, Tokens, tokens_of
+from .tried import holds
 from .words import camel
 
 COLLECTIONS = ("Vec", "BTreeMap", "HashMap", "IndexMap", "BTreeSet", "HashSet", "IndexSet", "VecDeque", "LinkedList")
@@ -21,6 +23,8 @@ TEXTS = (*OWNED, "str", "Path", "Utf8Path", *WRAPPERS)
 SAME = ("to_string", "to_owned", "into", "clone", "as_str", "as_ref", "into_boxed_str", "into_string")
 SUMS = {"+": int.__add__, "-": int.__sub__, "*": int.__mul__, "/": lambda a, b: abs(a) // abs(b) * (1 if a * b >= 0 else -1), "%": lambda a, b: abs(a) % abs(b) * (1 if a >= 0 else -1), "<<": int.__lshift__}
 BINDS = (("<<",), ("+", "-"), ("*", "/", "%"))
+# The functions that make a `Duration`, each with how many of these are a second.
+SPANS = {"from_secs": 1, "from_millis": 10**3, "from_micros": 10**6, "from_nanos": 10**9}
 # What a statement has on one line of a default.
 LONG = 60
 LAST = ("fn", "impl", "const")
@@ -45,13 +49,18 @@ class NoConstant(Exception):
 @dataclass(frozen=True)
 class Value:
     """A value of a type of the source. Its form: `number`, `bool`, `text`, `none`, `some`, `empty`, `tuple`, or `made`, of the variant `value`
-    of a type of the file. The parts are those of the variant or of the tuple, or what is there."""
+    of a type of the file. The parts are those of the variant or of the tuple, or what is there. One that is `unknown` has the reason as its
+    value."""
 
     form: str
     kind: Type
     value: object = None
     parts: tuple = ()
     item: object = None
+
+    def lacks(self):
+        """Why a value is not known, or a part of it, or nothing."""
+        return self.value if self.form == "unknown" else next((told for it in self.parts for told in [it.lacks()] if told), None)
 
     def variant(self):
         return next(it for it in self.item.variants if it.name == self.value)
@@ -120,7 +129,7 @@ class Constants:
             start, under = inside.at, is_conditional
             while not inside.ended() and not inside.sees(";") and not inside.opens("{"):
                 if inside.opens("[") or inside.opens("("):
-                    under = under or inside.group().sees("cfg")
+                    under = inside.group().sees("cfg") or under
                 else:
                     inside.take()
             inside.group() if inside.opens("{") else inside.take()
@@ -132,6 +141,10 @@ class Constants:
         return path[-1] == "Default" and (path[0] if path[1:] else home) in ("std", "core")
 
     # What a type gives.
+
+    def value_of(self, text, kind):
+        """The value of a text of the source, as one of a type."""
+        return Reader(self, Tokens(tokens_of(text), text, self.source.notes)).whole(kind)
 
     def of_type(self, kind):
         """The default of a type."""
@@ -159,7 +172,7 @@ class Constants:
         variants = [it for it in item.variants if item.kind == "struct" or any(name == "default" for _, name in it.others)]
         if not variants:
             raise NoConstant(f"no variant of `{item.name}` is marked by `#[default]`")
-        return Value("made", kind, variants[0].name, tuple(self.of_type(it.type) for it in variants[0].fields), item)
+        return Value("made", kind, variants[0].name, tuple(known_or_not(self.of_type, it.type) for it in variants[0].fields), item)
 
     def given(self, place, kind, owner):
         """What the body at a place gives, as a value of a type."""
@@ -284,9 +297,18 @@ class Reader:
             return self.constants.of_type(kind)
         if variant is not None and variant.shape == "tuple":
             return Value("made", kind, variant.name, given.in_turn([it.type for it in variant.fields]), item)
+        if names[0] == kind.name and names[-1] in SPANS and is_declared(item, "Duration"):
+            return given.span(names[-1], kind)
         if not given.tokens.ended():
             raise NoConstant(f"the function `{'::'.join(names)}` has arguments")
         return self.constants.called(names, kind, self.owner)
+
+    def span(self, name, kind):
+        """A `Duration` of so many seconds, or parts of one."""
+        count = self.ended(self.number(Type("path", "u64", kind.line, path=("u64",)))).value
+        item = self.constants.items[kind.name]
+        parts = zip((it.type for it in item.variants[0].fields), (count // SPANS[name], count % SPANS[name] * (10**9 // SPANS[name])))
+        return Value("made", kind, item.variants[0].name, tuple(Value("number", it, number) for it, number in parts), item)
 
     def in_turn(self, kinds):
         """The parts of a tuple, or of a constructor without names."""
@@ -333,13 +355,19 @@ class Reader:
             name = renames.get(name, name)
             if name not in kinds or not tokens.takes(":"):
                 raise NoConstant(f"the value of the field `{name}` does not stand beside it")
-            found[name] = self.value(kinds[name])
+            found[name] = known_or_not(self.part, kinds[name])
+            tokens.skip_to(",")
             tokens.takes(",")
         others = dict(zip(kinds, rest.parts)) if rest is not None else {}
         missing = [it for it in kinds if it not in found and it not in others]
         if missing:
             raise NoConstant(f"`{kind.name}` lacks its field `{missing[0]}`")
         return self.ended(tuple(found[it] if it in found else others[it] for it in kinds))
+
+    def part(self, kind):
+        """A value that stands up to the next comma."""
+        found = self.value(kind)
+        return found if self.tokens.sees(",") else self.ended(found)
 
     # Numbers.
 
@@ -407,6 +435,21 @@ class Reader:
         return self.wanted(found, found.form == "number", token).value
 
 
+def known_or_not(read, kind):
+    """A value of a type, or why it is not known."""
+    try:
+        return read(kind)
+    except (NoConstant, Refusal) as why:
+        return Value("unknown", kind, why.reason if isinstance(why, Refusal) else str(why))
+
+
+def known(found):
+    """A value each of whose parts is known."""
+    if found is not None and found.lacks():
+        raise NoConstant(found.lacks())
+    return found
+
+
 class Defaults:
     """The defaults of the members of a source, and which of their rules they break."""
 
@@ -422,8 +465,8 @@ class Defaults:
         try:
             if own is None and whole is not None:
                 made = self.said(whole, Type("path", item.name, item.line, path=(item.name,)))
-                return dict(zip((field.name for field in item.variants[0].fields), made.parts)).get(it.name)
-            return self.said(own, it.type)
+                return known(dict(zip((field.name for field in item.variants[0].fields), made.parts)).get(it.name))
+            return known(self.said(own, it.type))
         except NoConstant as why:
             told = f"`default` of `{item.name}`" if own is None and whole is not None else f"the default of the field `{it.name}`"
             raise Refusal(said.line if said else it.line, f"{told}: {why}: {WAY}") from why
@@ -446,12 +489,14 @@ class Defaults:
 
     def breaks(self, found, rule):
         """What breaks which rule; or nothing where the value keeps the rule, or only the prover can tell."""
+        if rule.name == "custom" and rule.place is not None:
+            return f'{self.told(found)} breaks "{rule.message}"' if holds(rule.place, found, self.source.numbers) is False else None
         if found.form == "some" and rule.name not in ("required", "custom", "inner"):
             return self.breaks(found.parts[0], rule)
         if found.form == "some" and rule.name == "inner":
             return self.broken(found.parts[0], rule.rules)
         if found.form == "none":
-            return "`None` breaks `required`" if rule.name == "required" else None
+            return f"{self.told(found)} breaks `required`" if rule.name == "required" else None
         if rule.name == "dive" and found.form == "made":
             parts = zip(found.variant().fields, found.parts)
             return next((told for it, part in parts for told in [self.broken(part, own_rules(it))] if told), None)
@@ -463,9 +508,13 @@ class Defaults:
         inside = [rule.mode] if rule.mode not in ("", "simple") else []
         inside += [f'"{rule.text}"'] if rule.text else []
         inside += [str(value) if rule.name == "multiple_of" else f"{word} = {value}" for word, value in bounds]
-        told = {"number": found.value, "text": f'"{found.value}"'}.get(found.form, "empty")
         asked = f"({', '.join(inside)})" if inside else ""
-        return f"{told} breaks `{rule.name}{asked}`"
+        return f"{self.told(found)} breaks `{rule.name}{asked}`"
+
+    def told(self, found):
+        """A value as a refusal names it."""
+        known = {"number": found.value, "text": f'"{found.value}"', "bool": str(found.value).lower(), "made": found.value, "none": "`None`"}
+        return known.get(found.form, "empty")
 
     def is_broken(self, found, rule):
         """Whether a text, a number or a list without an item breaks a rule."""
@@ -499,6 +548,25 @@ class Defaults:
         return {"chars": len(found.value), "utf16": len(found.value.encode("utf-16-le")) // 2}.get(mode, len(found.value.encode()))
 
 
+def fitted(found, items):
+    """A value whose parts have the types of the fields of these items: a part that may be missing is there, and one that is not read has no
+    default."""
+    if found.form != "made" or found.item.name not in items:
+        return replace(found, parts=tuple(fitted(it, items) for it in found.parts))
+    item = items[found.item.name]
+    variant = next(it for it in item.variants if it.name == found.value)
+    given = {it.name: fitted(part, items) for it, part in zip(found.variant().fields, found.parts)}
+    parts = [fitted_part(given.get(it.name), it) for it in variant.fields] if variant.shape == "named" else [fitted(it, items) for it in found.parts]
+    return replace(found, item=item, parts=tuple(parts))
+
+
+def fitted_part(part, it):
+    """A part as the value of a field. A further name of a member has none."""
+    if not it.unmade:
+        return part
+    return Value("tuple", it.type) if is_skipped(it) else Value("some", it.type, parts=(part,)) if part else Value("none", it.type)
+
+
 # What a value is in the code, in a statement and in JSON.
 
 
@@ -516,7 +584,7 @@ def of_made(found, parts):
     """A value of a type of the file in JSON."""
     item, variant, said = found.item, found.variant(), options(found.item)
     names = [of_field(it, variant, item) if it.name else None for it in variant.fields]
-    members = {name: part for name, it, part in zip(names, variant.fields, parts) if not is_skipped(it)}
+    members = {name: part for name, it, part in zip(names, variant.fields, parts) if not is_skipped(it) and not (it.unmade and part is None)}
     inside = (members if variant.shape == "named" and "transparent" not in said else parts[0]) if parts else None
     if item.kind == "struct":
         return inside
@@ -619,7 +687,9 @@ class Making:
             return " ".join([word, *map(self.bracketed, found.parts)])
         if found.form == "number":
             return str(found.value)
-        return f"({', '.join(map(self.stated, found.parts))})" if found.form == "tuple" else self.of_made(found)
+        if found.form == "tuple":
+            return f"({', '.join(map(self.stated, found.parts))})" if found.parts else "tt"
+        return self.of_made(found)
 
     def of_made(self, found):
         if found.item.kind == "enum":

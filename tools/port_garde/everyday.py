@@ -2,14 +2,18 @@
 rules of its names, and a path is a text."""
 from dataclasses import replace
 
+from .defaults import Constants, NoConstant
 from .derives import options
 from .expressions import VALUE, Expression
+from .holes import BY_FUNCTION, BY_IMPL, Hole
 from .names import of_variant, others_of_variant
 from .parsed import place_of, with_moments
+from .prelude import NOTHING, NUMBERS
 from .rules import REPEATED, Rule
 from .scope import SIGNED, UNSIGNED, is_option, is_path, is_text
 from .source import Type
 from .tokens import Refusal
+from .unions import is_other
 
 PATHS = ("PathBuf", "Utf8PathBuf", "Path", "Utf8Path")
 SETS = ("BTreeSet", "HashSet", "IndexSet")
@@ -22,8 +26,10 @@ UNKNOWN = "not one of the known values"
 THROUGH = ("length", "unique", "keys")
 
 
-def plain(source):
-    """Puts the types of the fields that a form reads in the words of others, each with the rules that this adds."""
+def plain(source, has_own=False):
+    """Puts the types of the fields that a form reads in the words of others, each with the rules that this adds. With
+    `has_own` keys that no form reads are any texts."""
+    source.has_own = has_own
     for at, item in enumerate(source.items):
         if "Deserialize" in item.derives:
             variants = tuple(replace(it, fields=tuple(plain_field(field, item, source) for field in it.fields)) for it in item.variants)
@@ -32,15 +38,27 @@ def plain(source):
 
 def plain_field(it, item, source):
     it = with_moments(it)
+    if set(BY_FUNCTION) & set(options(it)):
+        return it
     try:
         if it.type.kind == "array" and {"default"} & {*options(it), *options(item)}:
             raise Refusal(it.line, f"`default` of the array `{it.name}`, which no list without items is: write an `Option` of it")
-        kind, rules = plain_type(it.type, source)
+        kind, found = plain_type(it.type, source)
     except Refusal as refusal:
         source.notes.faults.append(refusal)
         return replace(it, type=Type("unread", "", it.line))
-    attributes = replace(it.attributes, rules=(*rules, *it.attributes.rules), skip=it.attributes.skip and not rules)
-    return it if kind is it.type else replace(it, type=kind, attributes=attributes)
+    rules = tuple(replace(one, added=True) for one in found)
+    whole, skip = of_names((*rules, *it.attributes.rules)), it.attributes.skip and not rules
+    if kind is it.type and whole == it.attributes.rules:
+        return it
+    return replace(it, type=kind, attributes=replace(it.attributes, rules=whole, skip=skip))
+
+
+def of_names(rules):
+    """The rules of a field, those of the names of a map in one."""
+    keys = [it for it in rules if it.name == "keys"]
+    whole = [replace(keys[0], rules=tuple(found for it in keys for found in it.rules))] if keys else []
+    return tuple(found for it in rules for found in ([it] if it.name != "keys" else whole if it is keys[0] else []))
 
 
 def path(name, line, *args):
@@ -53,6 +71,14 @@ def plain_type(kind, source):
         return kind, ()
     if is_path(kind, *PATHS) or kind.kind == "ref" and is_path(kind.args[0], *PATHS):
         return path("String", kind.line), ()
+    if place_of(kind, source) in NUMBERS or is_path(kind, "NonZero"):
+        return of_number(kind, source)
+    if is_path(kind, "ArrayVec", "ArrayString") and kind.path[0] == "arrayvec":
+        return of_room(kind, source)
+    if place_of(kind, source) == NOTHING:
+        return Type("tuple", "()", kind.line), ()
+    if is_path(kind, "IgnoredAny"):
+        return Type("path", "Value", kind.line, path=("serde_json", "Value")), ()
     if kind.kind == "array":
         return of_list(kind, source, Rule("length", kind.line, mode="simple", bounds={"equal": size_of(kind, source)}))
     if is_path(kind, *SETS) and kind.args:
@@ -84,18 +110,37 @@ def within(rules):
     return Rule("inner", rules[0].line, rules=tuple(rules))
 
 
+def of_number(kind, source):
+    """A number that is not 0, or one that a float holds, as a number under a rule."""
+    known = kind.name if kind.name != "NonZero" else f"NonZero{kind.args[0].name.capitalize()}"
+    name, least, most = NUMBERS[place_of(kind, source)[0] or "std", known]
+    number = path(name, kind.line)
+    if (least, most) == (None, None):
+        place = Expression("!=", kind.line, parts=(Expression("place", kind.line, (VALUE,)), Expression("number", kind.line, 0)))
+        return number, (Rule("custom", kind.line, source="asks(0)", message="must not be 0", place=place),)
+    bounds = {"min": least, "max": most}
+    return number, (Rule("range", kind.line, bounds={word: Expression("number", kind.line, it) for word, it in bounds.items() if it is not None}),)
+
+
+def of_room(kind, source):
+    """A list or a text of so many items or bytes at most."""
+    most = size_of(replace(kind, size=kind.args[-1].name), source)
+    asked = Rule("length", kind.line, mode="simple", bounds={"max": most})
+    return (path("String", kind.line), (asked,)) if kind.name == "ArrayString" else of_list(kind, source, asked)
+
+
 def of_list(kind, source, *asked):
     held, rules = plain_type(kind.args[0], source)
     return path("Vec", kind.line, held), (*asked, *([within(rules)] if rules else []))
 
 
 def size_of(kind, source):
-    """The length of an array: a number, or a constant of the file."""
-    if kind.size[:1].isdigit():
-        return Expression("number", kind.line, int(kind.size.replace("_", "").removesuffix("usize"), 0))
-    if kind.size not in source.numbers:
-        raise Refusal(kind.line, f"an array of `{kind.size}` items, which is no number and no constant of this file: write the number")
-    return Expression("number", kind.line, source.numbers[kind.size])
+    """The length of an array: numbers and constants of the file."""
+    try:
+        found = Constants(source).value_of(kind.size, path("usize", kind.line))
+    except NoConstant as why:
+        raise Refusal(kind.line, f"an array of `{kind.size}` items, which is no number and no constant of this file: write the number") from why
+    return Expression("number", kind.line, found.value)
 
 
 def of_map(kind, source):
@@ -111,6 +156,7 @@ def of_map(kind, source):
 def of_key(kind, source):
     """The rules of a map's names."""
     held = next((it for it in source.items if it.name == kind.name), None) if kind.kind == "path" else None
+    held = held if held is not None and "Deserialize" in held.derives and not set(BY_IMPL) & set(options(held)) else None
     if is_text(kind) or is_path(kind, *PATHS):
         return ()
     if is_path(kind, "char"):
@@ -119,11 +165,17 @@ def of_key(kind, source):
         return (Rule(ADDRESSES[place_of(kind, source)], kind.line),)
     if is_path(kind, *UNSIGNED, *SIGNED) and not kind.name.endswith("128"):
         return (whole_key(kind),)
-    if held is not None and held.kind == "enum" and all(it.shape == "unit" for it in held.variants):
-        return (known_names(held, kind.line),)
+    units = [it for it in held.variants if it.shape == "unit"] if held is not None and held.kind == "enum" and not {"tag", "untagged"} & set(options(held)) else []
+    if units:
+        return () if any(map(is_other, units)) else (known_names(held, units, kind.line),)
     if held is not None and held.kind == "struct" and len(held.variants[0].fields) == 1 and is_newtype(held):
         one = held.variants[0].fields[0]
         return (*of_key(one.type, source), *(it for it in one.attributes.rules if it.name != "dive"))
+    if is_path(kind, "bool"):
+        return (one_of(("true", "false"), kind.line),)
+    if source.has_own and kind.kind == "path":
+        source.notes.holes.append(Hole(kind.line, f"a map by `{kind.name}`, of which a form reads no keys: any name passes; ask rules of the names by `custom(keys(..))`"))
+        return ()
     told = f"a map whose keys are of the type `{kind.name}`" if kind.kind == "path" else "a map whose keys are a tuple, an array or a reference"
     raise Refusal(kind.line, f"{told}: a form reads keys that are texts, whole numbers of at most 64 bits, `char`s, addresses, enums of names, or newtypes of these, so write `BTreeMap<String, ..>` with `custom(keys(..))`")
 
@@ -140,9 +192,13 @@ def is_newtype(item):
     return item.variants[0].shape == "tuple" or any(said.word == "transparent" for group in item.serde for said in group)
 
 
-def known_names(item, line):
-    """The rule that a text is the name of a variant."""
-    names = [name for it in item.variants for name in (of_variant(it, item), *others_of_variant(it))]
+def known_names(item, variants, line):
+    """The rule that a text is the name of one of these variants."""
+    return one_of([name for it in variants for name in (of_variant(it, item), *others_of_variant(it))], line)
+
+
+def one_of(names, line):
+    """The rule that a text is one of some names."""
     value = Expression("place", line, (VALUE,))
     parts = tuple(Expression("==", line, parts=(value, Expression("text", line, it))) for it in names)
     place = parts[0] if len(parts) == 1 else Expression("or", line, parts=parts)

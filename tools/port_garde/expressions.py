@@ -73,8 +73,23 @@ def read_comparison(tokens):
     for mark in ("==", "!=", "<=", "<", ">"):
         if tokens.takes(mark):
             mark += "=" if mark == ">" and tokens.takes("=") else ""
-            return Expression(mark, tokens.line, parts=(found, read_sum(tokens)))
+            return compared(mark, tokens.line, (found, read_sum(tokens)))
     return found
+
+
+def compared(mark, line, parts):
+    """A comparison; one with `true` or `false` is the other part, or what denies it."""
+    known = [it for it in parts if it.kind == "bool"]
+    if not known or mark not in ("==", "!="):
+        return Expression(mark, line, parts=parts)
+    other = parts[0] if known[-1] is parts[1] else parts[1]
+    return other if (known[-1].value == "true") == (mark == "==") else denied(other, line)
+
+
+def denied(part, line):
+    """What says that a condition does not hold."""
+    is_length = part.kind == "==" and part.parts[0].kind == "call"
+    return replace(part, kind="!=") if is_length else Expression("not", line, parts=(part,))
 
 
 def read_sum(tokens):
@@ -100,9 +115,7 @@ def read_unary(tokens):
     """Reads `!`, a number with its sign, a truth value, a group in brackets or a place."""
     line = tokens.line
     if tokens.takes("!"):
-        part = read_unary(tokens)
-        is_length = part.kind == "==" and part.parts[0].kind == "call"
-        return replace(part, kind="!=") if is_length else Expression("not", line, parts=(part,))
+        return denied(read_unary(tokens), line)
     if tokens.takes("&") or tokens.takes("*"):
         return read_unary(tokens)
     if tokens.takes("-"):

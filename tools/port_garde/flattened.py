@@ -1,4 +1,6 @@
 """Members of one type among those of another one: fields under serde's `flatten`, and variants under `tag` that hold a struct."""
+from dataclasses import replace
+
 from .defaults import is_skipped
 from .derives import options
 from .groups import is_flat, is_rest, shared_rules
@@ -23,6 +25,11 @@ def held_part(variant, item, items):
     said = options(item)
     is_held = item.kind == "enum" and "tag" in said and "content" not in said and variant.shape == "tuple" and len(variant.fields) == 1
     return part_of(variant.fields[0].type, items) if is_held else None
+
+
+def own_part(it, items):
+    """The hole whose members among others a form of your own reads, or nothing."""
+    return it.type if is_flat(it) and not is_rest(it) and flat_part(it, items) is None and it.type.name in items else None
 
 
 def fields_among(item, items):
@@ -57,6 +64,21 @@ def must_be_there(it, item, borrowed):
     return not is_option(it.type) and not is_skipped(it) and not {"default"} & {*options(it), *options(item)}
 
 
+def is_always_there(it, borrowed):
+    """Whether a field is an option of a struct each of whose members may be missing: serde always gives it a value."""
+    part = flat_part(it, borrowed.items)
+    return part is not None and is_option(it.type) and not any(must_be_there(one, part, borrowed) for one in part.variants[0].fields)
+
+
+def always_there(it, borrowed):
+    """Such a field as one of the struct itself, where no rule is asked of the option."""
+    if not is_always_there(it, borrowed) or any(rule.name == "custom" for rule in it.attributes.rules):
+        return it
+    rules = [one for rule in it.attributes.rules if rule.name != "required" for one in (rule.rules if rule.name == "inner" else [rule])]
+    docs = (*it.docs, *(["///"] if it.docs else []), "/// Each of its members may be missing, so there is always one.")
+    return replace(it, type=it.type.args[0], attributes=replace(it.attributes, rules=tuple(rules)), docs=docs)
+
+
 def faults(item, borrowed):
     """Why the members of fields and variants cannot stand among those of a type."""
     for variant in item.variants:
@@ -85,14 +107,16 @@ def of_field_faults(it, variant, item, borrowed):
         yield from of_rest_faults(it, variant)
         return
     part = flat_part(it, borrowed.items)
+    if part is None and not (borrowed.own and own_part(it, borrowed.items)):
+        way = "" if borrowed.own else ", or say `--own` for a form of your own"
+        yield f"its type is no struct of this file with named fields, no option of one and no map, so write `{it.name}` as a member, without `flatten`{way}"
     if part is None:
-        yield f"its type is no struct of this file with named fields, no option of one and no map, so write `{it.name}` as a member, without `flatten`"
         return
     if borrowed.holds_itself(part, part, ()):
         yield f"`{part.name}` holds itself, so write it as a member"
     if any(is_rest(one) for one in part.variants[0].fields) and variant.fields[-1] is not it:
         yield f"`{part.name}` takes every other member, so write this field last"
-    if is_option(it.type) and not any(must_be_there(one, part, borrowed) for one in part.variants[0].fields):
+    if is_always_there(it, borrowed):
         yield f"each member of `{part.name}` may be missing, so serde always gives a value: write `{part.name}` in place of the option"
 
 

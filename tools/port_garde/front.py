@@ -6,7 +6,9 @@ from dataclasses import replace
 from .borrowed import RESERVED, is_read
 from .derives import Said, options, type_names
 from .expressions import VALUE, with_places
+from .holes import BY_FUNCTION
 from .names import of_field, renamed
+from .prelude import declared
 from .scope import is_path
 from .source import Type, is_ported
 from .tokens import Tokens
@@ -23,13 +25,14 @@ KNOWN = {
     "smallvec": ("SmallVec",), "thin_vec": ("ThinVec",), "smol_str": ("SmolStr",), "compact_str": ("CompactString",), "ecow": ("EcoString",),
     "arcstr": ("ArcStr",), "bytestring": ("ByteString",), "uuid": ("Uuid",), "url": ("Url",), "semver": ("Version", "VersionReq"),
     "http": ("Uri",), "camino": ("Utf8PathBuf", "Utf8Path"), "chrono": ("NaiveDate", "NaiveTime", "NaiveDateTime", "DateTime", "Utc", "FixedOffset", "Local", "Duration"),
-    "time": ("Date", "Time", "PrimitiveDateTime", "OffsetDateTime", "Duration"),
+    "time": ("Date", "Time", "PrimitiveDateTime", "OffsetDateTime", "Duration"), "ordered_float": ("OrderedFloat", "NotNan"), "js_int": ("UInt", "Int"),
+    "arrayvec": ("ArrayVec", "ArrayString"),
     "jiff": ("Date", "Time", "DateTime", "Timestamp", "Zoned", "Span", "SignedDuration"),
 }
 # The types that are read as what they hold.
-HOLDERS = ("Box", "Rc", "Arc", "Cow", "Cell", "RefCell", "Mutex", "RwLock", "Wrapping", "Reverse")
+HOLDERS = ("Box", "Rc", "Arc", "Cow", "Cell", "RefCell", "Mutex", "RwLock", "Wrapping", "Saturating", "Reverse", "OrderedFloat", "NotNan")
 # The types that are read as another one, with so many arguments.
-LISTS, TEXTS = ("VecDeque", "LinkedList", "ThinVec"), ("SmolStr", "CompactString", "EcoString", "ArcStr", "ByteString")
+LISTS, TEXTS = ("VecDeque", "LinkedList", "BinaryHeap", "ThinVec"), ("SmolStr", "CompactString", "EcoString", "ArcStr", "ByteString")
 ALIKE = {
     **dict.fromkeys(("IndexMap", "LinkedHashMap", "FxHashMap", "AHashMap", "HashMap"), ("HashMap", 2)), "BTreeMap": ("BTreeMap", 2),
     **dict.fromkeys(("IndexSet", "LinkedHashSet", "FxHashSet", "AHashSet", "HashSet"), ("HashSet", 1)), **dict.fromkeys(LISTS, ("Vec", 1)),
@@ -63,7 +66,7 @@ class Front:
         self.source, self.notes, self.is_form, self.root = source, source.notes, is_form, root
         self.items = {it.name: it for it in source.items}
         self.taken = {*taken, *(BY_NAME & set(self.items))}
-        self.imports, self.made, self.chosen, self.read, self.depth = {}, {}, {}, {}, 0
+        self.imports, self.made, self.chosen, self.read, self.declared, self.depth = {}, {}, {}, {}, [], 0
         for path, name in source.imports:
             self.imports.setdefault(name, []).append(path)
         fields = [it.type for item in source.items for variant in item.variants for it in variant.fields]
@@ -77,7 +80,9 @@ class Front:
         for it in self.source.items:
             if not self.is_generic(it):
                 self.read[it.name] = self.resolved(it, self.reads(it))
-        items = [found for it in self.source.items for found in self.forms_of(it)]
+        named = {name for it in self.read.values() for variant in it.variants for one in variant.fields if not set(BY_FUNCTION) & set(options(one)) for name in type_names(one.type)}
+        items = [found for name in self.declared for found in self.forms_of(self.items[name]) if found.name in named]
+        items += [found for it in self.source.items for found in self.forms_of(it)]
         if self.is_form:
             items = [it for it in items if it.name in reached(items)]
         for it in items:
@@ -170,6 +175,10 @@ class Front:
         """A type by its path: one of the file, of the libraries, or of another crate or module, which has its path as its name."""
         full = self.full(kind.path)
         last = full[-1]
+        if is_form and last not in self.declared and declared(full):
+            self.declare(declared(full))
+        if last in self.declared and declared(full):
+            return replace(kind, name=last, path=(last,))
         if full[0] in OWN_CRATE and last in self.items and not self.is_another(kind.path, last, item):
             return replace(kind, name=last, path=(last,))
         if len(full) == 1 or full[0] in LIBRARY:
@@ -177,6 +186,14 @@ class Front:
         if last in KNOWN.get(full[0], ()):
             return replace(kind, name=last, path=full if is_form else kind.path)
         return replace(kind, name="::".join(full))
+
+    def declare(self, item):
+        """Takes a type of another crate for one of the file, unless that has one of its name."""
+        if item.name not in self.items:
+            self.declared.append(item.name)
+            self.items[item.name] = item
+            if not self.is_generic(item):
+                self.read[item.name] = item
 
     def is_another(self, path, last, item):
         """Whether a path of the own crate is that of another type than the one of this name in the file: it came under another name, or the
@@ -251,7 +268,7 @@ class Front:
         variants = []
         for variant in item.variants:
             known = tuple(replace(it, type=self.type_named(it.type)) for it in variant.fields)
-            stated = f"{variant.name}_of_{item.name}" if (item.name, variant.name) in self.taken else ""
+            stated = f"{variant.name}_of_{item.name}" if (item.known, variant.name) in self.taken else ""
             variants.append(replace(variant, fields=known, stated=stated))
         docs = item.docs + (told_docs(item.docs, item.name) if item.name in self.taken else ())
         context = item.attributes.context and (item.attributes.context[0], self.tokens_named(item.attributes.context[1]))

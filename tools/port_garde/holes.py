@@ -1,24 +1,40 @@
 """Types whose reading stands elsewhere: those of another crate, of a macro or with a `Deserialize` of their own, and fields that are read by a
-function. With `--own` each is a hole: the module of one's own has the type, a form that reads it and what JSON spells of it."""
+function. With `--own` each is a hole: the module of one's own has the type, a form that reads it and what JSON spells of it. Under `flatten` it
+has a form of members."""
 import re
-from dataclasses import replace
+from dataclasses import dataclass, replace
 
+from .defaults import is_skipped
 from .derives import options
-from .rules import no_attributes
+from .rules import Rule
 from .scope import is_option, is_path, is_text
+from .source import Type
+from .tokens import Notes
 from .words import camel
 
-# Names that begin so are types of the language, which no module has.
-PRIMITIVE = re.compile(r"[a-z]")
+# The types of the language, which no module has.
+PRIMITIVE = re.compile(r"[iu](?:8|16|32|64|128|size)|f32|f64|bool|char|str")
 BY_FUNCTION = ("with", "deserialize_with")
 BY_IMPL = ("from", "try_from", "remote")
-HOLE = """/// A value of the type `{name}`{why}. Write what it is made of.
+# The names that modules import, and that no hole has.
+IMPORTED = (
+    "AllocError Any AnyOf Asks AsksAs Built Checked Choice Closed Decimal DecimalMultiple DecimalNumber Dive Each Either Empty Entries Field FirstReadError Flag "
+    "Form FormI18n FromParts Given Global Has HasWith I18n IfAny IfSome InOrder Is IsUnsigned IsWhole Item Items Kept KeptValue Keys List ListUnder Makes Map "
+    "MapUnder Member Members Not Nth Null Nullable Nullish Object OneMember OneOf OneOfOr Otherwise ReadBody Report Rest Rule RuleError Rules Same Scratch Spelled "
+    "Stated Tagged Text TextOr TextRef Trail Tree Under Unique Valid Variant When Whole WithDefault"
+).split()
+# The rules of a value that are asked of an option as a whole.
+WITHIN = ("required", "custom", "inner")
+# The skeletons of a hole: each value passes, and is kept as it was.
+HOLE = """/// A value of the type `{name}`{why}.
+/// Every value passes here, and is kept as it was. Narrow it: write what it is made of in place of
+/// `KeptValue`, and the form of that in place of `Kept`.
 #[derive(Debug, Drop)]
-pub struct {name}<'t>(pub TextRef<'t>);
+pub struct {name}<'t>(pub KeptValue<'t>);
 
 impl<'t> Spelled for {name}<'t> {{
     // What JSON spells of it: the word of the form that reads it, for instance `a_text (λ v. none)`, and how it is made of that.
-    ghost spelled = {{ made (λ parts. record {{ 0 = parts }}) todo }};
+    ghost spelled = {{ made (λ parts. record {{ 0 = parts }}) any_value }};
 }}
 
 /// How JSON has a value of the type `{name}`.
@@ -36,21 +52,97 @@ impl<'a> Form<'a> for {name}Form {{
 
     fn read<'t, H: I18n + FormI18n>(
         &self,
-        alloc: Global,
         tree: &Tree<'t, 'a>,
         trail: &mut Trail<'a>,
         report: &mut Report,
         h: &H,
     ) -> Result<Option<{name}<'a>>, AllocError> {{
         // The form, for instance `Text(())`.
-        let form = todo;
-        match form.read(alloc, tree, trail, report, h) {{
+        let form = Kept;
+        match form.read(tree, trail, report, h) {{
             Ok(Some(parts)) => Ok(Some({name}(parts))),
             Ok(None) => Ok(None),
             Err(refused) => Err(refused),
         }}
     }}
 }}"""
+MEMBERS = """/// The members of the type `{name}`{why}.
+/// Any members pass here, and the object that they stand in is kept as it was, with its other members.
+/// Narrow it: write what they make in place of `KeptValue`, and which they are in place of `Kept`.
+#[derive(Debug, Drop)]
+pub struct {name}<'t>(pub KeptValue<'t>);
+
+/// How JSON has the members of the type `{name}`.
+#[derive(Clone, Copy)]
+pub struct {name}Members;
+
+impl<'a> Members<'a> for {name}Members {{
+    type Out = {name}<'a>;
+
+    ghost visits = {{ λ _ texts j. any_value.visits texts j }};
+
+    ghost value = {{ λ _ j. Some (record {{ 0 = j }}) }};
+
+    ghost keeps = {{ λ _ _. Unit {{0}} }};
+
+    // Which names are theirs: those are no further members for a map beside them.
+    ghost names = {{ λ _ name. false }};
+
+    fn read_members<'t, H: I18n + FormI18n>(
+        &self,
+        object: &Tree<'t, 'a>,
+        trail: &mut Trail<'a>,
+        report: &mut Report,
+        h: &H,
+    ) -> Result<Option<{name}<'a>>, AllocError> {{
+        // The members, for instance `Member("kind", Text(()))`, and `members.read_members(..)` below.
+        let members = Kept;
+        match members.read(object, trail, report, h) {{
+            Ok(Some(parts)) => Ok(Some({name}(parts))),
+            Ok(None) => Ok(None),
+            Err(refused) => Err(refused),
+        }}
+    }}
+
+    fn names(&self, _name: &str) -> bool
+        ensures {{ result ≡ false }}
+    {{
+        false
+    }}
+}}"""
+# What the members of such a type spell, as its form states it.
+SPELLED = """(record {{
+          value = λ j. ⟦<{name}Members as Members<'t>>⟧.value (record {{}}) j;
+          visits = λ texts j. ⟦<{name}Members as Members<'t>>⟧.visits (record {{}}) texts j;
+          names = λ name. ⟦<{name}Members as Members<'t>>⟧.names (record {{}}) name;
+        }})"""
+
+
+@dataclass(frozen=True)
+class Hole:
+    """What passes at a line though serde may reject it, with the name of the type of one's own that says what it is, if there is one."""
+
+    line: int
+    reason: str
+    name: str = ""
+
+
+def optional(it):
+    """A field as an option of what is there, with the rules of that."""
+    rules = tuple(Rule("inner", rule.line, rules=(rule,), added=rule.added) if rule.name in WITHIN else rule for rule in it.attributes.rules)
+    kind = Type("path", "Option", it.line, path=("Option",), args=(it.type,))
+    return replace(it, type=kind, attributes=replace(it.attributes, rules=rules), unmade=True)
+
+
+def nothing(it):
+    """A field that is not read, with no value."""
+    kind, attributes = Type("tuple", "()", it.line), replace(it.attributes, rules=(), skip=True)
+    return replace(without(it, *BY_FUNCTION), type=kind, attributes=attributes, unmade=True)
+
+
+def without(it, *words):
+    """A field without these options of serde."""
+    return replace(it, serde=tuple(tuple(one for one in group if one.word not in words) for group in it.serde))
 
 
 def is_holder(kind):
@@ -61,49 +153,91 @@ def is_holder(kind):
 def name_of(kind):
     """What the hole of a type is called: by the type, and by its arguments."""
     held = [it for it in kind.args if not isinstance(it, str)]
-    return kind.name.rpartition("::")[2] + (f"Of{''.join(map(name_of, held))}" if held else "")
+    return camel(kind.name) + (f"Of{''.join(map(name_of, held))}" if held else "")
 
 
 class Holes:
-    """The holes of a source: their names, each with why it is one. `reads` says whether a form reads a type of this name."""
+    """The holes of a source: their names, each with why it is one. `reads` says whether a form reads a type, and `has_members` whether one reads
+    the members of a field under `flatten`. `own` is the module of one's own; `notes` get a line for each hole."""
 
-    def __init__(self, items, reads):
-        self.items, self.reads, self.why, self.wholes = items, reads, {}, {}
+    def __init__(self, items, reads, has_members, own, notes):
+        self.items, self.reads, self.has_members, self.own, self.notes = items, reads, has_members, own, notes
+        self.why, self.wholes = {}, {}
 
     def of_item(self, item):
         """An item whose fields have the types of their holes."""
-        return replace(item, variants=tuple(replace(it, fields=tuple(self.of_field(field, item) for field in it.fields)) for it in item.variants))
+        fields = lambda variant: tuple(found for it in variant.fields for found in self.of_names(it, item))
+        return replace(item, variants=tuple(replace(it, fields=fields(it)) for it in item.variants))
+
+    def of_names(self, it, item):
+        """A field for each name that a member may have. One that is not read has no hole."""
+        if is_skipped(it) and self.has_hole(it):
+            self.notes.holes.append(Hole(it.line, f"{it.name}: it is not read, and its type is not known: it is `()`; fill it in by your code"))
+            return [nothing(it)]
+        names = [one for group in it.serde for one in group if one.word == "alias"]
+        if not names or not it.name or "flatten" in options(it):
+            return [self.of_field(it, item)]
+        others = [f"{it.name}_{at}" for at in range(2, len(names) + 2)]
+        self.notes.holes.append(Hole(it.line, f"{it.name}: a member with {len(names) + 1} names, for which there are the fields {', '.join([it.name, *others])}: none of them passes, and more than one; take the one that is there by your code"))
+        one = optional(self.of_field(without(it, "alias", "default"), item))
+        copies = [replace(without(one, "rename"), name=name) for name in others]
+        return [one, *(replace(copy, serde=(*copy.serde, (replace(name, word="rename"),))) for copy, name in zip(copies, names))]
+
+    def has_hole(self, it):
+        """Whether a field would be a hole, or have one in its type."""
+        found = Holes(self.items, self.reads, self.has_members, self.own, Notes())
+        found.of_type(it.type, "")
+        return bool(found.why) or any(word in options(it) for word in BY_FUNCTION)
 
     def of_field(self, it, item):
-        said = options(it)
-        by = next((said[word] for word in BY_FUNCTION if word in said), None)
-        if by is None:
-            return replace(it, type=self.of_type(it.type))
+        """A field with the types of its holes, or one that is a hole as a whole."""
+        place, (why, is_among) = it.name or item.name, self.whole(it)
+        if why is None:
+            return replace(it, type=self.of_type(it.type, place))
         name = f"{item.name}{camel(it.name or 'value')}"
-        self.why[name] = f", the field `{it.name}` of `{item.name}`, which `{by.value}` reads"
-        serde = tuple(tuple(one for one in group if one.word not in (*BY_FUNCTION, "serialize_with")) for group in it.serde)
-        return replace(it, type=replace(it.type, kind="path", name=name, path=(name,), args=()), serde=serde)
+        self.why[name] = f", the field `{it.name}` of `{item.name}`, which {why}"
+        kept = "any members pass, a map beside it has them too, and the whole object is kept" if is_among else "any value passes and is kept"
+        self.tell(it.line, f"{place}: a field that {why}: {kept}", name)
+        it = without(it, *BY_FUNCTION, "serialize_with", *["default"] * is_among)
+        return replace(it, type=replace(it.type, kind="path", name=name, path=(name,), args=()))
 
-    def of_type(self, kind):
-        """A type with holes for what in it no form reads."""
+    def whole(self, it):
+        """Why a field is a hole as a whole, or nothing; and whether it is read of members that stand among others."""
+        said = options(it)
+        by, is_flat = next((said[word] for word in BY_FUNCTION if word in said), None), "flatten" in said
+        if by is None and is_flat and not self.has_members(it):
+            return "is under `flatten` and no struct", True
+        return f"`{by.value}` reads" if by else None, is_flat
+
+    def tell(self, line, told, name):
+        """Says that any value passes."""
+        self.notes.holes.append(Hole(line, f"{told} as it was; narrow `{name}` in {self.own}", name))
+
+    def of_type(self, kind, place):
+        """A type with holes for what in it no form reads, at a field of this name."""
         if isinstance(kind, str) or is_text(kind) or kind.kind not in ("path", "slice", "array", "tuple", "ref"):
             return kind
         if kind.kind == "path" and self.reads(kind) and not is_holder(kind):
             return kind
-        if kind.kind != "path" or self.reads(kind) or PRIMITIVE.match(kind.name.rpartition("::")[2]):
-            return replace(kind, args=tuple(map(self.of_type, kind.args)))
+        if kind.kind != "path" or self.reads(kind) or PRIMITIVE.fullmatch(kind.name.rpartition("::")[2]):
+            return replace(kind, args=tuple(self.of_type(it, place) for it in kind.args))
         name = self.free_name(kind)
         self.why.setdefault(name, self.reason(kind))
+        self.tell(kind.line, f"{place}: the type `{kind.name}`{self.why[name]}: any value passes and is kept", name)
         return replace(kind, name=name, path=(name,), args=())
 
     def free_name(self, kind):
-        """What the hole of a type is called: by its last name, or by its whole path where another type has that name."""
+        """What the hole of a type is called: by its last name, or by its whole path where another type has that name, or where it is imported."""
         name = name_of(kind)
-        return name if self.wholes.setdefault(name, kind.name) == kind.name else "".join(map(camel, kind.name.split("::")))
+        if name not in IMPORTED and self.wholes.setdefault(name, kind.name) == kind.name:
+            return name
+        return "".join(map(camel, kind.name.split("::"))) if "::" in kind.name else f"{name}Value"
 
     def reason(self, kind):
         found = self.items.get(kind.name)
         if found is None:
-            return ", which does not stand in the source"
+            return ", which is read elsewhere"
         by = next((word for word in BY_IMPL if word in options(found)), None)
+        if by is None and "Deserialize" in found.derives:
+            return ", which holds itself"
         return f", which serde reads by `{by}`" if by else ", which has a `Deserialize` of its own"

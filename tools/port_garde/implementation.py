@@ -10,7 +10,7 @@ from .words import Checks, together
 ORDINALS = ("first", "second", "third", "fourth", "fifth", "sixth")
 LETTERS = "abcdefgijklmnopqrst"
 # Names of the method's own, and words of the statements and of their language, which no binding may hide.
-OWN = ("alloc", "trail", "report", "h", "self")
+OWN = ("trail", "report", "h", "self")
 STATED = (
     "field item none is is_in_memory when if_some each_of_option each each_in_any_order each_value each_value_in_any_order "
     "text_key index_part str slice range signed_range bytes chars graphemes utf16 items at_least at_most exactly between plus "
@@ -21,7 +21,6 @@ STATED = (
 ).split()
 HEAD = """    fn validate_into<'a, H: I18n>(
         &'a self,
-        alloc: Global,
         {context},
         trail: &mut Trail<'a>,
         report: &mut Report,
@@ -212,5 +211,5 @@ class Implementation:
         """The call that visits the fields."""
         self.writer.uses.fields.add("Fields")
         whole = together(fields, 6) if fields else Word("()")
-        words = tuple(map(Word, ("alloc", "trail", "report", "h")))
+        words = tuple(map(Word, ("trail", "report", "h")))
         return Method(whole, "visit_of", (Word("self"), *words)) if self.borrows and fields else Method(whole, "visit", words)

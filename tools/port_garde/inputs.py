@@ -108,7 +108,7 @@ INPUTS = {
         "from a row of a table", "'a, 'c: 'a", ("index: usize", "columns: &Columns<'c>", "cells: &'a StringRecord"),
         "garde_rows::read_row(alloc, index, columns, cells, &{form}, h)", "ValidateError",
         (
-            "AnswersRow (row_visits index (H.form_text h.now)", "(λ j. {S}.visits (H.form_text h.now) j) columns.now (fields_of cells.now))",
+            "AnswersRow columns.now (row_visits index (H.form_text h.now)", "(λ j. {S}.visits (H.form_text h.now) j) columns.now (fields_of cells.now))",
             "(H.text h.now) (forget result)",
         ),
         ("{S}.value (row_json columns.now (fields_of cells.now))", "≡ Some v"),

@@ -8,7 +8,7 @@ from .derives import options, type_names
 from . import in_order
 from .everyday import UNKNOWN
 from .front import OF_CODE
-from .flattened import fields_among, flat_part, held_part, is_closed
+from .flattened import fields_among, flat_part, held_part, is_closed, own_part
 from .groups import is_flat, is_rest, own_rules, shared_rules
 from .names import of_field, of_variant
 from .parsed import parser_of
@@ -213,6 +213,8 @@ class JsonSchema:
             inside = [found for one in rules for found in (one.rules if one.name == "inner" else [one])]
             return {"additionalProperties": self.value(it.type.args[1], inside)}
         part = flat_part(it, self.items)
+        if part is None:
+            return {"$comment": f"the members of the type `{own_part(it, self.items).name}` are among them"}
         found = self.object(part.variants[0], part, is_closed=False)
         found.pop("type")
         told = [{"$comment": self.own(rule)} for rule in rules if rule.name == "custom"]
@@ -226,18 +228,18 @@ class JsonSchema:
     def member(self, it, item):
         """The schema of a member, and whether it has to be there."""
         kind, rules, default = it.type, own_rules(it), self.default(it, item)
-        if is_option(kind) and not default:
+        if is_option(kind) and default is None:
             asked, whole = of_whole(rules), self.value(kind.args[0], within_option(rules))
             is_there = any(rule.name == "required" for rule in asked)
             told = [{"$comment": self.own(rule)} for rule in asked if rule.name == "custom"]
-            return joined([kept_docs(it.docs), whole if is_there else or_null(whole), *told]), is_there
+            return joined([kept_docs(it.docs), whole if is_there or it.unmade else or_null(whole), *told]), is_there
         schema = joined([kept_docs(it.docs), self.value(kind, rules)])
-        return ({**schema, "default": default[0]}, False) if default else (schema, True)
+        return {**schema, **({"default": default[0]} if default else {})}, default is None
 
     def default(self, it, item):
-        """The value that stands for a missing member, as a list of one, or nothing."""
+        """The value that stands for a missing member, as a list of one; or nothing."""
         found = self.writer.borrowed.default(it, item)
-        return [] if found is None else [in_json(found, is_map)]
+        return None if found is None else [in_json(found, is_map)]
 
     # Values.
 
@@ -340,6 +342,8 @@ class JsonSchema:
         """A rule that no schema says, in words."""
         if rule.message is not None:
             return f"the rule `{rule.message}` holds"
+        if rule.name == "pattern" and rule.text:
+            return f"the pattern `{rule.text}` of the crate `regex` matches"
         if rule.name == "custom":
             return f"the rule `{camel(rule.text) if rule.text else 'of a closure'}` holds"
         words = {

@@ -235,7 +235,7 @@ class Makers:
     def of_one(self, item, types, builds, parts_of):
         """The same of an enum of one variant, whose value the form has as it is."""
         variant, made = item.variants[0], builds.replace(" ↦ ", ". ", 1)
-        names = [it.name or "value" for it in variant.fields]
+        names = names_in_code(variant.fields)
         taken = [statement(wide(tuple_of(self.tree(variant, names))), 8, "let ", " = parts;")] if names else ["        let () = parts;"]
         body = "\n".join([*taken, statement(self.made(item, variant, names), 8)])
         return types, lined("builds", f"λ {made}"), parts_of, "    ghost kept = { λ _. refl };", body

@@ -6,7 +6,10 @@ from .tokens import shown
 
 SKIPPED = re.compile(r'//[^\n]*|"(?:\\.|[^"\\])*"|\'(?:\\[^\'\n]*|[^\\\'\n])\'', re.S)
 USE = re.compile(r"^use ([\w:]+)::(?:\{([^}]*)\}|(\w+));", re.M)
-STATED = re.compile(r"^ghost use Rattle\.(\w+)\.specs\.(\w+)", re.M)
+STATED = re.compile(r"^ghost use Rattle\.(\w+)\.specs\.(?!declared\b|contracts\b)(\w+)", re.M)
+LISTED = re.compile(r"^([\w]+)\b[^:#\n]*:([^#\n]*)", re.M)
+CRATE = re.compile(r"^use (\w+)::|(?<![\w:])(jiff|url|uuid)::", re.M)
+ALWAYS = ("crate", "self", "super", "std", "core", "alloc")
 ITEM = r"\b(?:struct|enum|fn|type|trait|const|mod|macro_rules!)\s+{0}\b|\buse\b[^;]*\b{0}\b|\buse\b[^;]*::\*"
 CUT = "call tools/vendor again"
 OPENING = re.compile(r"(?<![\w>!\])])\s*\(")
@@ -21,6 +24,7 @@ def notes_of(crate, written):
         found += undeclared(crate, names, f"without it {shown_path(output)} is no part of the crate")
         found += unwritten(crate, output, SKIPPED.sub("", text), begun)
         found += left_out(crate, output, SKIPPED.sub("", text))
+        found += unlisted(crate, output, SKIPPED.sub("", text))
     return list(dict.fromkeys(found))
 
 
@@ -52,17 +56,21 @@ def undeclared(crate, names, why):
         yield f"{shown_path(above)}: write the line `mod {names[-1]};`: {why}"
 
 
-def unwritten(crate, output, text, begun):
-    """The items of the crate's own modules that a module imports and that are not there, each with how it begins."""
+def lacking_of(crate, output, text):
+    """The modules of the crate's own that a module imports from: the names of each, its file or None, and which items it lacks."""
     for path, listed, one in USE.findall(text):
         first, *names = path.split("::")
         if first != "crate" or not names:
             continue
         file = file_of(crate, names)
-        wanted = [it for it in re.findall(r"\w+", listed or one) if not (file and re.search(ITEM.format(it), code_of(file)))]
         is_inline = not file and re.search(rf"\bmod\s+{names[-1]}\s*\{{", code_of(file_of(crate, names[:-1]) or output))
-        if is_inline or not file and not file_of(crate, ()):
-            continue
+        if not is_inline and (file or file_of(crate, ())):
+            yield names, file, [it for it in re.findall(r"\w+", listed or one) if not (file and re.search(ITEM.format(it), code_of(file)))]
+
+
+def unwritten(crate, output, text, begun):
+    """The items of the crate's own modules that a module imports and that are not there, each with how it begins."""
+    for names, file, wanted in lacking_of(crate, output, text):
         yield from undeclared(crate, names, f"{shown_path(output)} takes {', '.join(wanted) or 'items'} from it")
         place = shown_path(file or crate / f"src/{'/'.join(names)}.rt")
         for name in wanted:
@@ -80,7 +88,22 @@ def left_out(crate, output, text):
         there = {size for folder in cut.values() for file in folder.glob("src/**/*.rt") for size in map(parts_of, OF_TUPLE.findall(code_of(file)))}
         found = [f"tuples of {it}" for it in sorted(sizes_in(text) - there) if 2 < it < 7]
     if found:
-        yield f"{shown_path(output)}: your copy of garde lacks {', '.join(dict.fromkeys(found))}: call `tools/vendor` again, which adds what your crates need now"
+        yield f"{shown_path(output)}: your copy of garde lacks {', '.join(dict.fromkeys(found))}: call `tools/vendor FOLDER` in the clone of garde again, which adds what your crates need now"
+
+
+def unlisted(crate, output, text):
+    """The crates that a module names and that the line of its crate does not list."""
+    crate = crate.resolve()
+    listing = next((it / "crates.txt" for it in crate.parents[:2] if (it / "crates.txt").is_file()), None)
+    lines = dict(LISTED.findall(listing.read_text(encoding="utf-8"))) if listing else {}
+    lacks = [it for it in crates_named(text) if it not in (crate.name, *lines.get(crate.name, "").split())]
+    if crate.name in lines and lacks:
+        yield f"crates.txt: the line of {crate.name} lacks {' '.join(lacks)}, which {output.name} names: write them there, and call `tools/vendor FOLDER` in the clone of garde again"
+
+
+def crates_named(text):
+    """The crates that a module names, but for those that every crate has."""
+    return sorted({one or other for one, other in CRATE.findall(text)} - {*ALWAYS})
 
 
 def lacking(cut, path, names):

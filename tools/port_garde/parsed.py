@@ -3,6 +3,7 @@ from dataclasses import dataclass, replace
 
 from .derives import options
 from .layout import Word, call
+from .prelude import NOTHING, NUMBERS
 from .scope import is_option, is_path
 from .source import Type
 
@@ -63,8 +64,6 @@ WAYS = {
     ("semver", "VersionReq"): "write a `String` with a rule of yours, as `custom(is_requirement)`",
     ("http", "Uri"): "write `url::Url` of an absolute one, or a `String` with a rule of yours",
     ("std", "SocketAddr"): "write a `String` with a rule of yours, or two fields: an `IpAddr` and a `u16`",
-    ("std", "Duration"): "write a struct with the fields `secs: u64` and `nanos: u32`, as serde reads it",
-    ("std", "PhantomData"): "serde reads `null` there, so write `()`, or leave the field out",
     ("std", "OsString"): "serde reads it as an object, so write a `String`",
     ("jiff", "Zoned"): "its text is read over a database of zones, so write `jiff::Timestamp`",
     ("time", "OffsetDateTime"): "write `#[serde(with = \"time::serde::rfc3339\")]` at the field, since without it serde reads a list of numbers",
@@ -73,7 +72,7 @@ WAYS = {
     ("time", "Time"): "serde reads a list of numbers or a text of `time`'s own, so write `chrono::NaiveTime` or `jiff::civil::Time`",
 }
 # The modules of the toolchain's crates that have these types.
-CRATES = {"std": "std", "core": "std", "alloc": "std", **dict.fromkeys(("uuid", "url", "chrono", "jiff", "time", "semver", "http"), "")}
+CRATES = {"std": "std", "core": "std", "alloc": "std", **dict.fromkeys(("uuid", "url", "chrono", "jiff", "time", "semver", "http", "js_int"), "")}
 
 
 def crate_of(kind, source):
@@ -84,7 +83,7 @@ def crate_of(kind, source):
     if len(kind.path) > 1 and first in CRATES:
         return CRATES[first] or first
     imported = [path[0] for path, name in source.imports if name in (first, "*") and path[0] in CRATES]
-    known = [it for it in imported if (CRATES[it] or it, kind.name) in (*KNOWN, *WAYS)]
+    known = [it for it in imported if (CRATES[it] or it, kind.name) in (*KNOWN, *WAYS, *NUMBERS, NOTHING)]
     return (CRATES[known[0]] or known[0]) if known else None
 
 

@@ -11,7 +11,7 @@ PLAIN = ("required", "ascii", "alphanumeric", "url", "ip", "ipv4", "ipv6")
 TEXTS = ("contains", "prefix", "suffix")
 MODES = ("simple", "bytes", "chars", "graphemes", "utf16")
 NO_PORT = {
-    "email": "the rule `email` is not ported: write `pattern(patterns.mail)` with a pattern of yours (see docs/guide/attributes.md), or a rule of your own, by `custom`",
+    "email": "the rule `email` is not ported: write `pattern(\"^[^@]+@[^@]+$\")` with the pattern that you want, or a rule of your own, by `custom`",
     "credit_card": "the rule `credit_card` is not ported: give the number a type of its own that implements `CreditCard`, as docs/guide/own-rules.md#cards-and-phones has it",
     "phone_number": "the rule `phone_number` is not ported: give the number a type of its own that implements `PhoneNumber`, as docs/guide/own-rules.md#cards-and-phones has it",
 }
@@ -27,7 +27,8 @@ ABOUT_TYPES = ("context", "allow_unvalidated", "transparent")
 @dataclass(frozen=True)
 class Rule:
     """A rule: its name, and of its arguments those that it has. One of one's own that the port reads has its condition as `place`, and the
-    `message` that is said where it does not hold, and may have a `code`, by which handlers word it."""
+    `message` that is said where it does not hold, and may have a `code`, by which handlers word it. One that the type of a field asks, and
+    no attribute, is `added`."""
 
     name: str
     line: int
@@ -39,6 +40,7 @@ class Rule:
     source: str = ""
     message: str = None
     code: str = None
+    added: bool = False
 
     def asks(self):
         """The word of one's own rule that the port reads, with what it is given before the condition: as a value, and as it is stated."""
@@ -115,7 +117,7 @@ def read_rule(tokens):
     readers = {"length": read_length, "range": read_range, "matches": read_matches, "inner": read_inner, "if": read_if}
     readers.update({name: read_pattern for name in (*TEXTS, "pattern")})
     if word not in readers:
-        raise Refusal(line, f"the attribute `{word}` is not known{meant(word, KNOWN)}")
+        raise Refusal(line, f"the attribute `{word}` is not known{f': write `custom({word})`' if word in OURS else meant(word, KNOWN)}")
     inside = argument(tokens, word)
     rule = readers[word](inside, word, line)
     if not inside.ended():

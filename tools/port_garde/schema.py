@@ -6,7 +6,7 @@ from dataclasses import replace
 from .borrowed import below, fields_of, is_map, is_named, of_whole, within_option
 from .defaults import Making, is_skipped
 from .derives import all_type_names, options, type_names
-from .flattened import fields_among, held_part, is_closed, is_closed_as_one
+from .flattened import fields_among, held_part, is_closed, is_closed_as_one, own_part
 from . import in_order
 from .groups import Group, filled, grouped, groups_in, numbers_in, is_flat, is_rest, own_rules, shared_rules
 from .layout import WIDTH, Method, Rows, Word, call, flat, statement
@@ -23,9 +23,6 @@ from .unions import TESTS, Shapes, beside_units, is_other, is_unit, nested, path
 from .values import is_any, is_float
 from .words import Checks, camel, together
 
-# The rules of a list or a map that its form takes; where what is spelled is stated, it takes those of the number and of the names.
-UNDER = ("length", "unique", "keys")
-UNDER_SPELLED = ("length", "keys")
 READ = """{docs}
 {tactic}{vis}fn read_{name}<'a, H: I18n + FormI18n>(
     alloc: Global,
@@ -49,7 +46,6 @@ impl{life} Rules<{kind}> for {name}{lives} {{
 
     fn ask<'a, H: I18n>(
         &self,
-        alloc: Global,
         value: &{kind},
         trail: &mut Trail<'a>,
         report: &mut Report,
@@ -143,7 +139,8 @@ class Schema:
         """The forms of a type and of those that it holds. One that is used at several places is lent to each of them."""
         order, lines = self.order(item), []
         among = Counter(part.name for it in order for _, part in fields_among(it, self.items))
-        used = Counter(name for it in order for field in fields_of(it) for name in all_type_names(field.type) if name != it.name) - among
+        own = Counter(part.name for it in order for field in fields_of(it) for part in [own_part(field, self.items)] if part)
+        used = Counter(name for it in order for field in fields_of(it) for name in all_type_names(field.type) if name != it.name) - among - own
         self.lent = {f"{snake(name)}_form" for name, count in used.items() if count > 1}
         self.lent |= {f"{snake(name)}_members" for name, count in among.items() if count > 1}
         for it in order:
@@ -187,7 +184,7 @@ class Schema:
     def shared(self, it, group, variant, item):
         """What a field asks of a group of members, which are given as the form has them."""
         uses, numbers = self.writer.uses, numbers_in(group)
-        uses.others |= {"garde::fields::Rules", "garde::I18n", "garde::Report", "garde::Trail", "std::alloc::AllocError", "std::alloc::Global"}
+        uses.others |= {"garde::fields::Rules", "garde::I18n", "garde::Report", "garde::Trail", "std::alloc::AllocError"}
         names = {at: f"the_{variant.fields[at].name}" if variant.fields[at].name in OWN else variant.fields[at].name for at in numbers}
         stated = dict(zip(numbers, places(filled(group, names), "v")))
         own = {variant.fields[at].name: Place(names[at], stated[at], variant.fields[at].type) for at in numbers}
@@ -198,7 +195,7 @@ class Schema:
         held = self.held_context(it, scope, variant, item)
         said = within_rule(said, scope.context) if scope.asks_context else said
         line = f"    ghost asks = {{ λ {held['rule']} v. {said} }};"
-        words = tuple(map(Word, ("alloc", place.binding, "trail", "report", "h")))
+        words = tuple(map(Word, (place.binding, "trail", "report", "h")))
         taken = statement(wide(tuple_of(filled(group, bound))), 8, held.pop("let"), " = value;")
         return SHARED.format(
             **self.shared_type(it, group, variant, item), stated=f" {said}" if len(line) <= WIDTH else f"\n        {said}", **held,
@@ -395,12 +392,17 @@ class Schema:
         if is_skipped(it):
             return self.making.given(default, it, variant, item)
         if default is None and is_option(kind) and may_be_missing(kind, self.writer.input):
-            word = "Nullish" if self.writer.input == "json" else "Optional"
-            form, asked = call(self.use(word), name, self.form(kind.args[0], within_option(rules))), of_whole(rules)
+            form, asked = self.missing(it, name, self.form(kind.args[0], within_option(rules))), of_whole(rules)
             return call(self.use("Checked", "Under"), form, call("Under", name, self.checks(kind, asked))) if asked else form
         if default is None:
             return call(self.use("Member"), name, self.form(kind, rules))
         return call(self.use("WithDefault"), name, self.form(kind, rules), self.making.maker(default, it, variant, item))
+
+    def missing(self, it, name, form):
+        """A member that may be missing. One whose default is not known may not be `null`."""
+        if it.unmade:
+            return call(self.use("IfAny"), call(self.use("Member"), name, form))
+        return call(self.use("Nullish" if self.writer.input == "json" else "Optional"), name, form)
 
     def flattened(self, it):
         """The members that a field stands for, or the form of the values of all other members."""
@@ -412,7 +414,9 @@ class Schema:
             part = self.before(f"{snake(kind.args[0].name)}_members")
             inside = self.ruled(part, kind.args[0], [one for one in within_option(rules) if one.name != "dive"])
             return self.ruled(call(self.use("IfAny"), inside), kind, of_whole(rules))
-        return self.ruled(self.before(f"{snake(kind.name)}_members"), kind, [one for one in rules if one.name != "dive"])
+        own = own_part(it, self.items)
+        members = Word(self.writer.members_hole(own.name)) if own else self.before(f"{snake(kind.name)}_members")
+        return self.ruled(members, kind, [one for one in rules if one.name != "dive"])
 
     # Values.
 
@@ -454,19 +458,21 @@ class Schema:
         return Word(f"{'&' if name in self.lent and not is_copied else ''}{name}")
 
     def list(self, kind, rules):
-        """A list: rules of how many items it has and of all of them, those of each item, and then one's own of the whole."""
+        """A list: rules of how many items it has, those of each item, and then those of the whole."""
         inside = self.form(kind.args[0], items_rules(rules))
         return self.several(kind, rules, "List", inside)
 
     def map(self, kind, rules):
-        """A map: rules of how many members it has and of their names, those of each value, and then one's own of the whole."""
+        """A map: rules of how many members it has, those of each value, those of the names, and then your own of the whole."""
         inside = self.form(kind.args[1], items_rules(rules))
         return self.several(kind, rules, "Map", inside)
 
     def several(self, kind, rules, name, inside):
-        under = [it for it in rules if it.name in (UNDER_SPELLED if self.spellings else UNDER)]
-        form = call(self.use(f"{name}Under"), self.checks(kind, under), inside) if under else call(self.use(name), inside)
-        return self.ruled(form, kind, [it for it in rules if it.name in (*UNDER, "custom") and it not in under])
+        counts = [it for it in rules if it.name == "length"]
+        names = [it for it in rules if it.name == "keys"]
+        form = call(self.use(f"{name}Under"), self.checks(kind, counts), inside) if counts or names else call(self.use(name), inside)
+        form = call(self.use("Keys"), form, self.checks(kind, names)) if names else form
+        return self.ruled(form, kind, [it for it in rules if it.name in ("unique", "custom")])
 
     def ruled(self, form, kind, rules):
         """A form that has no place for rules, under these."""

@@ -30,15 +30,21 @@ SIGNED_COMPARISONS = {
     ">": "int_lt {1} {0}", ">=": "not (int_lt {0} {1})",
 }
 
+# The types of the toolchain that are compared by their order, and the word that states each comparison.
+ORDERED = (("jiff", "civil", "Date"), ("jiff", "civil", "Time"), ("jiff", "civil", "DateTime"), ("jiff", "Timestamp"))
+ORDERS = {"<": "partial_lt", "<=": "partial_le", ">": "partial_gt", ">=": "partial_ge"}
+
 
 @dataclass
 class Uses:
-    """What the code and the statements of a file import."""
+    """What the code and the statements of a file import. What is kept a rule imports that stands there whether a form asks it or not."""
 
     words: set = field(default_factory=set)
     prelude: set = field(default_factory=set)
     fields: set = field(default_factory=set)
     others: set = field(default_factory=set)
+    kept_fields: set = field(default_factory=set)
+    kept_others: set = field(default_factory=set)
     cow: bool = False
     sides: bool = False
     cited: set = field(default_factory=set)
@@ -354,6 +360,9 @@ class Conditions:
             same = self.same_values(it)
             if same:
                 return same
+        ordered = self.in_order(it)
+        if ordered:
+            return ordered
         signed = any(map(self.is_signed, it.parts))
         (left, low), (right, high) = map(self.signed if signed else self.number, self.widened(it.parts))
         spec = (SIGNED_COMPARISONS if signed else COMPARISONS)[it.kind].format(low, high)
@@ -368,6 +377,21 @@ class Conditions:
             return None
         self.uses.words |= {"not"} if it.kind == "!=" else set()
         stated = f"(⟦<{self.writer.type_text(kind)} as PartialEq>⟧.eq {spec} {like})"
+        return f"{code} {it.kind} {other}", stated if it.kind == "==" else f"(not {stated})"
+
+    def in_order(self, it):
+        """A comparison of two dates, two times or two moments, or nothing where a part is none."""
+        found = [self.scope.place(part.value, it.line) for part in it.parts if self.writer.resolved(part).kind == "place"]
+        kinds = {kind.path for _, _, kind in found if kind is not None}
+        if len(found) < 2 or len(kinds) > 1 or not kinds & set(ORDERED):
+            return None
+        (code, spec, kind), (other, like, _) = found
+        name = self.writer.type_text(kind)
+        if it.kind in ORDERS:
+            self.uses.stated.add(("Rattle.std.specs.Ordering", ORDERS[it.kind]))
+            return f"{code} {it.kind} {other}", f"({ORDERS[it.kind]} ⟦<{name} as PartialOrd>⟧.partial_cmp {spec} {like})"
+        self.uses.words |= {"not"} if it.kind == "!=" else set()
+        stated = f"(⟦<{name} as PartialEq>⟧.eq {spec} {like})"
         return f"{code} {it.kind} {other}", stated if it.kind == "==" else f"(not {stated})"
 
     def is_signed(self, it):

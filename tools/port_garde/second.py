@@ -106,10 +106,11 @@ def lost_of_names(text, items, written):
 
 
 def unnamed(item):
-    """The names at what has none in JSON: the variants of an `untagged` enum, the field of a `transparent` type, fields that are not read."""
+    """The names at what has none in JSON, or whose form you write: the variants of an `untagged` enum, the field of a `transparent` type, fields
+    that are not read, and fields of several names."""
     parts = [it for it in item.variants if "untagged" in options(item)]
     fields = [it for variant in item.variants for it in variant.fields]
-    parts += [it for it in fields if {"skip", "skip_deserializing"} & set(options(it)) or "transparent" in options(item)]
+    parts += [it for it in fields if {"skip", "skip_deserializing"} & set(options(it)) or {"alias", "flatten"} <= set(options(it)) or "transparent" in options(item)]
     return {name for part in parts for group in part.serde for said in group for name in re.findall(r'"([^"]*)"', said.text)}
 
 

@@ -1,11 +1,15 @@
 """The items of a Rust source file: structs, enums, constants, functions and imports."""
 from dataclasses import dataclass, field, replace
 
+from .build import Build
 from .derives import read_serde, type_names
 from .expressions import number_of
 from .own import at_field
 from .rules import Attributes, no_attributes, present, read_attributes
 from .tokens import Notes, Refusal, Token, Tokens, tokens_of
+
+
+UNKNOWN_BUILD = "an attribute `cfg` or `cfg_attr`, which the port cannot judge"
 
 
 @dataclass(frozen=True)
@@ -24,7 +28,7 @@ class Type:
 
 @dataclass(frozen=True)
 class Field:
-    """A field: its name, or none in a tuple, its type, and what its attributes ask."""
+    """A field: its name, or none in a tuple, its type, and what its attributes ask. One that is `unmade` has a default that is not known."""
 
     name: str
     type: Type
@@ -35,6 +39,7 @@ class Field:
     serde: tuple = ()
     others: tuple = ()
     flat: bool = False
+    unmade: bool = False
 
 
 @dataclass(frozen=True)
@@ -107,14 +112,14 @@ class Item:
 
 @dataclass
 class Outer:
-    """What stands before an item, a variant or a field. `tests` says that it is for tests alone; `condition` is the line of
-    another condition of the build, and `conditions` are the stretches of the text of these; `read` are the places of its
+    """What stands before an item, a variant or a field. `absent` says that a condition of the build does not hold of it; `condition` is
+    the line of one of which that is not known, and `conditions` are the stretches of the text of these; `read` are the places of its
     derives and its `garde` attributes; `said`, `serde` and `others` are those of an item."""
 
     docs: tuple = ()
     attributes: Attributes = None
     derives: tuple = ()
-    tests: bool = False
+    absent: bool = False
     condition: int = 0
     conditions: list = field(default_factory=list)
     read: set = field(default_factory=set)
@@ -125,7 +130,8 @@ class Outer:
 
 @dataclass
 class Source:
-    """What a file declares. `parts` are its functions, constants and implementations, each with whether it stands under a condition."""
+    """What a file declares. `parts` are its functions, constants and implementations, each with whether it stands under a condition, and
+    `features` are those of the crate that are on, where they are given. `has_own` says that it has a module of one's own."""
 
     head: list = field(default_factory=list)
     items: list = field(default_factory=list)
@@ -137,16 +143,19 @@ class Source:
     aliases: dict = field(default_factory=dict)
     modules: set = field(default_factory=set)
     globs: list = field(default_factory=list)
+    features: set = None
+    has_own: bool = False
     notes: Notes = field(default_factory=Notes)
 
 
-def read_source(text):
-    """Reads a file. What cannot be read is noted."""
+def read_source(text, features=None):
+    """Reads a file, under these features where they are given. What cannot be read is noted."""
     if text.startswith("#!") and not text[2:].lstrip().startswith("["):
         text = " " * len(text.partition("\n")[0]) + text[len(text.partition("\n")[0]) :]
-    source = Source()
+    source = Source(features=features)
     try:
         tokens = Tokens(tokens_of(text), text, source.notes)
+        source.notes.build = Build(tokens.tokens, features)
     except Refusal as refusal:
         source.notes.faults.append(refusal)
         source.notes.told.append((0, len(text)))
@@ -166,7 +175,7 @@ def read_of_the_file(tokens):
     """Passes over an attribute of the whole file."""
     mark, _, inside = tokens.take(), tokens.take(), tokens.group()
     if inside.sees("cfg") or inside.sees("cfg_attr"):
-        tokens.notes.refuse(mark.line, "an attribute `cfg` or `cfg_attr`, which the port cannot judge")
+        tokens.notes.refuse(mark.line, UNKNOWN_BUILD)
 
 
 def read_item(tokens, source, text):
@@ -175,7 +184,7 @@ def read_item(tokens, source, text):
     try:
         outer = read_outer(tokens)
         at = tokens.at
-        if outer.tests:
+        if outer.absent:
             pass_over(tokens)
             source.notes.told.append((begin, tokens.first.at))
         else:
@@ -365,46 +374,41 @@ def read_attribute_of(inside, outer, asked, mark, of_the_file):
         asked.append(inside.group())
         outer.read.add(mark.at)
         inside.notes.read.add(mark.at)
-    elif word == "cfg" and inside.opens("(") and is_test(inside.group()) and not of_the_file:
-        outer.tests = True
-    elif word == "cfg_attr" and inside.opens("(") and not of_the_file and read_conditional(inside.group(), outer, asked, mark):
-        pass
     elif word in ("cfg", "cfg_attr"):
-        outer.condition = mark.line
-        outer.conditions.append((mark.at, None))
+        held = None if of_the_file or not inside.opens("(") else read_condition(word, inside.group(), outer, asked, mark)
+        outer.absent |= word == "cfg" and held is False
+        outer.condition = mark.line if held is None else outer.condition
+        outer.conditions += [(mark.at, None)] if held is None else []
     elif word == "serde" and inside.opens("("):
         outer.serde += (read_serde(inside.group()),)
     else:
         outer.others += ((mark.line, "::".join(path)),)
 
 
-def read_conditional(tokens, outer, asked, mark):
-    """Reads what stands within `cfg_attr`, and says whether the port can judge that. Attributes under the feature of serde hold where serde
-    reads the type; of those under another condition none may speak of what is read or asked."""
-    is_serde = tokens.sees("feature", "=") and "serde" in tokens.tokens[tokens.at + 2].text
-    tokens.skip_to(",")
+def read_condition(word, tokens, outer, asked, mark):
+    """Whether the condition of a `cfg` or a `cfg_attr` holds, or nothing where the port cannot judge that. The attributes of a `cfg_attr` are
+    read where it holds; where that is not known none may speak of what is read or asked."""
+    held = tokens.notes.build.holds(tokens)
     found = []
+    tokens.skip_to(",")
     while tokens.takes(","):
         start = tokens.at
         tokens.skip_to(",")
         if tokens.at > start:
             end = tokens.tokens[tokens.at - 1]
             found.append(Tokens([*tokens.tokens[start : tokens.at], Token("end", end.text, end.line, end.at)], tokens.text, tokens.notes))
-    for it in found if is_serde else ():
+    for it in found if held else ():
         read_attribute_of(it, outer, asked, mark, False)
     words = {token.text for it in found for token in it.tokens}
-    return is_serde or not words & {"serde", "garde", "Deserialize", "Validate", "cfg_attr"}
-
-
-def is_test(tokens):
-    """Whether a condition of the build is `test` and no more."""
-    return tokens.takes("test") and tokens.ended()
+    is_silent = word == "cfg_attr" and not words & {"serde", "garde", "Deserialize", "Validate", "cfg_attr"}
+    return False if held is None and is_silent else held
 
 
 def unconditional(tokens, outer):
     """Refuses what stands under a condition of the build."""
     if outer.condition:
-        tokens.notes.refuse(outer.condition, "an attribute `cfg` or `cfg_attr`, which the port cannot judge")
+        told = "" if tokens.notes.build.features is not None else ": say by `--features` which are on, as `--features std,json`, or `--features=` of none"
+        tokens.notes.refuse(outer.condition, UNKNOWN_BUILD + told)
         tokens.notes.told += outer.conditions
     return outer
 
@@ -492,16 +496,29 @@ def read_enum(tokens):
     name = tokens.name("the name of an enum")
     params = read_params(tokens)
     no_where(tokens)
-    variants = tuple(tokens.group().items(read_variant))
+    variants = read_parts(tokens, read_variant)
     read = [it for it in variants if it is not None]
     for it in (it for it in read if it.number and any(one.shape != "unit" for one in read)):
         tokens.notes.refuse(it.line, f"the variant `{it.name}` with a number, beside variants with fields: take the number out")
     return name, params, variants
 
 
-def read_variant(tokens):
-    """Reads a variant of an enum."""
-    outer = unconditional(tokens, read_outer(tokens))
+def read_parts(tokens, read):
+    """Reads the variants or the fields of a group, but for those under a condition of the build that does not hold."""
+
+    def read_part(tokens):
+        begin, outer = tokens.first.at, read_outer(tokens)
+        if not outer.absent:
+            return read(tokens, unconditional(tokens, outer))
+        tokens.skip_to(",")
+        tokens.notes.absent.append((begin, tokens.first.at))
+        return outer
+
+    return tuple(it for it in tokens.group().items(read_part) if not isinstance(it, Outer))
+
+
+def read_variant(tokens, outer):
+    """Reads a variant of an enum behind its attributes."""
     line, name = tokens.line, tokens.name("a variant")
     if outer.attributes.asked:
         tokens.notes.refuse(line, f"an attribute at the variant `{name}`: attributes stand at types and at fields")
@@ -524,9 +541,9 @@ def read_variant_body(tokens, name, line, docs):
     """Reads the fields of a struct or of a variant."""
     no_where(tokens)
     if tokens.opens("{"):
-        return Variant(name, "named", tuple(tokens.group().items(read_named_field)), line, docs)
+        return Variant(name, "named", read_parts(tokens, read_named_field), line, docs)
     if tokens.opens("("):
-        fields = tuple(tokens.group().items(read_tuple_field))
+        fields = read_parts(tokens, read_tuple_field)
         no_where(tokens)
         return Variant(name, "tuple", fields, line, docs)
     return Variant(name, "unit", (), line, docs)
@@ -538,16 +555,14 @@ def no_where(tokens):
         tokens.skip_to("{", ";")
 
 
-def read_named_field(tokens):
-    outer = unconditional(tokens, read_outer(tokens))
+def read_named_field(tokens, outer):
     vis, line, name = read_vis(tokens), tokens.line, tokens.name("the name of a field")
     tokens.expect(":")
     attributes = replace(outer.attributes, rules=at_field(outer.attributes.rules, name))
     return Field(name, read_field_type(tokens), line, attributes, outer.docs, vis, outer.serde, outer.others)
 
 
-def read_tuple_field(tokens):
-    outer = unconditional(tokens, read_outer(tokens))
+def read_tuple_field(tokens, outer):
     vis, line = read_vis(tokens), tokens.line
     return Field("", read_field_type(tokens), line, outer.attributes, outer.docs, vis, outer.serde, outer.others)
 
@@ -654,10 +669,9 @@ def read_slice(tokens, line):
     if tokens.ended():
         return Type("slice", "[]", line, args=(item,))
     tokens.expect(";")
-    size = tokens.take().text
-    if not tokens.ended():
-        raise Refusal(line, "the length of an array that is neither a number nor a name")
-    return Type("array", "[;]", line, args=(item,), size=size)
+    start = tokens.at
+    tokens.skip_to(",")
+    return Type("array", "[;]", line, args=(item,), size=" ".join(it.text for it in tokens.tokens[start : tokens.at]))
 
 
 def read_path_type(tokens, line):

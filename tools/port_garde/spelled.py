@@ -7,6 +7,7 @@ from .defaults import is_skipped
 from .derives import options
 from . import in_order
 from .flattened import held_part, is_closed, is_closed_as_one, part_of
+from .holes import SPELLED
 from .groups import Group, filled, grouped, is_flat, is_rest, numbers_in, own_rules, shared_rules
 from .inputs import Reader, may_be_missing
 from .layout import WIDTH
@@ -206,6 +207,9 @@ class Spellings:
     def of_part(self, kind):
         """The members of a struct, which stand among those of another type."""
         part, whole = part_of(kind, self.items), self.writer.item
+        if part is None:
+            self.schema.use("Members")
+            return Said(SPELLED.format(name=kind.name))
         self.writer.item = part
         members = self.of_group(grouped(part.variants[0].fields), part.variants[0], part)
         self.writer.item = whole
@@ -375,8 +379,7 @@ class Spellings:
             self.writer.uses.paths.add("Rattle.garde_schema.specs.Given.{given}")
             return said("given", self.schema.making.part(default))
         if default is None and is_option(kind) and may_be_missing(kind, self.writer.input):
-            word = self.word("nullish") if self.writer.input == "json" else self.written("optional")
-            found, whole = said(word, name, self.value(kind.args[0], within_option(rules))), of_whole(rules)
+            found, whole = self.missing(it, name, self.value(kind.args[0], within_option(rules))), of_whole(rules)
             if not whole:
                 return found
             self.writer.uses.words |= {"field"}
@@ -385,6 +388,12 @@ class Spellings:
         if default is None:
             return said(self.word("member"), name, self.value(kind, rules))
         return said(self.word("with_default"), name, self.value(kind, rules), self.schema.making.part(default))
+
+    def missing(self, it, name, one):
+        """A member that may be missing. One whose default is not known may not be `null`."""
+        if it.unmade:
+            return said(self.among("if_any"), said(self.word("member"), name, one))
+        return said(self.word("nullish") if self.writer.input == "json" else self.written("optional"), name, one)
 
     def flattened(self, it):
         """The members that a field stands for, or what each value of all other members is."""
@@ -457,29 +466,16 @@ class Spellings:
                 inside += it.rules
             elif it.name == "dive":
                 inside.append(it)
-            elif it.name in ("length", "keys"):
+            elif it.name == "length":
                 whole.append(it)
-        one, ruled = self.value(kind.args[-1], inside), [it for it in rules if it.name in ("unique", "custom")]
-        if not whole:
-            return self.ruled(said(self.word(word), one), kind, ruled)
-        if any(it.name == "keys" for it in whole):
-            counts, names = self.asked_under(kind, whole)
-            return self.ruled(said(self.word("a_map_under"), counts, names, one), kind, ruled)
-        return self.ruled(said(self.word(f"{word}_of"), self.counted(self.asked(kind, whole)), one), kind, ruled)
-
-    def asked_under(self, kind, rules):
-        """What rules ask of how many members a map has, and what they ask of their names. Each asks one of these alone."""
-        counts, names = [], []
-        for it in rules:
-            _, text = self.checks(kind, [it])
-            counts.append("none" if it.name == "keys" else self.counted(text))
-            names.append(text.removesuffix(" (names_of v)") + " v" if it.name == "keys" else "none")
-        self.writer.uses.words |= {"none"} | ({"◌and◌"} if len(rules) > 1 else set())
-        return tuple(f"(λ {'v' if any(it != 'none' for it in found) else '_'}. {' and '.join(found)})" for found in (counts, names))
+        one, names = self.value(kind.args[-1], inside), [it for it in rules if it.name == "keys"]
+        is_under = whole or names
+        form = said(self.word(f"{word}_of"), self.counted(self.asked(kind, whole)), one) if is_under else said(self.word(word), one)
+        return self.ruled(self.ruled(form, kind, names), kind, [it for it in rules if it.name in ("unique", "custom")])
 
     def counted(self, text):
         """What is asked of a list or a map, as what is asked of how many there are."""
-        self.writer.uses.words.add("count")
+        self.writer.uses.words |= {"count"} if "is (items " in text else set()
         return text.replace("is (items ", "is (count ")
 
     def ruled(self, one, kind, rules):

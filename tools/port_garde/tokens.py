@@ -37,12 +37,22 @@ def meant(word, known):
 class Notes:
     """What the reading of a source found out: its faults; where it read a `derive` and a `garde` attribute, by their places in
     the text; and the stretches of the text of which it told a fault, or which are for tests alone. `later` are the faults of a type that
-    a walk alone has: a form says nothing of them."""
+    a walk alone has: a form says nothing of them. `holes` are lines about what passes unread, which is no fault. `build` says which conditions of the build hold, and `absent` are the stretches of the
+    text under one that does not."""
 
     faults: list = field(default_factory=list)
     later: list = field(default_factory=list)
+    holes: list = field(default_factory=list)
     read: set = field(default_factory=set)
     told: list = field(default_factory=list)
+    build: object = None
+    absent: list = field(default_factory=list)
+
+    def present(self, text):
+        """The text with spaces for what is absent from the build."""
+        for start, end in self.absent:
+            text = text[:start] + re.sub(r"[^\n]", " ", text[start:end]) + text[end:]
+        return text
 
     def refuse(self, line, reason):
         self.faults.append(Refusal(line, reason))

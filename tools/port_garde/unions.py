@@ -86,7 +86,7 @@ class Shape:
     """The kinds of values that a type has. It has all values of those kinds that are `total`, of the texts these alone, if they are
     known, of lists such items, and of objects such members: their shapes, and whether they must be there. Serde reads a `row` of such
     values, some of which have a default, as an object too. An object that is open may have other members that are read; of the names of
-    `one_of` it has one."""
+    `one_of` it has one. Of a type that you read it is not known which values it has."""
 
     kinds: set
     total: set = field(default_factory=set)
@@ -97,6 +97,7 @@ class Shape:
     is_open: bool = False
     is_closed: bool = False
     one_of: tuple = ()
+    is_own: bool = False
 
 
 def anything():
@@ -111,7 +112,7 @@ class Shapes:
 
     def of_type(self, kind, seen=()):
         if isinstance(kind, str) or kind.kind == "unread" or kind.name in self.borrowed.holes:
-            return anything()
+            return Shape(set(KINDS), is_open=True, is_own=not isinstance(kind, str) and kind.name in self.borrowed.holes)
         if is_text(kind):
             return Shape({"text"}, {"text"})
         if is_path(kind, *HOLDERS) and kind.args:
@@ -167,7 +168,7 @@ class Shapes:
             if {"flatten", "skip", "skip_deserializing"} & set(said):
                 is_open |= "flatten" in said
                 continue
-            shape = anything() if {"with", "deserialize_with"} & set(said) else self.of_type(it.type, seen)
+            shape = anything() if {"with", "deserialize_with"} & set(said) else self.of_type(it.type.args[0] if it.unmade else it.type, seen)
             has_default = "default" in said or "default" in options(item)
             members[of_field(it, variant, item)] = (not has_default and not is_option(it.type), shape)
             row.append((has_default, shape))
@@ -226,7 +227,7 @@ class Shapes:
 
 def is_row(shape, other):
     """Whether a list of one shape may be read as the members of another one, in their order."""
-    if shape.row is None or "list" not in other.kinds:
+    if shape.row is None or other.is_own or "list" not in other.kinds:
         return False
     items = (other.items or anything()).kinds
     return all(has_default or it.kinds & items for has_default, it in shape.row)

@@ -138,12 +138,12 @@ class Checks:
             return f"⟦<{self.writer.type_text(item)} as PartialEq>⟧.eq"
         if same is None:
             told = f"`unique` of the type `{self.writer.type_text(kind, True)}`"
-            raise Refusal(rule.line, f"{told}: it is written of lists of texts, of numbers and of types of this file that derive `PartialEq`")
+            raise Refusal(rule.line, f"{told}: it is written of lists of texts, of numbers and of types of this file that derive `PartialEq`; of others write `custom(unique_by(..))`, or a rule of your own, by `custom`")
         self.uses.words |= {same.split()[0]} | ({"str"} if "str" in same else set())
         return f"(λ x y. {same})" if " " in same else same
 
     def keys(self, rule, seen, adapter):
-        """Rules of the names of a map that a form reads."""
+        """Rules of the names of a map, which stand around its form in `Keys`."""
         if not is_path(seen.type, "Entries"):
             told = f"`keys` of the type `{self.writer.type_text(seen.type, True)}`"
             raise Refusal(rule.line, f"{told}: it is asked of maps that are read by `--schema --no-walk` or `--spelled`")
@@ -151,8 +151,7 @@ class Checks:
         name = seen.part(seen.type.args[0]) if not isinstance(seen.type.args[0], str) else seen.part(TEXT)
         code, spec = self.of(rule.rules, name)
         self.uses.paths.add("Rattle.garde_schema.specs.Maps.{each_key, names_of}")
-        self.uses.others.add("garde_schema::Keys")
-        return call("Keys", code), f"each_key (λ {name.name}. {spec}) (names_of {seen.name})"
+        return code, f"each_key (λ {name.name}. {spec}) (names_of {seen.name})"
 
     def refuse_walk(self, rule):
         """Refuses a rule that a form alone asks, of a type with a walk."""
@@ -227,8 +226,8 @@ class Checks:
         inner = Scope(outer.context, given, outer.params, outer.unit, Place("value", "value", seen.type), fields)
         holds = Conditions(inner, self.uses, self.writer).whole(rule.place)
         word, given = rule.asks()
-        self.uses.fields |= {word, "Rule"}
-        self.uses.others |= {"garde::I18n", "garde::RuleError", "std::alloc::Global"}
+        self.uses.kept_fields |= {word, "Rule"}
+        self.uses.kept_others |= {"garde::I18n", "garde::RuleError", "std::alloc::Global"}
         self.writer.written_rule(name, rule, self.writer.type_text(seen.type), holds, inner)
         inner.value, inner.places = replace(inner.value, name=seen.name), outer.places
         _, stated = Conditions(inner, self.uses, self.writer).whole(rule.place)
@@ -263,7 +262,8 @@ class Checks:
         if rule.name == "matches":
             return (*self.matches(rule, seen), False)
         if not is_text(seen.type):
-            raise Refusal(rule.line, f"`{rule.name}` of the type `{self.writer.type_text(seen.type, True)}`, which is no text")
+            way = f"write `inner({rule.name})` for its items" if is_path(seen.type, *EACH, "Items") else "write a rule of your own, by `custom`"
+            raise Refusal(rule.line, f"`{rule.name}` of the type `{self.writer.type_text(seen.type, True)}`, which is no text: {way}")
         if rule.name == "pattern":
             return (*self.pattern(rule, seen), True)
         if rule.name in IPS:
@@ -331,7 +331,7 @@ class Checks:
             place = rule.place.value
             whole = len(place) == 1 and self.writer.context == "Regex"
             if place[0] != self.scope.context or len(place) < 2 and not whole or self.scope.unit:
-                raise Refusal(rule.line, f"the pattern `{'.'.join(place)}` is no part of the context")
+                raise Refusal(rule.line, f"the pattern `{'.'.join(place)}` is no part of the context: write its text in quotes, as `pattern(\"..\")`")
             self.scope.the_context()
         source = ".".join(place)
         lent = Lent(Word(source)) if "." in source else Word(source)
@@ -349,7 +349,7 @@ class Checks:
         if rule.mode != "simple" or listed is None:
             mode = "" if rule.mode == "simple" else f" in `{rule.mode}`"
             told = f"the length{mode} of the type `{self.writer.type_text(kind, True)}`"
-            raise Refusal(rule.line, f"{told}, which the port does not know")
+            raise Refusal(rule.line, f"{told}, which the port does not know: of a number write `range`, of others a rule of your own, by `custom`")
         return code, f"{self.word('items')} {bounds} {listed}"
 
     def range(self, rule, seen):

@@ -5,11 +5,12 @@ from dataclasses import replace
 from .borrowed import Borrowed, below, is_named
 from .derives import SERDE, Derives, kept_derives, literal_function, named_function, options, serde_lines
 from .front import Front, place_named
-from .holes import HOLE
+from .holes import HOLE, MEMBERS
 from .implementation import Implementation
-from .layout import CALL, VARIANT, WIDTH, Method, Word, call, statement, use_line
+from .layout import CALL, VARIANT, WIDTH, Literal, Method, Word, call, statement, use_line
 from .own import read_function
 from .parsed import KNOWN
+from .quoted import BESIDE_CONTEXT, turn as quoted_of
 from .schema import Schema, snake, within_rule
 from .scope import SIGNED, Scope, Uses, resolved
 from .second import faults_of_values, lost_of_names, lost_of_serde, passed_by
@@ -67,6 +68,20 @@ impl{bound} View<{kind}> for {name} {{
 }}"""
 
 
+PATTERNS = """/// The compiled patterns of `{of}`.
+#[derive(Drop)]
+{vis}struct {name} {{
+{fields}}}
+
+impl {name} {{
+    /// Compiles the patterns, or returns why one of them cannot be compiled.
+    {vis}fn new(alloc: Global) -> Result<{name}, PatternRefused>
+{clauses}    {{
+{lets}{made}
+    }}
+}}"""
+
+
 class Writer:
     """Writes what stands for a source. `module` is the path of what is written, `own` that of the rules of one's own, and
     `left_out` are the derives and attributes that are left out without a word. With `walks` types that a form reads have a walk too.
@@ -81,11 +96,12 @@ class Writer:
         front = Front(source, bool(schema or body or spelled), body or spelled, self.taken)
         front.turn()
         self.checked, self.is_library = front.called(body or spelled), body is not None
-        self.borrowed = Borrowed(source, left_out, bool(self.checked), walks, spelled is not None, input, bool(own)) if schema or self.checked else None
+        quoted = quoted_of(source, self.checked) if spelled else {}
+        self.borrowed = Borrowed(source, left_out, bool(self.checked), walks, spelled is not None, input, own, self.checked) if schema or self.checked else None
         self.unwalked = self.borrowed.unwalked() if self.checked or schema and not walks else set()
         self.derives = Derives(source, left_out)
         self.uses = Uses()
-        self.patterns, self.skeletons, self.closures, self.copied = {}, {}, {}, {}
+        self.patterns, self.skeletons, self.closures, self.copied = {self.checked: quoted} if quoted else {}, {}, {}, {}
         self.item = self.context = self.spot = self.answers = None
         self.renamed = {}
         self.notes = source.notes
@@ -95,7 +111,7 @@ class Writer:
         once more with other names."""
         found = self.attempt(rust)
         while self.clashes - self.taken:
-            self.__init__(read_source(rust), *self.given, taken=self.taken | self.clashes)
+            self.__init__(read_source(rust, self.source.features), *self.given, taken=self.taken | self.clashes)
             found = self.attempt(rust)
         return found
 
@@ -103,6 +119,7 @@ class Writer:
         """The whole file with the names as they are taken so far."""
         if self.borrowed:
             self.borrowed.turn()
+        rust = self.notes.present(rust)
         items = [text for item in self.source.items for text in self.tried(item, rust)]
         items += self.schema_texts(rust) if self.borrowed and not self.notes.faults else []
         self.find_clashes()
@@ -169,7 +186,7 @@ class Writer:
         """The implementations for a type. What only a walk imports is not imported for one without."""
         if item.name not in self.unwalked:
             self.uses.others |= {f"garde::{name}" for name in ("I18n", "Report", "Trail", "Validate")}
-            self.uses.others |= {f"std::alloc::{name}" for name in ("AllocError", "Global")}
+            self.uses.others.add("std::alloc::AllocError")
             return Implementation(self, item).text()
         fields, others = set(self.uses.fields), set(self.uses.others)
         text = Implementation(self, item).text(is_walked=False)
@@ -178,7 +195,7 @@ class Writer:
 
     def find_clashes(self):
         """Finds the types whose names are imported, and the variants whose names stand for something else in a statement."""
-        imported = GARDE | self.uses.fields | {path.rpartition("::")[2] for path in self.uses.others}
+        imported = GARDE | self.uses.fields | self.uses.kept_fields | {path.rpartition("::")[2] for path in self.uses.others}
         taken = self.uses.words | {"Some", "None", "Ok", "Err"} | ({"Left", "Right"} if self.uses.sides else set())
         for item in self.source.items:
             if item.name in imported:
@@ -335,8 +352,7 @@ class Writer:
     def new_pattern(self, rule):
         """A place in the context of the type for a pattern in quotes, and its name."""
         if self.item.attributes.context:
-            told = "a pattern in quotes under a context of one's own"
-            raise Refusal(rule.line, f"{told}: add a field of type `Regex` to it, and write `pattern(ctx.FIELD)`")
+            raise Refusal(rule.line, BESIDE_CONTEXT)
         places = self.patterns.setdefault(self.item.name, {})
         name, number = self.spot, 1
         while places.get(name, rule.text) != rule.text:
@@ -346,13 +362,18 @@ class Writer:
         return name
 
     def pattern_struct(self, item):
-        """The context that holds the compiled patterns of a type."""
-        fields = ""
-        for name, source in self.patterns[item.name].items():
-            fields += f"    /// `Regex::new` of the pattern `{source}`.\n    {item.vis}{name}: Regex,\n"
-        self.uses.others.add(IMPORTS["Regex"])
-        head = f"/// The compiled patterns of `{item.name}`.\n#[derive(Drop)]\n"
-        return f"{head}{item.vis}struct {item.name}Patterns {{\n{fields}}}"
+        """The context that holds the compiled patterns of a type, and what compiles them."""
+        patterns, name, fields, clauses, lets = self.patterns[item.name], f"{item.name}Patterns", "", "", ""
+        for it, source in patterns.items():
+            escaped = source.replace("\\", "\\\\").replace('"', '\\"')
+            fields += f"    /// `Regex::new` of the pattern `{source}`.\n    {item.vis}{it}: Regex,\n"
+            clauses += f'        ensures {it} {{ IfOk result (λ it. it.{it} ≡ codes "{escaped}") }}\n' if source.isascii() else ""
+            lets += statement(call("Regex::new", "alloc", f'"{escaped}"'), 8, f"let {local(it)} = ", "?;") + "\n"
+        self.uses.others |= {IMPORTS["Regex"], "garde::rules::pattern::regex::PatternRefused", "std::alloc::Global"}
+        self.uses.prelude |= {"◌≡◌", "IfOk"} if clauses else set()
+        self.uses.words |= {"codes"} if clauses else set()
+        made = statement(Literal(name, tuple((it, Word(local(it))) for it in patterns)), 8, "Ok(", ")")
+        return PATTERNS.format(of=item.name, vis=item.vis, name=name, fields=fields, clauses=clauses, lets=lets, made=made)
 
     def asks_patterns(self, name):
         """Whether the port makes a context of compiled patterns for a type of this file."""
@@ -474,6 +495,12 @@ class Writer:
         self.skeletons[f"{name}Form"] = ("", "")
         return f"{name}Form"
 
+    def members_hole(self, name):
+        """The form of the members of a hole among those of another type, which stands in the module of one's own, with the type itself."""
+        self.skeletons[name] = ("", MEMBERS.format(name=name, why=self.borrowed.holes[name]))
+        self.skeletons[f"{name}Members"] = ("", "")
+        return f"{name}Members"
+
     def skeleton_texts(self):
         """The functions that are copied, and the beginnings of rules, views and functions."""
         return [*self.copied.values(), *([] if self.own else [text for _, text in self.skeletons.values()])]
@@ -522,7 +549,7 @@ class Writer:
 
     def use_lines(self):
         """What the code imports."""
-        paths = {f"garde::fields::{name}" for name in self.uses.fields} | self.uses.others | self.crate_imports()
+        paths = {f"garde::fields::{name}" for name in self.uses.fields | self.uses.kept_fields} | self.uses.others | self.uses.kept_others | self.crate_imports()
         paths |= {"garde::Stated"} if any(is_ported(it) and not self.is_nested(it) for it in self.source.items) else set()
         if self.own:
             paths |= {f"{self.own}::{name}" for name in self.skeletons}
@@ -551,6 +578,11 @@ def begun(what, source):
     quoted = ["```text", *source.splitlines(), "```"]
     docs = [f"/// A {what} to be written. In the Rust source it is:", "///", *(f"/// {line}".rstrip() for line in quoted)]
     return "\n".join(docs)
+
+
+def local(name):
+    """The name of a compiled pattern beside the parameter `alloc`."""
+    return "the_alloc" if name == "alloc" else name
 
 
 def has_pattern(rules):

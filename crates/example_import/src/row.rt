@@ -5,7 +5,7 @@ use garde::fields::{
     Alphanumeric, Field, Fields, IfSome, Is, IsInMemory, Prefix, Required, Url, WithMessage,
 };
 use garde::{I18n, Report, Stated, Trail, Validate, length, range};
-use std::alloc::{AllocError, Global};
+use std::alloc::AllocError;
 
 /// An article: how many pieces of it there are, what one of them costs in cents, and its page.
 /// A field that is to be a number and is none is read as `None`, which is a fault as any other.
@@ -27,7 +27,6 @@ impl Stated for Row {
 impl Validate for Row {
     fn validate_into<'a, H: I18n>(
         &'a self,
-        alloc: Global,
         _ctx: &(),
         trail: &mut Trail<'a>,
         report: &mut Report,
@@ -51,6 +50,6 @@ impl Validate for Row {
             Field("price", price, (cents, cheap)),
             Field("page", page, IfSome(IsInMemory(Url))),
         )
-            .visit(alloc, trail, report, h)
+            .visit(trail, report, h)
     }
 }

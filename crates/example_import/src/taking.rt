@@ -33,7 +33,7 @@ fn faults_of<H: I18n>(alloc: Global, index: usize, row: &Row, h: &H) -> Result<R
     ensures known { IfOk result (λ report. report ≡ [] → Known (row_visits row.now)) }
 {
     let mut trail = trail_to(alloc, index)?;
-    match row.validate_on(alloc, &(), &mut trail, h) {
+    match row.validate_on(&(), &mut trail, h) {
         Ok(()) => Ok(Report::new(alloc)),
         Err(ValidateError::Report(report)) => Ok(report),
         Err(ValidateError::Memory) => Err(AllocError),

@@ -3,7 +3,7 @@ ghost use Rattle.garde.specs.Fields.{◌and◌, alphanumeric, ascii, at_least, a
 
 use garde::fields::{Alphanumeric, Ascii, Field, Fields, Is, Matches};
 use garde::{I18n, Report, Stated, Trail, Validate, length};
-use std::alloc::{AllocError, Global};
+use std::alloc::AllocError;
 
 /// Who has an account.
 #[derive(Drop)]
@@ -29,7 +29,6 @@ impl Stated for Account {
 impl Validate for Account {
     fn validate_into<'a, H: I18n>(
         &'a self,
-        alloc: Global,
         _ctx: &(),
         trail: &mut Trail<'a>,
         report: &mut Report,
@@ -63,6 +62,6 @@ impl Validate for Account {
                 (Is(Alphanumeric), Is(length!(chars, max = 8))),
             ),
         )
-            .visit(alloc, trail, report, h)
+            .visit(trail, report, h)
     }
 }

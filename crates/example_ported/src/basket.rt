@@ -13,8 +13,9 @@ use garde::fields::{
 use garde::rules::contains;
 use garde::{I18n, Report, Stated, Trail, Valid, length, range};
 use garde_schema::{
-    Built, Checked, Closed, Entries, FormI18n, FromParts, Items, Keys, ListUnder, MapUnder, Member,
-    Nullish, Object, OneOf, ReadError, Scratch, Text, TextRef, U8, U16, Under, Whole, read_json,
+    Built, Checked, Closed, Entries, FormI18n, FromParts, Items, Keys, List, ListUnder, MapUnder,
+    Member, Nullish, Object, OneOf, ReadError, Scratch, Text, TextRef, U8, U16, Under, Whole,
+    read_json,
 };
 use std::alloc::{AllocError, Global};
 use std::marker::PhantomData;
@@ -118,14 +119,13 @@ impl Rules<(u16, u16)> for EntryGiftsRules {
 
     fn ask<'a, H: I18n>(
         &self,
-        alloc: Global,
         value: &(u16, u16),
         trail: &mut Trail<'a>,
         report: &mut Report,
         h: &H,
     ) -> Result<(), AllocError> {
         let (gifts, pieces) = value;
-        Is(range!(max = *pieces)).ask(alloc, gifts, trail, report, h)
+        Is(range!(max = *pieces)).ask(gifts, trail, report, h)
     }
 }
 
@@ -177,7 +177,6 @@ impl<'t> Rules<BasketAgainParts<'t>> for BasketAgainRules {
 
     fn ask<'a, H: I18n>(
         &self,
-        alloc: Global,
         value: &BasketAgainParts<'t>,
         trail: &mut Trail<'a>,
         report: &mut Report,
@@ -188,7 +187,7 @@ impl<'t> Rules<BasketAgainParts<'t>> for BasketAgainRules {
             field: "customer",
             other: customer,
         })
-        .ask(alloc, again, trail, report, h)
+        .ask(again, trail, report, h)
     }
 }
 
@@ -202,16 +201,13 @@ impl<'t> Rules<((Payment, Option<TextRef<'t>>), Items<Entry<'t>>)> for BasketEnt
 
     fn ask<'a, H: I18n>(
         &self,
-        alloc: Global,
         value: &((Payment, Option<TextRef<'t>>), Items<Entry<'t>>),
         trail: &mut Trail<'a>,
         report: &mut Report,
         h: &H,
     ) -> Result<(), AllocError> {
         let ((payment, _), entries) = value;
-        When(matches!(payment, Payment::Cash), Is(length!(max = 3))).ask(
-            alloc, entries, trail, report, h,
-        )
+        When(matches!(payment, Payment::Cash), Is(length!(max = 3))).ask(entries, trail, report, h)
     }
 }
 
@@ -225,7 +221,6 @@ impl<'t> Rules<(Payment, Option<TextRef<'t>>)> for BasketBillToRules {
 
     fn ask<'a, H: I18n>(
         &self,
-        alloc: Global,
         value: &(Payment, Option<TextRef<'t>>),
         trail: &mut Trail<'a>,
         report: &mut Report,
@@ -236,7 +231,7 @@ impl<'t> Rules<(Payment, Option<TextRef<'t>>)> for BasketBillToRules {
             matches!(payment, Payment::Card | Payment::Bill),
             Is(Required),
         )
-        .ask(alloc, bill_to, trail, report, h)
+        .ask(bill_to, trail, report, h)
     }
 }
 
@@ -302,7 +297,6 @@ impl<'t> Rules<MarksPhoneParts<'t>> for MarksPhoneRules {
 
     fn ask<'a, H: I18n>(
         &self,
-        alloc: Global,
         value: &MarksPhoneParts<'t>,
         trail: &mut Trail<'a>,
         report: &mut Report,
@@ -314,7 +308,7 @@ impl<'t> Rules<MarksPhoneParts<'t>> for MarksPhoneRules {
                 && !includes(seats.as_slice(), &Equal, &7),
             Is(Required),
         )
-        .ask(alloc, phone, trail, report, h)
+        .ask(phone, trail, report, h)
     }
 }
 
@@ -328,7 +322,6 @@ impl<'t> Rules<MarksPhoneParts<'t>> for MarksNoteRules {
 
     fn ask<'a, H: I18n>(
         &self,
-        alloc: Global,
         value: &MarksPhoneParts<'t>,
         trail: &mut Trail<'a>,
         report: &mut Report,
@@ -339,7 +332,7 @@ impl<'t> Rules<MarksPhoneParts<'t>> for MarksNoteRules {
             phone.is_some() || contains::Contains::validate_contains(note, "@"),
             Is(length!(min = 3)),
         )
-        .ask(alloc, note, trail, report, h)
+        .ask(note, trail, report, h)
     }
 }
 
@@ -352,14 +345,13 @@ impl<'t> Rules<MarksPhoneParts<'t>> for MarksCopiesRules {
 
     fn ask<'a, H: I18n>(
         &self,
-        alloc: Global,
         value: &MarksPhoneParts<'t>,
         trail: &mut Trail<'a>,
         report: &mut Report,
         h: &H,
     ) -> Result<(), AllocError> {
         let (_, _, _, _, note, copies) = value;
-        When(note.text() != "none", Is(range!(min = 1))).ask(alloc, copies, trail, report, h)
+        When(note.text() != "none", Is(range!(min = 1))).ask(copies, trail, report, h)
     }
 }
 
@@ -440,29 +432,26 @@ pub fn read_marks<'a, H: I18n + FormI18n>(
                         "tags",
                         Checked(
                             ListUnder(
-                                (Is(length!(max = 5)), Unique("stands before", Equal)),
+                                Is(length!(max = 5)),
                                 Text((Is(Ascii), Is(length!(max = 10)))),
                             ),
-                            Is(HasRoom),
+                            (Unique("stands before", Equal), Is(HasRoom)),
                         ),
                     ),
                     Member(
                         "seats",
-                        ListUnder(
+                        Checked(
+                            List(Whole(U8, Is(range!(max = 99)))),
                             Unique("comes twice", Equal),
-                            Whole(U8, Is(range!(max = 99))),
                         ),
                     ),
                     Nullish("phone", Text(Is(Prefix("+")))),
                     Member(
                         "labels",
                         Checked(
-                            MapUnder(
-                                (
-                                    Is(length!(max = 9)),
-                                    Keys((Is(Ascii), Is(length!(max = 8)))),
-                                ),
-                                Text(Is(Alphanumeric)),
+                            Keys(
+                                MapUnder(Is(length!(max = 9)), Text(Is(Alphanumeric))),
+                                (Is(Ascii), Is(length!(max = 8))),
                             ),
                             Is(FitsOnAPage),
                         ),

@@ -38,7 +38,6 @@ impl<'t> Stated for Payment<'t> {
 impl<'t> Validate for Payment<'t> {
     fn validate_into<'a, H: I18n>(
         &'a self,
-        alloc: Global,
         _ctx: &(),
         trail: &mut Trail<'a>,
         report: &mut Report,
@@ -50,14 +49,12 @@ impl<'t> Validate for Payment<'t> {
                     Field("card_no", card_no, (Is(Ascii), Is(length!(equal = 16)))),
                     Field("year", year, Is(range!(min = 2024, max = 2040))),
                 )
-                    .visit_of(self, alloc, trail, report, h)
+                    .visit_of(self, trail, report, h)
             }
             Payment::Account { holder } => {
-                Field("holder", holder, IfSome(Is(Alphanumeric))).visit_of(
-                    self, alloc, trail, report, h,
-                )
+                Field("holder", holder, IfSome(Is(Alphanumeric))).visit_of(self, trail, report, h)
             }
-            Payment::Cash => ().visit(alloc, trail, report, h),
+            Payment::Cash => ().visit(trail, report, h),
         }
     }
 }
@@ -75,14 +72,13 @@ impl<'t> Stated for Number<'t> {
 impl<'t> Validate for Number<'t> {
     fn validate_into<'a, H: I18n>(
         &'a self,
-        alloc: Global,
         _ctx: &(),
         trail: &mut Trail<'a>,
         report: &mut Report,
         h: &H,
     ) -> Result<(), AllocError> {
         let Self(value) = self;
-        Transparent(value, Is(Prefix("B"))).visit_of(self, alloc, trail, report, h)
+        Transparent(value, Is(Prefix("B"))).visit_of(self, trail, report, h)
     }
 }
 
@@ -105,7 +101,6 @@ impl<'t> Stated for Origin<'t> {
 impl<'t> Validate for Origin<'t> {
     fn validate_into<'a, H: I18n>(
         &'a self,
-        alloc: Global,
         _ctx: &(),
         trail: &mut Trail<'a>,
         report: &mut Report,
@@ -113,10 +108,10 @@ impl<'t> Validate for Origin<'t> {
     ) -> Result<(), AllocError> {
         match self {
             Origin::Shop { till } => {
-                Field("till", till, Is(range!(max = 99))).visit_of(self, alloc, trail, report, h)
+                Field("till", till, Is(range!(max = 99))).visit_of(self, trail, report, h)
             }
             Origin::WebSite(value) => {
-                Item(0, value, IsInMemory(Url)).visit_of(self, alloc, trail, report, h)
+                Item(0, value, IsInMemory(Url)).visit_of(self, trail, report, h)
             }
         }
     }
@@ -144,7 +139,6 @@ impl<'t> Stated for Bill<'t> {
 impl<'t> Validate for Bill<'t> {
     fn validate_into<'a, H: I18n>(
         &'a self,
-        alloc: Global,
         ctx: &(),
         trail: &mut Trail<'a>,
         report: &mut Report,
@@ -162,7 +156,7 @@ impl<'t> Validate for Bill<'t> {
             Field("payment", payment, Dive(ctx)),
             Field("origin", origin, IfSome(Dive(ctx))),
         )
-            .visit_of(self, alloc, trail, report, h)
+            .visit_of(self, trail, report, h)
     }
 }
 

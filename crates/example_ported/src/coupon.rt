@@ -4,7 +4,7 @@ ghost use Rattle.garde.specs.Fields.{◌and◌, at_most, bytes, each, field, is,
 use crate::own::{CouponTermsRule, IsEven, IsInSeason, TagText};
 use garde::fields::{Adapt, Each, Field, Fields, Is, Prefix};
 use garde::{I18n, Report, Stated, Trail, Validate, length};
-use std::alloc::{AllocError, Global};
+use std::alloc::AllocError;
 
 /// What is asked of coupons.
 #[derive(Clone, Copy)]
@@ -35,7 +35,6 @@ impl Stated for Discount {
 impl Validate for Discount {
     fn validate_into<'a, H: I18n>(
         &'a self,
-        alloc: Global,
         season: &Season,
         trail: &mut Trail<'a>,
         report: &mut Report,
@@ -46,7 +45,7 @@ impl Validate for Discount {
             Field("percent", percent, Is(IsInSeason(season))),
             Field("further", further, Each(Is(IsInSeason(season)))),
         )
-            .visit(alloc, trail, report, h)
+            .visit(trail, report, h)
     }
 }
 
@@ -70,7 +69,6 @@ impl Stated for Coupon {
 impl Validate for Coupon {
     fn validate_into<'a, H: I18n>(
         &'a self,
-        alloc: Global,
         _ctx: &(),
         trail: &mut Trail<'a>,
         report: &mut Report,
@@ -89,6 +87,6 @@ impl Validate for Coupon {
             ),
             Field("terms", terms, Is(CouponTermsRule)),
         )
-            .visit(alloc, trail, report, h)
+            .visit(trail, report, h)
     }
 }

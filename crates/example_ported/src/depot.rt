@@ -3,7 +3,7 @@ ghost use Rattle.garde.specs.Fields.{◌and◌, ascii, at_least, at_most, bytes,
 
 use garde::fields::{Ascii, Dive, Each, Field, Fields, Is};
 use garde::{I18n, Report, Stated, Trail, Validate, length, range};
-use std::alloc::{AllocError, Global};
+use std::alloc::AllocError;
 use std::collections::{BTreeMap, HashMap, HashSet, LinkedList, VecDeque};
 use std::rc::Rc;
 
@@ -22,14 +22,13 @@ impl Stated for Door {
 impl Validate for Door {
     fn validate_into<'a, H: I18n>(
         &'a self,
-        alloc: Global,
         _ctx: &(),
         trail: &mut Trail<'a>,
         report: &mut Report,
         h: &H,
     ) -> Result<(), AllocError> {
         let Self { width } = self;
-        Field("width", width, Is(range!(max = 15))).visit(alloc, trail, report, h)
+        Field("width", width, Is(range!(max = 15))).visit(trail, report, h)
     }
 }
 
@@ -63,7 +62,6 @@ impl Stated for Depot {
 impl Validate for Depot {
     fn validate_into<'a, H: I18n>(
         &'a self,
-        alloc: Global,
         ctx: &(),
         trail: &mut Trail<'a>,
         report: &mut Report,
@@ -107,6 +105,6 @@ impl Validate for Depot {
                 Field("doors", doors, Each(Dive(ctx))),
             ),
         )
-            .visit(alloc, trail, report, h)
+            .visit(trail, report, h)
     }
 }

@@ -3,7 +3,7 @@ ghost use Rattle.garde.specs.Fields.{◌and◌, at_least, at_most, bytes, field,
 
 use garde::fields::{Field, Fields, Is};
 use garde::{I18n, Report, Stated, Trail, Validate, length, range};
-use std::alloc::{AllocError, Global};
+use std::alloc::AllocError;
 
 /// A draft.
 #[derive(Clone, PartialEq, Drop)]
@@ -24,7 +24,6 @@ impl Stated for Draft {
 impl Validate for Draft {
     fn validate_into<'a, H: I18n>(
         &'a self,
-        alloc: Global,
         _ctx: &(),
         trail: &mut Trail<'a>,
         report: &mut Report,
@@ -39,6 +38,6 @@ impl Validate for Draft {
             Field("report", the_report, Is(length!(min = 1))),
             Field("h", the_h, Is(range!(max = 9))),
         )
-            .visit(alloc, trail, report, h)
+            .visit(trail, report, h)
     }
 }

@@ -4,7 +4,7 @@ ghost use Rattle.example_ported.specs.declared.event.Event.TheVariants.{Move, Sa
 
 use garde::fields::{Ascii, Field, Fields, Is, Item};
 use garde::{I18n, Report, Stated, Trail, Validate, length, range};
-use std::alloc::{AllocError, Global};
+use std::alloc::AllocError;
 
 /// What happens.
 #[derive(Drop)]
@@ -45,7 +45,6 @@ impl Stated for Event {
 impl Validate for Event {
     fn validate_into<'a, H: I18n>(
         &'a self,
-        alloc: Global,
         _ctx: &(),
         trail: &mut Trail<'a>,
         report: &mut Report,
@@ -53,9 +52,7 @@ impl Validate for Event {
     ) -> Result<(), AllocError> {
         match self {
             Event::Move { steps } => {
-                Field("steps", steps, Is(range!(min = -10, max = 10))).visit(
-                    alloc, trail, report, h,
-                )
+                Field("steps", steps, Is(range!(min = -10, max = 10))).visit(trail, report, h)
             }
             Event::Say {
                 text,
@@ -66,20 +63,18 @@ impl Validate for Event {
                     Field("text", text, (Is(Ascii), Is(length!(min = 1)))),
                     Field("report", the_report, Is(length!(max = 3))),
                 )
-                    .visit(alloc, trail, report, h)
+                    .visit(trail, report, h)
             }
-            Event::Wait(value) => {
-                Item(0, value, Is(range!(max = 60))).visit(alloc, trail, report, h)
-            }
+            Event::Wait(value) => Item(0, value, Is(range!(max = 60))).visit(trail, report, h),
             Event::Pair(first, second) => {
                 (
                     Item(0, first, Is(Ascii)),
                     Item(1, second, Is(length!(min = 2))),
                 )
-                    .visit(alloc, trail, report, h)
+                    .visit(trail, report, h)
             }
-            Event::Stop => ().visit(alloc, trail, report, h),
-            Event::Mark(_) => ().visit(alloc, trail, report, h),
+            Event::Stop => ().visit(trail, report, h),
+            Event::Mark(_) => ().visit(trail, report, h),
         }
     }
 }

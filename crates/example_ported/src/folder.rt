@@ -65,14 +65,13 @@ impl<'t> Rules<(Option<u16>, TextRef<'t>)> for FolderNoteRules {
 
     fn ask<'a, H: I18n>(
         &self,
-        alloc: Global,
         value: &(Option<u16>, TextRef<'t>),
         trail: &mut Trail<'a>,
         report: &mut Report,
         h: &H,
     ) -> Result<(), AllocError> {
         let (size, note) = value;
-        When(size.is_some(), Is(length!(max = 3))).ask(alloc, note, trail, report, h)
+        When(size.is_some(), Is(length!(max = 3))).ask(note, trail, report, h)
     }
 }
 

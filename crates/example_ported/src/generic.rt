@@ -4,7 +4,7 @@ ghost use Rattle.example_ported.specs.declared.generic.Choice.TheVariants.{Part,
 
 use garde::fields::{Ascii, Dive, Each, Field, Fields, IfSome, Is, Item};
 use garde::{I18n, Report, Stated, Trail, Validate, range};
-use std::alloc::{AllocError, Global};
+use std::alloc::AllocError;
 
 /// Two parts under one context.
 #[derive(Drop)]
@@ -24,7 +24,6 @@ impl<A: Stated, B: Stated<Context = A::Context>> Stated for Couple<A, B> {
 impl<A: Validate, B: Validate<Context = A::Context>> Validate for Couple<A, B> {
     fn validate_into<'a, H: I18n>(
         &'a self,
-        alloc: Global,
         ctx: &A::Context,
         trail: &mut Trail<'a>,
         report: &mut Report,
@@ -35,7 +34,7 @@ impl<A: Validate, B: Validate<Context = A::Context>> Validate for Couple<A, B> {
             Field("left", left, Dive(ctx)),
             Field("right", right, Each(Dive(ctx))),
         )
-            .visit_of(self, alloc, trail, report, h)
+            .visit_of(self, trail, report, h)
     }
 }
 
@@ -54,14 +53,13 @@ impl<T: Stated<Context = ()>> Stated for Plain<T> {
 impl<T: Validate<Context = ()>> Validate for Plain<T> {
     fn validate_into<'a, H: I18n>(
         &'a self,
-        alloc: Global,
         ctx: &(),
         trail: &mut Trail<'a>,
         report: &mut Report,
         h: &H,
     ) -> Result<(), AllocError> {
         let Self { part } = self;
-        Field("part", part, IfSome(Dive(ctx))).visit_of(self, alloc, trail, report, h)
+        Field("part", part, IfSome(Dive(ctx))).visit_of(self, trail, report, h)
     }
 }
 
@@ -86,20 +84,17 @@ impl<'t, T: Stated> Stated for Choice<'t, T> {
 impl<'t, T: Validate> Validate for Choice<'t, T> {
     fn validate_into<'a, H: I18n>(
         &'a self,
-        alloc: Global,
         ctx: &T::Context,
         trail: &mut Trail<'a>,
         report: &mut Report,
         h: &H,
     ) -> Result<(), AllocError> {
         match self {
-            Choice::Part(value) => {
-                Item(0, value, Dive(ctx)).visit_of(self, alloc, trail, report, h)
-            }
+            Choice::Part(value) => Item(0, value, Dive(ctx)).visit_of(self, trail, report, h),
             Choice::Name { name } => {
-                Field("name", name, Is(Ascii)).visit_of(self, alloc, trail, report, h)
+                Field("name", name, Is(Ascii)).visit_of(self, trail, report, h)
             }
-            Choice::Neither => ().visit(alloc, trail, report, h),
+            Choice::Neither => ().visit(trail, report, h),
         }
     }
 }
@@ -119,14 +114,13 @@ impl<const N: usize> Stated for Grid<N> {
 impl<const N: usize> Validate for Grid<N> {
     fn validate_into<'a, H: I18n>(
         &'a self,
-        alloc: Global,
         _ctx: &(),
         trail: &mut Trail<'a>,
         report: &mut Report,
         h: &H,
     ) -> Result<(), AllocError> {
         let Self { cells } = self;
-        Field("cells", cells, Each(Is(range!(max = 9)))).visit(alloc, trail, report, h)
+        Field("cells", cells, Each(Is(range!(max = 9)))).visit(trail, report, h)
     }
 }
 
@@ -146,13 +140,12 @@ impl<T> Stated for Labelled<T> {
 impl<T> Validate for Labelled<T> {
     fn validate_into<'a, H: I18n>(
         &'a self,
-        alloc: Global,
         _ctx: &(),
         trail: &mut Trail<'a>,
         report: &mut Report,
         h: &H,
     ) -> Result<(), AllocError> {
         let Self { value: _, label } = self;
-        Field("label", label, Is(Ascii)).visit_of(self, alloc, trail, report, h)
+        Field("label", label, Is(Ascii)).visit_of(self, trail, report, h)
     }
 }

@@ -3,7 +3,7 @@ ghost use Rattle.garde.specs.Fields.{◌and◌, ascii, at_least, at_most, betwee
 
 use garde::fields::{Ascii, Each, Field, Fields, IfSome, Is, IsInMemory, Required, Url};
 use garde::{I18n, Report, Stated, Trail, Validate, length, range};
-use std::alloc::{AllocError, Global};
+use std::alloc::AllocError;
 
 /// Who comes.
 #[derive(Drop)]
@@ -29,7 +29,6 @@ impl Stated for Guest {
 impl Validate for Guest {
     fn validate_into<'a, H: I18n>(
         &'a self,
-        alloc: Global,
         _ctx: &(),
         trail: &mut Trail<'a>,
         report: &mut Report,
@@ -64,6 +63,6 @@ impl Validate for Guest {
                 ),
             ),
         )
-            .visit(alloc, trail, report, h)
+            .visit(trail, report, h)
     }
 }

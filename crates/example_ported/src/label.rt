@@ -5,7 +5,7 @@ ghost use Rattle.garde.specs.Fields.{◌and◌, alphanumeric, ascii, at_least, a
 use crate::own::IsShort;
 use garde::fields::{Alphanumeric, Ascii, Contains, Each, Field, Fields, IfSome, Is, Prefix};
 use garde::{I18n, Report, Stated, Trail, Validate, length};
-use std::alloc::{AllocError, Global};
+use std::alloc::AllocError;
 use std::borrow::CowStr;
 
 /// A label.
@@ -32,7 +32,6 @@ impl<'t> Stated for Label<'t> {
 impl<'t> Validate for Label<'t> {
     fn validate_into<'a, H: I18n>(
         &'a self,
-        alloc: Global,
         _ctx: &(),
         trail: &mut Trail<'a>,
         report: &mut Report,
@@ -63,6 +62,6 @@ impl<'t> Validate for Label<'t> {
             Field("text", text, Is(Alphanumeric)),
             Field("mark", mark, Is(IsShort)),
         )
-            .visit_of(self, alloc, trail, report, h)
+            .visit_of(self, trail, report, h)
     }
 }

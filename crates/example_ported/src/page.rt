@@ -4,7 +4,7 @@ ghost use Rattle.garde.specs.Fields.{◌and◌, ascii, at_least, at_most, betwee
 
 use garde::fields::{Ascii, Each, Field, Fields, IfSome, Is, Prefix, Required, When};
 use garde::{I18n, Report, Stated, Trail, Validate, length, range};
-use std::alloc::{AllocError, Global};
+use std::alloc::AllocError;
 
 /// What a printer takes.
 #[derive(Clone, Copy)]
@@ -42,7 +42,6 @@ impl Stated for Page {
 impl Validate for Page {
     fn validate_into<'a, H: I18n>(
         &'a self,
-        alloc: Global,
         press: &Press,
         trail: &mut Trail<'a>,
         report: &mut Report,
@@ -97,6 +96,6 @@ impl Validate for Page {
                 Field("number", number, Is(range!(max = 99))),
             ),
         )
-            .visit(alloc, trail, report, h)
+            .visit(trail, report, h)
     }
 }

@@ -3,7 +3,7 @@ ghost use Rattle.garde.specs.Fields.{◌and◌, at_most, between, bytes, field, 
 
 use garde::fields::{Field, Fields, IfSome, Is, Matches};
 use garde::{I18n, Report, Stated, Trail, Validate, length, range};
-use std::alloc::{AllocError, Global};
+use std::alloc::AllocError;
 
 /// Who changes an account.
 #[derive(Drop)]
@@ -27,7 +27,6 @@ impl Stated for Pair {
 impl Validate for Pair {
     fn validate_into<'a, H: I18n>(
         &'a self,
-        alloc: Global,
         _ctx: &(),
         trail: &mut Trail<'a>,
         report: &mut Report,
@@ -59,6 +58,6 @@ impl Validate for Pair {
                 }),
             ),
         )
-            .visit(alloc, trail, report, h)
+            .visit(trail, report, h)
     }
 }

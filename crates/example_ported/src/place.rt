@@ -4,7 +4,7 @@ ghost use Rattle.garde.specs.Fields.{◌and◌, Any, at_least, at_most, between,
 use garde::fields::{Contains, Field, Fields, Ip, Is, IsInMemory, Prefix, Suffix, Url};
 use garde::i18n::IpKind;
 use garde::{I18n, Report, Stated, Trail, Validate, length};
-use std::alloc::{AllocError, Global};
+use std::alloc::AllocError;
 
 /// A place on the network.
 #[derive(Drop)]
@@ -38,7 +38,6 @@ impl Stated for Place {
 impl Validate for Place {
     fn validate_into<'a, H: I18n>(
         &'a self,
-        alloc: Global,
         _ctx: &(),
         trail: &mut Trail<'a>,
         report: &mut Report,
@@ -76,6 +75,6 @@ impl Validate for Place {
                 ),
             ),
         )
-            .visit(alloc, trail, report, h)
+            .visit(trail, report, h)
     }
 }

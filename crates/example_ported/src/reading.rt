@@ -3,7 +3,7 @@ ghost use Rattle.garde.specs.Fields.{◌and◌, at_least, at_most, between, exac
 
 use garde::fields::{Field, Fields, Is};
 use garde::{I18n, Report, Stated, Trail, Validate, range};
-use std::alloc::{AllocError, Global};
+use std::alloc::AllocError;
 
 /// What an instrument shows.
 #[derive(Clone, Copy)]
@@ -35,7 +35,6 @@ impl Stated for Reading {
 impl Validate for Reading {
     fn validate_into<'a, H: I18n>(
         &'a self,
-        alloc: Global,
         _ctx: &(),
         trail: &mut Trail<'a>,
         report: &mut Report,
@@ -63,6 +62,6 @@ impl Validate for Reading {
                 Field("drift", drift, Is(range!(equal = 0))),
             ),
         )
-            .visit(alloc, trail, report, h)
+            .visit(trail, report, h)
     }
 }

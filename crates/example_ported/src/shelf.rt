@@ -6,7 +6,7 @@ use garde::fields::{
     Ascii, Each, Equal, Field, Fields, IfSome, Is, MultipleOf, Required, Unique, When, includes,
 };
 use garde::{I18n, Report, Stated, Trail, Validate, length, range};
-use std::alloc::{AllocError, Global};
+use std::alloc::AllocError;
 
 /// Where it stands.
 #[derive(Clone, Copy)]
@@ -40,7 +40,6 @@ impl Stated for Shelf {
 impl Validate for Shelf {
     fn validate_into<'a, H: I18n>(
         &'a self,
-        alloc: Global,
         _ctx: &(),
         trail: &mut Trail<'a>,
         report: &mut Report,
@@ -76,7 +75,7 @@ impl Validate for Shelf {
             ),
             Field("rows", rows, IfSome(Is(MultipleOf(2)))),
         )
-            .visit(alloc, trail, report, h)
+            .visit(trail, report, h)
     }
 }
 
@@ -99,7 +98,6 @@ impl Stated for Power {
 impl Validate for Power {
     fn validate_into<'a, H: I18n>(
         &'a self,
-        alloc: Global,
         _ctx: &(),
         trail: &mut Trail<'a>,
         report: &mut Report,
@@ -121,7 +119,7 @@ impl Validate for Power {
                 ),
             ),
         )
-            .visit(alloc, trail, report, h)
+            .visit(trail, report, h)
     }
 }
 
@@ -145,7 +143,6 @@ impl Stated for Thing {
 impl Validate for Thing {
     fn validate_into<'a, H: I18n>(
         &'a self,
-        alloc: Global,
         _ctx: &(),
         trail: &mut Trail<'a>,
         report: &mut Report,
@@ -165,6 +162,6 @@ impl Validate for Thing {
                 When(includes(places.as_slice(), &Equal, &3), Is(Ascii)),
             ),
         )
-            .visit(alloc, trail, report, h)
+            .visit(trail, report, h)
     }
 }

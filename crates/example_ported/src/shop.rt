@@ -3,7 +3,7 @@ ghost use Rattle.garde.specs.Fields.{◌and◌, alphanumeric, ascii, at_least, a
 
 use garde::fields::{Alphanumeric, Ascii, Each, Field, Fields, Is};
 use garde::{I18n, Report, Stated, Trail, Validate, length, range};
-use std::alloc::{AllocError, Global};
+use std::alloc::AllocError;
 use std::collections::{BTreeMap, BTreeSet};
 
 /// What a shop has.
@@ -30,7 +30,6 @@ impl Stated for Shop {
 impl Validate for Shop {
     fn validate_into<'a, H: I18n>(
         &'a self,
-        alloc: Global,
         _ctx: &(),
         trail: &mut Trail<'a>,
         report: &mut Report,
@@ -72,6 +71,6 @@ impl Validate for Shop {
                 )),
             ),
         )
-            .visit(alloc, trail, report, h)
+            .visit(trail, report, h)
     }
 }

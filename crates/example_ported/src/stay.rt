@@ -41,7 +41,6 @@ impl Stated for Offer {
 impl Validate for Offer {
     fn validate_into<'a, H: I18n>(
         &'a self,
-        alloc: Global,
         _ctx: &(),
         trail: &mut Trail<'a>,
         report: &mut Report,
@@ -52,7 +51,7 @@ impl Validate for Offer {
             Field("name", name, Is(OfferNameRule(town))),
             Field("rooms", rooms, Each(Is(OfferRoomsRule))),
         )
-            .visit(alloc, trail, report, h)
+            .visit(trail, report, h)
     }
 }
 
@@ -122,14 +121,13 @@ impl Rules<(u16, u16)> for StayUntilRules {
 
     fn ask<'a, H: I18n>(
         &self,
-        alloc: Global,
         value: &(u16, u16),
         trail: &mut Trail<'a>,
         report: &mut Report,
         h: &H,
     ) -> Result<(), AllocError> {
         let (from, until) = value;
-        Is(StayUntilRule(from)).ask(alloc, until, trail, report, h)
+        Is(StayUntilRule(from)).ask(until, trail, report, h)
     }
 }
 
@@ -143,14 +141,13 @@ impl<'t> Rules<((Items<TextRef<'t>>, Items<u8>), TextRef<'t>)> for StayNoteRules
 
     fn ask<'a, H: I18n>(
         &self,
-        alloc: Global,
         value: &((Items<TextRef<'t>>, Items<u8>), TextRef<'t>),
         trail: &mut Trail<'a>,
         report: &mut Report,
         h: &H,
     ) -> Result<(), AllocError> {
         let ((guests, beds), note) = value;
-        Is(StayNoteRule(beds, guests)).ask(alloc, note, trail, report, h)
+        Is(StayNoteRule(beds, guests)).ask(note, trail, report, h)
     }
 }
 
@@ -163,14 +160,13 @@ impl<'t> Rules<(Items<TextRef<'t>>, Items<u8>)> for StayGuestsRules {
 
     fn ask<'a, H: I18n>(
         &self,
-        alloc: Global,
         value: &(Items<TextRef<'t>>, Items<u8>),
         trail: &mut Trail<'a>,
         report: &mut Report,
         h: &H,
     ) -> Result<(), AllocError> {
         let (guests, beds) = value;
-        Is(StayGuestsRule2(beds)).ask(alloc, guests, trail, report, h)
+        Is(StayGuestsRule2(beds)).ask(guests, trail, report, h)
     }
 }
 

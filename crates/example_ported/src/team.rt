@@ -3,7 +3,7 @@ ghost use Rattle.garde.specs.Fields.{◌and◌, ascii, at_least, between, chars,
 
 use garde::fields::{Ascii, Dive, Each, Field, Fields, IfSome, Is};
 use garde::{I18n, Report, Stated, Trail, Validate, length, range};
-use std::alloc::{AllocError, Global};
+use std::alloc::AllocError;
 
 /// What is asked of a member.
 #[derive(Clone, Copy)]
@@ -38,7 +38,6 @@ impl Stated for Member {
 impl Validate for Member {
     fn validate_into<'a, H: I18n>(
         &'a self,
-        alloc: Global,
         terms: &Terms,
         trail: &mut Trail<'a>,
         report: &mut Report,
@@ -53,7 +52,7 @@ impl Validate for Member {
                 Is(length!(chars, min = 1, max = terms.title)),
             ),
         )
-            .visit(alloc, trail, report, h)
+            .visit(trail, report, h)
     }
 }
 
@@ -81,7 +80,6 @@ impl Stated for Team {
 impl Validate for Team {
     fn validate_into<'a, H: I18n>(
         &'a self,
-        alloc: Global,
         league: &League,
         trail: &mut Trail<'a>,
         report: &mut Report,
@@ -108,7 +106,7 @@ impl Validate for Team {
             Field("home", ground, Dive(&())),
             Field("reserve", reserve, Each(Dive(&league.members))),
         )
-            .visit(alloc, trail, report, h)
+            .visit(trail, report, h)
     }
 }
 
@@ -127,14 +125,13 @@ impl Stated for Ground {
 impl Validate for Ground {
     fn validate_into<'a, H: I18n>(
         &'a self,
-        alloc: Global,
         _ctx: &(),
         trail: &mut Trail<'a>,
         report: &mut Report,
         h: &H,
     ) -> Result<(), AllocError> {
         let Self { town } = self;
-        Field("town", town, Is(Ascii)).visit(alloc, trail, report, h)
+        Field("town", town, Is(Ascii)).visit(trail, report, h)
     }
 }
 
@@ -156,7 +153,6 @@ impl Stated for Cup {
 impl Validate for Cup {
     fn validate_into<'a, H: I18n>(
         &'a self,
-        alloc: Global,
         ctx: &League,
         trail: &mut Trail<'a>,
         report: &mut Report,
@@ -167,6 +163,6 @@ impl Validate for Cup {
             Field("teams", teams, Each(Dive(ctx))),
             Field("winner", winner, IfSome(Dive(ctx))),
         )
-            .visit(alloc, trail, report, h)
+            .visit(trail, report, h)
     }
 }

@@ -1,8 +1,9 @@
 //! Texts under patterns: compiled ones of a context, and one in quotes.
-ghost use Rattle.garde.specs.Fields.{◌and◌, ascii, at_most, each, field, if_some, is, is_in_memory, pattern, range, slice, str};
+ghost use Rattle.std.specs.Prelude.{IfOk, ◌≡◌};
+ghost use Rattle.garde.specs.Fields.{◌and◌, ascii, at_most, codes, each, field, if_some, is, is_in_memory, pattern, range, slice, str};
 
 use garde::fields::{Ascii, Dive, Each, Field, Fields, IfSome, Is, IsInMemory, Pattern};
-use garde::rules::pattern::regex::Regex;
+use garde::rules::pattern::regex::{PatternRefused, Regex};
 use garde::{I18n, Report, Stated, Trail, Validate, range};
 use std::alloc::{AllocError, Global};
 
@@ -31,7 +32,6 @@ impl Stated for Visitor {
 impl Validate for Visitor {
     fn validate_into<'a, H: I18n>(
         &'a self,
-        alloc: Global,
         patterns: &Patterns,
         trail: &mut Trail<'a>,
         report: &mut Report,
@@ -46,7 +46,7 @@ impl Validate for Visitor {
             ),
             Field("phone", phone, IfSome(IsInMemory(Pattern(&patterns.phone)))),
         )
-            .visit(alloc, trail, report, h)
+            .visit(trail, report, h)
     }
 }
 
@@ -67,6 +67,18 @@ pub struct BadgePatterns {
     pub colors: Regex,
 }
 
+impl BadgePatterns {
+    /// Compiles the patterns, or returns why one of them cannot be compiled.
+    pub fn new(alloc: Global) -> Result<BadgePatterns, PatternRefused>
+        ensures number { IfOk result (λ it. it.number ≡ codes "^[A-Z]{2}[0-9]+$") }
+        ensures colors { IfOk result (λ it. it.colors ≡ codes "^[a-z]+$") }
+    {
+        let number = Regex::new(alloc, "^[A-Z]{2}[0-9]+$")?;
+        let colors = Regex::new(alloc, "^[a-z]+$")?;
+        Ok(BadgePatterns { number, colors })
+    }
+}
+
 impl Stated for Badge {
     type Context = BadgePatterns;
 
@@ -79,7 +91,6 @@ impl Stated for Badge {
 impl Validate for Badge {
     fn validate_into<'a, H: I18n>(
         &'a self,
-        alloc: Global,
         ctx: &BadgePatterns,
         trail: &mut Trail<'a>,
         report: &mut Report,
@@ -95,7 +106,7 @@ impl Validate for Badge {
             Field("colors", colors, Each(IsInMemory(Pattern(&ctx.colors)))),
             Field("desk", desk, Dive(&())),
         )
-            .visit(alloc, trail, report, h)
+            .visit(trail, report, h)
     }
 }
 
@@ -114,13 +125,12 @@ impl Stated for Desk {
 impl Validate for Desk {
     fn validate_into<'a, H: I18n>(
         &'a self,
-        alloc: Global,
         _ctx: &(),
         trail: &mut Trail<'a>,
         report: &mut Report,
         h: &H,
     ) -> Result<(), AllocError> {
         let Self { floor } = self;
-        Field("floor", floor, Is(range!(max = 9))).visit(alloc, trail, report, h)
+        Field("floor", floor, Is(range!(max = 9))).visit(trail, report, h)
     }
 }

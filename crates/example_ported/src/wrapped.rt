@@ -3,7 +3,7 @@ ghost use Rattle.garde.specs.Fields.{◌and◌, ascii, at_least, at_most, bytes,
 
 use garde::fields::{Ascii, Dive, Each, Field, Fields, Is, Item, Transparent};
 use garde::{I18n, Report, Stated, Trail, Validate, length, range};
-use std::alloc::{AllocError, Global};
+use std::alloc::AllocError;
 
 /// A name that adds no component.
 #[derive(Drop)]
@@ -18,14 +18,13 @@ impl Stated for Nickname {
 impl Validate for Nickname {
     fn validate_into<'a, H: I18n>(
         &'a self,
-        alloc: Global,
         _ctx: &(),
         trail: &mut Trail<'a>,
         report: &mut Report,
         h: &H,
     ) -> Result<(), AllocError> {
         let Self(value) = self;
-        Transparent(value, Is(length!(min = 3))).visit(alloc, trail, report, h)
+        Transparent(value, Is(length!(min = 3))).visit(trail, report, h)
     }
 }
 
@@ -44,14 +43,13 @@ impl Stated for Code {
 impl Validate for Code {
     fn validate_into<'a, H: I18n>(
         &'a self,
-        alloc: Global,
         _ctx: &(),
         trail: &mut Trail<'a>,
         report: &mut Report,
         h: &H,
     ) -> Result<(), AllocError> {
         let Self { text } = self;
-        Transparent(text, (Is(Ascii), Is(length!(max = 4)))).visit(alloc, trail, report, h)
+        Transparent(text, (Is(Ascii), Is(length!(max = 4)))).visit(trail, report, h)
     }
 }
 
@@ -68,14 +66,13 @@ impl Stated for Numbered {
 impl Validate for Numbered {
     fn validate_into<'a, H: I18n>(
         &'a self,
-        alloc: Global,
         _ctx: &(),
         trail: &mut Trail<'a>,
         report: &mut Report,
         h: &H,
     ) -> Result<(), AllocError> {
         let Self(value) = self;
-        Item(0, value, Is(length!(min = 3))).visit(alloc, trail, report, h)
+        Item(0, value, Is(length!(min = 3))).visit(trail, report, h)
     }
 }
 
@@ -92,7 +89,6 @@ impl Stated for Triple {
 impl Validate for Triple {
     fn validate_into<'a, H: I18n>(
         &'a self,
-        alloc: Global,
         _ctx: &(),
         trail: &mut Trail<'a>,
         report: &mut Report,
@@ -103,7 +99,7 @@ impl Validate for Triple {
             Item(0, first, Is(Ascii)),
             Item(2, third, Is(range!(max = 9))),
         )
-            .visit(alloc, trail, report, h)
+            .visit(trail, report, h)
     }
 }
 
@@ -125,7 +121,6 @@ impl<T: Stated> Stated for Holder<T> {
 impl<T: Validate> Validate for Holder<T> {
     fn validate_into<'a, H: I18n>(
         &'a self,
-        alloc: Global,
         ctx: &T::Context,
         trail: &mut Trail<'a>,
         report: &mut Report,
@@ -136,7 +131,7 @@ impl<T: Validate> Validate for Holder<T> {
             Field("value", value, Dive(ctx)),
             Field("label", label, Is(length!(min = 1))),
         )
-            .visit_of(self, alloc, trail, report, h)
+            .visit_of(self, trail, report, h)
     }
 }
 
@@ -153,14 +148,13 @@ impl<T: Stated> Stated for Boxes<T> {
 impl<T: Validate> Validate for Boxes<T> {
     fn validate_into<'a, H: I18n>(
         &'a self,
-        alloc: Global,
         ctx: &T::Context,
         trail: &mut Trail<'a>,
         report: &mut Report,
         h: &H,
     ) -> Result<(), AllocError> {
         let Self(value) = self;
-        Transparent(value, Each(Dive(ctx))).visit_of(self, alloc, trail, report, h)
+        Transparent(value, Each(Dive(ctx))).visit_of(self, trail, report, h)
     }
 }
 
@@ -177,12 +171,11 @@ impl Stated for Nothing {
 impl Validate for Nothing {
     fn validate_into<'a, H: I18n>(
         &'a self,
-        alloc: Global,
         _ctx: &(),
         trail: &mut Trail<'a>,
         report: &mut Report,
         h: &H,
     ) -> Result<(), AllocError> {
-        ().visit(alloc, trail, report, h)
+        ().visit(trail, report, h)
     }
 }

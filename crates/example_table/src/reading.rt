@@ -72,7 +72,7 @@ fn validated(alloc: Global, index: usize, row: Row) -> Result<Stored, Error>
     ensures { IfOk result (IsStoredAs index row) }
 {
     let mut trail = trail_to(alloc, index)?;
-    match row.validate_on(alloc, &(), &mut trail, &DefaultI18n) {
+    match row.validate_on(&(), &mut trail, &DefaultI18n) {
         Ok(()) => {}
         Err(ValidateError::Report(report)) => return Ok(Stored::Faulty(report)),
         Err(ValidateError::Memory) => return Err(Error::SqliteFailure(ErrorCode::OutOfMemory)),

@@ -4,7 +4,7 @@ ghost use Rattle.garde.specs.Fields.{◌and◌, asks, at_most, either, field, is
 
 use garde::fields::{Asks, Field, Fields, Is, Matches, RequiredIf, Same, Unique};
 use garde::{I18n, Report, Stated, Trail, Validate, length};
-use std::alloc::{AllocError, Global};
+use std::alloc::AllocError;
 
 /// A link, with the title that it is shown under.
 #[derive(Drop)]
@@ -50,7 +50,6 @@ impl Stated for Contact {
 impl Validate for Contact {
     fn validate_into<'a, H: I18n>(
         &'a self,
-        alloc: Global,
         _ctx: &(),
         trail: &mut Trail<'a>,
         report: &mut Report,
@@ -80,6 +79,6 @@ impl Validate for Contact {
             Field("again", again, Is(same)),
             Field("links", links, (Is(length!(max = 9)), apart)),
         )
-            .visit(alloc, trail, report, h)
+            .visit(trail, report, h)
     }
 }

@@ -4,7 +4,7 @@ ghost use Rattle.example_types.specs.declared.data.Data.TheVariants.{Struct, Tup
 
 use garde::fields::{Field, Fields, Is, check_under};
 use garde::{Component, I18n, Report, Stated, Trail, Validate, range};
-use std::alloc::{AllocError, Global};
+use std::alloc::AllocError;
 
 /// A number from -10 to 10, with a name or with a place.
 #[derive(Clone, Copy)]
@@ -27,7 +27,6 @@ impl Stated for Data {
 impl Validate for Data {
     fn validate_into<'a, H: I18n>(
         &'a self,
-        alloc: Global,
         _ctx: &(),
         trail: &mut Trail<'a>,
         report: &mut Report,
@@ -35,12 +34,10 @@ impl Validate for Data {
     ) -> Result<(), AllocError> {
         let within = Is(range!(min = -10, max = 10));
         match self {
-            Data::Struct { field } => {
-                Field("field", field, within).visit(alloc, trail, report, h)
-            }
+            Data::Struct { field } => Field("field", field, within).visit(trail, report, h),
             Data::Tuple(number) => {
                 let first = Component::index(0);
-                check_under(alloc, first, &within, number, trail, report, h)
+                check_under(first, &within, number, trail, report, h)
             }
         }
     }

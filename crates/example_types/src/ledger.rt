@@ -6,7 +6,7 @@ use garde::error::Component;
 use garde::fields::{Ascii, Is, check_under};
 use garde::rules::inner::{self, Inner};
 use garde::{I18n, Report, Stated, Trail, Validate};
-use std::alloc::{AllocError, Global};
+use std::alloc::AllocError;
 
 /// Rows in the order in which they came, each under its key.
 #[derive(Drop)]
@@ -55,7 +55,6 @@ impl Stated for Ledger {
 impl Validate for Ledger {
     fn validate_into<'a, H: I18n>(
         &'a self,
-        alloc: Global,
         _ctx: &(),
         trail: &mut Trail<'a>,
         report: &mut Report,
@@ -63,7 +62,7 @@ impl Validate for Ledger {
     ) -> Result<(), AllocError> {
         let Self { owners } = self;
         inner::apply(owners, trail, report, |owner, component, trail, report| {
-            check_under(alloc, component, &Is(Ascii), owner, trail, report, h)
+            check_under(component, &Is(Ascii), owner, trail, report, h)
         })
     }
 }

@@ -3,6 +3,7 @@
 
 pub mod contact;
 pub mod data;
+pub mod document;
 pub mod german;
 pub mod ledger;
 pub mod login;

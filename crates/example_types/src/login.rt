@@ -3,7 +3,7 @@ ghost use Rattle.garde.specs.Fields.{◌and◌, ascii, at_least, between, bytes,
 
 use garde::fields::{Ascii, Field, Fields, Is};
 use garde::{I18n, Report, Stated, Trail, Validate, length};
-use std::alloc::{AllocError, Global};
+use std::alloc::AllocError;
 
 /// Who logs in: a name of 3 to 25 bytes of ASCII, and a password of 15 bytes at least.
 #[derive(Debug, Drop)]
@@ -25,7 +25,6 @@ impl Stated for Login {
 impl Validate for Login {
     fn validate_into<'a, H: I18n>(
         &'a self,
-        alloc: Global,
         _ctx: &(),
         trail: &mut Trail<'a>,
         report: &mut Report,
@@ -44,6 +43,6 @@ impl Validate for Login {
             ),
             Field("password", password, Is(length!(min = 15))),
         )
-            .visit(alloc, trail, report, h)
+            .visit(trail, report, h)
     }
 }

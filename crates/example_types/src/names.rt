@@ -4,7 +4,7 @@ ghost use Rattle.garde.specs.Fields.{◌and◌, ascii, at_least, bytes, each, ea
 use garde::fields::{Ascii, Check, Field, Fields, Is, Length, Required, check_under};
 use garde::rules::inner;
 use garde::{I18n, Report, Stated, Trail, Validate};
-use std::alloc::{AllocError, Global};
+use std::alloc::AllocError;
 
 /// One name at least, each of them set, of ASCII and not empty.
 #[derive(Drop)]
@@ -24,7 +24,6 @@ impl Stated for Names {
 impl Validate for Names {
     fn validate_into<'a, H: I18n>(
         &'a self,
-        alloc: Global,
         _ctx: &(),
         trail: &mut Trail<'a>,
         report: &mut Report,
@@ -32,7 +31,7 @@ impl Validate for Names {
     ) -> Result<(), AllocError> {
         let Self { items } = self;
         let some = Is(NOT_EMPTY);
-        Field("items", items, (some, EachSet, EachText)).visit(alloc, trail, report, h)
+        Field("items", items, (some, EachSet, EachText)).visit(trail, report, h)
     }
 }
 
@@ -50,14 +49,13 @@ impl<'a> Check<'a, Vec<Option<String>>> for EachSet {
 
     fn check<H: I18n>(
         &self,
-        alloc: Global,
         value: &'a Vec<Option<String>>,
         trail: &mut Trail<'a>,
         report: &mut Report,
         h: &H,
     ) -> Result<(), AllocError> {
         inner::apply(value, trail, report, |name, component, trail, report| {
-            check_under(alloc, component, &Is(Required), name, trail, report, h)
+            check_under(component, &Is(Required), name, trail, report, h)
         })
     }
 }
@@ -71,7 +69,6 @@ impl<'a> Check<'a, Vec<Option<String>>> for EachText {
 
     fn check<H: I18n>(
         &self,
-        alloc: Global,
         value: &'a Vec<Option<String>>,
         trail: &mut Trail<'a>,
         report: &mut Report,
@@ -88,7 +85,7 @@ impl<'a> Check<'a, Vec<Option<String>>> for EachText {
                 trail.push(component)?;
                 let outcome = inner::apply(name, trail, report, |text, component, trail, report| {
                     let rules = (Is(Ascii), Is(NOT_EMPTY));
-                    check_under(alloc, component, &rules, text, trail, report, h)
+                    check_under(component, &rules, text, trail, report, h)
                 });
                 trail.pop();
                 outcome

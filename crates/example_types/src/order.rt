@@ -3,7 +3,7 @@ ghost use Rattle.garde.specs.Fields.{◌and◌, ascii, between, bytes, chars, ea
 
 use garde::fields::{Ascii, Each, Field, Fields, IfSome, Is};
 use garde::{I18n, Report, Stated, Trail, Validate, all, length, range};
-use std::alloc::{AllocError, Global};
+use std::alloc::AllocError;
 
 /// What is sent, to whom and where.
 #[derive(Drop)]
@@ -33,7 +33,6 @@ impl Stated for Order {
 impl Validate for Order {
     fn validate_into<'a, H: I18n>(
         &'a self,
-        alloc: Global,
         _ctx: &(),
         trail: &mut Trail<'a>,
         report: &mut Report,
@@ -61,6 +60,6 @@ impl Validate for Order {
             Field("note", note, IfSome(Is(length!(chars, min = 1, max = 200)))),
             Field("parcels", parcels, Is(range!(min = 1, max = 20)))
         )
-        .visit(alloc, trail, report, h)
+        .visit(trail, report, h)
     }
 }

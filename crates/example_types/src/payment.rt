@@ -7,7 +7,7 @@ use garde::fields::{CreditCard, Field, Fields, Is, PhoneNumber};
 use garde::i18n::{InvalidCreditCard, InvalidPhoneNumber};
 use garde::rules::{credit_card, phone_number};
 use garde::{I18n, Report, Stated, Trail, Validate};
-use std::alloc::{AllocError, Global};
+use std::alloc::AllocError;
 
 /// A card's number, of 16 bytes.
 #[derive(Drop)]
@@ -59,7 +59,6 @@ impl Stated for Payment {
 impl Validate for Payment {
     fn validate_into<'a, H: I18n>(
         &'a self,
-        alloc: Global,
         _ctx: &(),
         trail: &mut Trail<'a>,
         report: &mut Report,
@@ -70,6 +69,6 @@ impl Validate for Payment {
             Field("card", card, Is(CreditCard)),
             Field("phone", phone, Is(PhoneNumber)),
         )
-            .visit(alloc, trail, report, h)
+            .visit(trail, report, h)
     }
 }

@@ -3,7 +3,7 @@ ghost use Rattle.garde.specs.Fields.{◌and◌, ascii, at_least, at_most, betwee
 
 use garde::fields::{Ascii, Field, Fields, IfSome, Is, IsInMemory, Required, Url};
 use garde::{I18n, Report, Stated, Trail, Validate, length, range};
-use std::alloc::{AllocError, Global};
+use std::alloc::AllocError;
 
 /// What people say of themselves. A name has to be there.
 #[derive(Drop)]
@@ -27,7 +27,6 @@ impl Stated for Profile {
 impl Validate for Profile {
     fn validate_into<'a, H: I18n>(
         &'a self,
-        alloc: Global,
         _ctx: &(),
         trail: &mut Trail<'a>,
         report: &mut Report,
@@ -46,6 +45,6 @@ impl Validate for Profile {
             Field("motto", motto, IfSome((Is(Ascii), short))),
             Field("page", page, IsInMemory(Url)),
         )
-            .visit(alloc, trail, report, h)
+            .visit(trail, report, h)
     }
 }

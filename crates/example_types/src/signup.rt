@@ -58,7 +58,6 @@ impl Stated for Signup {
 impl Validate for Signup {
     fn validate_into<'a, H: I18n>(
         &'a self,
-        alloc: Global,
         _ctx: &(),
         trail: &mut Trail<'a>,
         report: &mut Report,
@@ -87,6 +86,6 @@ impl Validate for Signup {
             Field("host", host, When(named, Is(Suffix(".org")))),
             Field("terms", terms, Is(Accepted)),
         )
-            .visit(alloc, trail, report, h)
+            .visit(trail, report, h)
     }
 }

@@ -56,7 +56,6 @@ impl Stated for Stay {
 impl Validate for Stay {
     fn validate_into<'a, H: I18n>(
         &'a self,
-        alloc: Global,
         _ctx: &(),
         trail: &mut Trail<'a>,
         report: &mut Report,
@@ -67,6 +66,6 @@ impl Validate for Stay {
             Field("arrival", arrival, Is(NoMonday)),
             Field("departure", departure, Is(After(*arrival))),
         )
-            .visit(alloc, trail, report, h)
+            .visit(trail, report, h)
     }
 }

@@ -3,7 +3,7 @@ ghost use Rattle.garde.specs.Fields.{◌and◌, ascii, at_most, between, bytes, 
 
 use garde::fields::{Ascii, Each, Field, Fields, Is};
 use garde::{I18n, Report, Stated, Trail, Validate, length, range};
-use std::alloc::{AllocError, Global};
+use std::alloc::AllocError;
 use std::collections::{BTreeMap, BTreeSet};
 
 /// What a store has: the number of pieces by the name of an article, the shelves by their numbers,
@@ -29,7 +29,6 @@ impl Stated for Stock {
 impl Validate for Stock {
     fn validate_into<'a, H: I18n>(
         &'a self,
-        alloc: Global,
         _ctx: &(),
         trail: &mut Trail<'a>,
         report: &mut Report,
@@ -56,6 +55,6 @@ impl Validate for Stock {
                 (Is(length!(max = 9)), Each(Is(length!(max = 8)))),
             ),
         )
-            .visit(alloc, trail, report, h)
+            .visit(trail, report, h)
     }
 }

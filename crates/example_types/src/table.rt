@@ -3,7 +3,7 @@ ghost use Rattle.garde.specs.Fields.{◌and◌, ascii, at_least, bytes, each, fi
 
 use garde::fields::{Ascii, Each, Field, Fields, Is};
 use garde::{I18n, Report, Stated, Trail, Validate, length};
-use std::alloc::{AllocError, Global};
+use std::alloc::AllocError;
 
 /// Rows of one cell at least, each of ASCII and not empty.
 #[derive(Drop)]
@@ -22,7 +22,6 @@ impl Stated for Table {
 impl Validate for Table {
     fn validate_into<'a, H: I18n>(
         &'a self,
-        alloc: Global,
         _ctx: &(),
         trail: &mut Trail<'a>,
         report: &mut Report,
@@ -31,6 +30,6 @@ impl Validate for Table {
         let Self { rows } = self;
         let not_empty = Is(length!(min = 1));
         let cells = Each((Is(Ascii), not_empty));
-        Field("rows", rows, Each((not_empty, cells))).visit(alloc, trail, report, h)
+        Field("rows", rows, Each((not_empty, cells))).visit(trail, report, h)
     }
 }

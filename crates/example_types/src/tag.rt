@@ -3,7 +3,7 @@ ghost use Rattle.garde.specs.Fields.{◌and◌, ascii, between, bytes, each, fie
 
 use garde::fields::{Ascii, Each, Field, Fields, Is};
 use garde::{I18n, Report, Stated, Trail, Validate, length};
-use std::alloc::{AllocError, Global};
+use std::alloc::AllocError;
 
 /// A name, and other names for the same.
 #[derive(Clone, Copy)]
@@ -23,7 +23,6 @@ impl<'t> Stated for Tag<'t> {
 impl<'t> Validate for Tag<'t> {
     fn validate_into<'a, H: I18n>(
         &'a self,
-        alloc: Global,
         _ctx: &(),
         trail: &mut Trail<'a>,
         report: &mut Report,
@@ -34,6 +33,6 @@ impl<'t> Validate for Tag<'t> {
             Field("name", name, (Is(Ascii), Is(length!(min = 1, max = 9)))),
             Field("also", also, Each(Is(Ascii))),
         )
-            .visit_of(self, alloc, trail, report, h)
+            .visit_of(self, trail, report, h)
     }
 }

@@ -3,7 +3,7 @@ ghost use Rattle.garde.specs.Fields.{◌and◌, ascii, at_least, between, bytes,
 
 use garde::fields::{Ascii, Dive, Each, Field, Fields, IfSome, Is};
 use garde::{I18n, Report, Stated, Trail, Validate, length, range};
-use std::alloc::{AllocError, Global};
+use std::alloc::AllocError;
 
 /// What a league asks of its teams.
 #[derive(Clone, Copy)]
@@ -32,7 +32,6 @@ impl Stated for Member {
 impl Validate for Member {
     fn validate_into<'a, H: I18n>(
         &'a self,
-        alloc: Global,
         ctx: &League,
         trail: &mut Trail<'a>,
         report: &mut Report,
@@ -43,7 +42,7 @@ impl Validate for Member {
             Field("nickname", nickname, Is(length!(chars, min = 1, max = 20))),
             Field("age", age, Is(range!(min = ctx.least_age))),
         )
-            .visit(alloc, trail, report, h)
+            .visit(trail, report, h)
     }
 }
 
@@ -70,7 +69,6 @@ impl Stated for Team {
 impl Validate for Team {
     fn validate_into<'a, H: I18n>(
         &'a self,
-        alloc: Global,
         ctx: &League,
         trail: &mut Trail<'a>,
         report: &mut Report,
@@ -93,6 +91,6 @@ impl Validate for Team {
                 IfSome(Is(length!(chars, min = 1, max = 40))),
             ),
         )
-            .visit(alloc, trail, report, h)
+            .visit(trail, report, h)
     }
 }

@@ -3,7 +3,7 @@ ghost use Rattle.garde.specs.Fields.{at_least, bytes, field, is, item, str};
 
 use garde::fields::{Check, Dive, Field, Fields, Is, check_under};
 use garde::{Component, I18n, Report, Stated, Trail, Validate, length};
-use std::alloc::{AllocError, Global};
+use std::alloc::AllocError;
 
 /// A name that is transparent: its faults stand where the name stands.
 #[derive(Drop)]
@@ -18,14 +18,13 @@ impl Stated for Username {
 impl Validate for Username {
     fn validate_into<'a, H: I18n>(
         &'a self,
-        alloc: Global,
         _ctx: &(),
         trail: &mut Trail<'a>,
         report: &mut Report,
         h: &H,
     ) -> Result<(), AllocError> {
         let Self(name) = self;
-        Is(length!(min = 3)).check(alloc, name, trail, report, h)
+        Is(length!(min = 3)).check(name, trail, report, h)
     }
 }
 
@@ -42,7 +41,6 @@ impl Stated for NumberedUsername {
 impl Validate for NumberedUsername {
     fn validate_into<'a, H: I18n>(
         &'a self,
-        alloc: Global,
         _ctx: &(),
         trail: &mut Trail<'a>,
         report: &mut Report,
@@ -50,7 +48,7 @@ impl Validate for NumberedUsername {
     ) -> Result<(), AllocError> {
         let Self(name) = self;
         let long = Is(length!(min = 3));
-        check_under(alloc, Component::index(0), &long, name, trail, report, h)
+        check_under(Component::index(0), &long, name, trail, report, h)
     }
 }
 
@@ -69,13 +67,12 @@ impl<N: Stated> Stated for User<N> {
 impl<N: Validate> Validate for User<N> {
     fn validate_into<'a, H: I18n>(
         &'a self,
-        alloc: Global,
         ctx: &N::Context,
         trail: &mut Trail<'a>,
         report: &mut Report,
         h: &H,
     ) -> Result<(), AllocError> {
         let Self { username } = self;
-        Field("username", username, Dive(ctx)).visit_of(self, alloc, trail, report, h)
+        Field("username", username, Dive(ctx)).visit_of(self, trail, report, h)
     }
 }

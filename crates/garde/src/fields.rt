@@ -10,7 +10,7 @@
 //!     Field("tags", tags, Each(Is(Ascii))),
 //!     Field("address", address, Dive(ctx)),
 //! )
-//!     .visit(alloc, trail, report, h)
+//!     .visit(trail, report, h)
 //! ```
 //!
 //! and states `visits` by the combinators of `garde.specs.Fields` in the same shape. A field that is

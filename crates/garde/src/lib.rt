@@ -9,7 +9,6 @@ pub mod laws;
 mod many;
 mod no_text;
 pub mod recursive;
-pub mod samples;
 mod stated;
 mod unvalidated;
 mod valid;

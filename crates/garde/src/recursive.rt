@@ -8,7 +8,7 @@ ghost use Rattle.garde.specs.Nest.{Nest, child_visits, nest_level, nest_visits};
 use garde_i18n::I18n;
 use garde_report::{Component, Report, Trail};
 use garde_rules::inner::{self, Inner};
-use std::alloc::{AllocError, Global};
+use std::alloc::AllocError;
 
 /// A value that holds values of its own type in one of its fields.
 ///
@@ -39,7 +39,6 @@ pub trait Recursive {
     /// `Validate::validate_into`.
     fn visit_own<'a, H: I18n>(
         &'a self,
-        alloc: Global,
         ctx: &Self::Context,
         trail: &mut Trail<'a>,
         report: &mut Report,
@@ -55,7 +54,6 @@ pub trait Recursive {
 /// It calls itself as deep as the value nests. `AllocError` is returned where memory runs out,
 /// under the terms of `Validate::validate_into`.
 pub fn walk<'a, T: Recursive + 'a, H: I18n>(
-    alloc: Global,
     value: &'a T,
     ctx: &T::Context,
     trail: &mut Trail<'a>,
@@ -65,7 +63,7 @@ pub fn walk<'a, T: Recursive + 'a, H: I18n>(
     ensures { Visited (nest_visits T.nest value.now ctx.now) (H.text h.now)
         trail.old trail.new report.old report.new result }
 {
-    value.visit_own(alloc, ctx, trail, report, h)?;
+    value.visit_own(ctx, trail, report, h)?;
     let (name, children) = value.children();
     trail.push(Component::key(name))?;
     let outcome = inner::apply(
@@ -79,7 +77,7 @@ pub fn walk<'a, T: Recursive + 'a, H: I18n>(
         {
             let _parent = value;
             trail.push(component)?;
-            let outcome = walk(alloc, child, ctx, trail, report, h);
+            let outcome = walk(child, ctx, trail, report, h);
             trail.pop();
             outcome
         },

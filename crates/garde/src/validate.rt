@@ -34,7 +34,6 @@ pub trait Validate: Stated {
     /// to the limit.
     fn validate_into<'a, H: I18n>(
         &'a self,
-        alloc: Global,
         ctx: &Self::Context,
         trail: &mut Trail<'a>,
         report: &mut Report,
@@ -79,7 +78,7 @@ pub trait Validate: Stated {
         ensures known { OnOk result (Known (Self.visits self.now ctx.now)) }
     {
         let mut trail = Trail::new(alloc);
-        self.validate_on(alloc, ctx, &mut trail, h)
+        self.validate_on(ctx, &mut trail, h)
     }
 
     /// Validates a value that stands where the trail leads, under a context, with the texts of a
@@ -94,7 +93,6 @@ pub trait Validate: Stated {
     /// that its rules may allocate.
     final fn validate_on<'a, H: I18n>(
         &'a self,
-        alloc: Global,
         ctx: &Self::Context,
         trail: &mut Trail<'a>,
         h: &H,
@@ -107,7 +105,7 @@ pub trait Validate: Stated {
             → IsOk result }
         ensures known { OnOk result (Known (Self.visits self.now ctx.now)) }
     {
-        match walk(alloc, self, ctx, usize::MAX, trail, h) {
+        match walk(self, ctx, usize::MAX, trail, h) {
             Ok(()) => Ok(()),
             Err(error) => Err(error.into_whole()),
         }
@@ -132,7 +130,7 @@ pub trait Validate: Stated {
         ensures known { OnOk result (Known (Self.visits self.now ctx.now)) }
     {
         let mut trail = Trail::new(alloc);
-        self.validate_first_on(alloc, ctx, most, &mut trail, h)
+        self.validate_first_on(ctx, most, &mut trail, h)
     }
 
     /// Validates a value that stands where the trail leads, under a context, with the texts of a
@@ -144,7 +142,6 @@ pub trait Validate: Stated {
     /// `most` faults and the next one take.
     final fn validate_first_on<'a, H: I18n>(
         &'a self,
-        alloc: Global,
         ctx: &Self::Context,
         most: usize,
         trail: &mut Trail<'a>,
@@ -156,7 +153,7 @@ pub trait Validate: Stated {
             → IsOk result }
         ensures known { OnOk result (Known (Self.visits self.now ctx.now)) }
     {
-        walk(alloc, self, ctx, most, trail, h)
+        walk(self, ctx, most, trail, h)
     }
 
     /// Whether the value has no fault under a context.
@@ -181,7 +178,6 @@ pub trait Validate: Stated {
 // Walks the value with a report of its own, up to one fault more than so many. A report has fewer
 // than `usize::MAX` faults, so that many are all.
 fn walk<'a, T: Validate, H: I18n>(
-    alloc: Global,
     value: &'a T,
     ctx: &T::Context,
     most: usize,
@@ -192,9 +188,10 @@ fn walk<'a, T: Validate, H: I18n>(
         trail.old trail.new result }
     ensures whole { IsFirst result → most < 2 ^ 64 - 1 }
 {
+    let alloc = trail.alloc();
     let mut report = Report::new(alloc);
     let before = trail.limit(most.saturating_add(1));
-    let walked = value.validate_into(alloc, ctx, trail, &mut report, h);
+    let walked = value.validate_into(ctx, trail, &mut report, h);
     trail.limit(before);
     if report.len() > most {
         report.truncate(most);

@@ -1,9 +1,9 @@
 -- Lines that make a good table.
-use Rattle.std.proofs.Common.{◌≡◌, ◌++◌, ◌∷◌, ◌∙◌, ℕ, List, [], Bool, true, false, ◌==◌, Option, Some, None, cond, map, refl, sym, ap, append-nil}
+use Rattle.std.proofs.Common.{◌≡◌, ◌++◌, ◌∷◌, ◌∙◌, ℕ, List, [], Bool, true, false, ◌==◌, Option, Some, None, cond, map, refl, sym, ap}
 use Rattle.std.proofs.lemmas.Option.{none-some}
 use Rattle.std.specs.List.{flat_map}
 use Rattle.std.specs.Prelude.{unwrap_or}
-use Rattle.garde_catalog.specs.Catalog.{AreGood, Entry, IsGood, or_those, texts_of, texts_under}
+use Rattle.garde_catalog.specs.Catalog.{AreGood, Entry, IsGood, texts_under}
 use Rattle.garde_catalog.specs.Keys.{first_of, number_of, second_of}
 use Rattle.garde_catalog.specs.Lines.{AreGoodLines, Line, line_of, lines_of, with_first_line}
 use Rattle.garde_catalog.specs.Template.{IsTemplate, pieces_of}

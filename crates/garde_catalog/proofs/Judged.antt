@@ -1,12 +1,12 @@
 -- Why a text is no template, as a test of it.
-use Rattle.std.proofs.Common.{◌≡◌, ◌∙◌, ℕ, List, [], ◌∷◌, All, Bool, true, false, not, ◌&&◌, ◌==◌, IsTrue, Option, Some, None, bytes_eq, cond, refl, sym, ap, eq-eqb, ne_eqb}
+use Rattle.std.proofs.Common.{◌≡◌, ◌∙◌, ℕ, List, [], ◌∷◌, All, Bool, true, false, not, ◌&&◌, ◌==◌, Option, Some, None, bytes_eq, cond, refl, sym, ap, eq-eqb, ne_eqb}
 use Rattle.std.specs.List.{list_all}
 use Rattle.std.specs.Cmp.Derive.{both_true}
 use Rattle.std.proofs.lemmas.Bool.{false_from_ne_true, false≢true}
 use Rattle.std.proofs.lemmas.Option.{none-some}
 use Rattle.std.proofs.lemmas.Slice.Eq.{bytes_eq-Decides}
 use Rattle.std.proofs.lemmas.List.Elements.{All-cons, All-head, All-nil, All-tail}
-use Rattle.garde_catalog.specs.Template.{HasPlaces, IsAllSeen, IsPlain, IsPlainByte, IsPlainPiece, IsRefused, IsTemplate, Piece, byte, place, has_place, has_places, is_known, is_plain_byte, is_plain_piece, pieces_of, template_fault, written}
+use Rattle.garde_catalog.specs.Template.{HasPlaces, IsAllSeen, IsPlainByte, IsPlainPiece, IsRefused, IsTemplate, Piece, byte, place, has_place, has_places, is_known, is_plain_byte, is_plain_piece, pieces_of, template_fault, written}
 use Rattle.garde_catalog.specs.declared.template.Seen.{Seen}
 use Rattle.garde_catalog.specs.declared.template.TemplateFault.{TemplateFault}
 use Rattle.garde_catalog.specs.declared.template.TemplateFault.TheVariants as faults

@@ -1,5 +1,5 @@
 -- The lines of a table that is read from a file: what is told of them, and what is known.
-use Rattle.std.proofs.Common.{◌≡◌, ◌≢◌, ◌∙◌, ◌+◌, ◌<◌, ◌≤◌, ◌∷◌, ℕ, List, [], Bool, true, false, All, Option, Some, None, Result, Ok, Err, IsOk, IsErr, inl, length, drop, get_or, refl, sym, ap, subst, append-nil, arith}
+use Rattle.std.proofs.Common.{◌≡◌, ◌∙◌, ◌+◌, ◌<◌, ◌≤◌, ◌∷◌, ℕ, List, [], Bool, true, false, All, Option, Some, None, Result, Ok, Err, IsOk, IsErr, inl, length, drop, get_or, refl, sym, ap, subst, append-nil, arith}
 use Rattle.std.specs.Prelude.{IfOk, IsOkAnd, OnOk, option_map}
 use Rattle.std.proofs.lemmas.Bool.{false≢true}
 use Rattle.std.proofs.lemmas.List.{at_drop_more, drop_all}

@@ -1,12 +1,13 @@
 -- The keys of a table that are checked one by one, and the text of each.
-use Rattle.std.proofs.Common.{◌≡◌, ◌≢◌, ◌++◌, ◌∷◌, ◌+◌, ◌<◌, ◌≤◌, ◌∙◌, ℕ, List, [], All, Some, None, Bool, true, false, ◌==◌, cond, length, take, get_or, slice_get, refl, sym, ap, subst, append-nil, length-append, drop, eq-eqb, eqb-true, ne_eqb, take-append-drop, inl, inr, arith}
+use Rattle.std.proofs.Common.{◌≡◌, ◌≢◌, ◌++◌, ◌∷◌, ◌+◌, ◌<◌, ◌≤◌, ◌∙◌, ℕ, List, [], All, Some, None, Bool, true, false, ◌==◌, cond, length, take, get_or, slice_get, refl, sym, ap, subst, append-nil, length-append, drop, eq-eqb, eqb-true, ne_eqb, take-append-drop, inl, inr, ⊎_elim, ◌⊎◌, arith}
 use Rattle.std.proofs.lemmas.List.{take_more}
-use Rattle.std.proofs.lemmas.List.Elements.{All-get_or, All-head, All-push}
+use Rattle.std.proofs.lemmas.Grind.{common_steps}
+use Rattle.std.proofs.lemmas.List.Elements.{All-get_or, All-head, All-more}
 use Rattle.std.proofs.lemmas.Option.{get_or_from_slice_get, slice_get_cases, slice_get_within}
 use Rattle.std.specs.Prelude.{unwrap_or}
 use Rattle.garde_catalog.specs.Keys.{number_of, first_of, second_of}
 use Rattle.garde_catalog.specs.Template.{IsTemplate, Piece, pieces_of}
-use Rattle.garde_catalog.specs.Catalog.{AreGood, Entry, HasNotOne, IsCatalog, IsFault, IsGood, IsWrong, entries_in, only_text, or_those, others_in, text_in_place, text_on, texts_of, texts_under, word_in, word_of}
+use Rattle.garde_catalog.specs.Catalog.{AreGood, AreTold, Entry, HasFault, HasNotOne, IsCatalog, IsFault, IsGood, IsWrong, entries_in, only_text, or_those, others_in, text_in_place, text_on, texts_of, texts_under, word_in, word_of}
 use Rattle.garde_catalog.specs.declared.key.Key.{Key}
 use Rattle.garde_catalog.specs.declared.key.TheConstants.{KEYS}
 use Rattle.garde_catalog.specs.declared.catalog.Catalog.{Catalog}
@@ -16,19 +17,32 @@ use Rattle.garde_catalog.specs.declared.fault.Wrong.TheVariants as wrongs
 use Rattle.garde_catalog.proofs.KeysByNumber.{keys_by_number}
 use Rattle.garde_catalog.proofs.Reading.{its_pieces}
 
--- the next key is good, too
-pub next : (entries others : List Entry) (keys : List Key) (i : ℕ) (d : Key) → i < length keys → IsGood entries others (get_or keys i d)
-    → All (IsGood entries others) (take i keys) → All (IsGood entries others) (take (i + 1) keys)
-next entries others keys i d low good h =
-    rw (take_more keys i d low) (All-push (IsGood entries others) (take i keys) (get_or keys i d) h good)
+-- a key is good, or one of the faults is of it
+abbrev pub IsTold : List Entry → List Entry → List CatalogFault → Key → Type 0
+IsTold entries others faults key = IsGood entries others key ⊎ HasFault faults key
+
+-- the next key is told, too, and the others still are where there are more faults
+pub next : (entries others : List Entry) (keys : List Key) (i : ℕ) (d : Key) (faults more : List CatalogFault) → i < length keys
+    → ((key : Key) → HasFault faults key → HasFault more key) → IsTold entries others more (get_or keys i d)
+    → All (IsTold entries others faults) (take i keys) → All (IsTold entries others more) (take (i + 1) keys)
+next entries others keys i d faults more low kept told h =
+    All-more (IsTold entries others more) keys i d low (λ k other within. ⊎_elim inl (λ has. inr (kept _ has)) (h k other within)) told
+
+-- a fault that was there is there with another one behind it
+pub still_there : (faults : List CatalogFault) (fault : CatalogFault) (key : Key) → HasFault faults key → HasFault (faults ++ fault ∷ []) key
+still_there faults fault key has = (has.0, has.1, grind (arith, common_steps, has.2), grind (arith, common_steps, has.2, has.3), has.4)
 
 pub in_place : (P : Key → Type 0) (keys : List Key) (i : ℕ) (key : Key) → All P keys → slice_get keys i ≡ Some key → P key
 in_place P keys i key h at =
     subst P (get_or_from_slice_get keys i key key at) (All-get_or P keys i key (slice_get_within keys i key at) h)
 
--- each key of the list is good
-pub all_good : (entries others : List Entry) → All (IsGood entries others) KEYS → AreGood entries others
-all_good entries others h key = in_place (IsGood entries others) KEYS (number_of key) key h (keys_by_number key)
+-- each key of the list is told
+pub all_told : (entries others : List Entry) (faults : List CatalogFault) → All (IsTold entries others faults) KEYS → AreTold entries others faults
+all_told entries others faults h key = in_place (IsTold entries others faults) KEYS (number_of key) key h (keys_by_number key)
+
+-- without a fault each key is good
+pub all_good : (entries others : List Entry) (faults : List CatalogFault) → faults ≡ [] → AreTold entries others faults → AreGood entries others
+all_good entries others faults none told key = ⊎_elim (λ good. good) (λ has. absurd (omega (arith, has.2, ap length none))) (told key)
 
 branch : (t : Bool) (x : List ℕ) (fs bs whole : List (List ℕ)) → whole ≡ fs ++ bs → cond t (x ∷ whole) whole ≡ cond t (x ∷ fs) fs ++ bs
 branch true x fs bs whole e = ap (λ l. x ∷ l) e

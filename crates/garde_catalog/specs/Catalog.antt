@@ -1,7 +1,7 @@
 -- Catalogs: what a table of texts and a catalog have to do with each other, and the text of each datum.
-use Rattle.std.specs.Prelude.{◌≡◌, ◌≤◌, ◌==◌, ℕ, List, [], ◌∷◌, Option, Some, None, cond, bytes_eq, codes, length, unwrap_or, All, ⊤}
+use Rattle.std.specs.Prelude.{◌≡◌, ◌≤◌, ◌==◌, ℕ, List, [], ◌∷◌, Option, Some, None, cond, bytes_eq, codes, length, unwrap_or, All, ⊤, ◌⊎◌}
 use Rattle.std.specs.Borrow.{Bor}
-use Rattle.std.specs.List.{slice_get}
+use Rattle.std.specs.List.{Any, slice_get}
 use Rattle.std.specs.Fmt.{decimal}
 use Rattle.garde_i18n.specs.Datum.{Code, Datum, length_lower, length_greater, range_lower, range_greater, card, pattern, contains, url, prefix, suffix, phone, ip, matches, not_ascii, not_alphanumeric, not_set, named}
 use Rattle.garde_i18n.specs.Reasons.{ip_kind_text}
@@ -68,10 +68,24 @@ IsFault entries others fault = IsWrong (texts_of entries others fault.key) fault
 abbrev pub AreGood : List Entry → List Entry → Type 0
 AreGood entries others = (key : Key) → IsGood entries others key
 
--- why no catalog is made: the faults are true ones, and the tables are not good; or memory runs out
+-- one of the faults is of the key
+abbrev pub HasFault : List CatalogFault → Key → Type 0
+HasFault faults key = Any (λ fault. fault.key ≡ key) faults
+
+-- each key is good, or one of the faults is of it
+abbrev pub AreTold : List Entry → List Entry → List CatalogFault → Type 0
+AreTold entries others faults = (key : Key) → IsGood entries others key ⊎ HasFault faults key
+
+-- why no catalog is made: the faults are true ones, each key that is not good has one, and there is such a key; or memory runs out
 abbrev pub IsRefusal : List Entry → List Entry → CatalogError → Type 0
-IsRefusal entries others (errors.Faults faults) = All (IsFault entries others) faults.items × ¬ (AreGood entries others)
+IsRefusal entries others (errors.Faults faults) =
+    All (IsFault entries others) faults.items × AreTold entries others faults.items × ¬ (AreGood entries others)
 IsRefusal entries others errors.Memory = ⊤
+
+-- what the error prints
+abbrev pub catalog_error_text : CatalogError → List ℕ
+catalog_error_text (errors.Faults faults) = codes "the table of texts has faults"
+catalog_error_text errors.Memory = codes "out of memory"
 
 -- the only text
 abbrev pub only_text : List (List ℕ) → List ℕ

@@ -1,14 +1,20 @@
 -- The catalogs of several languages.
-use Rattle.std.specs.Prelude.{◌≡◌, ◌∷◌, ◌++◌, ℕ, List, [], Option, Some, None, slice_get, unwrap_or}
-use Rattle.std.specs.List.{AllZip}
-use Rattle.garde_catalog.specs.Catalog.{IsCatalog}
+use Rattle.std.specs.Prelude.{◌≡◌, ◌∷◌, ◌++◌, ◌⊎◌, ℕ, List, [], Option, Some, None, slice_get, unwrap_or}
+use Rattle.std.specs.List.{AllZip, Any}
+use Rattle.garde_catalog.specs.Catalog.{IsCatalog, IsRefusal}
 use Rattle.garde_catalog.specs.declared.catalog.Catalog.{Catalog}
 use Rattle.garde_catalog.specs.declared.catalogs.Catalogs.{Catalogs}
+use Rattle.garde_catalog.specs.declared.fault.CatalogError.{CatalogError}
 use Rattle.garde_catalog.specs.declared.language.Language.{Language}
 
 -- the catalog is that of the texts of the language
 abbrev pub IsOfLanguage : Language → Catalog → Type 0
 IsOfLanguage language catalog = IsCatalog language.table.now [] catalog
+
+-- no catalog is made of the texts of one of these languages
+abbrev pub IsRefusalOf : List Language → Language → CatalogError → Type 0
+IsRefusalOf offered otherwise error =
+    Any (λ language. IsRefusal language.table.now [] error) offered ⊎ IsRefusal otherwise.table.now [] error
 
 -- a language and its catalog are added
 abbrev pub AddsLanguage : Language → List Language → List Language → List Catalog → List Catalog → Type 0

@@ -1,9 +1,8 @@
 -- Which of the offered languages a request asks for (RFC 4647, section 3.4; RFC 9110, section 12.5.4).
-use Rattle.std.specs.Prelude.{◌≡◌, ◌≤◌, ◌<◌, ◌==◌, ◌||◌, ℕ, List, [], ◌∷◌, ◌++◌, All, length, map, take, slice_index, slice_get, IsTrue, Option, Some, None, ◌⊎◌}
+use Rattle.std.specs.Prelude.{◌≡◌, ◌≤◌, ◌<◌, ◌==◌, ◌||◌, ℕ, List, ◌∷◌, ◌++◌, All, length, map, take, slice_index, slice_get, IsTrue, Option, Some, None, ◌⊎◌}
 use Rattle.std.specs.Char.{to_ascii_lowercase}
-use Rattle.garde_catalog.specs.Catalog.{Entry, IsCatalog}
+use Rattle.garde_catalog.specs.Catalog.{Entry}
 use Rattle.garde_catalog.specs.Field.{Want, wants_in}
-use Rattle.garde_catalog.specs.declared.catalog.Catalog.{Catalog}
 use Rattle.garde_catalog.specs.declared.language.Language.{Language}
 use Rattle.garde_catalog.specs.declared.lookup.Best.{Best}
 
@@ -74,8 +73,8 @@ abbrev pub IsFound : List Language → List ℕ → Option ℕ → Type 0
 IsFound offered tag None = HasNone offered tag
 IsFound offered tag (Some place) = IsLookup offered tag place
 
--- the catalog is that of the language that a tag asks for, and of the other table where it asks for none that is offered
-abbrev pub IsTagged : List Language → List ℕ → List Entry → Catalog → Type 0
-IsTagged offered tag otherwise catalog =
-    ((language : Language) × IsThere offered (IsFound offered tag) (Some language) × IsCatalog language.table.now [] catalog)
-    ⊎ (HasNone offered tag × IsCatalog otherwise [] catalog)
+-- this holds of the table of the language that a tag asks for, and of the other table where it asks for none that is offered
+abbrev pub IsOfTag : List Language → List ℕ → List Entry → (List Entry → Type 0) → Type 0
+IsOfTag offered tag otherwise holds =
+    ((language : Language) × IsThere offered (IsFound offered tag) (Some language) × holds language.table.now)
+    ⊎ (HasNone offered tag × holds otherwise)

@@ -1,8 +1,8 @@
 //! Catalogs: the texts of a language, one template for each key.
-ghost use Rattle.std.specs.Prelude.{◌≡◌, ◌∷◌, [], All, IfOk, IfErr, IsOk, MatchOption, None, OnOk, Some};
+ghost use Rattle.std.specs.Prelude.{◌≡◌, ◌∷◌, ◌⊎◌, [], All, IfOk, IfErr, IsOk, MatchOption, None, OnOk, Some};
 ghost use Rattle.std.specs.Cow.{cow_str_bytes};
 ghost use Rattle.garde_i18n.specs.DatumOf.{value_text};
-ghost use Rattle.garde_catalog.specs.Catalog.{AreGood, HasNotOne, IsCatalog, IsFault, IsFixed, IsGood, IsRefusal, IsWrong, only_text, put_both, put_in, text_in_place, texts_of, texts_under, word_in, word_of};
+ghost use Rattle.garde_catalog.specs.Catalog.{AreGood, AreTold, HasFault, HasNotOne, IsCatalog, IsFault, IsFixed, IsGood, IsRefusal, IsWrong, only_text, put_both, put_in, text_in_place, texts_of, texts_under, word_in, word_of};
 
 use crate::fault::{CatalogError, CatalogFault, Wrong};
 use crate::key::{KEYS, Key};
@@ -108,8 +108,8 @@ fn add(
     key: Key,
     faults: &mut Vec<CatalogFault>,
 ) -> Result<(), AllocError>
-    ensures good { OnOk result (faults.new.items ≡ [] → (faults.old.items ≡ [])
-        × IsGood entries.now others.now key) }
+    ensures told { OnOk result (IsGood entries.now others.now key ⊎ HasFault faults.new.items key) }
+    ensures kept { OnOk result ((k : Key) → HasFault faults.old.items k → HasFault faults.new.items k) }
     ensures faults { OnOk result (All (IsFault entries.now others.now) faults.old.items
         → All (IsFault entries.now others.now) faults.new.items) }
 {
@@ -125,7 +125,7 @@ fn faults_of(
     entries: &[Entry<'_>],
     others: &[Entry<'_>],
 ) -> Result<Vec<CatalogFault>, AllocError>
-    ensures good { IfOk result (λ faults. faults.items ≡ [] → AreGood entries.now others.now) }
+    ensures told { IfOk result (λ faults. AreTold entries.now others.now faults.items) }
     ensures faults { IfOk result (λ faults. All (IsFault entries.now others.now) faults.items) }
 {
     let mut faults = Vec::new(alloc);

@@ -1,7 +1,8 @@
 //! The catalogs of several languages, of which a request or a user asks for one.
-ghost use Rattle.std.specs.Prelude.{◌≡◌, ◌∷◌, ◌++◌, [], IfOk, OnOk};
-ghost use Rattle.garde_catalog.specs.Catalogs.{AddsLanguage, AreCatalogs, catalog_at, offered_by, tag_at};
-ghost use Rattle.garde_catalog.specs.Lookup.{IsAskedBy, IsTagged};
+ghost use Rattle.std.specs.Prelude.{◌≡◌, ◌∷◌, ◌++◌, [], IfErr, IfOk, OnOk};
+ghost use Rattle.garde_catalog.specs.Catalogs.{AddsLanguage, AreCatalogs, IsRefusalOf, catalog_at, offered_by, tag_at};
+ghost use Rattle.garde_catalog.specs.Catalog.{IsCatalog, IsRefusal};
+ghost use Rattle.garde_catalog.specs.Lookup.{IsAskedBy, IsOfTag};
 
 use crate::catalog::{Catalog, Entry};
 use crate::fault::CatalogError;
@@ -17,7 +18,10 @@ impl Catalog<'static> {
         offered: &[Language],
         otherwise: &'static [Entry<'static>],
     ) -> Result<Catalog<'static>, CatalogError>
-        ensures { IfOk result (IsTagged offered.now tag.now otherwise.now) }
+        ensures ok { IfOk result (λ catalog. IsOfTag offered.now tag.now otherwise.now
+            (λ table. IsCatalog table [] catalog)) }
+        ensures err { IfErr result (λ error. IsOfTag offered.now tag.now otherwise.now
+            (λ table. IsRefusal table [] error)) }
     {
         match Language::named(tag, offered) {
             Some(language) => Catalog::new(alloc, language.table),
@@ -48,8 +52,9 @@ fn add(
     languages: &mut Vec<Language>,
     catalogs: &mut Vec<Catalog<'static>>,
 ) -> Result<(), CatalogError>
-    ensures { OnOk result (AddsLanguage language languages.old.items languages.new.items
+    ensures ok { OnOk result (AddsLanguage language languages.old.items languages.new.items
         catalogs.old.items catalogs.new.items) }
+    ensures err { IfErr result (IsRefusal language.table.now []) }
 {
     let catalog = Catalog::new(alloc, language.table)?;
     keep(language, catalog, languages, catalogs)?;
@@ -73,7 +78,8 @@ impl Catalogs {
         offered: &[Language],
         otherwise: Language,
     ) -> Result<Catalogs, CatalogError>
-        ensures { IfOk result (AreCatalogs offered.now otherwise) }
+        ensures ok { IfOk result (AreCatalogs offered.now otherwise) }
+        ensures err { IfErr result (IsRefusalOf offered.now otherwise) }
     {
         let mut languages = Vec::with_capacity(alloc, offered.len())?;
         let mut catalogs = Vec::with_capacity(alloc, offered.len())?;

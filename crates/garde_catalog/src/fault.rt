@@ -1,4 +1,6 @@
 //! What is wrong with a table.
+ghost use Rattle.std.specs.Prelude.{Some};
+ghost use Rattle.garde_catalog.specs.Catalog.{catalog_error_text};
 
 use crate::key::Key;
 use crate::template::TemplateFault;
@@ -46,6 +48,8 @@ impl From<AllocError> for CatalogError {
 }
 
 impl fmt::Display for CatalogError {
+    ghost output = { λ error. Some (catalog_error_text error) };
+
     fn fmt<W: fmt::Write>(&self, f: &mut fmt::Formatter<W>) -> fmt::Result {
         match self {
             CatalogError::Faults(_) => f.write_str("the table of texts has faults"),

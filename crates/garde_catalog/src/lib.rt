@@ -26,7 +26,7 @@ pub use field::ranges_of;
 pub use key::{KEYS, Key};
 pub use language::{Language, languages};
 pub use lookup::Range;
-pub use spoken::{Spoken, SpokenError};
+pub use spoken::SpokenError;
 pub use table::Table;
 pub use table_texts::{IsTextOf, TableTexts};
 pub use tables::{

@@ -1,6 +1,6 @@
-//! The language that the words of a command line ask for.
-ghost use Rattle.std.specs.Prelude.{◌≡◌, IfErr, IfOk, MatchOption, None, OnErr, IsSome, false, string_bytes};
-ghost use Rattle.garde_catalog.specs.Spoken.{AreSpoken, IsNoLanguage, IsSpoken, IsTaken, IsUnspoken, tags_text};
+//! The catalog of the language that a command line asks for.
+ghost use Rattle.std.specs.Prelude.{◌≡◌, IfErr, IfOk, MatchOption, string_bytes};
+ghost use Rattle.garde_catalog.specs.Spoken.{AreOf, IsNoLanguage, IsOfNone, IsSpoken, tags_text};
 
 use crate::catalog::{Catalog, Entry};
 use crate::fault::CatalogError;
@@ -8,21 +8,11 @@ use crate::language::Language;
 use std::alloc::{AllocError, Global};
 use std::fmt;
 
-/// The tag behind `--language` among the words of a command line. A program hands over its words one
-/// after the other, and does itself with those that are not taken.
-#[derive(Clone, Copy, Debug, Drop)]
-pub struct Spoken<'w> {
-    /// The tag behind `--language`.
-    pub tag: Option<&'w str>,
-    /// Whether `--language` was the last word, so that the next one is a tag.
-    pub is_open: bool,
-}
-
 /// Why there is no catalog of the language that a command line asks for.
 #[derive(Debug, Drop)]
 pub enum SpokenError {
-    /// The tag asks for no language that is offered, or there is none behind `--language`. The text has
-    /// the tags that are offered, each behind a space.
+    /// The tag behind `--language` asks for no language that is offered. The text has the tags that are
+    /// offered, each behind a space.
     NoLanguage(String),
     /// No catalog is made.
     Catalog(CatalogError),
@@ -77,78 +67,40 @@ fn tags_of(alloc: Global, languages: &[Language]) -> Result<String, AllocError>
     Ok(tags)
 }
 
-impl<'w> Spoken<'w> {
-    /// What no word asks for.
-    pub fn new() -> Spoken<'w>
-        ensures tag { result.tag ≡ None }
-        ensures closed { result.is_open ≡ false }
-    {
-        Spoken {
-            tag: None,
-            is_open: false,
-        }
-    }
+// The table of the language of a tag, or the other one without a tag.
+fn table_of(
+    tag: Option<&str>,
+    offered: &[Language],
+    otherwise: &'static [Entry<'static>],
+) -> Option<&'static [Entry<'static>]>
+    ensures { MatchOption result (IsOfNone tag.entry offered.now)
+        (λ table. AreOf tag.entry offered.now otherwise.now table.now) }
+{
+    let Some(tag) = tag else {
+        return Some(otherwise);
+    };
+    let language = Language::named(tag, offered)?;
+    Some(language.table)
+}
 
-    /// Takes a word: `--language`, or the tag behind it. Returns whether it took the word.
+impl Catalog<'static> {
+    /// The catalog of the language that the tag behind `--language` asks for, as `Language::named` finds
+    /// it, or of the other table, as `&ENGLISH`, without a tag.
     ///
     /// # Errors
     ///
-    /// `--language` stands a second time.
-    pub fn take(&mut self, word: &'w str) -> Result<bool, &'static str>
-        ensures taken { IfOk result (λ is_taken. IsTaken is_taken self.old word.now self.new) }
-        ensures twice { OnErr result (IsSome self.old.tag) }
-    {
-        if self.is_open {
-            self.tag = Some(word);
-            self.is_open = false;
-            return Ok(true);
-        }
-        if word != "--language" {
-            return Ok(false);
-        }
-        if self.tag.is_some() {
-            return Err("--language must stand once at most");
-        }
-        self.is_open = true;
-        Ok(true)
-    }
-
-    // The table of the language that the words ask for, or the other one where they ask for none.
-    fn table(
-        &self,
-        offered: &[Language],
-        otherwise: &'static [Entry<'static>],
-    ) -> Option<&'static [Entry<'static>]>
-        ensures { MatchOption result (IsUnspoken self.now offered.now)
-            (λ table. AreSpoken self.now offered.now otherwise.now table.now) }
-    {
-        match self.tag {
-            _ if self.is_open => None,
-            None => Some(otherwise),
-            Some(tag) => match Language::named(tag, offered) {
-                Some(language) => Some(language.table),
-                None => None,
-            },
-        }
-    }
-
-    /// The catalog of the language that the words ask for, as `Language::named` finds it, or of the
-    /// other table, as `&ENGLISH`, where they ask for none.
-    ///
-    /// # Errors
-    ///
-    /// The tag asks for no language that is offered, or no tag follows `--language`. No catalog is made,
-    /// for the reasons of `Catalog::new`.
-    pub fn catalog(
-        &self,
+    /// The tag asks for no language that is offered. No catalog is made, for the reasons of
+    /// `Catalog::new`.
+    pub fn spoken(
         alloc: Global,
+        tag: Option<&str>,
         offered: &[Language],
         otherwise: &'static [Entry<'static>],
     ) -> Result<Catalog<'static>, SpokenError>
-        ensures ok { IfOk result (IsSpoken self.now offered.now otherwise.now) }
-        ensures err { IfErr result (IsNoLanguage self.now offered.now) }
+        ensures ok { IfOk result (IsSpoken tag.entry offered.now otherwise.now) }
+        ensures err { IfErr result (IsNoLanguage tag.entry offered.now) }
     {
-        match self.table(offered, otherwise) {
+        match table_of(tag, offered, otherwise) {
             Some(table) => Ok(Catalog::new(alloc, table)?),
             None => Err(SpokenError::NoLanguage(tags_of(alloc, offered)?)),
         }

@@ -64,7 +64,6 @@ impl TableTexts {
 
 // Reads members, and drops their value.
 fn check_members<'t, 'a, M: Members<'a>, H: I18n + FormI18n>(
-    alloc: Global,
     members: &M,
     object: &Tree<'t, 'a>,
     trail: &mut Trail<'a>,
@@ -74,7 +73,7 @@ fn check_members<'t, 'a, M: Members<'a>, H: I18n + FormI18n>(
     ensures { Visited (M.visits members.now (H.form_text h.now) object.now) (H.text h.now)
         trail.old trail.new report.old report.new result }
 {
-    match members.read_members(alloc, object, trail, report, h) {
+    match members.read_members(object, trail, report, h) {
         Ok(_) => Ok(()),
         Err(refused) => Err(refused),
     }
@@ -82,7 +81,6 @@ fn check_members<'t, 'a, M: Members<'a>, H: I18n + FormI18n>(
 
 // Puts what is wrong under the name of a key.
 fn check_line<'t, 'a, H: I18n + FormI18n>(
-    alloc: Global,
     may_lack: bool,
     key: Key,
     object: &Tree<'t, 'a>,
@@ -96,15 +94,14 @@ fn check_line<'t, 'a, H: I18n + FormI18n>(
     let name = key.name();
     let text = Text(Is(IsTextOf(key)));
     if may_lack {
-        check_members(alloc, &Optional(name, text), object, trail, report, h)
+        check_members(&Optional(name, text), object, trail, report, h)
     } else {
-        check_members(alloc, &Member(name, text), object, trail, report, h)
+        check_members(&Member(name, text), object, trail, report, h)
     }
 }
 
 // Puts what is wrong under the name of each key.
 fn check_lines<'t, 'a, H: I18n + FormI18n>(
-    alloc: Global,
     may_lack: bool,
     object: &Tree<'t, 'a>,
     trail: &mut Trail<'a>,
@@ -115,7 +112,7 @@ fn check_lines<'t, 'a, H: I18n + FormI18n>(
         trail.old trail.new report.old report.new result }
 {
     for key in KEYS {
-        check_line(alloc, may_lack, key, object, trail, report, h)?;
+        check_line(may_lack, key, object, trail, report, h)?;
     }
     Ok(())
 }
@@ -183,13 +180,13 @@ impl<'a> Members<'a> for TableTexts {
 
     fn read_members<'t, H: I18n + FormI18n>(
         &self,
-        alloc: Global,
         object: &Tree<'t, 'a>,
         trail: &mut Trail<'a>,
         report: &mut Report,
         h: &H,
     ) -> Result<Option<Table>, AllocError> {
-        check_lines(alloc, self.may_lack, object, trail, report, h)?;
+        let alloc = trail.alloc();
+        check_lines(self.may_lack, object, trail, report, h)?;
         read_lines(alloc, self.may_lack, object)
     }
 

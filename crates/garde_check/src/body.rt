@@ -10,7 +10,7 @@ use garde::fields::{
 };
 use garde::i18n::IpKind;
 use garde::{I18n, Report, Stated, Trail, Validate};
-use std::alloc::{AllocError, Global};
+use std::alloc::AllocError;
 use std::collections::BTreeMap;
 
 /// A text that must be an IP address of version 4 or 6.
@@ -26,14 +26,13 @@ impl Stated for Address {
 impl Validate for Address {
     fn validate_into<'a, H: I18n>(
         &'a self,
-        alloc: Global,
         _ctx: &(),
         trail: &mut Trail<'a>,
         report: &mut Report,
         h: &H,
     ) -> Result<(), AllocError> {
         let Self(text) = self;
-        Is(Ip(IpKind::Any)).check(alloc, text, trail, report, h)
+        Is(Ip(IpKind::Any)).check(text, trail, report, h)
     }
 }
 
@@ -59,7 +58,6 @@ impl Stated for Body {
 impl Validate for Body {
     fn validate_into<'a, H: I18n>(
         &'a self,
-        alloc: Global,
         ctx: &(),
         trail: &mut Trail<'a>,
         report: &mut Report,
@@ -83,6 +81,6 @@ impl Validate for Body {
             Field("tags", tags, few),
             Field("addresses", addresses, Dive(ctx)),
         )
-            .visit(alloc, trail, report, h)
+            .visit(trail, report, h)
     }
 }

@@ -44,7 +44,7 @@ fn find_all<T: Validate>(alloc: Global, value: &T, ctx: &T::Context) -> Result<F
         found.outcome found.report found.has_more found.nodes) }
 {
     let mut trail = Trail::new(alloc);
-    let answer = value.validate_on(alloc, ctx, &mut trail, &DefaultI18n);
+    let answer = value.validate_on(ctx, &mut trail, &DefaultI18n);
     let (outcome, report) = match answer {
         Ok(()) => (Outcome::Valid, Report::new(alloc)),
         Err(ValidateError::Report(report)) => (Outcome::Faults, report),

@@ -11,6 +11,8 @@ use Rattle.garde_schema.specs.declared.fault.FormFault.TheVariants.{Wrong, OutOf
 use Rattle.garde_schema.specs.declared.fault.Wanted.TheVariants as wanted
 use Rattle.garde_schema.specs.declared.fault.Integer.{Integer}
 use Rattle.garde_tape.specs.declared.kind.Kind.TheVariants as kinds
+use Rattle.garde_form.specs.declared.text_type.TextKind.{TextKind}
+use Rattle.garde_form.specs.declared.text_type.TextKind.TheVariants.{Quoted, Bare, Number}
 
 -- whether there is a text, and it is empty
 abbrev pub is_empty : Option (List ℕ) → Bool
@@ -45,6 +47,24 @@ text_fault integer text = if is_whole text then OutOfRange integer else Wrong wa
 -- of the least and the greatest number of a type, the one that is nearest to a whole number beyond the type which a text writes
 abbrev pub nearest_text : {A : Type 0} → A → A → List ℕ → Option A
 nearest_text least most text = if is_whole text then Some (if has_minus text then least else most) else None
+
+-- whether the texts of this kind are bare values too
+abbrev pub is_bare : {A : Type 0} → TextKind A → Bool
+is_bare (Quoted what) = false
+is_bare (Bare what) = true
+is_bare (Number integer least most) = false
+
+-- what is wrong with a text of this kind that spells no value
+abbrev pub fault_in : {A : Type 0} → TextKind A → List ℕ → FormFault
+fault_in (Quoted what) text = Wrong what kinds.Text
+fault_in (Bare what) text = Wrong what kinds.Text
+fault_in (Number integer least most) text = text_fault integer text
+
+-- the value that is nearest to a whole number which a text of this kind writes
+abbrev pub nearest_in : {A : Type 0} → TextKind A → List ℕ → Option A
+nearest_in (Quoted what) text = None
+nearest_in (Bare what) text = None
+nearest_in (Number integer least most) text = nearest_text least most text
 
 -- what is wrong with a text that spells no value: of a number beyond a bound of the rules this bound, and else this message
 abbrev pub unread : Option Fault → List ℕ → Visits

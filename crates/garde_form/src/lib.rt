@@ -13,6 +13,7 @@ mod parse;
 mod parsed;
 mod put;
 mod reading;
+mod text_type;
 mod web_form;
 mod whole_key;
 
@@ -22,5 +23,6 @@ pub use or_empty::OrEmpty;
 pub use parse::Parse;
 pub use parsed::Parsed;
 pub use reading::read_form;
+pub use text_type::{TextKind, TextType};
 pub use web_form::{FormField, form_fields};
 pub use whole_key::WholeKey;

@@ -52,7 +52,7 @@ fn is_whole(text: &str) -> bool
 }
 
 // What is wrong with a text that is no number of this type.
-fn fault_of(text: &str, integer: Integer) -> FormFault
+pub(crate) fn fault_of(text: &str, integer: Integer) -> FormFault
     ensures { result ≡ text_fault integer text.now }
 {
     if is_whole(text) {
@@ -70,7 +70,7 @@ fn has_minus(text: &[u8]) -> bool
 }
 
 // Of the two ends of a type, the one that is nearest to a whole number beyond it which a text writes.
-fn nearest_of<T: Copy>(text: &str, least: T, most: T) -> Option<T>
+pub(crate) fn nearest_of<T: Drop>(text: &str, least: T, most: T) -> Option<T>
     ensures { result ≡ nearest_text least most text.now }
 {
     if !is_whole(text) {

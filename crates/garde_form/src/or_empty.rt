@@ -8,7 +8,7 @@ ghost use Rattle.garde_form.specs.Texts.{is_empty};
 use crate::parsed::text_of;
 use garde::{I18n, Report, Trail};
 use garde_schema::{Form, FormI18n, Tree};
-use std::alloc::{AllocError, Global};
+use std::alloc::AllocError;
 
 /// A value of this form, or the empty text, as a browser sends a field that is not filled in. The
 /// value is an option, and `None` where the empty text stands.
@@ -51,7 +51,6 @@ impl<'a, F: Form<'a>> Form<'a> for OrEmpty<F> {
 
     fn read<'t, H: I18n + FormI18n>(
         &self,
-        alloc: Global,
         tree: &Tree<'t, 'a>,
         trail: &mut Trail<'a>,
         report: &mut Report,
@@ -60,7 +59,7 @@ impl<'a, F: Form<'a>> Form<'a> for OrEmpty<F> {
         if is_empty(tree) {
             return Ok(Some(None));
         }
-        let read = self.0.read(alloc, tree, trail, report, h);
+        let read = self.0.read(tree, trail, report, h);
         present(read)
     }
 }

@@ -58,7 +58,6 @@ fn find_bound<P: Parse, R: NumberRules<P::Value>, H: I18n>(
 // it is beyond, or else what the parser says.
 #[inline(never)]
 fn put_other<'a, P: Parse, R: NumberRules<P::Value>, H: I18n + FormI18n>(
-    alloc: Global,
     form: &Parsed<P, R>,
     text: &str,
     trail: &mut Trail<'a>,
@@ -70,10 +69,11 @@ fn put_other<'a, P: Parse, R: NumberRules<P::Value>, H: I18n + FormI18n>(
         (P.message form.now.0 (H.form_text h.now) text.now)) (H.text h.now)
         trail.old trail.new report.old report.new result }
 {
+    let alloc = trail.alloc();
     match find_bound(alloc, form, text, h) {
         Ok(()) => {
             let message = form.0.message(alloc, text, h);
-            put(alloc, message, trail, report, h)
+            put(message, trail, report, h)
         }
         Err(bound) => trail.put(report, Err(bound)),
     }
@@ -81,7 +81,6 @@ fn put_other<'a, P: Parse, R: NumberRules<P::Value>, H: I18n + FormI18n>(
 
 // Parses the text, and asks the rules of the value.
 fn read_text<'a, P: Parse, R: NumberRules<P::Value>, H: I18n + FormI18n>(
-    alloc: Global,
     form: &Parsed<P, R>,
     text: &str,
     trail: &mut Trail<'a>,
@@ -102,10 +101,10 @@ fn read_text<'a, P: Parse, R: NumberRules<P::Value>, H: I18n + FormI18n>(
 {
     match form.0.parse(text) {
         Some(value) => {
-            let told = form.1.ask(alloc, &value, trail, report, h);
+            let told = form.1.ask(&value, trail, report, h);
             with(told, Some(value))
         }
-        None => with(put_other(alloc, form, text, trail, report, h), None),
+        None => with(put_other(form, text, trail, report, h), None),
     }
 }
 
@@ -124,18 +123,18 @@ impl<'a, P: Parse, R: NumberRules<P::Value>> Form<'a> for Parsed<P, R> {
 
     fn read<'t, H: I18n + FormI18n>(
         &self,
-        alloc: Global,
         tree: &Tree<'t, 'a>,
         trail: &mut Trail<'a>,
         report: &mut Report,
         h: &H,
     ) -> Result<Option<P::Value>, AllocError> {
+        let alloc = trail.alloc();
         match text_for(&self.0, tree) {
-            Some(text) => read_text(alloc, self, text.text(), trail, report, h),
+            Some(text) => read_text(self, text.text(), trail, report, h),
             None => {
                 let wrong = FormFault::Wrong(Wanted::Text, tree.kind());
                 let message = h.form_fault(alloc, wrong);
-                with(put(alloc, message, trail, report, h), None)
+                with(put(message, trail, report, h), None)
             }
         }
     }

@@ -5,13 +5,12 @@ ghost use Rattle.garde.specs.Visits.{Visited};
 ghost use Rattle.garde_schema.specs.Forms.{refused, forget};
 
 use garde::{I18n, Report, RuleError, Trail};
-use std::alloc::{AllocError, Global};
+use std::alloc::AllocError;
 use std::borrow::CowStr;
 
 // Puts a fault of form with this text where the trail leads.
 #[inline(never)]
 pub(crate) fn put<'a, H: I18n>(
-    alloc: Global,
     text: Result<CowStr<'static>, AllocError>,
     trail: &mut Trail<'a>,
     report: &mut Report,
@@ -21,6 +20,7 @@ pub(crate) fn put<'a, H: I18n>(
         → Visited (refused message) (H.text h.now)
         trail.old trail.new report.old report.new result }
 {
+    let alloc = trail.alloc();
     trail.put(report, Err(RuleError::of(alloc, text)))
 }
 

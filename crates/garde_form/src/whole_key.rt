@@ -11,7 +11,7 @@ use std::alloc::Global;
 
 /// The rule that a text is a whole number of this type, as serde reads the name of a member: it has no
 /// plus, and no zero in front. So two names of a map are two numbers. Of another text this message is
-/// reported, which no handler changes: `Keys(Is(WholeKey("not a whole number from 0 to 255", U8)))`.
+/// reported, which no handler changes: `Keys(map, Is(WholeKey("not a whole number from 0 to 255", U8)))`.
 #[derive(Clone, Copy)]
 pub struct WholeKey<'m, P>(pub &'m str, pub P);
 

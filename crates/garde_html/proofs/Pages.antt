@@ -15,7 +15,7 @@ use Rattle.garde_html.specs.Form.{Typed, is_checked}
 use Rattle.garde_html.specs.Html.{html_text, is_ending}
 use Rattle.garde_html.specs.Page.{Written, blank, blank_piece, markup, markup_of, rendered, rendered_piece}
 use Rattle.garde_html.specs.Summary.{summary_pieces}
-use Rattle.garde_html.specs.Laws.{AreCheckedAlike, IsShownAlike, PasswordsAreKeptOff, TextsAddNoMarkup, TypedIsText}
+use Rattle.garde_html.specs.Laws.{IsCheckedAlike, IsShownAlike, PasswordsAreKeptOff, TextsAddNoMarkup, TypedIsText}
 use Rattle.garde_html.proofs.Entities.{AreFree, free_text}
 
 -- ---- texts add no markup
@@ -61,11 +61,11 @@ same_group f faulty typed other alike boxes =
 
 -- ---- what was typed is text
 
-blank_control : (c : Control) (f : Field) (faulty : Bool) (typed other : List Typed) → AreCheckedAlike typed other
+blank_control : (c : Control) (f : Field) (faulty : Bool) (typed other : List Typed) → IsCheckedAlike c f.name.now typed other
     → blank (filled_pieces c f typed faulty) ≡ blank (filled_pieces c f other faulty)
 blank_control (Line kind) f faulty typed other alike = refl
 blank_control Password f faulty typed other alike = refl
-blank_control (Boxes boxes) f faulty typed other alike = ap blank (same_group f faulty typed other (alike f.name.now) boxes.now)
+blank_control (Boxes boxes) f faulty typed other alike = ap blank (same_group f faulty typed other alike boxes.now)
 
 -- the same before and behind what is the same but for its texts
 blank_within : (before a b behind : List Written) → blank a ≡ blank b → blank (before ++ (a ++ behind)) ≡ blank (before ++ (b ++ behind))
@@ -75,19 +75,22 @@ blank_within before a b behind same =
     (map-append blank_piece a behind ∙ ap (λ (middle : List Written). middle ++ blank behind) same ∙ sym (map-append blank_piece b behind))
     ∙ sym (map-append blank_piece before (b ++ behind))
 
-blank_field : (f : Field) (entries : List Entry) (typed other : List Typed) → AreCheckedAlike typed other
+blank_field : (f : Field) (entries : List Entry) (typed other : List Typed) → IsCheckedAlike f.control f.name.now typed other
     → blank (field_pieces f typed entries) ≡ blank (field_pieces f other entries)
 blank_field f entries typed other alike =
     blank_within (markup plain.FIELD.now ∷ []) (control_pieces f typed (is_faulty f entries)) (control_pieces f other (is_faulty f entries))
     (list_pieces f entries (is_faulty f entries) ++ markup plain.FIELD_END.now ∷ [])
     (blank_control f.control f (is_faulty f entries) typed other alike)
 
-blank_fields : (fs : List Field) (entries : List Entry) (typed other : List Typed) → AreCheckedAlike typed other
+blank_fields : (fs : List Field) (entries : List Entry) (typed other : List Typed)
+    → All (λ (f : Field). IsCheckedAlike f.control f.name.now typed other) fs
     → blank (fields_pieces typed entries fs) ≡ blank (fields_pieces other entries fs)
 blank_fields [] entries typed other alike = refl
 blank_fields (f ∷ fs) entries typed other alike =
     map-append blank_piece (field_pieces f typed entries) (fields_pieces typed entries fs)
-    ∙ ap₂ (λ (one rest : List Written). one ++ rest) (blank_field f entries typed other alike) (blank_fields fs entries typed other alike)
+    ∙ ap₂ (λ (one rest : List Written). one ++ rest)
+    (blank_field f entries typed other (All-head (λ (f : Field). IsCheckedAlike f.control f.name.now typed other) f fs alike))
+    (blank_fields fs entries typed other (All-tail (λ (f : Field). IsCheckedAlike f.control f.name.now typed other) f fs alike))
     ∙ sym (map-append blank_piece (field_pieces f other entries) (fields_pieces other entries fs))
 
 pub typed_is_text : TypedIsText

@@ -1,5 +1,5 @@
 -- Each fault stands on a page.
-use Rattle.std.proofs.Common.{◌≡◌, ℕ, Bool, true, false, cond, List, [], ◌∷◌, ◌++◌, All, refl, sym, ap, ◌∙◌, arith}
+use Rattle.std.proofs.Common.{◌≡◌, ℕ, Bool, true, false, cond, List, [], ◌∷◌, ◌++◌, Option, None, Some, All, refl, sym, ap, ◌∙◌, arith}
 use Rattle.std.specs.Prelude.{filter, map}
 use Rattle.std.specs.List.{Contains}
 use Rattle.std.proofs.lemmas.Bool.{true≢false}
@@ -9,18 +9,32 @@ use Rattle.garde_report.specs.Report.{Entry, begins_with, messages_under}
 use Rattle.garde_html.specs.declared.form.Field.{Field}
 use Rattle.garde_html.specs.declared.controls.TheConstants as plain
 use Rattle.garde_html.specs.Controls.{control_pieces, is_faulty, is_some_text, list_pieces, messages_pieces}
+use Rattle.garde_html.specs.Form.{field_at}
 use Rattle.garde_html.specs.Page.{Written, markup, text}
-use Rattle.garde_html.specs.Summary.{entries_pieces, entry_pieces, first_text}
+use Rattle.garde_html.specs.Summary.{entries_pieces, entry_pieces, first_text, named_pieces}
 use Rattle.garde_html.specs.Laws.{FaultsStandBesideTheirFields, FaultsStandInTheSummary}
 
 -- ---- in the summary
 
-pub faults_stand_in_the_summary : FaultsStandInTheSummary
-faults_stand_in_the_summary fields [] e after = refl
-faults_stand_in_the_summary fields (b ∷ before) e after =
+-- the entry of a fault has its message
+of_name : (field : Option Field) (name message : List ℕ) → Contains (named_pieces field name message) (text message)
+of_name (Some field) name message = Contains-get_or (named_pieces (Some field) name message) 5 (text message) (grind (arith))
+of_name None name message = Contains-get_or (named_pieces None name message) 3 (text message) (grind (arith))
+
+of_entry : (fields : List Field) (name : Option (List ℕ)) (message : List ℕ) → Contains (entry_pieces fields name message) (text message)
+of_entry fields (Some name) message = of_name (field_at fields name) name message
+of_entry fields None message = Contains-get_or (entry_pieces fields None message) 1 (text message) (grind (arith))
+
+once : (fields : List Field) (before : List Entry) (e : Entry) (after : List Entry) → entries_pieces fields (before ++ e ∷ after)
+    ≡ entries_pieces fields before ++ (entry_pieces fields (first_text e.0) e.1 ++ entries_pieces fields after)
+once fields [] e after = refl
+once fields (b ∷ before) e after =
     let own : List Written = entry_pieces fields (first_text b.0) b.1 in
-    ap (λ (rest : List Written). own ++ rest) (faults_stand_in_the_summary fields before e after)
+    ap (λ (rest : List Written). own ++ rest) (once fields before e after)
     ∙ sym (append_assoc own (entries_pieces fields before) (entry_pieces fields (first_text e.0) e.1 ++ entries_pieces fields after))
+
+pub faults_stand_in_the_summary : FaultsStandInTheSummary
+faults_stand_in_the_summary fields before e after = (once fields before e after, of_entry fields (first_text e.0) e.1)
 
 -- ---- beside a field
 

@@ -33,11 +33,12 @@ abbrev pub FaultsHavePlaces : Type 0
 FaultsHavePlaces = (fields : List (List ℕ)) (path : List Part) (field : List ℕ)
     → field_of fields path ≡ Some field → begins_with (field ∷ []) path ≡ true
 
--- a fault stands once in the summary, behind those before it and before those behind it
+-- a fault stands once in the summary with its message, behind those before it and before those behind it
 abbrev pub FaultsStandInTheSummary : Type 0
 FaultsStandInTheSummary = (fields : List Field) (before : List Entry) (e : Entry) (after : List Entry)
-    → entries_pieces fields (before ++ e ∷ after)
-    ≡ entries_pieces fields before ++ (entry_pieces fields (first_text e.0) e.1 ++ entries_pieces fields after)
+    → (entries_pieces fields (before ++ e ∷ after)
+    ≡ entries_pieces fields before ++ (entry_pieces fields (first_text e.0) e.1 ++ entries_pieces fields after))
+    × Contains (entry_pieces fields (first_text e.0) e.1) (text e.1)
 
 -- the message of a fault at a field or under it stands beside the field
 abbrev pub FaultsStandBesideTheirFields : Type 0
@@ -48,13 +49,16 @@ FaultsStandBesideTheirFields = (field : Field) (typed : List Typed) (entries : L
 abbrev pub TextsAddNoMarkup : Type 0
 TextsAddNoMarkup = (pieces : List Written) → filter is_ending (rendered pieces) ≡ filter is_ending (rendered (markup_of pieces))
 
--- the same boxes are checked
-abbrev pub AreCheckedAlike : List Typed → List Typed → Type 0
-AreCheckedAlike typed other = (name value : List ℕ) → is_checked name value typed ≡ is_checked name value other
+-- the same boxes of a field are checked; of a text and of a password nothing is asked
+abbrev pub IsCheckedAlike : Control → List ℕ → List Typed → List Typed → Type 0
+IsCheckedAlike (Line kind) name typed other = Unit {0}
+IsCheckedAlike Password name typed other = Unit {0}
+IsCheckedAlike (Boxes boxes) name typed other = (value : List ℕ) → is_checked name value typed ≡ is_checked name value other
 
 -- where the same boxes are checked, what was typed changes nothing of a page but its texts
 abbrev pub TypedIsText : Type 0
-TypedIsText = (form : Form) (typed other : List Typed) (entries : List Entry) → AreCheckedAlike typed other
+TypedIsText = (form : Form) (typed other : List Typed) (entries : List Entry)
+    → All (λ (f : Field). IsCheckedAlike f.control f.name.now typed other) form.fields.now
     → blank (form_pieces form typed entries) ≡ blank (form_pieces form other entries)
 
 -- the same is shown of what was typed into a field; of a password nothing is shown

@@ -25,8 +25,8 @@ pub fn faults_have_places()
     ensures { FaultsHavePlaces }
 {}
 
-/// Each fault of a report stands once in the summary of its page: behind those before it and before
-/// those behind it.
+/// Each fault of a report stands once in the summary of its page, with its message: behind those before
+/// it and before those behind it.
 pub fn faults_stand_in_the_summary()
     ensures { FaultsStandInTheSummary }
 {}
@@ -41,13 +41,13 @@ pub fn texts_add_no_markup()
     ensures { TextsAddNoMarkup }
 {}
 
-/// What was typed changes nothing of the page of a form but its texts, where the same boxes are checked:
-/// the markup is that of the form and of the faults.
+/// Where the same boxes of the form are checked, what was typed changes nothing of the page but its
+/// texts: the form and the faults decide the markup.
 pub fn typed_is_text()
     ensures { TypedIsText }
 {}
 
-/// What was typed into passwords changes nothing of the page of a form.
+/// What was typed into passwords changes nothing of the page of a form and a report.
 pub fn passwords_are_kept_off()
     ensures { PasswordsAreKeptOff }
 {}

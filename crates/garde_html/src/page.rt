@@ -17,7 +17,7 @@ pub enum Piece<'a> {
 }
 
 /// A page. A contract sees the list of its pieces.
-#[derive(Drop)]
+#[derive(Debug, Drop)]
 pub struct Page<'a> {
     pieces: Vec<Piece<'a>>,
 }

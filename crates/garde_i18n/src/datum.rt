@@ -7,7 +7,7 @@ use crate::reasons::{InvalidCreditCard, InvalidPhoneNumber, InvalidUrl, IpKind};
 use std::fmt;
 
 /// What a rule finds: one kind for each method of `I18n`, with that method's argument.
-#[derive(Clone, Copy)]
+#[derive(Clone, Copy, Debug)]
 pub enum Datum<'a> {
     /// A length is below this number.
     LengthLowerThan(usize),
@@ -87,7 +87,7 @@ impl<'a> Datum<'a> {
 /// user-defined one.
 ///
 /// A handler words it by its code. One that does not know the code gives the text in English.
-#[derive(Clone, Copy)]
+#[derive(Clone, Copy, Debug)]
 pub struct Named<'a> {
     /// The code, and the parameter, if there is one.
     pub code: Code<'a>,
@@ -96,7 +96,7 @@ pub struct Named<'a> {
 }
 
 /// A code for a program, and its parameter, if there is one: a name and a value.
-#[derive(Clone, Copy)]
+#[derive(Clone, Copy, Debug)]
 pub struct Code<'a> {
     /// The code.
     pub name: &'static str,
@@ -105,7 +105,7 @@ pub struct Code<'a> {
 }
 
 /// The value of a parameter.
-#[derive(Clone, Copy)]
+#[derive(Clone, Copy, Debug)]
 pub enum Value<'a> {
     /// A number, which is printed in decimal.
     Number(usize),

@@ -6,7 +6,7 @@ ghost use Rattle.garde_parsed.specs.Addresses.{has_colon, ip_of, ip_wanted};
 
 use crate::ipv4_addresses::Ipv4;
 use crate::ipv6_addresses::Ipv6;
-use garde_form::Parse;
+use garde_form::{Parse, TextType};
 use garde_schema::{FormFault, FormI18n, Kind, Wanted};
 use std::alloc::{AllocError, Global};
 use std::borrow::CowStr;
@@ -52,9 +52,9 @@ impl Parse for Ip {
     ghost nearest = { λ _ _. None };
 
     fn parse(&self, text: &str) -> Option<IpAddr> {
-        match Ipv4.parse(text) {
+        match Ipv4::read(text) {
             Some(address) => Some(IpAddr::V4(address)),
-            None => match Ipv6.parse(text) {
+            None => match Ipv6::read(text) {
                 Some(address) => Some(IpAddr::V6(address)),
                 None => None,
             },

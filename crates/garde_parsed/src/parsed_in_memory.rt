@@ -71,7 +71,6 @@ fn value_in<'t, 'a, P: ParseInMemory>(
 
 // Tells that a tree spells no value.
 fn tell<'t, 'a, P: ParseInMemory, H: I18n + FormI18n>(
-    alloc: Global,
     parser: &P,
     tree: &Tree<'t, 'a>,
     trail: &mut Trail<'a>,
@@ -83,7 +82,7 @@ fn tell<'t, 'a, P: ParseInMemory, H: I18n + FormI18n>(
         trail.old trail.new report.old report.new (forget result) }
     ensures value { IfOk result (λ out. out ≡ None) }
 {
-    match Parsed(NoValue(parser), ()).read(alloc, tree, trail, report, h) {
+    match Parsed(NoValue(parser), ()).read(tree, trail, report, h) {
         Ok(_) => Ok(None),
         Err(error) => Err(error),
     }
@@ -91,7 +90,6 @@ fn tell<'t, 'a, P: ParseInMemory, H: I18n + FormI18n>(
 
 // Asks the rules of a value.
 fn ask<'a, T: Drop, R: Rules<T>, H: I18n>(
-    alloc: Global,
     rules: &R,
     value: T,
     trail: &mut Trail<'a>,
@@ -102,7 +100,7 @@ fn ask<'a, T: Drop, R: Rules<T>, H: I18n>(
         trail.old trail.new report.old report.new (forget result) }
     ensures value { IfOk result (λ out. out ≡ Some value) }
 {
-    match rules.ask(alloc, &value, trail, report, h) {
+    match rules.ask(&value, trail, report, h) {
         Ok(()) => Ok(Some(value)),
         Err(error) => Err(error),
     }
@@ -120,16 +118,16 @@ impl<'a, P: ParseInMemory, R: Rules<P::Value>> Form<'a> for ParsedInMemory<P, R>
 
     fn read<'t, H: I18n + FormI18n>(
         &self,
-        alloc: Global,
         tree: &Tree<'t, 'a>,
         trail: &mut Trail<'a>,
         report: &mut Report,
         h: &H,
     ) -> Result<Option<P::Value>, AllocError> {
+        let alloc = trail.alloc();
         match value_in(alloc, &self.0, tree) {
             Err(error) => Err(error),
-            Ok(Some(value)) => ask(alloc, &self.1, value, trail, report, h),
-            Ok(None) => tell(alloc, &self.0, tree, trail, report, h),
+            Ok(Some(value)) => ask(&self.1, value, trail, report, h),
+            Ok(None) => tell(&self.0, tree, trail, report, h),
         }
     }
 }

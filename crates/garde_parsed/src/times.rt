@@ -1,14 +1,11 @@
 //! Times of day.
-ghost use Rattle.std.specs.Prelude.{◌≡◌, true, None};
-ghost use Rattle.garde_schema.specs.declared.fault.FormFault.TheVariants.{Wrong};
+ghost use Rattle.std.specs.Prelude.{◌≡◌};
+ghost use Rattle.garde_form.specs.declared.text_type.TextKind.TheVariants.{Bare};
 ghost use Rattle.garde_schema.specs.declared.fault.Wanted.TheVariants as wanted;
-ghost use Rattle.garde_tape.specs.declared.kind.Kind.TheVariants as kinds;
 ghost use Rattle.garde_parsed.specs.Times.{time_of};
 
-use garde_form::Parse;
-use garde_schema::{FormFault, FormI18n, Kind, Wanted};
-use std::alloc::{AllocError, Global};
-use std::borrow::CowStr;
+use garde_form::{TextKind, TextType};
+use garde_schema::Wanted;
 
 /// A text that writes a time of day, as `jiff::civil::Time` reads it: `22:15` or `22:15:30.5`.
 /// A date may stand before it, and an offset other than `Z` and a time zone in brackets behind
@@ -16,38 +13,19 @@ use std::borrow::CowStr;
 #[derive(Clone, Copy)]
 pub struct Time;
 
-impl Parse for Time {
+impl TextType for Time {
     type Value = jiff::civil::Time;
 
-    ghost bare = { λ _. true };
+    ghost KIND = { Bare wanted.Time };
 
-    ghost parsed = { λ _ text. time_of text };
+    const KIND: TextKind<jiff::civil::Time> = TextKind::Bare(Wanted::Time);
 
-    ghost message = { λ _ texts _. texts (Wrong wanted.Time kinds.Text) };
+    ghost parsed = { λ text. time_of text };
 
-    ghost nearest = { λ _ _. None };
-
-    fn parse(&self, text: &str) -> Option<jiff::civil::Time> {
+    fn read(text: &str) -> Option<jiff::civil::Time> {
         match text.parse::<jiff::civil::Time>() {
             Ok(value) => Some(value),
             Err(_) => None,
         }
-    }
-
-    fn is_bare(&self) -> bool {
-        true
-    }
-
-    fn message<H: FormI18n>(
-        &self,
-        alloc: Global,
-        _text: &str,
-        h: &H,
-    ) -> Result<CowStr<'static>, AllocError> {
-        h.form_fault(alloc, FormFault::Wrong(Wanted::Time, Kind::Text))
-    }
-
-    fn nearest(&self, _text: &str) -> Option<jiff::civil::Time> {
-        None
     }
 }

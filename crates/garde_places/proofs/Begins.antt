@@ -7,10 +7,10 @@ use Rattle.json.specs.Text.{content, plain}
 use Rattle.json.specs.Word.{is_space, word}
 use Rattle.json.specs.Lex as json
 use Rattle.json.specs.Lex.{Class, quote, backslash, operator, space, other, class, Lexeme, token, comma, colon, operator_lexeme, string_token, lex_byte, lex, between, fresh, after_value, after_comma, after_key, may_begin, may_close, begins_colon, if_allowed, place_token, punctuate, tokens}
-use Rattle.garde_places.specs.declared.place.Place.{Place}
+use Rattle.garde_tape.specs.declared.place.Place.{Place}
 use Rattle.garde_places.specs.declared.lex.Mode.{Mode}
 use Rattle.garde_places.specs.declared.lex.Mode.TheVariants.{Between, Word, Text, Escape}
-use Rattle.garde_places.specs.Place.{past, place_after}
+use Rattle.garde_tape.specs.Place.{past, place_after}
 use Rattle.garde_places.specs.Lex.{json_mode, is_token, begins_by, mode_by, begins_at, mode_after}
 use Rattle.garde_places.specs.Scan.{put_if, spots}
 use Rattle.garde_places.specs.Text.{BeginsAt, AreGood, is_gap}

@@ -3,13 +3,14 @@ use Rattle.std.proofs.Common.{◌≡◌, ℕ, List, [], get_or, Bool, true, fals
 use Rattle.json.specs.Json.{Json, document}
 use Rattle.garde_report.specs.Part.{Part}
 use Rattle.garde_problem.specs.Coded.{message_parts}
-use Rattle.garde_places.specs.declared.place.Place.{Place}
+use Rattle.garde_tape.specs.declared.place.Place.{Place}
 use Rattle.garde_places.specs.declared.fault.Fault.{Fault}
 use Rattle.garde_places.specs.declared.lex.Mode.TheVariants.{Between}
 use Rattle.garde_places.specs.Fault.{ArePlaced, IsPlaceBy, speaks_of_name}
 use Rattle.garde_places.specs.Listed.{AreListed, IsSpotBy}
 use Rattle.garde_places.specs.Places.{IsPlaceOf, IsNamePlaceOf}
-use Rattle.garde_places.specs.Scan.{spots, text_start}
+use Rattle.garde_places.specs.Scan.{spots}
+use Rattle.garde_tape.specs.Place.{text_start}
 use Rattle.garde_places.specs.Steps.{IsTokenBy}
 use Rattle.garde_places.proofs.Locating.{located, located_name}
 

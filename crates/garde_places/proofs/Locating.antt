@@ -13,15 +13,16 @@ use Rattle.json.proofs.Unique.Spelling.{tokens-document, value-json_tokens_back}
 use Rattle.json.proofs.Found.{Some_inj}
 use Rattle.garde_tape.specs.Reading.{json_of}
 use Rattle.garde_tape.specs.Read.{json_found}
-use Rattle.garde_places.specs.declared.place.Place.{Place}
+use Rattle.garde_tape.specs.declared.place.Place.{Place}
 use Rattle.garde_places.specs.declared.lex.Mode.TheVariants.{Between}
 use Rattle.garde_report.specs.Part.{Part}
-use Rattle.garde_places.specs.Scan.{spots, text_start}
+use Rattle.garde_places.specs.Scan.{spots}
+use Rattle.garde_tape.specs.Place.{text_start, place_at}
 use Rattle.garde_places.specs.Steps.{reached, tokens_before, before_named, name_behind, before_name, Spells}
 use Rattle.garde_places.specs.Text.{AreGood}
-use Rattle.garde_places.specs.Places.{IsPlaceOf, IsNamePlaceOf, BeginsMember, place_at}
+use Rattle.garde_places.specs.Places.{IsPlaceOf, IsNamePlaceOf, BeginsMember}
 use Rattle.garde_places.proofs.Begins.{Found, all_found}
-use Rattle.garde_places.proofs.Counting.{counts}
+use Rattle.garde_tape.specs.Counting.{counts}
 use Rattle.garde_places.proofs.Naming.{NamedAt, named, no_name_there}
 use Rattle.garde_places.proofs.Walking.{path_there, not_nothing}
 

@@ -1,9 +1,9 @@
 -- One byte of the scan.
 use Rattle.std.proofs.Common.{◌≡◌, ℕ, ◌+◌, ◌<◌, List, [], ◌∷◌, ◌++◌, length, drop, get_or, Bool, true, false, cond, sym, ap, ◌∙◌, subst, append_assoc, arith, ◌≤◌, ◌==◌}
 use Rattle.std.proofs.lemmas.List.{at_drop_more}
-use Rattle.garde_places.specs.declared.place.Place.{Place}
+use Rattle.garde_tape.specs.declared.place.Place.{Place}
 use Rattle.garde_places.specs.declared.lex.Mode.{Mode}
-use Rattle.garde_places.specs.Place.{goes_on, past}
+use Rattle.garde_tape.specs.Place.{goes_on, past}
 use Rattle.garde_places.specs.Lex.{begins_at, mode_after}
 use Rattle.garde_places.specs.Scan.{put_if, spots}
 

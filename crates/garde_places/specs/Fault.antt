@@ -8,7 +8,7 @@ use Rattle.json.specs.Json.{Json}
 use Rattle.garde_report.specs.Part.{Part}
 use Rattle.garde_report.specs.Report.{Entry}
 use Rattle.garde_problem.specs.Coded.{message_parts}
-use Rattle.garde_places.specs.declared.place.Place.{Place}
+use Rattle.garde_tape.specs.declared.place.Place.{Place}
 use Rattle.garde_places.specs.declared.fault.Fault.{Fault}
 use Rattle.garde_places.specs.Places.{IsPlaceOf, IsNamePlace}
 

@@ -1,5 +1,5 @@
 -- The names of wide objects.
-use Rattle.std.specs.Prelude.{◌≡◌, ℕ, List, drop, Option, IfSome}
+use Rattle.std.specs.Prelude.{◌≡◌, ℕ, List, drop, Option, IfSome, IsSome}
 use Rattle.std.specs.Borrow.{Bor}
 use Rattle.std.specs.BTreeMap.{BTreeMap, get, get_by}
 use Rattle.std.specs.Cmp.Lexicographic.{slice_cmp}
@@ -26,3 +26,7 @@ AllNames ts objects = (at : ℕ) → IfSome (get nat_cmp objects at) (AreNames t
 
 abbrev pub IndexHolds : List Token → Index → Type 0
 IndexHolds ts index = AllNames ts index.wide
+
+-- the names of the members that begin at a token are listed
+abbrev pub Knows : Index → ℕ → Type 0
+Knows index at = IsSome (get nat_cmp index.wide at)

@@ -1,4 +1,3 @@
-pub mod Place
 pub mod Lex
 pub mod Scan
 pub mod Text
@@ -12,7 +11,5 @@ pub mod Short
 pub mod GitHub
 pub mod JsonLine
 pub mod Format
-pub mod Stop
 pub mod Listed
 pub mod Printed
-pub mod Asked

@@ -8,14 +8,14 @@ use Rattle.json.specs.declared.tape.Node.{Node}
 use Rattle.garde_report.specs.Part.{Part}
 use Rattle.garde_tape.specs.Reading.{json_of}
 use Rattle.garde_problem.specs.Coded.{message_parts}
-use Rattle.garde_places.specs.declared.place.Place.{Place}
+use Rattle.garde_tape.specs.declared.place.Place.{Place}
 use Rattle.garde_places.specs.declared.fault.Fault.{Fault}
 use Rattle.garde_places.specs.declared.find.Mark.{Mark}
 use Rattle.garde_places.specs.Fault.{speaks_of_name}
 use Rattle.garde_places.specs.declared.index.Index.{Index}
 use Rattle.garde_places.specs.Marks.{MarksHold}
 use Rattle.garde_places.specs.Index.{IndexHolds}
-use Rattle.garde_places.specs.Scan.{text_start}
+use Rattle.garde_tape.specs.Place.{text_start}
 use Rattle.garde_places.specs.Steps.{reached, tokens_before, before_name}
 
 -- the place of the token with which the value begins that the path leads to

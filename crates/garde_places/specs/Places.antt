@@ -1,30 +1,14 @@
 -- The place of a value in its text.
-use Rattle.std.specs.Prelude.{◌≡◌, ℕ, ◌+◌, ◌==◌, List, take, drop, reverse, not, count_by, take_while, MatchOption, [], ◌∷◌, ◌++◌, ◌⊎◌}
+use Rattle.std.specs.Prelude.{◌≡◌, ℕ, ◌+◌, List, drop, MatchOption, [], ◌∷◌, ◌++◌, ◌⊎◌}
 use Rattle.json.specs.Token.{Token}
 use Rattle.json.specs.Lex.{tokens}
 use Rattle.json.specs.Json.{Json}
 use Rattle.json.specs.Find.{BeginsWith, get}
-use Rattle.garde_places.specs.declared.place.Place.{Place}
+use Rattle.garde_tape.specs.declared.place.Place.{Place}
 use Rattle.garde_report.specs.Part.{Part}
-use Rattle.garde_places.specs.Place.{goes_on}
+use Rattle.garde_tape.specs.Place.{place_at}
 use Rattle.garde_places.specs.Text.{BeginsAt}
 use Rattle.garde_places.specs.Steps.{reached, tokens_before, before_name}
-
--- the line feeds among these bytes
-abbrev pub line_feeds : List ℕ → ℕ
-line_feeds bs = count_by (λ b. b == 10) bs
-
--- the bytes behind the last line feed, from the last one on
-abbrev pub last_line : List ℕ → List ℕ
-last_line bs = take_while (λ b. not (b == 10)) (reverse bs)
-
--- the characters that begin among these bytes of a text in UTF-8
-abbrev pub characters : List ℕ → ℕ
-characters bs = count_by (λ b. not (goes_on b)) bs
-
--- the place of the byte at an offset
-abbrev pub place_at : List ℕ → ℕ → Place
-place_at text offset = record { line = 1 + line_feeds (take offset text); column = 1 + characters (last_line (take offset text)) }
 
 -- The text spells the value j, and the place is where it begins to spell the value that the path leads to in j.
 pub record IsPlaceOf (text : List ℕ) (path : List Part) (j : Json) (place : Place) : Type 0 where

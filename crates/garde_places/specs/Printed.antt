@@ -3,7 +3,7 @@ use Rattle.std.specs.Prelude.{◌≡◌, ℕ, List, [], ◌∷◌}
 use Rattle.garde_report.specs.Part.{Part}
 use Rattle.garde_places.specs.declared.fault.Fault.{Fault}
 use Rattle.garde_places.specs.declared.format.Format.{Format}
-use Rattle.garde_places.specs.declared.place.Place.{Place}
+use Rattle.garde_tape.specs.declared.place.Place.{Place}
 use Rattle.garde_places.specs.Format.{lines_text}
 
 -- the text is the line of a fault of this place, this path and this message

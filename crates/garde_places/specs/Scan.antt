@@ -1,12 +1,9 @@
 -- The places of the tokens of a text.
 use Rattle.std.specs.Prelude.{ℕ, List, [], ◌∷◌, Bool, true, false}
-use Rattle.garde_places.specs.declared.place.Place.{Place}
+use Rattle.garde_tape.specs.declared.place.Place.{Place}
 use Rattle.garde_places.specs.declared.lex.Mode.{Mode}
-use Rattle.garde_places.specs.Place.{past}
+use Rattle.garde_tape.specs.Place.{past}
 use Rattle.garde_places.specs.Lex.{begins_at, mode_after}
-
-abbrev pub text_start : Place
-text_start = record { line = 1; column = 1 }
 
 abbrev pub put_if : Bool → Place → List Place → List Place
 put_if true p ps = p ∷ ps

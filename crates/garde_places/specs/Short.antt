@@ -5,7 +5,7 @@ use Rattle.garde_problem.specs.Coded.{message_parts}
 use Rattle.garde_problem.specs.Escaped.{escaped_path, escaped_text}
 use Rattle.garde_places.specs.Escape.{written_text}
 use Rattle.garde_places.specs.declared.escape.Escape.TheVariants.{File}
-use Rattle.garde_places.specs.declared.place.Place.{Place}
+use Rattle.garde_tape.specs.declared.place.Place.{Place}
 use Rattle.garde_places.specs.declared.fault.Fault.{Fault}
 
 -- the name of a file, escaped, and a colon by its number

@@ -3,8 +3,8 @@ ghost use Rattle.std.specs.Prelude.{◌≡◌, ◌||◌, codes};
 ghost use Rattle.std.specs.Str.{bytes_eq};
 ghost use Rattle.garde_places.specs.Fault.{speaks_of_name};
 
-use crate::place::Place;
 use garde_report::{Error, Path};
+use garde_tape::Place;
 
 /// A fault of a report, and where it stands in the text.
 #[derive(Clone, Copy, Debug, Drop)]

@@ -1,10 +1,10 @@
 //! An index of the names of wide objects.
-ghost use Rattle.std.specs.Prelude.{◌≡◌, ◌+◌, ◌<◌, List, map, length, drop, IfOk};
+ghost use Rattle.std.specs.Prelude.{◌≡◌, ◌+◌, ◌<◌, List, map, length, drop, IfOk, OnOk};
 ghost use Rattle.json.specs.Json.{Members as SpecMembers};
 ghost use Rattle.json.specs.Token.{Token};
 ghost use Rattle.json.specs.Tape.{node_token, Linked};
 ghost use Rattle.garde_places.specs.Steps.{SpellMembers, member_spot};
-ghost use Rattle.garde_places.specs.Index.{AreNames, IndexHolds};
+ghost use Rattle.garde_places.specs.Index.{AreNames, IndexHolds, Knows};
 
 use crate::walk::{after, member_at};
 use json::Node;
@@ -71,31 +71,31 @@ impl<'a> Index<'a> {
         }
     }
 
-    /// Lists the names of the members that begin at a node, while memory lasts.
-    fn learn(&mut self, nodes: &[Node<'a>], at: usize)
+    /// Lists the names of the members that begin at a node, once.
+    fn learn(&mut self, nodes: &[Node<'a>], at: usize) -> Result<(), AllocError>
         requires links { Linked (map node_token nodes.now) 0 nodes.now }
         requires holds { IndexHolds (map node_token nodes.now) self.old }
-        ensures { IndexHolds (map node_token nodes.now) self.new }
+        ensures ok { OnOk result (Knows self.new at) }
+        ensures holds { IndexHolds (map node_token nodes.now) self.new }
     {
         if self.wide.contains_key(&at) {
-            return;
+            return Ok(());
         }
-        if let Ok(names) = names_from(self.alloc, nodes, at) {
-            let _kept = self.wide.insert(at, names);
-        }
+        let names = names_from(self.alloc, nodes, at)?;
+        self.wide.insert(at, names)?;
+        Ok(())
     }
 
-    /// The value that the index has for a name, among the members that begin at a node, or else the one
-    /// that the walk finds.
+    /// The value that the index has for a name, among the members that begin at a node.
     fn look_up(&self, nodes: &[Node<'a>], at: usize, name: &str) -> Option<usize>
-        requires links { Linked (map node_token nodes.now) 0 nodes.now }
+        requires known { Knows self.now at }
         requires holds { IndexHolds (map node_token nodes.now) self.now }
         ensures { (ms : SpecMembers) → SpellMembers (drop at (map node_token nodes.now)) ms
             → result ≡ member_spot at name.now ms }
     {
         match self.wide.get(&at) {
             Some(names) => names.get(name).copied(),
-            None => member_at(nodes, at, name),
+            None => unreachable!(),
         }
     }
 
@@ -115,7 +115,9 @@ impl<'a> Index<'a> {
             self.walks += 1;
             return member_at(nodes, object + 1, name);
         }
-        self.learn(nodes, object + 1);
-        self.look_up(nodes, object + 1, name)
+        match self.learn(nodes, object + 1) {
+            Ok(()) => self.look_up(nodes, object + 1, name),
+            Err(_) => member_at(nodes, object + 1, name),
+        }
     }
 }

@@ -1,7 +1,6 @@
 //! Where in a JSON text the faults of a report stand: the line and the column of each.
 #![tactic(auto)]
 
-mod asked;
 mod escape;
 mod fault;
 mod find;
@@ -11,30 +10,23 @@ mod index;
 mod json_line;
 mod lex;
 mod listed;
-mod literal;
 mod order;
-mod place;
 mod places;
 mod printed;
 mod report;
 mod scan;
 mod short;
-mod stop;
-mod string;
-mod syntax;
 mod walk;
 mod way;
 
-pub use asked::Asked;
 pub use fault::Fault;
 pub use format::Format;
+pub use garde_tape::{Place, Stop, place_of_byte, stop_of, stop_of_utf8};
 pub use github::GitHub;
 pub use json_line::JsonLine;
 pub use listed::ListedPlaces;
 pub use order::sort_by_place;
-pub use place::Place;
 pub use places::Places;
 pub use printed::Printed;
 pub use report::{faults_of, listed_faults_of};
 pub use short::Short;
-pub use stop::{Stop, place_of_byte, stop_of, stop_of_utf8};

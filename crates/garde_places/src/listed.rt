@@ -2,18 +2,17 @@
 ghost use Rattle.std.specs.Prelude.{◌≡◌, ◌≤◌, length, map, slice_index_or, Some, IfOk, IsOk};
 ghost use Rattle.json.specs.Json.{Json, document};
 ghost use Rattle.garde_tape.specs.Reading.{json_of};
-ghost use Rattle.garde_places.specs.Scan.{text_start};
+ghost use Rattle.garde_tape.specs.Place.{text_start};
 ghost use Rattle.garde_places.specs.Fault.{fault_entry};
 ghost use Rattle.garde_places.specs.Listed.{AreListed, IsFaultSpot, IsSpotBy};
 
 use crate::fault::{Fault, speaks_of_name};
 use crate::find::{Mark, find_token, no_marks};
 use crate::index::Index;
-use crate::place::Place;
 use crate::way::way_of;
 use garde_problem::Coded;
 use garde_report::{Error, Path, Report};
-use garde_tape::Tape;
+use garde_tape::{Place, Tape};
 use json::Node;
 use std::alloc::{AllocError, Global};
 use std::marker::Model;
@@ -31,7 +30,7 @@ pub struct ListedPlaces<'t, 'a> {
 
 impl<'t, 'a> Model for ListedPlaces<'t, 'a> {
     ghost use Rattle.std.specs.Prelude.{ℕ, List};
-    ghost use Rattle.garde_places.specs.declared.place.Place.{Place};
+    ghost use Rattle.garde_tape.specs.declared.place.Place.{Place};
     ghost use Rattle.garde_places.specs.Listed.{IsTapeOf};
 
     ghost Value = { List ℕ × List Place };

@@ -7,10 +7,9 @@ ghost use Rattle.garde_places.specs.Fault.{ArePlaced, IsFaultPlace, fault_entry}
 
 use crate::fault::Fault;
 use crate::listed::ListedPlaces;
-use crate::place::Place;
 use crate::scan::scan;
 use garde_report::{Error, Path, Report};
-use garde_tape::Tape;
+use garde_tape::{Place, Tape};
 use std::alloc::{AllocError, Global};
 use std::marker::Model;
 
@@ -23,7 +22,8 @@ pub struct Places<'t, 'a> {
 
 impl<'t, 'a> Model for Places<'t, 'a> {
     ghost use Rattle.std.specs.Prelude.{◌≡◌, ℕ, List};
-    ghost use Rattle.garde_places.specs.Scan.{spots, text_start};
+    ghost use Rattle.garde_places.specs.Scan.{spots};
+    ghost use Rattle.garde_tape.specs.Place.{text_start};
     ghost use Rattle.garde_places.specs.declared.lex.Mode.TheVariants.{Between};
 
     ghost Value = { List ℕ };

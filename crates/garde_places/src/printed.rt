@@ -9,8 +9,8 @@ ghost use Rattle.garde_places.specs.declared.format.Format.TheVariants.{Json as 
 use crate::fault::Fault;
 use crate::format::Format;
 use crate::order::sort_by_place;
-use crate::place::Place;
 use garde_report::{Error, Path};
+use garde_tape::Place;
 use std::alloc::{AllocError, Global};
 
 /// How the faults of an input are printed: in which format, and under which name of a file.

@@ -7,10 +7,9 @@ ghost use Rattle.garde_places.specs.Listed.{AreListed};
 
 use crate::fault::Fault;
 use crate::listed::ListedPlaces;
-use crate::place::Place;
 use crate::scan::scan;
 use garde_report::Report;
-use garde_tape::{ParseError, Scratch, Tape, parse};
+use garde_tape::{ParseError, Place, Scratch, Tape, parse};
 use std::alloc::Global;
 
 /// The faults of a report of a JSON text, in its order, each with its place, as `Places::locate_all` has

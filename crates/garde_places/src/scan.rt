@@ -1,10 +1,11 @@
 //! The places of all tokens, in one pass over the text.
 ghost use Rattle.std.specs.Prelude.{◌≡◌, ◌≤◌, length, IfOk};
-ghost use Rattle.garde_places.specs.Scan.{spots, text_start};
+ghost use Rattle.garde_places.specs.Scan.{spots};
+ghost use Rattle.garde_tape.specs.Place.{text_start};
 ghost use Rattle.garde_places.specs.declared.lex.Mode.TheVariants.{Between as FromBetween};
 
 use crate::lex::Mode;
-use crate::place::Place;
+use garde_tape::Place;
 use std::alloc::{AllocError, Global};
 
 /// The place of each token, in the order of the text.

@@ -6,9 +6,9 @@ ghost use Rattle.garde_places.specs.Short.{file_text, short_text, spot_text, tol
 
 use crate::escape::{Escape, write_text};
 use crate::fault::Fault;
-use crate::place::Place;
 use garde_problem::{Coded, Escaped};
 use garde_report::Path;
+use garde_tape::Place;
 use std::alloc::{AllocError, Global};
 use std::fmt;
 
@@ -41,7 +41,7 @@ fn write_spot<W: fmt::Write>(place: Place, f: &mut fmt::Formatter<W>) -> fmt::Re
 }
 
 /// A text with what is not shown escaped. It is escaped as a path of one key is.
-fn escaped(alloc: Global, text: &str) -> Result<String, AllocError>
+pub(crate) fn escaped(alloc: Global, text: &str) -> Result<String, AllocError>
     ensures { IfOk result (λ s. string_bytes s ≡ escaped_text text.now) }
 {
     let path = Path::new(alloc, text)?;

@@ -10,10 +10,10 @@ use Rattle.garde.specs.declared.validate_error.ValidateError.TheVariants as erro
 use Rattle.garde_rows.specs.Rows.{AnswersRow}
 
 -- the answer on a tree is that on the row that it is
-pub answers_row : (visits : Json → Visits) (text : Datum → List ℕ) (tree row : Json) (r : Result (Unit {0}) ValidateError) → tree ≡ row → Answers (visits tree) text r → AnswersRow (visits row) text r
-answers_row visits text tree row (Ok done) is told = subst (λ j. Answers (visits j) text (Ok done)) is told
-answers_row visits text tree row (Err (errors.Report report)) is told = subst (λ j. Answers (visits j) text (Err (errors.Report report))) is told
-answers_row visits text tree row (Err errors.Memory) is told = tt
+pub answers_row : (columns : List (List ℕ)) (visits : Json → Visits) (text : Datum → List ℕ) (tree row : Json) (r : Result (Unit {0}) ValidateError) → tree ≡ row → Answers (visits tree) text r → AnswersRow columns (visits row) text r
+answers_row columns visits text tree row (Ok done) is told = subst (λ j. Answers (visits j) text (Ok done)) is told
+answers_row columns visits text tree row (Err (errors.Report report)) is told = subst (λ j. Answers (visits j) text (Err (errors.Report report))) is told
+answers_row columns visits text tree row (Err errors.Memory) is told = λ near. subst (λ j. Answers (visits j) text (Err errors.Memory)) is told
 
 value_there : {A : Type 0} (whole : Bool) (value : Option A) (out : A) → (if whole then value else None) ≡ Some out → value ≡ Some out
 value_there true value out is = is

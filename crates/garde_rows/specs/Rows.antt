@@ -1,5 +1,5 @@
 -- What a table of columns and rows spells, and what is asked of it.
-use Rattle.std.specs.Prelude.{◌==◌, ⊤, ℕ, List, [], ◌∷◌, length, zip, Bool, true, false, Result, Ok, Err}
+use Rattle.std.specs.Prelude.{◌==◌, ◌≤◌, ℕ, List, [], ◌∷◌, length, zip, Bool, true, false, Result, Ok, Err}
 use Rattle.std.specs.Borrow.{Bor}
 use Rattle.std.specs.List.{list_any}
 use Rattle.std.specs.Str.{bytes_eq}
@@ -53,8 +53,8 @@ abbrev pub header_visits : (Json → Visits) → (List ℕ → Bool) → FormTex
 header_visits visits names texts header =
     visits (row_json header header) and unknown names texts (members_in (row_json header header))
 
--- The result of reading a row or a header. No reason is promised for `Memory`.
-abbrev pub AnswersRow : Visits → (Datum → List ℕ) → Result (Unit {0}) ValidateError → Type 0
-AnswersRow visits text (Ok done) = Answers visits text (Ok done)
-AnswersRow visits text (Err (errors.Report report)) = Answers visits text (Err (errors.Report report))
-AnswersRow visits text (Err errors.Memory) = ⊤
+-- The result of reading a row or a header with these columns. Of more than eight no reason is promised for `Memory`.
+abbrev pub AnswersRow : List (List ℕ) → Visits → (Datum → List ℕ) → Result (Unit {0}) ValidateError → Type 0
+AnswersRow columns visits text (Ok done) = Answers visits text (Ok done)
+AnswersRow columns visits text (Err (errors.Report report)) = Answers visits text (Err (errors.Report report))
+AnswersRow columns visits text (Err errors.Memory) = length columns ≤ 8 → Answers visits text (Err errors.Memory)

@@ -4,7 +4,7 @@ ghost use Rattle.csv.specs.Records.{fields_of};
 ghost use Rattle.garde_schema.specs.Forms.{forget};
 ghost use Rattle.garde_rows.specs.Rows.{AnswersRow, header_visits};
 
-use crate::fields::row_fields;
+use crate::fields::{ROOM, fill};
 use csv::StringRecord;
 use garde::{I18n, ValidateError};
 use garde_schema::{Closed, FormI18n, Members, Object, Tree, read};
@@ -37,17 +37,18 @@ pub fn read_columns<'a, M: Members<'a> + Drop, H: I18n + FormI18n>(
     known: M,
     h: &H,
 ) -> Result<Columns<'a>, ValidateError>
-    ensures answer { AnswersRow
+    ensures answer { AnswersRow (fields_of header.now)
         (header_visits (λ j. M.visits known (H.form_text h.now) j) (λ name. M.names known name)
         (H.form_text h.now) (fields_of header.now))
         (H.text h.now) (forget result) }
     ensures columns { IfOk result (λ columns. columns ≡ fields_of header.now) }
 {
-    let Ok(fields) = row_fields(alloc, header, header) else {
+    let mut room = ROOM;
+    let Ok(filled) = fill(alloc, header, header, &mut room) else {
         return Err(ValidateError::Memory);
     };
     let form = Object(Closed(known));
-    match read(alloc, &form, &Tree::fields(fields.as_slice()), h) {
+    match read(alloc, &form, &Tree::fields(filled.held_in(&room)), h) {
         Ok(_) => Ok(Columns { header }),
         Err(error) => Err(error),
     }

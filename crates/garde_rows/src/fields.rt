@@ -1,5 +1,5 @@
 //! The cells of a row under the names of its columns.
-ghost use Rattle.std.specs.Prelude.{◌≡◌, ◌≤◌, IfOk, length, take};
+ghost use Rattle.std.specs.Prelude.{◌≡◌, ◌≤◌, IfOk, IsOk, length, take};
 ghost use Rattle.csv.specs.Records.{fields_of};
 ghost use Rattle.json.specs.Json.{object};
 ghost use Rattle.garde_tape.specs.Texts.{field_members};
@@ -14,7 +14,7 @@ use std::alloc::{AllocError, Global};
 pub(crate) type Field<'a> = (&'a str, FieldValue<'a, 'a>);
 
 // A field for each column and its cell, in the order of the columns. The texts stay where they lie.
-pub(crate) fn row_fields<'a>(
+fn row_fields<'a>(
     alloc: Global,
     columns: &'a StringRecord,
     cells: &'a StringRecord,
@@ -70,6 +70,7 @@ pub(crate) fn fill<'a>(
     near: &mut [Field<'a>; 8],
 ) -> Result<Filled<'a>, AllocError>
     ensures within { IfOk result IsWithin }
+    ensures near { length (fields_of columns.now) ≤ 8 → IsOk result }
     ensures fields { IfOk result (λ filled. object (field_members (held filled near.new))
         ≡ row_json (fields_of columns.now) (fields_of cells.now)) }
 {

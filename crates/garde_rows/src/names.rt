@@ -8,15 +8,14 @@ ghost use Rattle.garde_rows.specs.Rows.{each_known, is_among};
 
 use garde::{I18n, Report, Trail};
 use garde_schema::{Any, FormI18n, Member, Members, Tree};
-use std::alloc::{AllocError, Global};
+use std::alloc::AllocError;
 
 /// Members of these names, each of which has to be there once. Their values are not read.
-#[derive(Clone, Copy)]
+#[derive(Clone, Copy, Debug)]
 pub struct Names(pub &'static [&'static str]);
 
 // Puts a fault under the name of a column that is missing or repeated.
 fn check_name<'t, 'a, H: I18n + FormI18n>(
-    alloc: Global,
     name: &'a str,
     header: &Tree<'t, 'a>,
     trail: &mut Trail<'a>,
@@ -27,7 +26,7 @@ fn check_name<'t, 'a, H: I18n + FormI18n>(
         (member_visits (H.form_text h.now) (λ _. none) (find_answer name.now header.now)))
         (H.text h.now) trail.old trail.new report.old report.new result }
 {
-    match Member(name, Any).read_members(alloc, header, trail, report, h) {
+    match Member(name, Any).read_members(header, trail, report, h) {
         Ok(_) => Ok(()),
         Err(refused) => Err(refused),
     }
@@ -35,7 +34,6 @@ fn check_name<'t, 'a, H: I18n + FormI18n>(
 
 // Puts a fault under the name of each of these columns that is missing or repeated.
 fn check_names<'t, 'a, H: I18n + FormI18n>(
-    alloc: Global,
     names: &'static [&'static str],
     header: &Tree<'t, 'a>,
     trail: &mut Trail<'a>,
@@ -46,7 +44,7 @@ fn check_names<'t, 'a, H: I18n + FormI18n>(
         (H.text h.now) trail.old trail.new report.old report.new result }
 {
     for name in names {
-        check_name(alloc, name, header, trail, report, h)?;
+        check_name(name, header, trail, report, h)?;
     }
     Ok(())
 }
@@ -64,13 +62,12 @@ impl<'a> Members<'a> for Names {
 
     fn read_members<'t, H: I18n + FormI18n>(
         &self,
-        alloc: Global,
         object: &Tree<'t, 'a>,
         trail: &mut Trail<'a>,
         report: &mut Report,
         h: &H,
     ) -> Result<Option<()>, AllocError> {
-        match check_names(alloc, self.0, object, trail, report, h) {
+        match check_names(self.0, object, trail, report, h) {
             Ok(()) => Ok(Some(())),
             Err(refused) => Err(refused),
         }

@@ -6,12 +6,11 @@ ghost use Rattle.garde_schema.specs.declared.fault.FormFault.TheVariants.{RowLen
 
 use garde::{I18n, Report, RuleError, Trail};
 use garde_schema::{FormFault, FormI18n};
-use std::alloc::{AllocError, Global};
+use std::alloc::AllocError;
 
 // Puts the fault of a row with more or fewer cells than there are columns where the trail leads.
 #[inline(never)]
 pub(crate) fn put_other_count<'a, H: I18n + FormI18n>(
-    alloc: Global,
     trail: &mut Trail<'a>,
     report: &mut Report,
     h: &H,
@@ -19,6 +18,7 @@ pub(crate) fn put_other_count<'a, H: I18n + FormI18n>(
     ensures { Visited (refused (H.form_text h.now RowLength)) (H.text h.now)
         trail.old trail.new report.old report.new result }
 {
+    let alloc = trail.alloc();
     let text = h.form_fault(alloc, FormFault::RowLength);
     trail.put(report, Err(RuleError::of(alloc, text)))
 }

@@ -25,6 +25,8 @@ fn is_whole(columns: &Columns<'_>, cells: &StringRecord) -> bool
 /// The form sees an object with a member for each column, in the order of the header, whose value is
 /// the text of the cell. A row with more or fewer cells than there are columns is one fault, and the
 /// form is not asked. The value borrows from the cells and from the header.
+///
+/// A row of at most eight columns is read with no allocation but those of its faults and of its rules.
 pub fn read_row<'a, 'c: 'a, F: Form<'a>, H: I18n + FormI18n>(
     alloc: Global,
     index: usize,
@@ -33,7 +35,7 @@ pub fn read_row<'a, 'c: 'a, F: Form<'a>, H: I18n + FormI18n>(
     form: &F,
     h: &H,
 ) -> Result<F::Out, ValidateError>
-    ensures answer { AnswersRow
+    ensures answer { AnswersRow columns.now
         (row_visits index (H.form_text h.now) (λ j. F.visits form.now (H.form_text h.now) j) columns.now (fields_of cells.now))
         (H.text h.now) (forget result) }
     ensures whole { IfOk result (λ out. is_whole columns.now (fields_of cells.now) ≡ true) }

@@ -8,7 +8,7 @@ ghost use Rattle.garde_rows.specs.Rows.{if_whole};
 use crate::put::put_other_count;
 use garde::{Component, I18n, Report, Trail};
 use garde_schema::{Form, FormI18n, Tree};
-use std::alloc::{AllocError, Global};
+use std::alloc::AllocError;
 
 // A row, under its index: this form where it has a cell for each column and no more, else a fault.
 #[derive(Drop)]
@@ -20,7 +20,6 @@ pub(crate) struct RowForm<'f, F> {
 
 // Reads the row, where it is whole.
 fn read_cells<'t, 'a, F: Form<'a>, H: I18n + FormI18n>(
-    alloc: Global,
     row: &RowForm<'_, F>,
     tree: &Tree<'t, 'a>,
     trail: &mut Trail<'a>,
@@ -36,9 +35,9 @@ fn read_cells<'t, 'a, F: Form<'a>, H: I18n + FormI18n>(
         (if row.now.is_whole then F.value row.now.form.now tree.now else None)) }
 {
     if row.is_whole {
-        return row.form.read(alloc, tree, trail, report, h);
+        return row.form.read(tree, trail, report, h);
     }
-    match put_other_count(alloc, trail, report, h) {
+    match put_other_count(trail, report, h) {
         Ok(()) => Ok(None),
         Err(refused) => Err(refused),
     }
@@ -57,14 +56,13 @@ impl<'a, 'f, F: Form<'a>> Form<'a> for RowForm<'f, F> {
 
     fn read<'t, H: I18n + FormI18n>(
         &self,
-        alloc: Global,
         tree: &Tree<'t, 'a>,
         trail: &mut Trail<'a>,
         report: &mut Report,
         h: &H,
     ) -> Result<Option<F::Out>, AllocError> {
         trail.push(Component::index(self.index))?;
-        let value = read_cells(alloc, self, tree, trail, report, h);
+        let value = read_cells(self, tree, trail, report, h);
         trail.pop();
         value
     }

@@ -32,7 +32,7 @@ bytes_of_whole : (visits : Json → Visits) (text : Datum → List ℕ) (bytes :
 bytes_of_whole visits text bytes (Parse e) told whole = told
 bytes_of_whole visits text bytes (All r) told whole = (told.0, some_more _ _ (document bytes) (λ j. λ holds. holds.1) told.1)
 bytes_of_whole visits text bytes (First r) told whole = let never : 2 ^ 64 - 1 < 2 ^ 64 - 1 = whole tt in absurd (omega (arith, never))
-bytes_of_whole visits text bytes Memory told whole = tt
+bytes_of_whole visits text bytes Memory told whole = told
 
 -- the error of bytes
 pub bytes_answer_whole : (visits : Json → Visits) (text : Datum → List ℕ) (bytes : List ℕ) (error : FirstReadError) {all : ReadError} → all ≡ whole_read_error error → AnswersFirstBytes visits text (2 ^ 64 - 1) bytes (Err error) → (IsFirstRead (Err error) → 2 ^ 64 - 1 < 2 ^ 64 - 1) → AnswersBytes visits text bytes (Err all)

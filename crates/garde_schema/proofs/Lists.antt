@@ -113,7 +113,7 @@ all_end P left end = subst (λ l. All P l) (sym end) (All-nil P)
 
 -- ---- visits
 
-pub then_nothing : (t : Tree) → (t then nothing) ≡ t
+then_nothing : (t : Tree) → (t then nothing) ≡ t
 then_nothing nothing = refl
 then_nothing (fault f t) = ap (λ s. fault f s) (then_nothing t)
 then_nothing (node k s t) = ap (λ u. node k s u) (then_nothing t)

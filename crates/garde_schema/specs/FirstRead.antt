@@ -1,5 +1,5 @@
 -- What reading bytes returns, with at most so many faults.
-use Rattle.std.specs.Prelude.{⊤, ℕ, List, ◌++◌, Result, Ok, Err, codes}
+use Rattle.std.specs.Prelude.{⊤, ℕ, List, ◌++◌, Result, Ok, Err, codes, IsUtf8}
 use Rattle.json.specs.Json.{Json}
 use Rattle.garde_i18n.specs.Datum.{Datum}
 use Rattle.garde_report.specs.Report.{report_text}
@@ -17,13 +17,13 @@ use Rattle.garde_schema.specs.declared.read_error.ReadError.{ReadError}
 use Rattle.garde_schema.specs.declared.read_error.ReadError.TheVariants as wholes
 
 -- The result. Where the bytes are a JSON text it is that of at most so many faults of its value. `Memory` is the answer of the
--- parser or of the walk: no reason is promised for it.
+-- parser or of the walk: no more is promised of it than that the bytes are UTF-8.
 abbrev pub AnswersFirstBytes : (Json → Visits) → (Datum → List ℕ) → ℕ → List ℕ → Result (Unit {0}) FirstReadError → Type 0
 AnswersFirstBytes visits text most bytes (Ok done) = OfDocument bytes (λ j. AnswersFirst (visits j) text most (Ok done))
 AnswersFirstBytes visits text most bytes (Err (Parse error)) = NoDocument bytes error
 AnswersFirstBytes visits text most bytes (Err (All report)) = OfDocument bytes (λ j. AnswersFirst (visits j) text most (Err (firsts.All report)))
 AnswersFirstBytes visits text most bytes (Err (First report)) = OfDocument bytes (λ j. AnswersFirst (visits j) text most (Err (firsts.First report)))
-AnswersFirstBytes visits text most bytes (Err Memory) = ⊤
+AnswersFirstBytes visits text most bytes (Err Memory) = IsUtf8 bytes
 
 -- the error of the parser, as one of reading
 abbrev pub first_of_parse_error : ParseError → FirstReadError

@@ -1,4 +1,3 @@
-pub mod AsksNothing
 pub mod Bound
 pub mod Bytes
 pub mod Choice

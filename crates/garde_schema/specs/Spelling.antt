@@ -19,7 +19,7 @@ use Rattle.garde_schema.specs.Bytes.{OfDocument}
 use Rattle.garde_schema.specs.Flat.{all3, all4, all5, all6}
 use Rattle.garde_schema.specs.Forms.{FormTexts, formed, both}
 use Rattle.garde_schema.specs.Lists.{list_of, each_item, all_values}
-use Rattle.garde_schema.specs.Maps.{map_of, members_first, each_entry, entry_value, names_of}
+use Rattle.garde_schema.specs.Maps.{map_of, members_first, each_entry, entry_value}
 use Rattle.garde_schema.specs.Members.{once, member_visits, members_in, optional_value, optional_visits, unknown}
 use Rattle.garde_schema.specs.Nulls.{default_value, nullable_value, nullable_visits, unless_null}
 use Rattle.garde_schema.specs.OneOf.{one_of_fault}
@@ -182,16 +182,6 @@ a_map_of asks item = record {
   value = λ j. (a_map item).value j;
   visits = λ texts j. formed (texts (Wrong wanted.Object (kind_of j)))
       (λ ms. asks (length ms) and each_entry texts (λ v. item.visits texts v) (members_first ms)) (map_of j);
-}
-
--- The same under rules of how many members it has and rules of their names. Those of the names are asked where each value is spelled
--- and no name is repeated.
-abbrev pub a_map_under : {A : Type 0} → (ℕ → Visits) → (List (List ℕ) → Visits) → Spelling A → Spelling (List (List ℕ × A))
-a_map_under counts names item = record {
-  value = λ j. (a_map item).value j;
-  visits = λ texts j. formed (texts (Wrong wanted.Object (kind_of j)))
-      (λ ms. (counts (length ms) and each_entry texts (λ v. item.visits texts v) (members_first ms))
-      and rules_on_value (λ v. names (names_of v)) (all_values (entry_value (λ v. item.value v)) (members_first ms))) (map_of j);
 }
 
 -- a value under rules, which are asked where the value is spelled

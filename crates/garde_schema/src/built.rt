@@ -5,7 +5,7 @@ use crate::form::{Form, Members};
 use crate::handler::FormI18n;
 use garde::{I18n, Report, Trail};
 use garde_tape::Tree;
-use std::alloc::{AllocError, Global};
+use std::alloc::AllocError;
 use std::marker::PhantomData;
 
 /// A type of yours, whose values are made of the value of a form.
@@ -48,13 +48,12 @@ impl<'a, T: FromParts, F: Form<'a, Out = T::Parts>> Form<'a> for Built<'a, F, T>
 
     fn read<'t, H: I18n + FormI18n>(
         &self,
-        alloc: Global,
         tree: &Tree<'t, 'a>,
         trail: &mut Trail<'a>,
         report: &mut Report,
         h: &H,
     ) -> Result<Option<T>, AllocError> {
-        match self.0.read(alloc, tree, trail, report, h) {
+        match self.0.read(tree, trail, report, h) {
             Ok(Some(parts)) => Ok(Some(T::from_parts(parts))),
             Ok(None) => Ok(None),
             Err(refused) => Err(refused),
@@ -76,13 +75,12 @@ impl<'a, T: FromParts, M: Members<'a, Out = T::Parts>> Members<'a> for Built<'a,
 
     fn read_members<'t, H: I18n + FormI18n>(
         &self,
-        alloc: Global,
         object: &Tree<'t, 'a>,
         trail: &mut Trail<'a>,
         report: &mut Report,
         h: &H,
     ) -> Result<Option<T>, AllocError> {
-        match self.0.read_members(alloc, object, trail, report, h) {
+        match self.0.read_members(object, trail, report, h) {
             Ok(Some(parts)) => Ok(Some(T::from_parts(parts))),
             Ok(None) => Ok(None),
             Err(refused) => Err(refused),

@@ -12,7 +12,7 @@ use crate::put::with;
 use garde::fields::{DiscreetRules, Rules, ask_under};
 use garde::{Component, I18n, Report, Trail};
 use garde_tape::Tree;
-use std::alloc::{AllocError, Global};
+use std::alloc::AllocError;
 
 /// This form, or these members, and then rules on the whole value.
 ///
@@ -25,7 +25,6 @@ pub struct Checked<F, R>(pub F, pub R);
 
 // Asks the rules of the value, where there is one.
 fn ask_value<'a, T, R: Rules<T>, H: I18n>(
-    alloc: Global,
     rules: &R,
     value: &Option<T>,
     trail: &mut Trail<'a>,
@@ -36,7 +35,7 @@ fn ask_value<'a, T, R: Rules<T>, H: I18n>(
         trail.old trail.new report.old report.new result }
 {
     match value {
-        Some(value) => rules.ask(alloc, value, trail, report, h),
+        Some(value) => rules.ask(value, trail, report, h),
         None => Ok(()),
     }
 }
@@ -53,14 +52,13 @@ impl<'a, F: Form<'a>, R: Rules<F::Out>> Form<'a> for Checked<F, R> {
 
     fn read<'t, H: I18n + FormI18n>(
         &self,
-        alloc: Global,
         tree: &Tree<'t, 'a>,
         trail: &mut Trail<'a>,
         report: &mut Report,
         h: &H,
     ) -> Result<Option<F::Out>, AllocError> {
-        let value = self.0.read(alloc, tree, trail, report, h)?;
-        let told = ask_value(alloc, &self.1, &value, trail, report, h);
+        let value = self.0.read(tree, trail, report, h)?;
+        let told = ask_value(&self.1, &value, trail, report, h);
         with(told, value)
     }
 }
@@ -79,14 +77,13 @@ impl<'a, M: Members<'a>, R: Rules<M::Out>> Members<'a> for Checked<M, R> {
 
     fn read_members<'t, H: I18n + FormI18n>(
         &self,
-        alloc: Global,
         object: &Tree<'t, 'a>,
         trail: &mut Trail<'a>,
         report: &mut Report,
         h: &H,
     ) -> Result<Option<M::Out>, AllocError> {
-        let value = self.0.read_members(alloc, object, trail, report, h)?;
-        let told = ask_value(alloc, &self.1, &value, trail, report, h);
+        let value = self.0.read_members(object, trail, report, h)?;
+        let told = ask_value(&self.1, &value, trail, report, h);
         with(told, value)
     }
 
@@ -105,21 +102,12 @@ impl<T, R: Rules<T>> Rules<T> for Under<R> {
 
     fn ask<'a, H: I18n>(
         &self,
-        alloc: Global,
         value: &T,
         trail: &mut Trail<'a>,
         report: &mut Report,
         h: &H,
     ) -> Result<(), AllocError> {
-        ask_under(
-            alloc,
-            Component::key(self.0),
-            &self.1,
-            value,
-            trail,
-            report,
-            h,
-        )
+        ask_under(Component::key(self.0), &self.1, value, trail, report, h)
     }
 }
 

@@ -10,7 +10,7 @@ use crate::test::Test;
 use crate::variants::{left, right};
 use garde::{I18n, Report, Trail};
 use garde_tape::Tree;
-use std::alloc::{AllocError, Global};
+use std::alloc::AllocError;
 
 /// A value of the first form where the test holds of it, and else one of the second. The value is an
 /// `Either`.
@@ -45,15 +45,14 @@ impl<'a, T: Test, A: Form<'a>, B: Form<'a>> Form<'a> for Choice<T, A, B> {
 
     fn read<'t, H: I18n + FormI18n>(
         &self,
-        alloc: Global,
         tree: &Tree<'t, 'a>,
         trail: &mut Trail<'a>,
         report: &mut Report,
         h: &H,
     ) -> Result<Option<Either<A::Out, B::Out>>, AllocError> {
         match side(&self.0, tree) {
-            Either::Left(()) => left(self.1.read(alloc, tree, trail, report, h)),
-            Either::Right(()) => right(self.2.read(alloc, tree, trail, report, h)),
+            Either::Left(()) => left(self.1.read(tree, trail, report, h)),
+            Either::Right(()) => right(self.2.read(tree, trail, report, h)),
         }
     }
 }

@@ -9,7 +9,7 @@ use crate::handler::FormI18n;
 use crate::put::{put_under, with};
 use garde::{I18n, Report, Trail};
 use garde_tape::{Tree, TreeMembers};
-use std::alloc::{AllocError, Global};
+use std::alloc::AllocError;
 
 /// These members and no other: each that is not named is a fault under its name, after the faults of
 /// the named, in the order of the tree.
@@ -18,7 +18,6 @@ pub struct Closed<M>(pub M);
 
 // Puts a fault under the name of a member that is not named.
 fn check_name<'a, M: Members<'a>, H: I18n + FormI18n>(
-    alloc: Global,
     named: &M,
     name: &'a str,
     trail: &mut Trail<'a>,
@@ -31,13 +30,12 @@ fn check_name<'a, M: Members<'a>, H: I18n + FormI18n>(
     if named.names(name) {
         Ok(())
     } else {
-        put_under(alloc, name, FormFault::Unknown, trail, report, h)
+        put_under(name, FormFault::Unknown, trail, report, h)
     }
 }
 
 // Puts a fault under the name of each of these members that is not named.
 fn check_names<'t, 'a, M: Members<'a>, H: I18n + FormI18n>(
-    alloc: Global,
     named: &M,
     members: TreeMembers<'t, 'a>,
     trail: &mut Trail<'a>,
@@ -49,14 +47,13 @@ fn check_names<'t, 'a, M: Members<'a>, H: I18n + FormI18n>(
 {
     let mut left = members;
     while let Some((name, _)) = left.next() {
-        check_name(alloc, named, name, trail, report, h)?;
+        check_name(named, name, trail, report, h)?;
     }
     Ok(())
 }
 
 // Puts a fault under the name of each member of the object that is not named.
 pub(crate) fn check_members<'t, 'a, M: Members<'a>, H: I18n + FormI18n>(
-    alloc: Global,
     named: &M,
     object: &Tree<'t, 'a>,
     trail: &mut Trail<'a>,
@@ -68,7 +65,7 @@ pub(crate) fn check_members<'t, 'a, M: Members<'a>, H: I18n + FormI18n>(
         (H.text h.now) trail.old trail.new report.old report.new result }
 {
     match object.members() {
-        Some(members) => check_names(alloc, named, members, trail, report, h),
+        Some(members) => check_names(named, members, trail, report, h),
         None => Ok(()),
     }
 }
@@ -87,14 +84,13 @@ impl<'a, M: Members<'a>> Members<'a> for Closed<M> {
 
     fn read_members<'t, H: I18n + FormI18n>(
         &self,
-        alloc: Global,
         object: &Tree<'t, 'a>,
         trail: &mut Trail<'a>,
         report: &mut Report,
         h: &H,
     ) -> Result<Option<M::Out>, AllocError> {
-        let value = self.0.read_members(alloc, object, trail, report, h)?;
-        let told = check_members(alloc, &self.0, object, trail, report, h);
+        let value = self.0.read_members(object, trail, report, h)?;
+        let told = check_members(&self.0, object, trail, report, h);
         with(told, value)
     }
 

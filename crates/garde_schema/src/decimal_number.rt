@@ -48,10 +48,7 @@ impl Rule<()> for NoNumber {
 fn decimal_of<'a>(tree: &Tree<'_, 'a>) -> Option<Decimal<'a>>
     ensures { result ≡ decimal_value tree.now }
 {
-    match tree.as_number() {
-        Some(text) => Decimal::read(text),
-        None => None,
-    }
+    Decimal::read(tree.as_number()?)
 }
 
 /// A number under these rules, for instance `DecimalNumber(Is(decimal_range!(min = "0.5")))`. The
@@ -73,7 +70,6 @@ impl<'a, R: Rules<Decimal<'a>>> Form<'a> for DecimalNumber<R> {
 
     fn read<'t, H: I18n + FormI18n>(
         &self,
-        alloc: Global,
         tree: &Tree<'t, 'a>,
         trail: &mut Trail<'a>,
         report: &mut Report,
@@ -81,10 +77,10 @@ impl<'a, R: Rules<Decimal<'a>>> Form<'a> for DecimalNumber<R> {
     ) -> Result<Option<Decimal<'a>>, AllocError> {
         match decimal_of(tree) {
             Some(number) => {
-                let told = self.0.ask(alloc, &number, trail, report, h);
+                let told = self.0.ask(&number, trail, report, h);
                 with(told, Some(number))
             }
-            None => with(Is(NoNumber).ask(alloc, &(), trail, report, h), None),
+            None => with(Is(NoNumber).ask(&(), trail, report, h), None),
         }
     }
 }

@@ -7,7 +7,7 @@ ghost use Rattle.garde_schema.specs.Forms.{FormTexts, forget, Sound};
 use crate::handler::FormI18n;
 use garde::{I18n, Report, Trail};
 use garde_tape::Tree;
-use std::alloc::{AllocError, Global};
+use std::alloc::AllocError;
 
 /// The form of a tree, with the rules on what has it, and the value that is read.
 pub trait Form<'a> {
@@ -31,7 +31,6 @@ pub trait Form<'a> {
     /// under the terms of `Validate::validate_into`.
     fn read<'t, H: I18n + FormI18n>(
         &self,
-        alloc: Global,
         tree: &Tree<'t, 'a>,
         trail: &mut Trail<'a>,
         report: &mut Report,
@@ -64,7 +63,6 @@ pub trait Members<'a> {
     /// Reads the members, as `Form::read` does.
     fn read_members<'t, H: I18n + FormI18n>(
         &self,
-        alloc: Global,
         object: &Tree<'t, 'a>,
         trail: &mut Trail<'a>,
         report: &mut Report,

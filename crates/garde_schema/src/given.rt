@@ -7,7 +7,7 @@ use crate::handler::FormI18n;
 use crate::makes::Makes;
 use garde::{I18n, Report, Trail};
 use garde_tape::Tree;
-use std::alloc::{AllocError, Global};
+use std::alloc::AllocError;
 use std::marker::PhantomData;
 
 /// Members of which none is asked for: the value is the one that this makes, whatever the object has.
@@ -31,13 +31,12 @@ impl<'a, T: Drop, M: Makes<T>> Members<'a> for Given<'a, M, T> {
 
     fn read_members<'t, H: I18n + FormI18n>(
         &self,
-        alloc: Global,
         _object: &Tree<'t, 'a>,
-        _trail: &mut Trail<'a>,
+        trail: &mut Trail<'a>,
         _report: &mut Report,
         _h: &H,
     ) -> Result<Option<T>, AllocError> {
-        Ok(Some(self.0.make(alloc)))
+        Ok(Some(self.0.make(trail.alloc())))
     }
 
     fn names(&self, _name: &str) -> bool {

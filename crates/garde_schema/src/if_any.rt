@@ -10,7 +10,7 @@ use crate::handler::FormI18n;
 use crate::optional::present;
 use garde::{I18n, Report, Trail};
 use garde_tape::{Tree, TreeMembers};
-use std::alloc::{AllocError, Global};
+use std::alloc::AllocError;
 
 /// These members, or none of them: an option of a struct under `flatten`, as
 /// `IfAny(Built(members, PhantomData))`.
@@ -58,7 +58,6 @@ impl<'a, M: Members<'a>> Members<'a> for IfAny<M> {
 
     fn read_members<'t, H: I18n + FormI18n>(
         &self,
-        alloc: Global,
         object: &Tree<'t, 'a>,
         trail: &mut Trail<'a>,
         report: &mut Report,
@@ -67,7 +66,7 @@ impl<'a, M: Members<'a>> Members<'a> for IfAny<M> {
         if has_none(&self.0, object) {
             Ok(Some(None))
         } else {
-            let read = self.0.read_members(alloc, object, trail, report, h);
+            let read = self.0.read_members(object, trail, report, h);
             present(read)
         }
     }

@@ -18,7 +18,7 @@ use crate::member::read_found;
 use crate::put::{put, with};
 use garde::{Component, I18n, Report, Trail};
 use garde_tape::{Found, Tree, TreeItems};
-use std::alloc::{AllocError, Global};
+use std::alloc::AllocError;
 
 // The item at an index.
 fn item_at<'t, 'a>(items: TreeItems<'t, 'a>, index: usize) -> Found<'t, 'a>
@@ -64,7 +64,6 @@ impl<'a, F: Form<'a>> Members<'a> for Nth<F> {
 
     fn read_members<'t, H: I18n + FormI18n>(
         &self,
-        alloc: Global,
         object: &Tree<'t, 'a>,
         trail: &mut Trail<'a>,
         report: &mut Report,
@@ -72,7 +71,7 @@ impl<'a, F: Form<'a>> Members<'a> for Nth<F> {
     ) -> Result<Option<F::Out>, AllocError> {
         let found = item_in(object, self.0);
         trail.push(Component::index(self.0))?;
-        let value = read_found(alloc, &self.1, found, trail, report, h);
+        let value = read_found(&self.1, found, trail, report, h);
         trail.pop();
         value
     }
@@ -84,7 +83,6 @@ impl<'a, F: Form<'a>> Members<'a> for Nth<F> {
 
 // Puts a fault under an index at which no item is known.
 fn put_at<'a, H: I18n + FormI18n>(
-    alloc: Global,
     index: usize,
     trail: &mut Trail<'a>,
     report: &mut Report,
@@ -94,7 +92,7 @@ fn put_at<'a, H: I18n + FormI18n>(
         trail.old trail.new report.old report.new result }
 {
     trail.push(Component::index(index))?;
-    let told = put(alloc, FormFault::Unknown, trail, report, h);
+    let told = put(FormFault::Unknown, trail, report, h);
     trail.pop();
     told
 }
@@ -109,7 +107,6 @@ fn count_of(items: TreeItems<'_, '_>) -> usize
 
 // Puts a fault under the index behind those of so many items, where there are more.
 fn check_count<'t, 'a, H: I18n + FormI18n>(
-    alloc: Global,
     count: usize,
     items: TreeItems<'t, 'a>,
     trail: &mut Trail<'a>,
@@ -123,7 +120,7 @@ fn check_count<'t, 'a, H: I18n + FormI18n>(
     let there = count_of(items);
     let has_more = count < there;
     if has_more {
-        put_at(alloc, count, trail, report, h)
+        put_at(count, trail, report, h)
     } else {
         Ok(())
     }
@@ -139,7 +136,6 @@ pub struct InOrder<M>(pub usize, pub M);
 
 // Reads these items, which are those of the tree.
 fn read_all<'t, 'a, M: Members<'a>, H: I18n + FormI18n>(
-    alloc: Global,
     form: &InOrder<M>,
     items: TreeItems<'t, 'a>,
     tree: &Tree<'t, 'a>,
@@ -156,8 +152,8 @@ fn read_all<'t, 'a, M: Members<'a>, H: I18n + FormI18n>(
         and beyond form.now.0 (H.form_text h.now) (length items.entry))
         (λ out. M.keeps form.now.1 out) (M.value form.now.1 tree.now)) }
 {
-    let value = form.1.read_members(alloc, tree, trail, report, h)?;
-    let told = check_count(alloc, form.0, items, trail, report, h);
+    let value = form.1.read_members(tree, trail, report, h)?;
+    let told = check_count(form.0, items, trail, report, h);
     with(told, value)
 }
 
@@ -173,17 +169,16 @@ impl<'a, M: Members<'a>> Form<'a> for InOrder<M> {
 
     fn read<'t, H: I18n + FormI18n>(
         &self,
-        alloc: Global,
         tree: &Tree<'t, 'a>,
         trail: &mut Trail<'a>,
         report: &mut Report,
         h: &H,
     ) -> Result<Option<M::Out>, AllocError> {
         match tree.items() {
-            Some(items) => read_all(alloc, self, items, tree, trail, report, h),
+            Some(items) => read_all(self, items, tree, trail, report, h),
             None => {
                 let fault = FormFault::Wrong(Wanted::List, tree.kind());
-                with(put(alloc, fault, trail, report, h), None)
+                with(put(fault, trail, report, h), None)
             }
         }
     }

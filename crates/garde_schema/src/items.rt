@@ -102,13 +102,12 @@ impl<'a, T, C: Check<'a, T>> Check<'a, Items<T>> for Each<C> {
 
     fn check<H: I18n>(
         &self,
-        alloc: Global,
         value: &'a Items<T>,
         trail: &mut Trail<'a>,
         report: &mut Report,
         h: &H,
     ) -> Result<(), AllocError> {
-        self.check(alloc, &value.0, trail, report, h)
+        self.check(&value.0, trail, report, h)
     }
 }
 
@@ -118,13 +117,12 @@ impl<T, R: Rules<T>> Rules<Items<T>> for Each<R> {
 
     fn ask<'a, H: I18n>(
         &self,
-        alloc: Global,
         value: &Items<T>,
         trail: &mut Trail<'a>,
         report: &mut Report,
         h: &H,
     ) -> Result<(), AllocError> {
-        self.ask(alloc, &value.as_slice(), trail, report, h)
+        self.ask(&value.as_slice(), trail, report, h)
     }
 }
 
@@ -134,13 +132,12 @@ impl<T, S: Same<T>> Rules<Items<T>> for Unique<'_, S> {
 
     fn ask<'a, H: I18n>(
         &self,
-        alloc: Global,
         value: &Items<T>,
         trail: &mut Trail<'a>,
         report: &mut Report,
         h: &H,
     ) -> Result<(), AllocError> {
-        self.ask(alloc, &value.as_slice(), trail, report, h)
+        self.ask(&value.as_slice(), trail, report, h)
     }
 }
 

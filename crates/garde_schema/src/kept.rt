@@ -13,7 +13,7 @@ use copy::copy_value;
 use garde::{I18n, Report, RuleError, Trail};
 use garde_tape::Tree;
 use json::Value;
-use std::alloc::{AllocError, Global};
+use std::alloc::AllocError;
 use std::marker::Model;
 
 /// A JSON value that was read, of whatever kind. A contract sees the JSON value itself. Its texts, the
@@ -91,12 +91,12 @@ impl<'a> Form<'a> for Kept {
 
     fn read<'t, H: I18n + FormI18n>(
         &self,
-        alloc: Global,
         tree: &Tree<'t, 'a>,
         trail: &mut Trail<'a>,
         report: &mut Report,
         h: &H,
     ) -> Result<Option<KeptValue<'a>>, AllocError> {
+        let alloc = trail.alloc();
         match copy_value(alloc, tree) {
             Ok(value) => with(put_nothing(trail, report, h), Some(KeptValue { value })),
             Err(_) => put_memory(trail, report, h),

@@ -13,7 +13,7 @@ use crate::put::{put, with};
 use garde::fields::Rules;
 use garde::{I18n, Report, Trail};
 use garde_tape::Tree;
-use std::alloc::{AllocError, Global};
+use std::alloc::AllocError;
 
 // What is wanted in a place. It says what is wrong with a tree of another form.
 pub(crate) trait Misfit {
@@ -36,7 +36,6 @@ impl Misfit for Wanted {
 // Asks the rules of what a tree was seen as, or reports that it has another form.
 #[inline(always)]
 pub(crate) fn read_seen<'t, 'a, W: Misfit, T: Drop, R: Rules<T>, H: I18n + FormI18n>(
-    alloc: Global,
     tree: &Tree<'t, 'a>,
     wanted: &W,
     seen: Option<T>,
@@ -55,12 +54,12 @@ pub(crate) fn read_seen<'t, 'a, W: Misfit, T: Drop, R: Rules<T>, H: I18n + FormI
 {
     match seen {
         Some(value) => {
-            let told = rules.ask(alloc, &value, trail, report, h);
+            let told = rules.ask(&value, trail, report, h);
             with(told, Some(value))
         }
         None => {
             let fault = wanted.misfit(tree);
-            with(put(alloc, fault, trail, report, h), None)
+            with(put(fault, trail, report, h), None)
         }
     }
 }

@@ -4,7 +4,7 @@ use crate::form::Form;
 use crate::handler::FormI18n;
 use garde::{I18n, Report, Trail};
 use garde_tape::Tree;
-use std::alloc::{AllocError, Global};
+use std::alloc::AllocError;
 
 /// The form itself. So one form may be read at several places, for instance that of an address at
 /// `Member("billing", &address)` and at `Nullish("shipping", &address)`.
@@ -19,12 +19,11 @@ impl<'a, 'f, F: Form<'a>> Form<'a> for &'f F {
 
     fn read<'t, H: I18n + FormI18n>(
         &self,
-        alloc: Global,
         tree: &Tree<'t, 'a>,
         trail: &mut Trail<'a>,
         report: &mut Report,
         h: &H,
     ) -> Result<Option<F::Out>, AllocError> {
-        (**self).read(alloc, tree, trail, report, h)
+        (**self).read(tree, trail, report, h)
     }
 }

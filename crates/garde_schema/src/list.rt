@@ -16,12 +16,11 @@ use crate::items::{Items, add};
 use crate::put::{put, with};
 use garde::{Component, I18n, Report, Trail};
 use garde_tape::{Tree, TreeItems};
-use std::alloc::{AllocError, Global};
+use std::alloc::AllocError;
 
 // Reads the value that stands under a component.
 #[inline(always)]
 pub(crate) fn read_in<'t, 'a, F: Form<'a>, H: I18n + FormI18n>(
-    alloc: Global,
     component: Component<'a>,
     form: &F,
     tree: &Tree<'t, 'a>,
@@ -36,14 +35,13 @@ pub(crate) fn read_in<'t, 'a, F: Form<'a>, H: I18n + FormI18n>(
         (F.keeps form.now) (F.value form.now tree.now)) }
 {
     trail.push(component)?;
-    let value = form.read(alloc, tree, trail, report, h);
+    let value = form.read(tree, trail, report, h);
     trail.pop();
     value
 }
 
 // Reads an item under its index, and adds its value to those before it.
 fn read_item<'t, 'a, F: Form<'a>, H: I18n + FormI18n>(
-    alloc: Global,
     index: Component<'a>,
     form: &F,
     item: &Tree<'t, 'a>,
@@ -59,14 +57,13 @@ fn read_item<'t, 'a, F: Form<'a>, H: I18n + FormI18n>(
     ensures sound { OnOk result (Sound (F.visits form.now (H.form_text h.now) item.now)
         (F.keeps form.now) (F.value form.now item.now)) }
 {
-    let value = read_in(alloc, index, form, item, trail, report, h)?;
+    let value = read_in(index, form, item, trail, report, h)?;
     add(values, value)
 }
 
 // Reads the items, each under its index. After one of another form the others are read for their
 // faults.
 pub(crate) fn read_items<'t, 'a, F: Form<'a>, H: I18n + FormI18n>(
-    alloc: Global,
     form: &F,
     items: TreeItems<'t, 'a>,
     trail: &mut Trail<'a>,
@@ -81,12 +78,13 @@ pub(crate) fn read_items<'t, 'a, F: Form<'a>, H: I18n + FormI18n>(
         (each_item (λ x. F.visits form.now (H.form_text h.now) x) items.entry)
         (λ out. All (λ x. F.keeps form.now x) out) (all_values (λ x. F.value form.now x) items.entry)) }
 {
+    let alloc = trail.alloc();
     let mut left = items;
     let mut values = Some(Items::new(alloc));
     let mut index = 0;
     while let Some(item) = left.next() {
         let place = Component::index(index);
-        values = read_item(alloc, place, form, &item, values, trail, report, h)?;
+        values = read_item(place, form, &item, values, trail, report, h)?;
         index += 1;
     }
     Ok(values)
@@ -109,17 +107,16 @@ impl<'a, F: Form<'a>> Form<'a> for List<F> {
 
     fn read<'t, H: I18n + FormI18n>(
         &self,
-        alloc: Global,
         tree: &Tree<'t, 'a>,
         trail: &mut Trail<'a>,
         report: &mut Report,
         h: &H,
     ) -> Result<Option<Items<F::Out>>, AllocError> {
         match tree.items() {
-            Some(items) => read_items(alloc, &self.0, items, trail, report, h),
+            Some(items) => read_items(&self.0, items, trail, report, h),
             None => {
                 let fault = FormFault::Wrong(Wanted::List, tree.kind());
-                with(put(alloc, fault, trail, report, h), None)
+                with(put(fault, trail, report, h), None)
             }
         }
     }

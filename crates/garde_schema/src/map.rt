@@ -20,7 +20,7 @@ use crate::put::{put, put_under, with};
 use crate::text_ref::TextRef;
 use garde::{Component, I18n, Report, Trail};
 use garde_tape::{Tree, TreeMembers};
-use std::alloc::{AllocError, Global};
+use std::alloc::AllocError;
 
 /// Names with their values, in the order of the text.
 pub type Entries<'a, T> = Items<(TextRef<'a>, T)>;
@@ -30,15 +30,11 @@ pub type Entries<'a, T> = Items<(TextRef<'a>, T)>;
 fn named<'a, T: Drop>(name: &'a str, value: Option<T>) -> Option<(TextRef<'a>, T)>
     ensures { result ≡ option_map (λ v. (name.now, v)) value }
 {
-    match value {
-        Some(value) => Some((TextRef::new(name), value)),
-        None => None,
-    }
+    Some((TextRef::new(name), value?))
 }
 
 // Reads a value under its name, which is new.
 fn read_value<'t, 'a, F: Form<'a>, H: I18n + FormI18n>(
-    alloc: Global,
     form: &F,
     name: &'a str,
     tree: &Tree<'t, 'a>,
@@ -55,13 +51,12 @@ fn read_value<'t, 'a, F: Form<'a>, H: I18n + FormI18n>(
     ensures sound { OnOk result (Sound (F.visits form.now (H.form_text h.now) tree.now)
         (F.keeps form.now) (F.value form.now tree.now)) }
 {
-    let value = read_in(alloc, Component::key(name), form, tree, trail, report, h)?;
+    let value = read_in(Component::key(name), form, tree, trail, report, h)?;
     add(values, named(name, value))
 }
 
 // Reads the value of a member under its name, or tells that the name is repeated.
 pub(crate) fn read_entry<'t, 'a, F: Form<'a>, H: I18n + FormI18n>(
-    alloc: Global,
     form: &F,
     came: bool,
     name: &'a str,
@@ -83,17 +78,16 @@ pub(crate) fn read_entry<'t, 'a, F: Form<'a>, H: I18n + FormI18n>(
         (entry_value (λ v. F.value form.now v) (name.now, when_new came tree.now))) }
 {
     if came {
-        let told = put_under(alloc, name, FormFault::Repeated, trail, report, h);
+        let told = put_under(name, FormFault::Repeated, trail, report, h);
         with(told, None)
     } else {
-        read_value(alloc, form, name, tree, values, trail, report, h)
+        read_value(form, name, tree, values, trail, report, h)
     }
 }
 
 // Reads the values of the members, each under its name. After one of another form the others are
 // read for their faults.
 pub(crate) fn read_entries<'t, 'a, F: Form<'a>, H: I18n + FormI18n>(
-    alloc: Global,
     form: &F,
     members: TreeMembers<'t, 'a>,
     trail: &mut Trail<'a>,
@@ -110,12 +104,13 @@ pub(crate) fn read_entries<'t, 'a, F: Form<'a>, H: I18n + FormI18n>(
         (λ out. All (λ e. F.keeps form.now e.1) out)
         (all_values (entry_value (λ v. F.value form.now v)) (members_first members.entry))) }
 {
+    let alloc = trail.alloc();
     let mut left = members;
     let mut names = Names::new(alloc);
     let mut values = Some(Items::new(alloc));
     while let Some((name, value)) = left.next() {
         let came = names.add(name)?;
-        values = read_entry(alloc, form, came, name, &value, values, trail, report, h)?;
+        values = read_entry(form, came, name, &value, values, trail, report, h)?;
     }
     Ok(values)
 }
@@ -139,17 +134,16 @@ impl<'a, F: Form<'a>> Form<'a> for Map<F> {
 
     fn read<'t, H: I18n + FormI18n>(
         &self,
-        alloc: Global,
         tree: &Tree<'t, 'a>,
         trail: &mut Trail<'a>,
         report: &mut Report,
         h: &H,
     ) -> Result<Option<Entries<'a, F::Out>>, AllocError> {
         match tree.members() {
-            Some(members) => read_entries(alloc, &self.0, members, trail, report, h),
+            Some(members) => read_entries(&self.0, members, trail, report, h),
             None => {
                 let fault = FormFault::Wrong(Wanted::Object, tree.kind());
-                with(put(alloc, fault, trail, report, h), None)
+                with(put(fault, trail, report, h), None)
             }
         }
     }

@@ -13,11 +13,10 @@ use crate::handler::FormI18n;
 use crate::put::{put, with};
 use garde::{Component, I18n, Report, Trail};
 use garde_tape::{Found, Tree};
-use std::alloc::{AllocError, Global};
+use std::alloc::AllocError;
 
 // Reads what was found of a member's name, whose component was pushed.
 pub(crate) fn read_found<'t, 'a, F: Form<'a>, H: I18n + FormI18n>(
-    alloc: Global,
     form: &F,
     found: Found<'t, 'a>,
     trail: &mut Trail<'a>,
@@ -32,9 +31,9 @@ pub(crate) fn read_found<'t, 'a, F: Form<'a>, H: I18n + FormI18n>(
         (λ out. F.keeps form.now out) (option_and_then (λ v. F.value form.now v) (once found.entry))) }
 {
     match found {
-        Found::Once(value) => form.read(alloc, &value, trail, report, h),
-        Found::Missing => with(put(alloc, FormFault::Missing, trail, report, h), None),
-        Found::Repeated => with(put(alloc, FormFault::Repeated, trail, report, h), None),
+        Found::Once(value) => form.read(&value, trail, report, h),
+        Found::Missing => with(put(FormFault::Missing, trail, report, h), None),
+        Found::Repeated => with(put(FormFault::Repeated, trail, report, h), None),
     }
 }
 
@@ -58,7 +57,6 @@ impl<'a, F: Form<'a>> Members<'a> for Member<'a, F> {
 
     fn read_members<'t, H: I18n + FormI18n>(
         &self,
-        alloc: Global,
         object: &Tree<'t, 'a>,
         trail: &mut Trail<'a>,
         report: &mut Report,
@@ -66,7 +64,7 @@ impl<'a, F: Form<'a>> Members<'a> for Member<'a, F> {
     ) -> Result<Option<F::Out>, AllocError> {
         let found = object.find(self.0);
         trail.push(Component::key(self.0))?;
-        let value = read_found(alloc, &self.1, found, trail, report, h);
+        let value = read_found(&self.1, found, trail, report, h);
         trail.pop();
         value
     }

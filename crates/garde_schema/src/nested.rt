@@ -15,7 +15,7 @@ use crate::handler::FormI18n;
 use crate::items::Items;
 use garde::{I18n, Report, Trail};
 use garde_tape::Tree;
-use std::alloc::{AllocError, Global};
+use std::alloc::AllocError;
 use std::marker::PhantomData;
 use walk::read_level;
 use way::Way;
@@ -55,7 +55,6 @@ pub struct Nested<'a, M, T>(pub &'a str, pub M, pub PhantomData<&'a T>);
 
 // Reads an object of the form, closed or not.
 fn read_nested<'t, 'a, T: FromNested, M: Members<'a, Out = T::Own>, H: I18n + FormI18n>(
-    alloc: Global,
     form: &Nested<'a, M, T>,
     closed: bool,
     tree: &Tree<'t, 'a>,
@@ -74,7 +73,6 @@ fn read_nested<'t, 'a, T: FromNested, M: Members<'a, Out = T::Own>, H: I18n + Fo
         (nested_value form.now.0.now (M.value form.now.1) T.builds tree.now)) }
 {
     let way = Way {
-        alloc,
         name: form.0,
         members: &form.1,
         made: PhantomData::<T>,
@@ -82,7 +80,7 @@ fn read_nested<'t, 'a, T: FromNested, M: Members<'a, Out = T::Own>, H: I18n + Fo
         h,
         tree,
     };
-    read_level(alloc, &way, way.tree, trail, report)
+    read_level(&way, way.tree, trail, report)
 }
 
 impl<'a, T: FromNested, M: Members<'a, Out = T::Own>> Form<'a> for Nested<'a, M, T> {
@@ -97,13 +95,12 @@ impl<'a, T: FromNested, M: Members<'a, Out = T::Own>> Form<'a> for Nested<'a, M,
 
     fn read<'t, H: I18n + FormI18n>(
         &self,
-        alloc: Global,
         tree: &Tree<'t, 'a>,
         trail: &mut Trail<'a>,
         report: &mut Report,
         h: &H,
     ) -> Result<Option<T>, AllocError> {
-        read_nested(alloc, self, false, tree, trail, report, h)
+        read_nested(self, false, tree, trail, report, h)
     }
 }
 
@@ -120,12 +117,11 @@ impl<'a, T: FromNested, M: Members<'a, Out = T::Own>> Form<'a> for Closed<Nested
 
     fn read<'t, H: I18n + FormI18n>(
         &self,
-        alloc: Global,
         tree: &Tree<'t, 'a>,
         trail: &mut Trail<'a>,
         report: &mut Report,
         h: &H,
     ) -> Result<Option<T>, AllocError> {
-        read_nested(alloc, &self.0, true, tree, trail, report, h)
+        read_nested(&self.0, true, tree, trail, report, h)
     }
 }

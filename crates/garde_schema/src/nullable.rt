@@ -8,7 +8,7 @@ use crate::handler::FormI18n;
 use crate::optional::present;
 use garde::{I18n, Report, Trail};
 use garde_tape::Tree;
-use std::alloc::{AllocError, Global};
+use std::alloc::AllocError;
 
 /// A value of this form, or `null`. The value is an option, and `None` where `null` stands.
 #[derive(Clone, Copy)]
@@ -25,7 +25,6 @@ impl<'a, F: Form<'a>> Form<'a> for Nullable<F> {
 
     fn read<'t, H: I18n + FormI18n>(
         &self,
-        alloc: Global,
         tree: &Tree<'t, 'a>,
         trail: &mut Trail<'a>,
         report: &mut Report,
@@ -34,7 +33,7 @@ impl<'a, F: Form<'a>> Form<'a> for Nullable<F> {
         if tree.is_null() {
             Ok(Some(None))
         } else {
-            let read = self.0.read(alloc, tree, trail, report, h);
+            let read = self.0.read(tree, trail, report, h);
             present(read)
         }
     }

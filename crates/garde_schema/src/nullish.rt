@@ -12,7 +12,7 @@ use crate::handler::FormI18n;
 use crate::optional::read_optional;
 use garde::{I18n, Report, Trail};
 use garde_tape::{Found, Tree};
-use std::alloc::{AllocError, Global};
+use std::alloc::AllocError;
 
 /// A member that may be null or missing: its name and its form. The value is an option, and `None`
 /// in both cases, as a field of the type `Option` has it in serde.
@@ -51,14 +51,13 @@ impl<'a, F: Form<'a>> Members<'a> for Nullish<'a, F> {
 
     fn read_members<'t, H: I18n + FormI18n>(
         &self,
-        alloc: Global,
         object: &Tree<'t, 'a>,
         trail: &mut Trail<'a>,
         report: &mut Report,
         h: &H,
     ) -> Result<Option<Option<F::Out>>, AllocError> {
         let found = not_null(object.find(self.0));
-        read_optional(alloc, self.0, &self.1, found, trail, report, h)
+        read_optional(self.0, &self.1, found, trail, report, h)
     }
 
     fn names(&self, name: &str) -> bool {

@@ -12,7 +12,7 @@ use crate::handler::FormI18n;
 use crate::put::{put, with};
 use garde::{I18n, Report, Trail};
 use garde_tape::Tree;
-use std::alloc::{AllocError, Global};
+use std::alloc::AllocError;
 
 /// An object with these members. The value is theirs.
 #[derive(Clone, Copy)]
@@ -30,17 +30,16 @@ impl<'a, M: Members<'a>> Form<'a> for Object<M> {
 
     fn read<'t, H: I18n + FormI18n>(
         &self,
-        alloc: Global,
         tree: &Tree<'t, 'a>,
         trail: &mut Trail<'a>,
         report: &mut Report,
         h: &H,
     ) -> Result<Option<M::Out>, AllocError> {
         match tree.members() {
-            Some(_) => self.0.read_members(alloc, tree, trail, report, h),
+            Some(_) => self.0.read_members(tree, trail, report, h),
             None => {
                 let fault = FormFault::Wrong(Wanted::Object, tree.kind());
-                with(put(alloc, fault, trail, report, h), None)
+                with(put(fault, trail, report, h), None)
             }
         }
     }

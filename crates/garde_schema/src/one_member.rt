@@ -14,7 +14,7 @@ use crate::tagged::{chosen, read_chosen};
 use crate::variants::Variants;
 use garde::{I18n, Report, Trail};
 use garde_tape::Tree;
-use std::alloc::{AllocError, Global};
+use std::alloc::AllocError;
 use std::marker::PhantomData;
 
 /// An object with one member, whose name says which of the variants it is, for instance
@@ -55,7 +55,6 @@ impl<'a, V: Variants<'a>> Form<'a> for OneMember<'a, V> {
 
     fn read<'t, H: I18n + FormI18n>(
         &self,
-        alloc: Global,
         tree: &Tree<'t, 'a>,
         trail: &mut Trail<'a>,
         report: &mut Report,
@@ -64,9 +63,9 @@ impl<'a, V: Variants<'a>> Form<'a> for OneMember<'a, V> {
         match name_in(tree) {
             Ok(name) => {
                 let choice = chosen(&self.0, name, FormFault::Unknown);
-                read_chosen(alloc, &self.0, choice, name, tree, trail, report, h)
+                read_chosen(&self.0, choice, name, tree, trail, report, h)
             }
-            Err(fault) => with(put(alloc, fault, trail, report, h), None),
+            Err(fault) => with(put(fault, trail, report, h), None),
         }
     }
 }

@@ -13,7 +13,7 @@ use crate::handler::FormI18n;
 use crate::leaf::{Misfit, read_seen};
 use garde::{I18n, Report, Trail};
 use garde_tape::Tree;
-use std::alloc::{AllocError, Global};
+use std::alloc::AllocError;
 
 /// One of these texts, each with the value that it stands for, for instance
 /// `OneOf(&[("post", Delivery::Post), ("counter", Delivery::Counter)])`.
@@ -38,10 +38,7 @@ fn beside<V: Copy>(rows: &[(&str, V)], text: &str) -> Option<V>
 pub(crate) fn value_of<V: Copy>(rows: &[(&str, V)], tree: &Tree<'_, '_>) -> Option<V>
     ensures { result ≡ known_value rows.now tree.now }
 {
-    match tree.as_str() {
-        Some(text) => beside(rows, text),
-        None => None,
-    }
+    beside(rows, tree.as_str()?)
 }
 
 // Of a tree that stands for no value: whether it is a text at all.
@@ -70,14 +67,13 @@ impl<'a, 'n, V: Copy + Drop> Form<'a> for OneOf<'n, V> {
 
     fn read<'t, H: I18n + FormI18n>(
         &self,
-        alloc: Global,
         tree: &Tree<'t, 'a>,
         trail: &mut Trail<'a>,
         report: &mut Report,
         h: &H,
     ) -> Result<Option<V>, AllocError> {
         let seen = value_of(self.0, tree);
-        read_seen(alloc, tree, &KnownText, seen, &(), trail, report, h)
+        read_seen(tree, &KnownText, seen, &(), trail, report, h)
     }
 }
 
@@ -103,10 +99,7 @@ fn beside_or<V: Copy>(rows: &[(&str, V)], other: V, text: &str) -> V
 fn value_or<V: Copy>(rows: &[(&str, V)], other: V, tree: &Tree<'_, '_>) -> Option<V>
     ensures { result ≡ known_or rows.now other tree.now }
 {
-    match tree.as_str() {
-        Some(text) => Some(beside_or(rows, other, text)),
-        None => None,
-    }
+    Some(beside_or(rows, other, tree.as_str()?))
 }
 
 impl<'a, 'n, V: Copy + Drop> Form<'a> for OneOfOr<'n, V> {
@@ -121,13 +114,12 @@ impl<'a, 'n, V: Copy + Drop> Form<'a> for OneOfOr<'n, V> {
 
     fn read<'t, H: I18n + FormI18n>(
         &self,
-        alloc: Global,
         tree: &Tree<'t, 'a>,
         trail: &mut Trail<'a>,
         report: &mut Report,
         h: &H,
     ) -> Result<Option<V>, AllocError> {
         let seen = value_or(self.0, self.1, tree);
-        read_seen(alloc, tree, &Wanted::Text, seen, &(), trail, report, h)
+        read_seen(tree, &Wanted::Text, seen, &(), trail, report, h)
     }
 }

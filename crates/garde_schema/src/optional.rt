@@ -13,7 +13,7 @@ use crate::handler::FormI18n;
 use crate::put::{put_under, with};
 use garde::{Component, I18n, Report, Trail};
 use garde_tape::{Found, Tree};
-use std::alloc::{AllocError, Global};
+use std::alloc::AllocError;
 
 /// A member that may be missing: its name and its form. The value is an option, and `None` where the
 /// member is missing. `null` is no missing member.
@@ -23,7 +23,6 @@ pub struct Optional<'a, F>(pub &'a str, pub F);
 // Reads the value of a member, under its name.
 #[inline(always)]
 fn read_under<'t, 'a, F: Form<'a>, H: I18n + FormI18n>(
-    alloc: Global,
     name: &'a str,
     form: &F,
     tree: &Tree<'t, 'a>,
@@ -39,7 +38,7 @@ fn read_under<'t, 'a, F: Form<'a>, H: I18n + FormI18n>(
         (λ out. F.keeps form.now out) (F.value form.now tree.now)) }
 {
     trail.push(Component::key(name))?;
-    let value = form.read(alloc, tree, trail, report, h);
+    let value = form.read(tree, trail, report, h);
     trail.pop();
     value
 }
@@ -62,7 +61,6 @@ pub(crate) fn present<T: Drop>(
 
 // Reads what was found of a name that may be missing.
 pub(crate) fn read_optional<'t, 'a, F: Form<'a>, H: I18n + FormI18n>(
-    alloc: Global,
     name: &'a str,
     form: &F,
     found: Found<'t, 'a>,
@@ -82,11 +80,11 @@ pub(crate) fn read_optional<'t, 'a, F: Form<'a>, H: I18n + FormI18n>(
     match found {
         Found::Missing => Ok(Some(None)),
         Found::Once(value) => {
-            let read = read_under(alloc, name, form, &value, trail, report, h);
+            let read = read_under(name, form, &value, trail, report, h);
             present(read)
         }
         Found::Repeated => {
-            let told = put_under(alloc, name, FormFault::Repeated, trail, report, h);
+            let told = put_under(name, FormFault::Repeated, trail, report, h);
             with(told, None)
         }
     }
@@ -107,14 +105,13 @@ impl<'a, F: Form<'a>> Members<'a> for Optional<'a, F> {
 
     fn read_members<'t, H: I18n + FormI18n>(
         &self,
-        alloc: Global,
         object: &Tree<'t, 'a>,
         trail: &mut Trail<'a>,
         report: &mut Report,
         h: &H,
     ) -> Result<Option<Option<F::Out>>, AllocError> {
         let found = object.find(self.0);
-        read_optional(alloc, self.0, &self.1, found, trail, report, h)
+        read_optional(self.0, &self.1, found, trail, report, h)
     }
 
     fn names(&self, name: &str) -> bool {

@@ -6,7 +6,7 @@ use crate::handler::FormI18n;
 use crate::variants::Variants;
 use garde::{I18n, Report, Trail};
 use garde_tape::Tree;
-use std::alloc::{AllocError, Global};
+use std::alloc::AllocError;
 
 /// A variant of every name, with these members. It stands behind those that have one, as serde reads a
 /// variant with `#[serde(other)]`: `Tagged("kind", (Variant("card", card), Otherwise(Member("kind", Any))))`.
@@ -34,7 +34,6 @@ impl<'a, M: Members<'a>> Variants<'a> for Otherwise<M> {
 
     fn read_variant<'t, H: I18n + FormI18n>(
         &self,
-        alloc: Global,
         _choice: (),
         _tag: &'a str,
         object: &Tree<'t, 'a>,
@@ -42,7 +41,7 @@ impl<'a, M: Members<'a>> Variants<'a> for Otherwise<M> {
         report: &mut Report,
         h: &H,
     ) -> Result<Option<M::Out>, AllocError> {
-        self.0.read_members(alloc, object, trail, report, h)
+        self.0.read_members(object, trail, report, h)
     }
 
     fn names(&self, _choice: (), name: &str) -> bool {

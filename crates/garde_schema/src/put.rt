@@ -7,13 +7,12 @@ ghost use Rattle.garde_schema.specs.Forms.{refused, forget};
 use crate::fault::FormFault;
 use crate::handler::FormI18n;
 use garde::{Component, I18n, Report, RuleError, Trail};
-use std::alloc::{AllocError, Global};
+use std::alloc::AllocError;
 
 // Puts a fault of form with the handler's text where the trail leads. It stands out of line, so that
 // a value of its form costs a test.
 #[inline(never)]
 pub(crate) fn put<'a, H: I18n + FormI18n>(
-    alloc: Global,
     fault: FormFault,
     trail: &mut Trail<'a>,
     report: &mut Report,
@@ -22,6 +21,7 @@ pub(crate) fn put<'a, H: I18n + FormI18n>(
     ensures { Visited (refused (H.form_text h.now fault)) (H.text h.now)
         trail.old trail.new report.old report.new result }
 {
+    let alloc = trail.alloc();
     let text = h.form_fault(alloc, fault);
     trail.put(report, Err(RuleError::of(alloc, text)))
 }
@@ -29,7 +29,6 @@ pub(crate) fn put<'a, H: I18n + FormI18n>(
 // Puts a fault of form under this name.
 #[inline(never)]
 pub(crate) fn put_under<'a, H: I18n + FormI18n>(
-    alloc: Global,
     name: &'a str,
     fault: FormFault,
     trail: &mut Trail<'a>,
@@ -40,7 +39,7 @@ pub(crate) fn put_under<'a, H: I18n + FormI18n>(
         trail.old trail.new report.old report.new result }
 {
     trail.push(Component::key(name))?;
-    let told = put(alloc, fault, trail, report, h);
+    let told = put(fault, trail, report, h);
     trail.pop();
     told
 }

@@ -50,7 +50,7 @@ pub fn read_first<'t, 'a, F: Form<'a>, H: I18n + FormI18n>(
         let mut trail = Trail::new(alloc);
         // A report has fewer than `usize::MAX` faults, so that many are all.
         trail.limit(most.saturating_add(1));
-        form.read(alloc, tree, &mut trail, &mut report, h)
+        form.read(tree, &mut trail, &mut report, h)
     };
     if report.len() > most {
         report.truncate(most);

@@ -16,7 +16,7 @@ use crate::names::Names;
 use crate::tuples::pair;
 use garde::{I18n, Report, Trail};
 use garde_tape::{Tree, TreeMembers};
-use std::alloc::{AllocError, Global};
+use std::alloc::AllocError;
 
 /// These members, and every other member of the object, whose value has this form: a map under
 /// `flatten`, as `Rest((Member("name", Text(())), Member("age", Whole(U8, ()))), Text(()))`.
@@ -45,7 +45,6 @@ fn next_other<'t, 'a, M: Members<'a>>(
 
 // Reads the values of the members whose names are not asked for, each under its name, as `Map` does.
 fn read_others<'t, 'a, M: Members<'a>, F: Form<'a>, H: I18n + FormI18n>(
-    alloc: Global,
     named: &M,
     form: &F,
     members: TreeMembers<'t, 'a>,
@@ -66,19 +65,19 @@ fn read_others<'t, 'a, M: Members<'a>, F: Form<'a>, H: I18n + FormI18n>(
         (all_values (entry_value (λ v. F.value form.now v))
         (members_first (others (λ name. M.names named.now name) members.entry)))) }
 {
+    let alloc = trail.alloc();
     let mut left = members;
     let mut names = Names::new(alloc);
     let mut values = Some(Items::new(alloc));
     while let Some((name, value)) = next_other(named, &mut left) {
         let came = names.add(name)?;
-        values = read_entry(alloc, form, came, name, &value, values, trail, report, h)?;
+        values = read_entry(form, came, name, &value, values, trail, report, h)?;
     }
     Ok(values)
 }
 
 // The same of an object.
 fn read_rest<'t, 'a, M: Members<'a>, F: Form<'a>, H: I18n + FormI18n>(
-    alloc: Global,
     named: &M,
     form: &F,
     object: &Tree<'t, 'a>,
@@ -99,8 +98,9 @@ fn read_rest<'t, 'a, M: Members<'a>, F: Form<'a>, H: I18n + FormI18n>(
         (all_values (entry_value (λ v. F.value form.now v))
         (members_first (others (λ name. M.names named.now name) (members_in object.now))))) }
 {
+    let alloc = trail.alloc();
     match object.members() {
-        Some(members) => read_others(alloc, named, form, members, trail, report, h),
+        Some(members) => read_others(named, form, members, trail, report, h),
         None => Ok(Some(Items::new(alloc))),
     }
 }
@@ -121,14 +121,13 @@ impl<'a, M: Members<'a>, F: Form<'a>> Members<'a> for Rest<M, F> {
 
     fn read_members<'t, H: I18n + FormI18n>(
         &self,
-        alloc: Global,
         object: &Tree<'t, 'a>,
         trail: &mut Trail<'a>,
         report: &mut Report,
         h: &H,
     ) -> Result<Option<(M::Out, Entries<'a, F::Out>)>, AllocError> {
-        let first = self.0.read_members(alloc, object, trail, report, h)?;
-        let rest = read_rest(alloc, &self.0, &self.1, object, trail, report, h)?;
+        let first = self.0.read_members(object, trail, report, h)?;
+        let rest = read_rest(&self.0, &self.1, object, trail, report, h)?;
         Ok(pair(first, rest))
     }
 

@@ -8,7 +8,7 @@ use crate::handler::FormI18n;
 use crate::variants::Variants;
 use garde::{I18n, Report, Trail};
 use garde_tape::Tree;
-use std::alloc::{AllocError, Global};
+use std::alloc::AllocError;
 
 /// The first of two variants that has the name, where both have a value of the same type. So a variant
 /// is read under a further name, as serde reads one with an `alias`:
@@ -38,15 +38,11 @@ impl<'a, A: Variants<'a>, B: Variants<'a, Out = A::Out>> Variants<'a> for Same<A
         if let Some(choice) = self.0.choose(name) {
             return Some(Either::Left(choice));
         }
-        match self.1.choose(name) {
-            Some(choice) => Some(Either::Right(choice)),
-            None => None,
-        }
+        Some(Either::Right(self.1.choose(name)?))
     }
 
     fn read_variant<'t, H: I18n + FormI18n>(
         &self,
-        alloc: Global,
         choice: Either<A::Choice, B::Choice>,
         tag: &'a str,
         object: &Tree<'t, 'a>,
@@ -55,12 +51,8 @@ impl<'a, A: Variants<'a>, B: Variants<'a, Out = A::Out>> Variants<'a> for Same<A
         h: &H,
     ) -> Result<Option<A::Out>, AllocError> {
         match choice {
-            Either::Left(one) => self
-                .0
-                .read_variant(alloc, one, tag, object, trail, report, h),
-            Either::Right(other) => self
-                .1
-                .read_variant(alloc, other, tag, object, trail, report, h),
+            Either::Left(one) => self.0.read_variant(one, tag, object, trail, report, h),
+            Either::Right(other) => self.1.read_variant(other, tag, object, trail, report, h),
         }
     }
 

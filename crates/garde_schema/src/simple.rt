@@ -13,7 +13,7 @@ use crate::handler::FormI18n;
 use crate::leaf::read_seen;
 use garde::{I18n, Report, Trail};
 use garde_tape::Tree;
-use std::alloc::{AllocError, Global};
+use std::alloc::AllocError;
 
 /// `true` or `false`.
 #[derive(Clone, Copy)]
@@ -31,14 +31,13 @@ impl<'a> Form<'a> for Flag {
 
     fn read<'t, H: I18n + FormI18n>(
         &self,
-        alloc: Global,
         tree: &Tree<'t, 'a>,
         trail: &mut Trail<'a>,
         report: &mut Report,
         h: &H,
     ) -> Result<Option<bool>, AllocError> {
         let seen = tree.as_bool();
-        read_seen(alloc, tree, &Wanted::Boolean, seen, &(), trail, report, h)
+        read_seen(tree, &Wanted::Boolean, seen, &(), trail, report, h)
     }
 }
 
@@ -66,14 +65,13 @@ impl<'a> Form<'a> for Null {
 
     fn read<'t, H: I18n + FormI18n>(
         &self,
-        alloc: Global,
         tree: &Tree<'t, 'a>,
         trail: &mut Trail<'a>,
         report: &mut Report,
         h: &H,
     ) -> Result<Option<()>, AllocError> {
         let seen = null_of(tree);
-        read_seen(alloc, tree, &Wanted::Null, seen, &(), trail, report, h)
+        read_seen(tree, &Wanted::Null, seen, &(), trail, report, h)
     }
 }
 
@@ -92,7 +90,6 @@ impl<'a> Form<'a> for Any {
 
     fn read<'t, H: I18n + FormI18n>(
         &self,
-        _alloc: Global,
         _tree: &Tree<'t, 'a>,
         _trail: &mut Trail<'a>,
         _report: &mut Report,

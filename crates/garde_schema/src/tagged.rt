@@ -16,7 +16,7 @@ use crate::put::{put, put_under, with};
 use crate::variants::Variants;
 use garde::{I18n, Report, Trail};
 use garde_tape::{Found, Tree};
-use std::alloc::{AllocError, Global};
+use std::alloc::AllocError;
 
 /// An object whose member of this name, the tag, says which of the variants it is, for instance
 /// `Tagged("kind", (Variant("card", card), Variant("cash", cash)))`.
@@ -66,7 +66,6 @@ fn choice_of<'a, V: Variants<'a>>(
 
 // Reads an object by the variant that was chosen under this name.
 pub(crate) fn read_chosen<'t, 'a, V: Variants<'a>, H: I18n + FormI18n>(
-    alloc: Global,
     variants: &V,
     choice: Result<V::Choice, FormFault>,
     name: &'a str,
@@ -86,8 +85,8 @@ pub(crate) fn read_chosen<'t, 'a, V: Variants<'a>, H: I18n + FormI18n>(
         (chosen_value (λ c. V.value variants.now c object.now) choice)) }
 {
     match choice {
-        Ok(choice) => variants.read_variant(alloc, choice, name, object, trail, report, h),
-        Err(fault) => with(put_under(alloc, name, fault, trail, report, h), None),
+        Ok(choice) => variants.read_variant(choice, name, object, trail, report, h),
+        Err(fault) => with(put_under(name, fault, trail, report, h), None),
     }
 }
 
@@ -106,7 +105,6 @@ impl<'a, V: Variants<'a>> Form<'a> for Tagged<'a, V> {
 
     fn read<'t, H: I18n + FormI18n>(
         &self,
-        alloc: Global,
         tree: &Tree<'t, 'a>,
         trail: &mut Trail<'a>,
         report: &mut Report,
@@ -115,11 +113,11 @@ impl<'a, V: Variants<'a>> Form<'a> for Tagged<'a, V> {
         match tree.members() {
             Some(_) => {
                 let choice = choice_of(&self.1, &tree.find(self.0));
-                read_chosen(alloc, &self.1, choice, self.0, tree, trail, report, h)
+                read_chosen(&self.1, choice, self.0, tree, trail, report, h)
             }
             None => {
                 let fault = FormFault::Wrong(Wanted::Object, tree.kind());
-                with(put(alloc, fault, trail, report, h), None)
+                with(put(fault, trail, report, h), None)
             }
         }
     }

@@ -15,17 +15,14 @@ use crate::text_ref::TextRef;
 use garde::fields::Rules;
 use garde::{I18n, Report, Trail};
 use garde_tape::Tree;
-use std::alloc::{AllocError, Global};
+use std::alloc::AllocError;
 
 // The text that a tree is.
 #[inline(always)]
 fn text_of<'a>(tree: &Tree<'_, 'a>) -> Option<TextRef<'a>>
     ensures { result ≡ as_str tree.now }
 {
-    match tree.as_str() {
-        Some(text) => Some(TextRef::new(text)),
-        None => None,
-    }
+    Some(TextRef::new(tree.as_str()?))
 }
 
 /// A text under these rules.
@@ -44,13 +41,12 @@ impl<'a, R: Rules<TextRef<'a>>> Form<'a> for Text<R> {
 
     fn read<'t, H: I18n + FormI18n>(
         &self,
-        alloc: Global,
         tree: &Tree<'t, 'a>,
         trail: &mut Trail<'a>,
         report: &mut Report,
         h: &H,
     ) -> Result<Option<TextRef<'a>>, AllocError> {
         let seen = text_of(tree);
-        read_seen(alloc, tree, &Wanted::Text, seen, &self.0, trail, report, h)
+        read_seen(tree, &Wanted::Text, seen, &self.0, trail, report, h)
     }
 }

@@ -9,7 +9,7 @@ use crate::handler::FormI18n;
 use crate::variants::{left, right};
 use garde::{I18n, Report, Trail};
 use garde_tape::Tree;
-use std::alloc::{AllocError, Global};
+use std::alloc::AllocError;
 
 /// A text of the first form, or any other value, of the second. The value is an `Either`.
 ///
@@ -42,15 +42,14 @@ impl<'a, A: Form<'a>, B: Form<'a>> Form<'a> for TextOr<A, B> {
 
     fn read<'t, H: I18n + FormI18n>(
         &self,
-        alloc: Global,
         tree: &Tree<'t, 'a>,
         trail: &mut Trail<'a>,
         report: &mut Report,
         h: &H,
     ) -> Result<Option<Either<A::Out, B::Out>>, AllocError> {
         match side(tree) {
-            Either::Left(()) => left(self.0.read(alloc, tree, trail, report, h)),
-            Either::Right(()) => right(self.1.read(alloc, tree, trail, report, h)),
+            Either::Left(()) => left(self.0.read(tree, trail, report, h)),
+            Either::Right(()) => right(self.1.read(tree, trail, report, h)),
         }
     }
 }

@@ -18,7 +18,7 @@ use crate::form::Members;
 use crate::handler::FormI18n;
 use garde::{I18n, Report, Trail};
 use garde_tape::Tree;
-use std::alloc::{AllocError, Global};
+use std::alloc::AllocError;
 
 /// No member is asked for: `Object(())` is any object, and `Object(Closed(()))` one without members.
 impl<'a> Members<'a> for () {
@@ -34,7 +34,6 @@ impl<'a> Members<'a> for () {
 
     fn read_members<'t, H: I18n + FormI18n>(
         &self,
-        _alloc: Global,
         _object: &Tree<'t, 'a>,
         _trail: &mut Trail<'a>,
         _report: &mut Report,
@@ -62,13 +61,12 @@ impl<'a, A: Members<'a>> Members<'a> for (A,) {
 
     fn read_members<'t, H: I18n + FormI18n>(
         &self,
-        alloc: Global,
         object: &Tree<'t, 'a>,
         trail: &mut Trail<'a>,
         report: &mut Report,
         h: &H,
     ) -> Result<Option<Self::Out>, AllocError> {
-        match self.0.read_members(alloc, object, trail, report, h) {
+        match self.0.read_members(object, trail, report, h) {
             Ok(Some(value)) => Ok(Some((value,))),
             Ok(None) => Ok(None),
             Err(refused) => Err(refused),
@@ -105,14 +103,13 @@ impl<'a, A: Members<'a>, B: Members<'a>> Members<'a> for (A, B) {
 
     fn read_members<'t, H: I18n + FormI18n>(
         &self,
-        alloc: Global,
         object: &Tree<'t, 'a>,
         trail: &mut Trail<'a>,
         report: &mut Report,
         h: &H,
     ) -> Result<Option<(A::Out, B::Out)>, AllocError> {
-        let first = self.0.read_members(alloc, object, trail, report, h)?;
-        let second = self.1.read_members(alloc, object, trail, report, h)?;
+        let first = self.0.read_members(object, trail, report, h)?;
+        let second = self.1.read_members(object, trail, report, h)?;
         Ok(pair(first, second))
     }
 
@@ -135,13 +132,12 @@ impl<'r, 'a, M: Members<'a>> Members<'a> for &'r M {
 
     fn read_members<'t, H: I18n + FormI18n>(
         &self,
-        alloc: Global,
         object: &Tree<'t, 'a>,
         trail: &mut Trail<'a>,
         report: &mut Report,
         h: &H,
     ) -> Result<Option<M::Out>, AllocError> {
-        (**self).read_members(alloc, object, trail, report, h)
+        (**self).read_members(object, trail, report, h)
     }
 
     fn names(&self, name: &str) -> bool {

@@ -17,7 +17,7 @@ use crate::handler::FormI18n;
 use crate::member::Member;
 use garde::{I18n, Report, Trail};
 use garde_tape::Tree;
-use std::alloc::{AllocError, Global};
+use std::alloc::AllocError;
 
 /// The variants of a union. One of them is chosen by its name.
 pub trait Variants<'a> {
@@ -50,7 +50,6 @@ pub trait Variants<'a> {
     /// was chosen.
     fn read_variant<'t, H: I18n + FormI18n>(
         &self,
-        alloc: Global,
         choice: Self::Choice,
         tag: &'a str,
         object: &Tree<'t, 'a>,
@@ -95,7 +94,6 @@ impl<'a, 'n, M: Members<'a>> Variants<'a> for Variant<'n, M> {
 
     fn read_variant<'t, H: I18n + FormI18n>(
         &self,
-        alloc: Global,
         _choice: (),
         _tag: &'a str,
         object: &Tree<'t, 'a>,
@@ -103,7 +101,7 @@ impl<'a, 'n, M: Members<'a>> Variants<'a> for Variant<'n, M> {
         report: &mut Report,
         h: &H,
     ) -> Result<Option<M::Out>, AllocError> {
-        self.1.read_members(alloc, object, trail, report, h)
+        self.1.read_members(object, trail, report, h)
     }
 
     fn names(&self, _choice: (), name: &str) -> bool {
@@ -135,7 +133,6 @@ impl<'a, F: Form<'a>> Variants<'a> for Member<'a, F> {
 
     fn read_variant<'t, H: I18n + FormI18n>(
         &self,
-        alloc: Global,
         _choice: (),
         _tag: &'a str,
         object: &Tree<'t, 'a>,
@@ -143,7 +140,7 @@ impl<'a, F: Form<'a>> Variants<'a> for Member<'a, F> {
         report: &mut Report,
         h: &H,
     ) -> Result<Option<F::Out>, AllocError> {
-        self.read_members(alloc, object, trail, report, h)
+        self.read_members(object, trail, report, h)
     }
 
     fn names(&self, _choice: (), name: &str) -> bool {
@@ -206,15 +203,11 @@ impl<'a, A: Variants<'a>, B: Variants<'a>> Variants<'a> for (A, B) {
         if let Some(choice) = self.0.choose(name) {
             return Some(Either::Left(choice));
         }
-        match self.1.choose(name) {
-            Some(choice) => Some(Either::Right(choice)),
-            None => None,
-        }
+        Some(Either::Right(self.1.choose(name)?))
     }
 
     fn read_variant<'t, H: I18n + FormI18n>(
         &self,
-        alloc: Global,
         choice: Either<A::Choice, B::Choice>,
         tag: &'a str,
         object: &Tree<'t, 'a>,
@@ -224,15 +217,11 @@ impl<'a, A: Variants<'a>, B: Variants<'a>> Variants<'a> for (A, B) {
     ) -> Result<Option<Either<A::Out, B::Out>>, AllocError> {
         match choice {
             Either::Left(one) => {
-                let read = self
-                    .0
-                    .read_variant(alloc, one, tag, object, trail, report, h);
+                let read = self.0.read_variant(one, tag, object, trail, report, h);
                 left(read)
             }
             Either::Right(other) => {
-                let read = self
-                    .1
-                    .read_variant(alloc, other, tag, object, trail, report, h);
+                let read = self.1.read_variant(other, tag, object, trail, report, h);
                 right(read)
             }
         }
@@ -267,14 +256,13 @@ impl<'v, 'a, V: Variants<'a>> Members<'a> for Chosen<'v, 'a, V, V::Choice> {
 
     fn read_members<'t, H: I18n + FormI18n>(
         &self,
-        alloc: Global,
         object: &Tree<'t, 'a>,
         trail: &mut Trail<'a>,
         report: &mut Report,
         h: &H,
     ) -> Result<Option<V::Out>, AllocError> {
         self.variants
-            .read_variant(alloc, self.choice, self.tag, object, trail, report, h)
+            .read_variant(self.choice, self.tag, object, trail, report, h)
     }
 
     fn names(&self, name: &str) -> bool {
@@ -305,7 +293,6 @@ impl<'a, V: Variants<'a>> Variants<'a> for Closed<V> {
 
     fn read_variant<'t, H: I18n + FormI18n>(
         &self,
-        alloc: Global,
         choice: V::Choice,
         tag: &'a str,
         object: &Tree<'t, 'a>,
@@ -319,7 +306,7 @@ impl<'a, V: Variants<'a>> Variants<'a> for Closed<V> {
             choice,
             tag,
         };
-        Closed(members).read_members(alloc, object, trail, report, h)
+        Closed(members).read_members(object, trail, report, h)
     }
 
     fn names(&self, choice: V::Choice, name: &str) -> bool {

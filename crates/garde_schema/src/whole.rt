@@ -17,7 +17,7 @@ use crate::put::{put, with};
 use garde::{I18n, Report, Trail};
 use garde_tape::Tree;
 pub use signed::{I8, I16, I32, I64, Isize};
-use std::alloc::{AllocError, Global};
+use std::alloc::AllocError;
 pub use unsigned::{U8, U16, U32, U64, Usize};
 pub use wide::{I128, U128};
 
@@ -53,7 +53,6 @@ pub trait WholeType {
 // the rules that it is beyond, or else that the type does not hold it.
 #[inline(never)]
 fn put_other<'t, 'a, N: WholeType, R: NumberRules<N::Number>, H: I18n + FormI18n>(
-    alloc: Global,
     form: &Whole<N, R>,
     tree: &Tree<'t, 'a>,
     trail: &mut Trail<'a>,
@@ -64,15 +63,16 @@ fn put_other<'t, 'a, N: WholeType, R: NumberRules<N::Number>, H: I18n + FormI18n
         (R.bound form.now.1 (N.nearest form.now.0 (is_negative tree.now))) tree.now) (H.text h.now)
         trail.old trail.new report.old report.new result }
 {
+    let alloc = trail.alloc();
     if !tree.is_whole() {
         let fault = FormFault::Wrong(Wanted::Whole, tree.kind());
-        return put(alloc, fault, trail, report, h);
+        return put(fault, trail, report, h);
     }
     let nearest = form.0.nearest(tree.is_negative());
     match form.1.find_bound(alloc, &nearest, h) {
         Ok(()) => {
             let fault = FormFault::OutOfRange(form.0.integer());
-            put(alloc, fault, trail, report, h)
+            put(fault, trail, report, h)
         }
         Err(bound) => trail.put(report, Err(bound)),
     }
@@ -100,7 +100,6 @@ impl<'a, N: WholeType, R: NumberRules<N::Number>> Form<'a> for Whole<N, R> {
 
     fn read<'t, H: I18n + FormI18n>(
         &self,
-        alloc: Global,
         tree: &Tree<'t, 'a>,
         trail: &mut Trail<'a>,
         report: &mut Report,
@@ -108,10 +107,10 @@ impl<'a, N: WholeType, R: NumberRules<N::Number>> Form<'a> for Whole<N, R> {
     ) -> Result<Option<N::Number>, AllocError> {
         match self.0.spelled(tree) {
             Some(number) => {
-                let told = self.1.ask(alloc, &number, trail, report, h);
+                let told = self.1.ask(&number, trail, report, h);
                 with(told, Some(number))
             }
-            None => with(put_other(alloc, self, tree, trail, report, h), None),
+            None => with(put_other(self, tree, trail, report, h), None),
         }
     }
 }

@@ -58,14 +58,14 @@ impl<'a, F: Form<'a>, M: Makes<F::Out>> Members<'a> for WithDefault<'a, F, M> {
 
     fn read_members<'t, H: I18n + FormI18n>(
         &self,
-        alloc: Global,
         object: &Tree<'t, 'a>,
         trail: &mut Trail<'a>,
         report: &mut Report,
         h: &H,
     ) -> Result<Option<F::Out>, AllocError> {
+        let alloc = trail.alloc();
         let found = object.find(self.0);
-        let read = read_optional(alloc, self.0, &self.1, found, trail, report, h);
+        let read = read_optional(self.0, &self.1, found, trail, report, h);
         or_default(alloc, read, &self.2)
     }
 

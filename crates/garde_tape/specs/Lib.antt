@@ -6,10 +6,12 @@ pub mod Texts
 pub mod Source
 pub mod Look
 pub mod Place
+pub mod Counting
 pub mod Input
 pub mod Nesting
 pub mod Surrogate
 pub mod Refusals
+pub mod Stop
 pub mod Node
 pub mod Walk
 pub mod Spot

@@ -1,5 +1,5 @@
 -- The escape of one half of a surrogate pair without the other. RFC 8259, section 8.2, leaves open what it means.
-use Rattle.std.specs.Prelude.{ℕ, List, drop, length, slice_index, Bool, not, ◌==◌, ◌&&◌, ◌||◌, nat_le}
+use Rattle.std.specs.Prelude.{ℕ, List, drop, length, slice_index, Bool, not, ◌==◌, ◌&&◌, ◌||◌, nat_le, ◌+◌, if◌then◌else◌}
 use Rattle.std.specs.Char.{is_ascii_hexdigit}
 
 -- whether a byte is one of `8`, `9`, `A` and `B`
@@ -28,3 +28,17 @@ begins_low bytes = begins_half bytes && is_low_digit (slice_index bytes 3)
 -- whether bytes begin with the escape of a half, and not with that of a pair
 abbrev pub begins_lone : List ℕ → Bool
 begins_lone bytes = begins_low bytes || (begins_high bytes && not (begins_low (drop 6 bytes)))
+
+-- how many bytes begin as the escape of a second half does: fewer than 6, where it is none
+abbrev pub low_begun : List ℕ → ℕ
+low_begun bytes =
+    if not (slice_index bytes 0 == 92) then 0
+    else if not (slice_index bytes 1 == 117) then 1
+    else if not (slice_index bytes 2 == 68) && not (slice_index bytes 2 == 100) then 2
+    else if not (is_low_digit (slice_index bytes 3)) then 3
+    else if not (is_ascii_hexdigit (slice_index bytes 4)) then 4
+    else 5
+
+-- how many bytes of the escape of a half without the other a pair could have: the next one makes it none
+abbrev pub lone_length : List ℕ → ℕ
+lone_length bytes = if begins_low bytes then 3 else 6 + low_begun (drop 6 bytes)

@@ -1,6 +1,6 @@
 //! The escape of one half of a surrogate pair without the other.
-ghost use Rattle.std.specs.Prelude.{◌≡◌, true, drop, IfSome};
-ghost use Rattle.garde_tape.specs.Surrogate.{begins_half, begins_high, begins_lone, begins_low, is_high_digit, is_low_digit};
+ghost use Rattle.std.specs.Prelude.{◌≡◌, ◌+◌, ◌<◌, true, drop, slice_index, IsTrue};
+ghost use Rattle.garde_tape.specs.Surrogate.{begins_half, begins_high, begins_lone, begins_low, is_high_digit, is_low_digit, lone_length, low_begun};
 
 // Whether a byte is one of `8`, `9`, `A` and `B`.
 fn is_high_digit(byte: u8) -> bool
@@ -49,35 +49,59 @@ fn begins_lone(bytes: &[u8]) -> bool
     begins_low(bytes) || (begins_high(bytes) && !begins_low(&bytes[6..]))
 }
 
-// How many bytes an escape has behind its backslash.
-fn rest_of_escape(bytes: &[u8]) -> usize {
-    if begins_high(bytes) { 11 } else { 1 }
+// The byte at an index, or 0 behind the end.
+fn byte_at(bytes: &[u8], index: usize) -> u8
+    ensures { result ≡ slice_index bytes.now index }
+{
+    match bytes.get(index) {
+        Some(byte) => *byte,
+        None => 0,
+    }
 }
 
-// Where a half without the other stands in the text that begins behind this offset, which is that of
-// its quote.
-pub(crate) fn lone_surrogate(text: &[u8], quote: usize) -> Option<usize>
-    ensures { IfSome result (λ offset. begins_lone (drop offset text.now) ≡ true) }
+// How many bytes begin as the escape of a second half does: fewer than 6, where it is none.
+fn low_begun(bytes: &[u8]) -> usize
+    ensures value { result ≡ low_begun bytes.now }
+    ensures fewer { result < 6 }
 {
-    let mut passed = 0;
-    for (offset, byte) in text.iter().enumerate() {
-        if offset <= quote {
-            continue;
-        }
-        if passed > 0 {
-            passed -= 1;
-            continue;
-        }
-        if *byte == b'"' {
-            return None;
-        }
-        if *byte == b'\\' {
-            let escape = &text[offset..];
-            if begins_lone(escape) {
-                return Some(offset);
-            }
-            passed = rest_of_escape(escape);
-        }
+    if byte_at(bytes, 0) != b'\\' {
+        0
+    } else if byte_at(bytes, 1) != b'u' {
+        1
+    } else if byte_at(bytes, 2) != b'D' && byte_at(bytes, 2) != b'd' {
+        2
+    } else if !is_low_digit(byte_at(bytes, 3)) {
+        3
+    } else if !byte_at(bytes, 4).is_ascii_hexdigit() {
+        4
+    } else {
+        5
     }
-    None
+}
+
+// How many bytes of the escape of a half without the other a pair could have: the next one makes it none.
+fn lone_length(bytes: &[u8]) -> usize
+    requires { begins_lone bytes.now ≡ true }
+    ensures { result ≡ lone_length bytes.now }
+{
+    if begins_low(bytes) {
+        3
+    } else {
+        6 + low_begun(&bytes[6..])
+    }
+}
+
+// Whether the escape of a half without the other begins at the first offset, and a pair could have it up
+// to the second.
+pub(crate) fn is_lone_between(text: &[u8], escape: usize, stop: usize) -> bool
+    ensures { IsTrue result → (begins_lone (drop escape text.now) ≡ true)
+        × (stop ≡ escape + lone_length (drop escape text.now)) }
+{
+    let Some(bytes) = text.get(escape..) else {
+        return false;
+    };
+    match stop.checked_sub(escape) {
+        Some(length) => begins_lone(bytes) && length == lone_length(bytes),
+        None => false,
+    }
 }

@@ -1,6 +1,6 @@
 //! The line and the column of one byte after another.
 
-use garde_places::Place;
+use garde_tape::Place;
 
 /// How far a text is counted. A column counts characters, and a line ends with a line feed.
 #[derive(Clone, Copy, Drop)]
@@ -26,7 +26,8 @@ impl<'t> Cursor<'t> {
             mut line,
             mut column,
         } = self.here;
-        for byte in self.text.as_bytes().iter().take(offset).skip(self.offset) {
+        let bytes = self.text.as_bytes();
+        for byte in bytes.get(self.offset..offset).unwrap_or_default() {
             if *byte == b'\n' {
                 line = line.saturating_add(1);
                 column = 1;

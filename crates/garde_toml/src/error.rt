@@ -1,9 +1,9 @@
 //! Why a text is not turned into JSON.
 ghost use Rattle.std.specs.Prelude.{◌≡◌, IfSome};
-ghost use Rattle.garde_places.specs.Stop.{IsStopIn};
+ghost use Rattle.garde_tape.specs.Place.{IsPlaceIn};
 ghost use Rattle.garde_toml.specs.Answers.{IsToldAs};
 
-use garde_places::{Stop, place_of_byte};
+use garde_tape::{Stop, place_of_byte};
 use std::alloc::AllocError;
 use std::fmt;
 use toml::de::Error;
@@ -25,7 +25,7 @@ impl TomlError {
     /// the toolchain's parser does not expect. Of the other errors there is none. A byte order mark is a
     /// character here.
     pub fn stop<'e>(&'e self, text: &str) -> Option<Stop<'e>>
-        ensures { IfSome result (λ stop. IsStopIn text.now stop.place) }
+        ensures { IfSome result (λ stop. IsPlaceIn text.now stop.place) }
     {
         let TomlError::Parse(error) = self else {
             return None;

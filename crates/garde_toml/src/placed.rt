@@ -5,7 +5,7 @@ ghost use Rattle.garde_toml.specs.Answers.{IsInJson, IsReason};
 use crate::convert::toml_to_json;
 use crate::error::TomlError;
 use crate::walk::token_places;
-use garde_places::Place;
+use garde_tape::Place;
 use std::alloc::Global;
 use toml_parser::ParseError;
 

@@ -1,6 +1,6 @@
 //! Where the keys and the values of a TOML text stand, as a tree.
 
-use garde_places::Place;
+use garde_tape::Place;
 use std::alloc::{AllocError, Global};
 use std::collections::BTreeMap;
 use toml_parser::ParseError;

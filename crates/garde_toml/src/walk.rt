@@ -3,7 +3,7 @@
 
 use crate::cursor::Cursor;
 use crate::spots::{ROOT, Shape, Spots};
-use garde_places::Place;
+use garde_tape::Place;
 use std::alloc::Global;
 use toml_parser::bytes::is_bare;
 use toml_parser::text::{byte_at, first, skip, skip_blank, skip_ws};

@@ -165,7 +165,7 @@ fn paths_begin_with_the_trail(rt: HostRuntime) {
     let homes = vec![in alloc; brno, address(&rt, alloc, "")].or_end(&rt);
     let mut trail = Trail::new(alloc);
     trail.push(Component::key("homes")).or_end(&rt);
-    let answer = homes.validate_on(alloc, &Limits::default(), &mut trail, &DefaultI18n);
+    let answer = homes.validate_on(&Limits::default(), &mut trail, &DefaultI18n);
     assert!(rt;
         trail.nodes() == 3
             && trail.depth() == 1

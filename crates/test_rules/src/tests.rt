@@ -80,6 +80,7 @@ fn shows<T: Debug>(rt: &impl Abort, alloc: Global, value: &T, text: &str) -> boo
 }
 
 /// Whether the path of a trail prints this text.
-fn is_at(rt: &impl Abort, alloc: Global, trail: &mut Trail<'_>, text: &str) -> bool {
+fn is_at(rt: &impl Abort, trail: &mut Trail<'_>, text: &str) -> bool {
+    let alloc = trail.alloc();
     has_text(rt, alloc, &trail.path().or_end(rt), text)
 }

@@ -1,4 +1,4 @@
-// Written by tools/port-garde from config.garde.rs: edit that file, not this one. Its sum is 23ef6e77426a090a.
+// Written by tools/port-garde from config.garde.rs: edit that file, not this one. Its sum is c72f767b357ea194.
 //! The whole configuration.
 ghost use Rattle.std.specs.Prelude.{IfOk, Some, [], refl, ◌||◌, ◌∷◌, ◌≡◌};
 ghost use Rattle.garde_schema.specs.Bytes.{AnswersBytes, OfDocument};
@@ -162,7 +162,6 @@ impl<'t> Rules<TextRef<'t>> for ServerHostRules<'_> {
 
     fn ask<'a, H: I18n>(
         &self,
-        alloc: Global,
         value: &TextRef<'t>,
         trail: &mut Trail<'a>,
         report: &mut Report,
@@ -170,9 +169,7 @@ impl<'t> Rules<TextRef<'t>> for ServerHostRules<'_> {
     ) -> Result<(), AllocError> {
         let names = self.0;
         let host = value;
-        When(!is_address(host.text()), IsInMemory(Pattern(names))).ask(
-            alloc, host, trail, report, h,
-        )
+        When(!is_address(host.text()), IsInMemory(Pattern(names))).ask(host, trail, report, h)
     }
 }
 
@@ -202,14 +199,13 @@ impl<'t> Rules<(Level, Option<TextRef<'t>>)> for LoggingFileRules {
 
     fn ask<'a, H: I18n>(
         &self,
-        alloc: Global,
         value: &(Level, Option<TextRef<'t>>),
         trail: &mut Trail<'a>,
         report: &mut Report,
         h: &H,
     ) -> Result<(), AllocError> {
         let (level, file) = value;
-        When(matches!(level, Level::Debug), Is(Required)).ask(alloc, file, trail, report, h)
+        When(matches!(level, Level::Debug), Is(Required)).ask(file, trail, report, h)
     }
 }
 
@@ -238,14 +234,13 @@ impl Rules<(u32, u32)> for LimitMaxRules {
 
     fn ask<'a, H: I18n>(
         &self,
-        alloc: Global,
         value: &(u32, u32),
         trail: &mut Trail<'a>,
         report: &mut Report,
         h: &H,
     ) -> Result<(), AllocError> {
         let (min, max) = value;
-        Is(range!(min = *min)).ask(alloc, max, trail, report, h)
+        Is(range!(min = *min)).ask(max, trail, report, h)
     }
 }
 

@@ -1,11 +1,11 @@
 //! What the words of the command line ask for.
 
-use crate::texts::TextsFile;
-use garde_catalog::Spoken;
-use garde_places::Asked;
+use garde_command::{Asked, Program, Spoken, Word};
 
 /// How the program is called.
-pub const USAGE: &str = "\
+pub const PROGRAM: Program = Program {
+    name: "use_config",
+    usage: "\
 usage: use_config [--language TAG] [--catalog TEXTS] [--format FORMAT] [toml | json] [FILE | -]
 Reads the configuration of a service, and prints what it asks for or every fault.
 
@@ -17,7 +17,9 @@ Reads the configuration of a service, and prints what it asks for or every fault
                    texts that it lacks are taken from the language, if --language stands
   --format FORMAT  prints faults as short, json or github with their places, or as plain without;
                    else as short where FILE or - stands, and as plain where none does
-  --help           prints this";
+  --help           prints this",
+    options: &["--language", "--catalog", "--format"],
+};
 
 /// How a configuration is written.
 #[derive(Clone, Copy)]
@@ -30,106 +32,68 @@ pub enum Written {
 /// printed.
 #[derive(Clone, Copy)]
 pub struct Options<'w> {
-    pub written: Written,
     pub asked: Asked<'w>,
     pub spoken: Spoken<'w>,
+    /// How the configuration is written, if a word says it.
+    pub written: Option<Written>,
+    /// The file with the texts of faults.
     pub texts: Option<&'w str>,
 }
 
-/// What is to be done.
-#[derive(Clone, Copy)]
-pub enum Task<'w> {
-    /// The usage is printed.
-    Help,
-    /// A configuration is read.
-    Read(Options<'w>),
-}
-
-impl<'w> Task<'w> {
-    /// What the words after the program's name ask for, or what is wrong with them.
-    pub fn of(words: &'w [String]) -> Result<Task<'w>, &'static str> {
-        match words {
-            [word] if word.as_str() == "--help" => Ok(Task::Help),
-            _ => Ok(Task::Read(Options::of(words)?)),
-        }
-    }
-}
-
 impl<'w> Options<'w> {
-    // The options of these words, each of which may be left out and stands once.
-    fn of(words: &'w [String]) -> Result<Options<'w>, &'static str> {
-        let mut taken = Words {
-            written: None,
+    /// What these words ask for, or why they cannot be followed. Each may be left out and stands once.
+    pub fn of(words: &'w [Word]) -> Result<Options<'w>, &'static str> {
+        let mut options = Options {
             asked: Asked::new(),
             spoken: Spoken::new(),
-            texts: TextsFile::new(),
+            written: None,
+            texts: None,
         };
         for word in words {
-            taken.take(word)?;
+            options.take(word)?;
         }
-        taken.options()
+        Ok(options)
     }
-}
 
-// The words that were taken.
-#[derive(Clone, Copy)]
-struct Words<'w> {
-    written: Option<Written>,
-    asked: Asked<'w>,
-    spoken: Spoken<'w>,
-    texts: TextsFile<'w>,
-}
-
-impl<'w> Words<'w> {
     // Takes the next word.
-    fn take(&mut self, word: &'w str) -> Result<(), &'static str> {
-        if !self.asked.is_open && self.take_texts(word)? {
-            return Ok(());
-        }
-        match written_named(word) {
-            Some(_) if !self.asked.is_open && self.written.is_some() => {
-                return Err("there must be one of toml and json at most");
-            }
-            Some(named) if !self.asked.is_open => self.written = Some(named),
+    fn take(&mut self, word: &'w Word) -> Result<(), &'static str> {
+        match word.name.as_str() {
+            "--catalog" => self.texts = Some(self.next_texts(word)?),
+            "toml" => self.written = Some(self.next_written(Written::Toml)?),
+            "json" => self.written = Some(self.next_written(Written::Json)?),
             _ => return self.take_input(word),
         }
         Ok(())
     }
 
-    // Takes a word about the file or the format.
-    fn take_input(&mut self, word: &'w str) -> Result<(), &'static str> {
-        if self.asked.take(word)? {
-            Ok(())
-        } else {
-            Err("the word is no option, and no name of a file")
+    // The file behind `--catalog`, where there was none before.
+    fn next_texts(&self, word: &'w Word) -> Result<&'w str, &'static str> {
+        match &word.value {
+            _ if self.texts.is_some() => Err("--catalog must stand once at most"),
+            Some(file) => Ok(file.as_str()),
+            None => Err("--catalog must be followed by a file"),
         }
     }
 
-    // Takes a word about the texts, and returns whether it took the word.
-    fn take_texts(&mut self, word: &'w str) -> Result<bool, &'static str> {
-        if !self.spoken.is_open && self.texts.take(word)? {
-            return Ok(true);
+    // How a word says that the configuration is written, where none did before.
+    fn next_written(&self, written: Written) -> Result<Written, &'static str> {
+        match self.written {
+            Some(_) => Err("there must be one of toml and json at most"),
+            None => Ok(written),
         }
-        self.spoken.take(word)
     }
 
-    fn options(self) -> Result<Options<'w>, &'static str> {
-        let asked = self.asked.finish()?;
-        Ok(Options {
-            written: self.written.unwrap_or(written_in(asked.file())),
-            asked,
-            spoken: self.spoken,
-            texts: self.texts.finish()?,
-        })
+    // Takes a word about the language, the format or the file.
+    fn take_input(&mut self, word: &'w Word) -> Result<(), &'static str> {
+        if self.spoken.take(word)? || self.asked.take(word)? {
+            return Ok(());
+        }
+        Err("the word is no option, and no name of a file")
     }
-}
 
-// What a word names.
-fn written_named(word: &str) -> Option<Written> {
-    match word {
-        "toml" => Some(Written::Toml),
-        "json" => Some(Written::Json),
-        _ => None,
+    /// How the configuration is written.
+    pub fn written(&self) -> Written {
+        self.written.unwrap_or(written_in(self.asked.file()))
     }
 }
 

@@ -1,55 +1,13 @@
 //! The texts of faults, in a file behind `--catalog`.
 
-use crate::judging::Input;
+use crate::check::{Input, Printing, check};
 use crate::options::{Options, written_in};
-use crate::placed::check_placed;
 use anyhow::Result;
 use garde::I18n;
-use garde_catalog::{Catalog, Entry, Language, Spoken, Table, TableTexts, languages};
+use garde_catalog::{Catalog, Entry, Language, Table, TableTexts, languages};
+use garde_command::read_input;
 use garde_places::{Format, Printed};
 use garde_schema::{Closed, FormI18n, Object, ReadError, Scratch, read_json};
-
-/// The name of the file behind `--catalog` among the words of a command line.
-#[derive(Clone, Copy)]
-pub struct TextsFile<'w> {
-    name: Option<&'w str>,
-    is_open: bool,
-}
-
-impl<'w> TextsFile<'w> {
-    /// What no word asks for.
-    pub fn new() -> TextsFile<'w> {
-        TextsFile {
-            name: None,
-            is_open: false,
-        }
-    }
-
-    /// Takes a word: `--catalog`, or the name behind it. Returns whether it took the word.
-    pub fn take(&mut self, word: &'w str) -> Result<bool, &'static str> {
-        if self.is_open {
-            self.name = Some(word);
-            self.is_open = false;
-            return Ok(true);
-        }
-        if word != "--catalog" {
-            return Ok(false);
-        }
-        if self.name.is_some() {
-            return Err("--catalog must stand once at most");
-        }
-        self.is_open = true;
-        Ok(true)
-    }
-
-    /// The name of the file, at the end of the words.
-    pub fn finish(self) -> Result<Option<&'w str>, &'static str> {
-        if self.is_open {
-            return Err("--catalog must be followed by a file");
-        }
-        Ok(self.name)
-    }
-}
 
 /// The table of texts that is read, all of them or some.
 #[derive(Drop)]
@@ -77,9 +35,9 @@ impl Input for Texts {
     }
 }
 
-/// The texts of the language that stands behind `--language`, for those that a file lacks.
-pub fn fallback(spoken: &Spoken<'_>) -> Option<&'static [Entry<'static>]> {
-    let language = Language::named(spoken.tag?, &languages())?;
+/// The texts of the language of a tag, for those that a file lacks.
+pub fn fallback(tag: Option<&str>) -> Option<&'static [Entry<'static>]> {
+    let language = Language::named(tag?, &languages())?;
     Some(language.table)
 }
 
@@ -91,7 +49,7 @@ pub fn read_texts(
     catalog: &Catalog<'_>,
     file: &str,
 ) -> Result<Option<Table>> {
-    let body = crate::read(rt, Some(file))?;
+    let body = read_input(rt, Some(file))?;
     let mut texts = Texts {
         form: match options.spoken.tag {
             Some(_) => TableTexts::some(),
@@ -99,20 +57,12 @@ pub fn read_texts(
         },
         table: None,
     };
-    let printed = Printed {
-        format: match options.asked.printed() {
-            Some(printed) => printed.format,
-            None => Format::Short,
-        },
-        file,
+    let format = match options.asked.printed() {
+        Some(printed) => printed.format,
+        None => Format::Short,
     };
-    check_placed(
-        rt,
-        printed,
-        catalog,
-        written_in(Some(file)),
-        &body,
-        &mut texts,
-    )?;
+    let printed = Some(Printed { format, file });
+    let printing = Printing { printed, catalog };
+    check(rt, printing, written_in(Some(file)), &body, &mut texts)?;
     Ok(texts.table)
 }

@@ -85,11 +85,11 @@ nothing_of P (Some j) a is = cc
 
 -- what is a document, and short enough, is not rejected
 no_refusal : (P : Json → Type 0) (bytes : List ℕ) (error : ParseError) → OfDocument bytes P → length bytes ≤ 4294967040 → NoDocument bytes error → ⊥
-no_refusal P bytes (parse.NotUtf8 place) a short bad = bad a.0
+no_refusal P bytes (parse.NotUtf8 place) a short bad = bad.0 a.0
 no_refusal P bytes (parse.NotJson place) a short bad = nothing_of P _ a.1 bad.1
 no_refusal P bytes (parse.TooDeep place) a short bad = nothing_of P _ a.1 bad.1
 no_refusal P bytes (parse.LoneSurrogate place) a short bad = nothing_of P _ a.1 bad.1
-no_refusal P bytes parse.TooLong a short bad = omega (arith, short, bad)
+no_refusal P bytes parse.TooLong a short bad = omega (arith, short, bad.1)
 no_refusal P bytes parse.Memory a short bad = bad
 
 module _ (catalogs : Catalogs) where

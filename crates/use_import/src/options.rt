@@ -1,11 +1,12 @@
 //! What the words of the command line ask for.
 
 use crate::spot::Naming;
-use garde_catalog::Spoken;
-use garde_places::Asked;
+use garde_command::{Asked, Program, Spoken, Word};
 
 /// How the program is called.
-pub const USAGE: &str = "\
+pub const PROGRAM: Program = Program {
+    name: "use_import",
+    usage: "\
 usage: use_import [--no-header] [--first-row N | --lines] [--language TAG] [--format FORMAT] [MOST] [FILE | -]
 Reads a stock list in CSV, and prints every fault of each row.
 
@@ -17,131 +18,80 @@ Reads a stock list in CSV, and prints every fault of each row.
   --language TAG   prints faults in this language, as de or pt-BR, and without it in English
   --format FORMAT  prints faults as short, json or github with their places, or as plain without;
                    else as short where FILE or - stands, and as plain where none does
-  --help           prints this";
+  --help           prints this",
+    options: &["--first-row", "--language", "--format"],
+};
 
 /// How a list is to be checked.
 #[derive(Clone, Copy)]
 pub struct Options<'w> {
-    /// The name of the file, and none for standard input.
-    pub file: Option<&'w str>,
+    /// Which list is read, and how its faults are printed.
+    pub asked: Asked<'w>,
+    /// The language in which faults are printed.
+    pub spoken: Spoken<'w>,
     /// How many faults are to be printed at most.
     pub most: Option<usize>,
     /// The number of the first row in the whole list.
     pub first_row: Option<usize>,
     /// Whether a header row stands in front of the rows.
     pub has_header: bool,
-    /// How rows are named.
-    pub naming: Naming<'w>,
-    /// The language in which faults are printed.
-    pub spoken: Spoken<'w>,
+    /// Whether rows are named by their lines, where faults have no places.
+    pub by_line: bool,
 }
 
-/// What is to be done.
-#[derive(Clone, Copy)]
-pub enum Task<'w> {
-    /// The usage is printed.
-    Help,
-    /// A list is checked.
-    Import(Options<'w>),
-}
-
-impl<'w> Task<'w> {
-    /// What these words ask for, or why they cannot be followed.
-    pub fn of(words: &'w [String]) -> Result<Task<'w>, &'static str> {
-        match words {
-            [word] if word.as_str() == "--help" => Ok(Task::Help),
-            _ => Ok(Task::Import(Words::of(words)?.options()?)),
-        }
-    }
-}
-
-/// The words that were taken. Each may be left out and stands once.
-#[derive(Clone, Copy)]
-struct Words<'w> {
-    most: Option<usize>,
-    first_row: Option<usize>,
-    // Whether the next word is the number of `--first-row`.
-    wants_first_row: bool,
-    has_header: bool,
-    lines: bool,
-    asked: Asked<'w>,
-    spoken: Spoken<'w>,
-}
-
-impl<'w> Words<'w> {
-    fn of(words: &'w [String]) -> Result<Words<'w>, &'static str> {
-        let mut taken = Words {
-            most: None,
-            first_row: None,
-            wants_first_row: false,
-            has_header: true,
-            lines: false,
+impl<'w> Options<'w> {
+    /// What these words ask for, or why they cannot be followed. Each may be left out and stands once.
+    pub fn of(words: &'w [Word]) -> Result<Options<'w>, &'static str> {
+        let mut options = Options {
             asked: Asked::new(),
             spoken: Spoken::new(),
+            most: None,
+            first_row: None,
+            has_header: true,
+            by_line: false,
         };
         for word in words {
-            taken.take(word)?;
+            options.take(word)?;
         }
-        if taken.wants_first_row {
-            return Err(NO_FIRST_ROW);
+        if options.by_line && options.first_row.is_some() {
+            return Err("--lines and --first-row cannot be combined");
         }
-        Ok(taken)
+        Ok(options)
     }
 
     // Takes the next word.
-    fn take(&mut self, word: &'w str) -> Result<(), &'static str> {
-        if self.wants_first_row {
-            self.first_row = Some(first_row(word)?);
-            self.wants_first_row = false;
-        } else if !self.asked.is_open && self.spoken.take(word)? {
-            return Ok(());
-        } else if word == "--first-row" && self.can_be_first_row() {
-            self.wants_first_row = true;
-        } else if !self.asked.take(word)? {
-            return self.take_alone(word);
-        }
-        Ok(())
-    }
-
-    // Whether `--first-row` may stand here.
-    fn can_be_first_row(&self) -> bool {
-        self.first_row.is_none() && !self.asked.is_open
-    }
-
-    // Takes a word that stands alone, and names no file.
-    fn take_alone(&mut self, word: &str) -> Result<(), &'static str> {
-        match word {
+    fn take(&mut self, word: &'w Word) -> Result<(), &'static str> {
+        match word.name.as_str() {
+            "--first-row" if self.first_row.is_none() => self.first_row = Some(first_row(word)?),
             "--no-header" if self.has_header => self.has_header = false,
-            "--lines" if !self.lines => self.lines = true,
-            "--no-header" | "--lines" | "--first-row" => return Err("a word stands twice"),
-            number if self.most.is_none() => self.most = Some(most(number)?),
-            _ => return Err("there must be one number at most"),
+            "--lines" if !self.by_line => self.by_line = true,
+            "--first-row" | "--no-header" | "--lines" => return Err("a word stands twice"),
+            _ => return self.take_input(word),
         }
         Ok(())
     }
 
-    fn options(self) -> Result<Options<'w>, &'static str> {
-        if self.lines && self.first_row.is_some() {
-            return Err("--lines and --first-row cannot be combined");
+    // Takes a word about the language, the format or the file, or a number of faults.
+    fn take_input(&mut self, word: &'w Word) -> Result<(), &'static str> {
+        if self.spoken.take(word)? || self.asked.take(word)? {
+            return Ok(());
         }
-        let asked = self.asked.finish()?;
-        let naming = match asked.printed() {
+        if self.most.is_some() {
+            return Err("there must be one number at most");
+        }
+        self.most = Some(most(&word.name)?);
+        Ok(())
+    }
+
+    /// How rows are named.
+    pub fn naming(&self) -> Naming<'w> {
+        match self.asked.printed() {
             Some(printed) => Naming::Placed(printed),
-            None if self.lines => Naming::Line,
+            None if self.by_line => Naming::Line,
             None => Naming::Index,
-        };
-        Ok(Options {
-            file: asked.file(),
-            most: self.most,
-            first_row: self.first_row,
-            has_header: self.has_header,
-            naming,
-            spoken: self.spoken,
-        })
+        }
     }
 }
-
-const NO_FIRST_ROW: &str = "a number from 0 must follow --first-row";
 
 // A number of faults.
 fn most(word: &str) -> Result<usize, &'static str> {
@@ -151,10 +101,10 @@ fn most(word: &str) -> Result<usize, &'static str> {
     }
 }
 
-// The number of a row.
-fn first_row(word: &str) -> Result<usize, &'static str> {
-    match word.parse() {
+// The number of a row, behind its option.
+fn first_row(word: &Word) -> Result<usize, &'static str> {
+    match word.value_or_empty().parse() {
         Ok(number) => Ok(number),
-        Err(_) => Err(NO_FIRST_ROW),
+        Err(_) => Err("a number from 0 must follow --first-row"),
     }
 }

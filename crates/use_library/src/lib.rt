@@ -13,8 +13,9 @@
 //! of threads may call at the same time.
 #![tactic(auto)]
 
-ghost use Rattle.std.specs.Prelude.{◌≡◌};
+ghost use Rattle.std.specs.Prelude.{◌≡◌, ◌⊎◌};
 ghost use Rattle.example_order.specs.Language.{IsCheckedIn, IsListedIn, IsOrder, language_of};
+ghost use Rattle.garde_library.specs.declared.status.Status.TheVariants.{Memory, Valid};
 ghost use Rattle.use_library.specs.Codes.{IsCode};
 
 use example_order::{Body, Language, check_order, is_order, list_order};
@@ -73,7 +74,9 @@ pub extern "C" fn order_is_valid(alloc: Global, body: &[u8]) -> u8
 /// Makes the room of a checker for bodies of `body_len` bytes, and returns ORDER_VALID or
 /// ORDER_MEMORY. A call may be left out: `order_check_with` makes the room that it lacks.
 #[unsafe(no_mangle)]
-pub extern "C" fn order_reserve(alloc: Global, checker: &mut Room, body_len: u32) -> u8 {
+pub extern "C" fn order_reserve(alloc: Global, checker: &mut Room, body_len: u32) -> u8
+    ensures { IsCode (λ s. (s ≡ Valid) ⊎ (s ≡ Memory)) result }
+{
     match checker.reserve(alloc, body_len) {
         Ok(()) => Status::Valid as u8,
         Err(_) => Status::Memory as u8,

@@ -1,9 +1,11 @@
 //! What the words of the command line ask for.
 
-use garde_places::Asked;
+use garde_command::{Asked, Program, Word};
 
 /// How the program is called.
-pub const USAGE: &str = "\
+pub const PROGRAM: Program = Program {
+    name: "use_order",
+    usage: "\
 usage: use_order [--format FORMAT] [N] [FILE | -]
 Reads a page of orders in JSON, and confirms each of them or prints every fault.
 
@@ -11,59 +13,35 @@ Reads a page of orders in JSON, and confirms each of them or prints every fault.
   N                prints at most N faults, N from 1
   --format FORMAT  prints faults as short, json or github with their places, or as plain without;
                    else as short where FILE or - stands, and as plain where none does
-  --help           prints this";
+  --help           prints this",
+    options: &["--format"],
+};
 
 /// How a page is to be judged.
 #[derive(Clone, Copy)]
 pub struct Options<'w> {
     /// Which page is read, and how its faults are printed.
     pub asked: Asked<'w>,
-    /// How many faults are to be printed at most.
-    pub most: Option<usize>,
-}
-
-/// What is to be done.
-#[derive(Clone, Copy)]
-pub enum Task<'w> {
-    /// The usage is printed.
-    Help,
-    /// A page is judged.
-    Judge(Options<'w>),
-}
-
-impl<'w> Task<'w> {
-    /// What these words ask for, or why they cannot be followed.
-    pub fn of(words: &'w [String]) -> Result<Task<'w>, &'static str> {
-        match words {
-            [word] if word.as_str() == "--help" => Ok(Task::Help),
-            _ if has_help(words) => Err("--help must stand alone"),
-            _ => Ok(Task::Judge(Options::of(words)?)),
-        }
-    }
-}
-
-// Whether one of these words asks for the usage.
-fn has_help(words: &[String]) -> bool {
-    for word in words {
-        if word.as_str() == "--help" {
-            return true;
-        }
-    }
-    false
+    /// How many faults are printed at most.
+    pub most: usize,
 }
 
 impl<'w> Options<'w> {
-    // The options of these words, each of which may be left out and stands once.
-    fn of(words: &'w [String]) -> Result<Options<'w>, &'static str> {
-        let mut asked = Asked::new();
-        let mut most = None;
+    /// What these words ask for, or why they cannot be followed. Each may be left out and stands once.
+    pub fn of(words: &'w [Word]) -> Result<Options<'w>, &'static str> {
+        if words.iter().any(|word| word.name.as_str() == "--help") {
+            return Err("--help must stand alone");
+        }
+        let (mut asked, mut most) = (Asked::new(), None);
         for word in words {
             if !asked.take(word)? {
-                most = Some(next_most(most, word)?);
+                most = Some(next_most(most, &word.name)?);
             }
         }
-        let asked = asked.finish()?;
-        Ok(Options { asked, most })
+        Ok(Options {
+            asked,
+            most: most.unwrap_or(usize::MAX),
+        })
     }
 }
 

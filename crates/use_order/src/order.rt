@@ -1,4 +1,4 @@
-// Written by tools/port-garde from order.garde.rs: edit that file, not this one. Its sum is a5a73554062bbd6f.
+// Written by tools/port-garde from order.garde.rs: edit that file, not this one. Its sum is 9a105f4da8361cef.
 //! A page of orders with their lines.
 ghost use Rattle.std.specs.Prelude.{[], refl, ◌∷◌};
 ghost use Rattle.garde.specs.Fields.{◌and◌, at_least, at_most, between, Bool, chars, count, each, false, field, if_some, is, items, prefix, range, required, true, when};
@@ -127,7 +127,6 @@ impl<'t> Rules<((Delivery, Option<TextRef<'t>>), Items<Line<'t>>)> for OrderLine
 
     fn ask<'a, H: I18n>(
         &self,
-        alloc: Global,
         value: &((Delivery, Option<TextRef<'t>>), Items<Line<'t>>),
         trail: &mut Trail<'a>,
         report: &mut Report,
@@ -135,7 +134,7 @@ impl<'t> Rules<((Delivery, Option<TextRef<'t>>), Items<Line<'t>>)> for OrderLine
     ) -> Result<(), AllocError> {
         let ((delivery, _), lines) = value;
         When(matches!(delivery, Delivery::Counter), Is(length!(max = 3))).ask(
-            alloc, lines, trail, report, h,
+            lines, trail, report, h,
         )
     }
 }
@@ -150,14 +149,13 @@ impl<'t> Rules<(Delivery, Option<TextRef<'t>>)> for OrderAddressRules {
 
     fn ask<'a, H: I18n>(
         &self,
-        alloc: Global,
         value: &(Delivery, Option<TextRef<'t>>),
         trail: &mut Trail<'a>,
         report: &mut Report,
         h: &H,
     ) -> Result<(), AllocError> {
         let (delivery, address) = value;
-        When(matches!(delivery, Delivery::Post), Is(Required)).ask(alloc, address, trail, report, h)
+        When(matches!(delivery, Delivery::Post), Is(Required)).ask(address, trail, report, h)
     }
 }
 

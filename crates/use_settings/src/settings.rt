@@ -59,7 +59,6 @@ impl Stated for Settings {
 impl Validate for Settings {
     fn validate_into<'a, H: I18n>(
         &'a self,
-        alloc: Global,
         _ctx: &(),
         trail: &mut Trail<'a>,
         report: &mut Report,
@@ -78,7 +77,7 @@ impl Validate for Settings {
             Field("--remote", remote, (wanted, IfSome(Is(Ip(IpKind::V4))))),
             Field("FILE", files, (Is(length!(min = 1, max = 3)), named)),
         )
-            .visit(alloc, trail, report, h)
+            .visit(trail, report, h)
     }
 }
 

@@ -1,6 +1,6 @@
 //! What the command line asks for.
 
-use garde_catalog::Spoken;
+use garde_command::{Spoken, Word};
 
 /// A longer body is rejected, where the command line names no other length.
 const MOST: usize = 64 * 1024;
@@ -41,23 +41,23 @@ pub enum Task<'w> {
 
 impl<'w> Task<'w> {
     /// What the words after the program's name ask for. Of other words it says what is wrong with them.
-    pub fn of(words: &'w [String]) -> Result<Task<'w>, &'static str> {
+    pub fn of(words: &'w [Word]) -> Result<Task<'w>, &'static str> {
         match words {
-            [word] if word.as_str() == "--help" => Ok(Task::Help),
-            [word, rest @ ..] if word.as_str() == "--serve" => Task::serving(rest),
+            [word] if word.name.as_str() == "--help" => Ok(Task::Help),
+            [word, rest @ ..] if word.name.as_str() == "--serve" => Task::serving(rest),
             _ => Task::judging(words),
         }
     }
 
     // How these words ask for a form to be judged.
-    fn judging(words: &'w [String]) -> Result<Task<'w>, &'static str> {
+    fn judging(words: &'w [Word]) -> Result<Task<'w>, &'static str> {
         let mut spoken = Spoken::new();
         let (mut page, mut named) = (false, None);
         for word in words {
             if spoken.take(word)? {
                 continue;
             }
-            match word.as_str() {
+            match word.name.as_str() {
                 "--page" => page = true,
                 text if text != "-" && text.starts_with("-") => return Err("the word is no option"),
                 _ if named.is_some() => return Err("there must be one file at most"),
@@ -69,10 +69,10 @@ impl<'w> Task<'w> {
     }
 
     // How the words behind `--serve` ask for requests to be answered.
-    fn serving(words: &[String]) -> Result<Task<'w>, &'static str> {
+    fn serving(words: &[Word]) -> Result<Task<'w>, &'static str> {
         let (mut most, mut dates) = (None, true);
         for word in words {
-            match word.as_str() {
+            match word.name.as_str() {
                 "--no-date" if dates => dates = false,
                 "--no-date" => return Err("there must be one --no-date at most"),
                 text => match text.parse() {

@@ -21,7 +21,8 @@ use crate::terms::Words;
 use crate::texts::{Speech, texts_in};
 use anyhow::{Context, Result, bail};
 use garde::{I18n, Report, ValidateError};
-use garde_catalog::{CatalogError, Catalogs, Language, Spoken, languages};
+use garde_catalog::{Catalog, CatalogError, Catalogs, Language, languages};
+use garde_command::{Spoken, parted};
 use garde_form::{FormField, form_fields};
 use garde_html::Form;
 use garde_problem::Escaped;
@@ -125,7 +126,7 @@ fn judge_in(
 ) -> Result<ExitCode> {
     let offered = languages();
     let english = offered[0];
-    let catalog = spoken.catalog(rt.alloc(), &offered, english.table)?;
+    let catalog = Catalog::spoken(rt.alloc(), spoken.tag, &offered, english.table)?;
     let language = Language::named(spoken.tag.unwrap_or("en"), &offered).unwrap_or(english);
     let page = page.then_some(&texts_in(language.tag).form);
     let body = read(rt, file)?;
@@ -197,6 +198,7 @@ fn ended(stands: Result<State>) -> Result<ExitCode> {
 fn run(rt: &HostRuntime) -> Result<ExitCode> {
     let all = env::args(rt).context("the command line is not read")?;
     let words: Vec<String> = all.skip(1).collect(rt.alloc())?;
+    let words = parted(rt.alloc(), words, &["--language"])?;
     match Task::of(&words) {
         Ok(Task::Help) => {
             println!(rt; "{USAGE}")?;

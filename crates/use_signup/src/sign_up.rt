@@ -1,4 +1,4 @@
-// Written by tools/port-garde from sign_up.garde.rs: edit that file, not this one. Its sum is 5f3afe94cf344068.
+// Written by tools/port-garde from sign_up.garde.rs: edit that file, not this one. Its sum is dbf4aa5b2fadc042.
 //! Who signs up: the fields of the form and their rules.
 ghost use Rattle.std.specs.Prelude.{Err, IfOk, Some, [], codes, map, refl, ◌∷◌, ◌≡◌, ◌≢◌};
 ghost use Rattle.garde.specs.Answers.{Answers};
@@ -113,7 +113,6 @@ impl<'t> Rules<(TextRef<'t>, TextRef<'t>)> for SignUpPasswordAgainRules {
 
     fn ask<'a, H: I18n>(
         &self,
-        alloc: Global,
         value: &(TextRef<'t>, TextRef<'t>),
         trail: &mut Trail<'a>,
         report: &mut Report,
@@ -124,7 +123,7 @@ impl<'t> Rules<(TextRef<'t>, TextRef<'t>)> for SignUpPasswordAgainRules {
             field: "password",
             other: password,
         })
-        .ask(alloc, password_again, trail, report, h)
+        .ask(password_again, trail, report, h)
     }
 }
 

@@ -3,7 +3,8 @@ ghost use Rattle.std.specs.Prelude.{◌≡◌, [], IfOk, IsTrue};
 ghost use Rattle.sqlite.specs.Held.{state};
 ghost use Rattle.example_table.specs.Stock.{IsUp};
 
-use anyhow::Result;
+use crate::kind::unread_kind;
+use anyhow::{Result, bail};
 use example_table::database::Stock;
 use example_table::opening::OpenError;
 use sqlite::{Alter, Connection, Error, ErrorCode, File, FileStore};
@@ -56,14 +57,20 @@ pub fn open<S: Alter + Drop>(database: Result<Connection<S>, Error>) -> Result<S
 }
 
 /// Does work with the table of a file, which is made if it is not there. A file that another process
-/// has open is waited for, a second at most. The answer is the table, which is still open, and what
-/// came of the work.
+/// has open is waited for, a second at most. A sound one of a kind that is not read is rejected by its
+/// kind. The answer is the table, which is still open, and what came of the work.
 pub fn with<W: Work>(
     rt: &HostRuntime,
     path: &str,
     work: &mut W,
 ) -> Result<(Stock<FileStore<File>>, W::Done)> {
-    work.run(rt, connect(rt, path))
+    let database = connect(rt, path);
+    if let Err(error) = &database
+        && let Some(kind) = unread_kind(rt, path, *error)
+    {
+        bail!("{path:?}: a SQLite file with {kind} is not supported");
+    }
+    work.run(rt, database)
 }
 
 /// Whether a file was not opened since the disk is full, or failed.

@@ -7,7 +7,7 @@ ghost use Rattle.example_types.specs.declared.recursive.comment.Comment.{out-Com
 use garde::fields::{Field, Fields, Is};
 use garde::recursive::{Recursive, walk};
 use garde::{I18n, Report, Stated, Trail, Validate, length};
-use std::alloc::{AllocError, Global};
+use std::alloc::AllocError;
 
 /// A comment and the replies to it, each with a text of 1 to 280 characters.
 #[derive(Drop)]
@@ -35,7 +35,6 @@ impl Recursive for Comment {
 
     fn visit_own<'a, H: I18n>(
         &'a self,
-        alloc: Global,
         _ctx: &(),
         trail: &mut Trail<'a>,
         report: &mut Report,
@@ -43,7 +42,7 @@ impl Recursive for Comment {
     ) -> Result<(), AllocError> {
         let Self { text, replies: _ } = self;
         let asked = Is(length!(chars, min = 1, max = 280));
-        Field("text", text, asked).visit(alloc, trail, report, h)
+        Field("text", text, asked).visit(trail, report, h)
     }
 }
 
@@ -56,12 +55,11 @@ impl Stated for Comment {
 impl Validate for Comment {
     fn validate_into<'a, H: I18n>(
         &'a self,
-        alloc: Global,
         ctx: &(),
         trail: &mut Trail<'a>,
         report: &mut Report,
         h: &H,
     ) -> Result<(), AllocError> {
-        walk(alloc, self, ctx, trail, report, h)
+        walk(self, ctx, trail, report, h)
     }
 }

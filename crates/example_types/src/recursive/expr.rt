@@ -4,7 +4,7 @@ ghost use Rattle.example_types.specs.ExprVisits.{expr_visits};
 
 use garde::fields::{Field, Fields, Is};
 use garde::{Component, I18n, Report, Stated, Trail, Validate, range};
-use std::alloc::{AllocError, Global};
+use std::alloc::AllocError;
 
 /// An expression whose numbers are at least -10 and at most 10.
 #[derive(Drop)]
@@ -26,19 +26,17 @@ impl Stated for Expr {
 impl Validate for Expr {
     fn validate_into<'a, H: I18n>(
         &'a self,
-        alloc: Global,
         _ctx: &(),
         trail: &mut Trail<'a>,
         report: &mut Report,
         h: &H,
     ) -> Result<(), AllocError> {
-        walk(alloc, self, trail, report, h)
+        walk(self, trail, report, h)
     }
 }
 
 #[cycle(walk)]
 fn walk<'a, H: I18n>(
-    alloc: Global,
     expr: &'a Expr,
     trail: &mut Trail<'a>,
     report: &mut Report,
@@ -50,19 +48,18 @@ fn walk<'a, H: I18n>(
     match expr {
         Expr::Num(num) => {
             let within = Is(range!(min = -10, max = 10));
-            Field("num", num, within).visit(alloc, trail, report, h)
+            Field("num", num, within).visit(trail, report, h)
         }
-        Expr::Neg(part) => walk_at(alloc, 0, part, trail, report, h),
+        Expr::Neg(part) => walk_at(0, part, trail, report, h),
         Expr::Add(left, right) => {
-            walk_at(alloc, 0, left, trail, report, h)?;
-            walk_at(alloc, 1, right, trail, report, h)
+            walk_at(0, left, trail, report, h)?;
+            walk_at(1, right, trail, report, h)
         }
     }
 }
 
 #[cycle(walk)]
 fn walk_at<'a, H: I18n>(
-    alloc: Global,
     index: usize,
     expr: &'a Expr,
     trail: &mut Trail<'a>,
@@ -73,7 +70,7 @@ fn walk_at<'a, H: I18n>(
         trail.old trail.new report.old report.new result }
 {
     trail.push(Component::index(index))?;
-    let outcome = walk(alloc, expr, trail, report, h);
+    let outcome = walk(expr, trail, report, h);
     trail.pop();
     outcome
 }

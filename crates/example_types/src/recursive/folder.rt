@@ -7,7 +7,7 @@ ghost use Rattle.example_types.specs.declared.recursive.folder.Folder.{out-Folde
 use garde::fields::{Field, Fields, Is};
 use garde::recursive::{Recursive, walk};
 use garde::{I18n, Report, Stated, Trail, Validate, length};
-use std::alloc::{AllocError, Global};
+use std::alloc::AllocError;
 
 /// A folder and the folders in it, each with a name of 1 to 9 bytes.
 #[derive(Drop)]
@@ -35,14 +35,13 @@ impl Recursive for Folder {
 
     fn visit_own<'a, H: I18n>(
         &'a self,
-        alloc: Global,
         _ctx: &(),
         trail: &mut Trail<'a>,
         report: &mut Report,
         h: &H,
     ) -> Result<(), AllocError> {
         let Self { name, folders: _ } = self;
-        Field("name", name, Is(length!(min = 1, max = 9))).visit(alloc, trail, report, h)
+        Field("name", name, Is(length!(min = 1, max = 9))).visit(trail, report, h)
     }
 }
 
@@ -55,12 +54,11 @@ impl Stated for Folder {
 impl Validate for Folder {
     fn validate_into<'a, H: I18n>(
         &'a self,
-        alloc: Global,
         ctx: &(),
         trail: &mut Trail<'a>,
         report: &mut Report,
         h: &H,
     ) -> Result<(), AllocError> {
-        walk(alloc, self, ctx, trail, report, h)
+        walk(self, ctx, trail, report, h)
     }
 }

@@ -7,7 +7,7 @@ ghost use Rattle.example_types.specs.declared.recursive.menu.Menu.{out-Menu, siz
 use garde::fields::{Field, Fields, Is};
 use garde::recursive::{Recursive, walk};
 use garde::{I18n, Report, Stated, Trail, Validate, length};
-use std::alloc::{AllocError, Global};
+use std::alloc::AllocError;
 use std::collections::BTreeMap;
 
 /// A menu and the menus in it by their names, each with a label of 1 to 20 bytes.
@@ -36,14 +36,13 @@ impl Recursive for Menu {
 
     fn visit_own<'a, H: I18n>(
         &'a self,
-        alloc: Global,
         _ctx: &(),
         trail: &mut Trail<'a>,
         report: &mut Report,
         h: &H,
     ) -> Result<(), AllocError> {
         let Self { label, menus: _ } = self;
-        Field("label", label, Is(length!(min = 1, max = 20))).visit(alloc, trail, report, h)
+        Field("label", label, Is(length!(min = 1, max = 20))).visit(trail, report, h)
     }
 }
 
@@ -56,12 +55,11 @@ impl Stated for Menu {
 impl Validate for Menu {
     fn validate_into<'a, H: I18n>(
         &'a self,
-        alloc: Global,
         ctx: &(),
         trail: &mut Trail<'a>,
         report: &mut Report,
         h: &H,
     ) -> Result<(), AllocError> {
-        walk(alloc, self, ctx, trail, report, h)
+        walk(self, ctx, trail, report, h)
     }
 }

@@ -8,7 +8,7 @@ ghost use Rattle.example_types.specs.declared.recursive.question.Kind.TheVariant
 use garde::fields::{Field, Fields, Is, When};
 use garde::recursive::{Recursive, walk};
 use garde::{I18n, Report, Stated, Trail, Validate, length};
-use std::alloc::{AllocError, Global};
+use std::alloc::AllocError;
 
 /// What an entry of a survey is.
 #[derive(Clone, Copy)]
@@ -47,7 +47,6 @@ impl Recursive for Entry {
 
     fn visit_own<'a, H: I18n>(
         &'a self,
-        alloc: Global,
         _ctx: &(),
         trail: &mut Trail<'a>,
         report: &mut Report,
@@ -63,7 +62,7 @@ impl Recursive for Entry {
             Is(length!(chars, min = 1, max = 200)),
         );
         let given = When(matches!(kind, Kind::Answer), Is(length!(chars, max = 40)));
-        Field("text", text, (asked, given)).visit(alloc, trail, report, h)
+        Field("text", text, (asked, given)).visit(trail, report, h)
     }
 }
 
@@ -76,12 +75,11 @@ impl Stated for Entry {
 impl Validate for Entry {
     fn validate_into<'a, H: I18n>(
         &'a self,
-        alloc: Global,
         ctx: &(),
         trail: &mut Trail<'a>,
         report: &mut Report,
         h: &H,
     ) -> Result<(), AllocError> {
-        walk(alloc, self, ctx, trail, report, h)
+        walk(self, ctx, trail, report, h)
     }
 }

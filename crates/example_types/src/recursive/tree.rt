@@ -7,7 +7,7 @@ ghost use Rattle.example_types.specs.declared.recursive.tree.Tree.{out-Tree, siz
 use garde::fields::{Dive, Field, Fields};
 use garde::recursive::{Recursive, walk};
 use garde::{I18n, Report, Stated, Trail, Validate};
-use std::alloc::{AllocError, Global};
+use std::alloc::AllocError;
 
 /// A value and the trees under it.
 #[derive(Drop)]
@@ -35,14 +35,13 @@ impl<T: Validate> Recursive for Tree<T> {
 
     fn visit_own<'a, H: I18n>(
         &'a self,
-        alloc: Global,
         ctx: &T::Context,
         trail: &mut Trail<'a>,
         report: &mut Report,
         h: &H,
     ) -> Result<(), AllocError> {
         let Self { value, children: _ } = self;
-        Field("value", value, Dive(ctx)).visit(alloc, trail, report, h)
+        Field("value", value, Dive(ctx)).visit(trail, report, h)
     }
 }
 
@@ -55,12 +54,11 @@ impl<T: Validate> Stated for Tree<T> {
 impl<T: Validate> Validate for Tree<T> {
     fn validate_into<'a, H: I18n>(
         &'a self,
-        alloc: Global,
         ctx: &T::Context,
         trail: &mut Trail<'a>,
         report: &mut Report,
         h: &H,
     ) -> Result<(), AllocError> {
-        walk(alloc, self, ctx, trail, report, h)
+        walk(self, ctx, trail, report, h)
     }
 }

@@ -4,7 +4,7 @@ ghost use Rattle.garde.specs.Fields.{between, field, is, items, slice, Some};
 
 use garde::fields::{Field, Fields, Is};
 use garde::{I18n, Report, Stated, Trail, Valid, Validate, length};
-use std::alloc::{AllocError, Global};
+use std::alloc::AllocError;
 
 /// The names of 1 to 50 articles.
 #[derive(Debug, Drop)]
@@ -21,14 +21,13 @@ impl Stated for Basket {
 impl Validate for Basket {
     fn validate_into<'a, H: I18n>(
         &'a self,
-        alloc: Global,
         _ctx: &(),
         trail: &mut Trail<'a>,
         report: &mut Report,
         h: &H,
     ) -> Result<(), AllocError> {
         let Self { articles } = self;
-        Field("articles", articles, Is(length!(min = 1, max = 50))).visit(alloc, trail, report, h)
+        Field("articles", articles, Is(length!(min = 1, max = 50))).visit(trail, report, h)
     }
 }
 

@@ -4,7 +4,7 @@ ghost use Rattle.garde.specs.Fields.{between, field, is, range};
 
 use garde::fields::{Field, Fields, Is};
 use garde::{I18n, Report, Stated, Trail, Valid, Validate, range};
-use std::alloc::{AllocError, Global};
+use std::alloc::AllocError;
 
 /// What is to be paid in cents, by 1 to 40 guests.
 #[derive(Drop)]
@@ -22,14 +22,13 @@ impl Stated for Bill {
 impl Validate for Bill {
     fn validate_into<'a, H: I18n>(
         &'a self,
-        alloc: Global,
         _ctx: &(),
         trail: &mut Trail<'a>,
         report: &mut Report,
         h: &H,
     ) -> Result<(), AllocError> {
         let Self { cents: _, guests } = self;
-        Field("guests", guests, Is(range!(min = 1, max = 40))).visit(alloc, trail, report, h)
+        Field("guests", guests, Is(range!(min = 1, max = 40))).visit(trail, report, h)
     }
 }
 

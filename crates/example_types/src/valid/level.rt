@@ -6,7 +6,7 @@ ghost use Rattle.example_types.specs.declared.valid.level.TheConstants.{PERCENT}
 
 use garde::fields::{Field, Fields, Is, Range};
 use garde::{I18n, Report, Stated, Trail, Valid, Validate, range};
-use std::alloc::{AllocError, Global};
+use std::alloc::AllocError;
 
 /// How loud a level may be, in percent.
 pub const PERCENT: Range<u32> = range!(max = 200);
@@ -26,14 +26,13 @@ impl Stated for Level {
 impl Validate for Level {
     fn validate_into<'a, H: I18n>(
         &'a self,
-        alloc: Global,
         _ctx: &(),
         trail: &mut Trail<'a>,
         report: &mut Report,
         h: &H,
     ) -> Result<(), AllocError> {
         let Self { percent } = self;
-        Field("percent", percent, Is(PERCENT)).visit(alloc, trail, report, h)
+        Field("percent", percent, Is(PERCENT)).visit(trail, report, h)
     }
 }
 

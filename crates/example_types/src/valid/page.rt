@@ -23,7 +23,6 @@ impl<T: Stated> Stated for Page<T> {
 impl<T: Validate> Validate for Page<T> {
     fn validate_into<'a, H: I18n>(
         &'a self,
-        alloc: Global,
         ctx: &T::Context,
         trail: &mut Trail<'a>,
         report: &mut Report,
@@ -31,9 +30,7 @@ impl<T: Validate> Validate for Page<T> {
     ) -> Result<(), AllocError> {
         let Self { entries } = self;
         let few = length!(min = 1, max = 20);
-        Field("entries", entries, (Is(few), Each(Dive(ctx)))).visit_of(
-            self, alloc, trail, report, h,
-        )
+        Field("entries", entries, (Is(few), Each(Dive(ctx)))).visit_of(self, trail, report, h)
     }
 }
 

@@ -28,14 +28,13 @@ impl Stated for Reading {
 impl Validate for Reading {
     fn validate_into<'a, H: I18n>(
         &'a self,
-        alloc: Global,
         ctx: &Panel,
         trail: &mut Trail<'a>,
         report: &mut Report,
         h: &H,
     ) -> Result<(), AllocError> {
         let Self { channel, volts: _ } = self;
-        Field("channel", channel, Is(range!(max = ctx.last))).visit(alloc, trail, report, h)
+        Field("channel", channel, Is(range!(max = ctx.last))).visit(trail, report, h)
     }
 }
 

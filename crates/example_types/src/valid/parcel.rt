@@ -4,7 +4,7 @@ ghost use Rattle.garde.specs.Fields.{field, is, required, Some};
 
 use garde::fields::{Field, Fields, Is, Required};
 use garde::{I18n, Report, Stated, Trail, Valid, Validate};
-use std::alloc::{AllocError, Global};
+use std::alloc::AllocError;
 
 /// A parcel with a recipient. Who sends it may be left out.
 #[derive(Drop)]
@@ -22,7 +22,6 @@ impl Stated for Parcel {
 impl Validate for Parcel {
     fn validate_into<'a, H: I18n>(
         &'a self,
-        alloc: Global,
         _ctx: &(),
         trail: &mut Trail<'a>,
         report: &mut Report,
@@ -32,7 +31,7 @@ impl Validate for Parcel {
             sender: _,
             recipient,
         } = self;
-        Field("recipient", recipient, Is(Required)).visit(alloc, trail, report, h)
+        Field("recipient", recipient, Is(Required)).visit(trail, report, h)
     }
 }
 

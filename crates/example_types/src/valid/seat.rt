@@ -4,7 +4,7 @@ ghost use Rattle.garde.specs.Fields.{at_most, field, is, range};
 
 use garde::fields::{Field, Fields, Is};
 use garde::{I18n, Report, Stated, Trail, Valid, Validate, range};
-use std::alloc::{AllocError, Global};
+use std::alloc::AllocError;
 
 /// A seat in one of eight rows.
 #[derive(Drop)]
@@ -21,14 +21,13 @@ impl Stated for Seat {
 impl Validate for Seat {
     fn validate_into<'a, H: I18n>(
         &'a self,
-        alloc: Global,
         _ctx: &(),
         trail: &mut Trail<'a>,
         report: &mut Report,
         h: &H,
     ) -> Result<(), AllocError> {
         let Self { row } = self;
-        Field("row", row, Is(range!(max = 7))).visit(alloc, trail, report, h)
+        Field("row", row, Is(range!(max = 7))).visit(trail, report, h)
     }
 }
 

@@ -46,14 +46,13 @@ impl Stated for Tariff {
 impl Validate for Tariff {
     fn validate_into<'a, H: I18n>(
         &'a self,
-        alloc: Global,
         _ctx: &(),
         trail: &mut Trail<'a>,
         report: &mut Report,
         h: &H,
     ) -> Result<(), AllocError> {
         let Self { prices } = self;
-        Field("prices", prices, Is(HasStandard)).visit(alloc, trail, report, h)
+        Field("prices", prices, Is(HasStandard)).visit(trail, report, h)
     }
 }
 

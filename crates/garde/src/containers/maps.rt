@@ -7,7 +7,7 @@ use crate::stated::Stated;
 use crate::validate::Validate;
 use garde_i18n::I18n;
 use garde_report::{PathComponentKind, Report, Trail};
-use std::alloc::{AllocError, Global};
+use std::alloc::AllocError;
 use std::collections::{BTreeMap, HashMap};
 use std::hash::{BuildHasher, Hash};
 
@@ -21,13 +21,12 @@ impl<K: Ord + PathComponentKind, V: Stated> Stated for BTreeMap<K, V> {
 impl<K: Ord + PathComponentKind, V: Validate> Validate for BTreeMap<K, V> {
     fn validate_into<'a, H: I18n>(
         &'a self,
-        alloc: Global,
         ctx: &V::Context,
         trail: &mut Trail<'a>,
         report: &mut Report,
         h: &H,
     ) -> Result<(), AllocError> {
-        Each(Dive(ctx)).check(alloc, self, trail, report, h)
+        Each(Dive(ctx)).check(self, trail, report, h)
     }
 }
 
@@ -42,12 +41,11 @@ impl<K: Eq + Hash + PathComponentKind, V: Stated, S: BuildHasher> Stated for Has
 impl<K: Eq + Hash + PathComponentKind, V: Validate, S: BuildHasher> Validate for HashMap<K, V, S> {
     fn validate_into<'a, H: I18n>(
         &'a self,
-        alloc: Global,
         ctx: &V::Context,
         trail: &mut Trail<'a>,
         report: &mut Report,
         h: &H,
     ) -> Result<(), AllocError> {
-        Each(Dive(ctx)).check(alloc, self, trail, report, h)
+        Each(Dive(ctx)).check(self, trail, report, h)
     }
 }

@@ -6,7 +6,7 @@ use crate::stated::Stated;
 use crate::validate::Validate;
 use garde_i18n::I18n;
 use garde_report::{Report, Trail};
-use std::alloc::{AllocError, Global};
+use std::alloc::AllocError;
 use std::collections::{LinkedList, VecDeque};
 
 /// Each item in order, under its index.
@@ -19,13 +19,12 @@ impl<T: Stated> Stated for Vec<T> {
 impl<T: Validate> Validate for Vec<T> {
     fn validate_into<'a, H: I18n>(
         &'a self,
-        alloc: Global,
         ctx: &T::Context,
         trail: &mut Trail<'a>,
         report: &mut Report,
         h: &H,
     ) -> Result<(), AllocError> {
-        Each(Dive(ctx)).check(alloc, self, trail, report, h)
+        Each(Dive(ctx)).check(self, trail, report, h)
     }
 }
 
@@ -39,13 +38,12 @@ impl<T: Stated> Stated for &[T] {
 impl<T: Validate> Validate for &[T] {
     fn validate_into<'a, H: I18n>(
         &'a self,
-        alloc: Global,
         ctx: &T::Context,
         trail: &mut Trail<'a>,
         report: &mut Report,
         h: &H,
     ) -> Result<(), AllocError> {
-        Each(Dive(ctx)).check(alloc, self, trail, report, h)
+        Each(Dive(ctx)).check(self, trail, report, h)
     }
 }
 
@@ -59,13 +57,12 @@ impl<T: Stated, const N: usize> Stated for [T; N] {
 impl<T: Validate, const N: usize> Validate for [T; N] {
     fn validate_into<'a, H: I18n>(
         &'a self,
-        alloc: Global,
         ctx: &T::Context,
         trail: &mut Trail<'a>,
         report: &mut Report,
         h: &H,
     ) -> Result<(), AllocError> {
-        Each(Dive(ctx)).check(alloc, self, trail, report, h)
+        Each(Dive(ctx)).check(self, trail, report, h)
     }
 }
 
@@ -79,13 +76,12 @@ impl<T: Stated> Stated for VecDeque<T> {
 impl<T: Validate> Validate for VecDeque<T> {
     fn validate_into<'a, H: I18n>(
         &'a self,
-        alloc: Global,
         ctx: &T::Context,
         trail: &mut Trail<'a>,
         report: &mut Report,
         h: &H,
     ) -> Result<(), AllocError> {
-        Each(Dive(ctx)).check(alloc, self, trail, report, h)
+        Each(Dive(ctx)).check(self, trail, report, h)
     }
 }
 
@@ -99,12 +95,11 @@ impl<T: Stated> Stated for LinkedList<T> {
 impl<T: Validate> Validate for LinkedList<T> {
     fn validate_into<'a, H: I18n>(
         &'a self,
-        alloc: Global,
         ctx: &T::Context,
         trail: &mut Trail<'a>,
         report: &mut Report,
         h: &H,
     ) -> Result<(), AllocError> {
-        Each(Dive(ctx)).check(alloc, self, trail, report, h)
+        Each(Dive(ctx)).check(self, trail, report, h)
     }
 }

@@ -7,7 +7,7 @@ use crate::stated::Stated;
 use crate::validate::Validate;
 use garde_i18n::I18n;
 use garde_report::{Report, Trail};
-use std::alloc::{AllocError, Global};
+use std::alloc::AllocError;
 use std::collections::{BTreeSet, BinaryHeap, HashSet};
 use std::hash::{BuildHasher, Hash};
 
@@ -21,13 +21,12 @@ impl<T: Stated + Ord> Stated for BTreeSet<T> {
 impl<T: Validate + Ord> Validate for BTreeSet<T> {
     fn validate_into<'a, H: I18n>(
         &'a self,
-        alloc: Global,
         ctx: &T::Context,
         trail: &mut Trail<'a>,
         report: &mut Report,
         h: &H,
     ) -> Result<(), AllocError> {
-        Each(Dive(ctx)).check(alloc, self, trail, report, h)
+        Each(Dive(ctx)).check(self, trail, report, h)
     }
 }
 
@@ -41,13 +40,12 @@ impl<T: Stated + Eq + Hash, S: BuildHasher> Stated for HashSet<T, S> {
 impl<T: Validate + Eq + Hash, S: BuildHasher> Validate for HashSet<T, S> {
     fn validate_into<'a, H: I18n>(
         &'a self,
-        alloc: Global,
         ctx: &T::Context,
         trail: &mut Trail<'a>,
         report: &mut Report,
         h: &H,
     ) -> Result<(), AllocError> {
-        Each(Dive(ctx)).check(alloc, self, trail, report, h)
+        Each(Dive(ctx)).check(self, trail, report, h)
     }
 }
 
@@ -61,12 +59,11 @@ impl<T: Stated + Ord> Stated for BinaryHeap<T> {
 impl<T: Validate + Ord> Validate for BinaryHeap<T> {
     fn validate_into<'a, H: I18n>(
         &'a self,
-        alloc: Global,
         ctx: &T::Context,
         trail: &mut Trail<'a>,
         report: &mut Report,
         h: &H,
     ) -> Result<(), AllocError> {
-        Each(Dive(ctx)).check(alloc, self, trail, report, h)
+        Each(Dive(ctx)).check(self, trail, report, h)
     }
 }

@@ -16,7 +16,7 @@ use crate::fields::{Dive, check_under};
 use crate::validate::Validate;
 use garde_i18n::I18n;
 use garde_report::{Component, Report, Trail};
-use std::alloc::{AllocError, Global};
+use std::alloc::AllocError;
 
 /// Items of a tuple that are visited in turn: one `Item`, or an `Item` and those after it.
 trait Items<'a> {
@@ -32,7 +32,6 @@ trait Items<'a> {
     /// The tuple is passed for its lifetime: the items live as long as it.
     fn visit<W, H: I18n>(
         &self,
-        alloc: Global,
         ctx: &Self::Context,
         tuple: &'a W,
         trail: &mut Trail<'a>,
@@ -54,7 +53,6 @@ impl<'a, T: Validate> Items<'a> for Item<'a, T> {
 
     fn visit<W, H: I18n>(
         &self,
-        alloc: Global,
         ctx: &T::Context,
         _tuple: &'a W,
         trail: &mut Trail<'a>,
@@ -62,7 +60,6 @@ impl<'a, T: Validate> Items<'a> for Item<'a, T> {
         h: &H,
     ) -> Result<(), AllocError> {
         check_under(
-            alloc,
             Component::index(self.0),
             &Dive(ctx),
             self.1,
@@ -80,14 +77,13 @@ impl<'a, T: Validate, R: Items<'a, Context = T::Context>> Items<'a> for (Item<'a
 
     fn visit<W, H: I18n>(
         &self,
-        alloc: Global,
         ctx: &T::Context,
         tuple: &'a W,
         trail: &mut Trail<'a>,
         report: &mut Report,
         h: &H,
     ) -> Result<(), AllocError> {
-        self.0.visit(alloc, ctx, tuple, trail, report, h)?;
-        self.1.visit(alloc, ctx, tuple, trail, report, h)
+        self.0.visit(ctx, tuple, trail, report, h)?;
+        self.1.visit(ctx, tuple, trail, report, h)
     }
 }

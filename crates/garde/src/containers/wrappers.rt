@@ -7,7 +7,7 @@ use crate::stated::Stated;
 use crate::validate::Validate;
 use garde_i18n::I18n;
 use garde_report::{Report, Trail};
-use std::alloc::{AllocError, Global};
+use std::alloc::AllocError;
 use std::borrow::Cow;
 use std::rc::Rc;
 
@@ -21,13 +21,12 @@ impl<T: Stated> Stated for &T {
 impl<T: Validate> Validate for &T {
     fn validate_into<'a, H: I18n>(
         &'a self,
-        alloc: Global,
         ctx: &T::Context,
         trail: &mut Trail<'a>,
         report: &mut Report,
         h: &H,
     ) -> Result<(), AllocError> {
-        (*self).validate_into(alloc, ctx, trail, report, h)
+        (*self).validate_into(ctx, trail, report, h)
     }
 }
 
@@ -41,13 +40,12 @@ impl<T: Stated> Stated for &mut T {
 impl<T: Validate> Validate for &mut T {
     fn validate_into<'a, H: I18n>(
         &'a self,
-        alloc: Global,
         ctx: &T::Context,
         trail: &mut Trail<'a>,
         report: &mut Report,
         h: &H,
     ) -> Result<(), AllocError> {
-        (**self).validate_into(alloc, ctx, trail, report, h)
+        (**self).validate_into(ctx, trail, report, h)
     }
 }
 
@@ -61,13 +59,12 @@ impl<T: Stated> Stated for Box<T> {
 impl<T: Validate> Validate for Box<T> {
     fn validate_into<'a, H: I18n>(
         &'a self,
-        alloc: Global,
         ctx: &T::Context,
         trail: &mut Trail<'a>,
         report: &mut Report,
         h: &H,
     ) -> Result<(), AllocError> {
-        self.as_ref().validate_into(alloc, ctx, trail, report, h)
+        self.as_ref().validate_into(ctx, trail, report, h)
     }
 }
 
@@ -81,13 +78,12 @@ impl<T: Stated> Stated for Rc<T> {
 impl<T: Validate> Validate for Rc<T> {
     fn validate_into<'a, H: I18n>(
         &'a self,
-        alloc: Global,
         ctx: &T::Context,
         trail: &mut Trail<'a>,
         report: &mut Report,
         h: &H,
     ) -> Result<(), AllocError> {
-        Rc::as_ref(self).validate_into(alloc, ctx, trail, report, h)
+        Rc::as_ref(self).validate_into(ctx, trail, report, h)
     }
 }
 
@@ -101,15 +97,14 @@ impl<T: Stated + Clone> Stated for Cow<'_, T> {
 impl<T: Validate + Clone> Validate for Cow<'_, T> {
     fn validate_into<'a, H: I18n>(
         &'a self,
-        alloc: Global,
         ctx: &T::Context,
         trail: &mut Trail<'a>,
         report: &mut Report,
         h: &H,
     ) -> Result<(), AllocError> {
         match self {
-            Cow::Borrowed(value) => value.validate_into(alloc, ctx, trail, report, h),
-            Cow::Owned(value) => value.validate_into(alloc, ctx, trail, report, h),
+            Cow::Borrowed(value) => value.validate_into(ctx, trail, report, h),
+            Cow::Owned(value) => value.validate_into(ctx, trail, report, h),
         }
     }
 }
@@ -125,14 +120,13 @@ impl<T: Stated> Stated for Option<T> {
 impl<T: Validate> Validate for Option<T> {
     fn validate_into<'a, H: I18n>(
         &'a self,
-        alloc: Global,
         ctx: &T::Context,
         trail: &mut Trail<'a>,
         report: &mut Report,
         h: &H,
     ) -> Result<(), AllocError> {
         match self {
-            Some(value) => value.validate_into(alloc, ctx, trail, report, h),
+            Some(value) => value.validate_into(ctx, trail, report, h),
             None => Ok(()),
         }
     }
@@ -148,12 +142,11 @@ impl Stated for () {
 impl Validate for () {
     fn validate_into<'a, H: I18n>(
         &'a self,
-        alloc: Global,
         _ctx: &(),
         trail: &mut Trail<'a>,
         report: &mut Report,
         h: &H,
     ) -> Result<(), AllocError> {
-        ().visit(alloc, trail, report, h)
+        ().visit(trail, report, h)
     }
 }

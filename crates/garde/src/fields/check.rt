@@ -11,7 +11,7 @@ use garde_i18n::I18n;
 use garde_report::{Component, Report, Trail};
 use garde_rules::Rule;
 use garde_rules::values::MemoryRule;
-use std::alloc::{AllocError, Global};
+use std::alloc::AllocError;
 
 /// What is checked of a `T` that stands where the trail leads and lives as long.
 ///
@@ -27,7 +27,6 @@ pub trait Check<'a, T> {
     /// `Validate::validate_into`.
     fn check<H: I18n>(
         &self,
-        alloc: Global,
         value: &'a T,
         trail: &mut Trail<'a>,
         report: &mut Report,
@@ -43,13 +42,12 @@ impl<'a, T, R: Rule<T>> Check<'a, T> for Is<R> {
     #[inline(always)]
     fn check<H: I18n>(
         &self,
-        alloc: Global,
         value: &'a T,
         trail: &mut Trail<'a>,
         report: &mut Report,
         h: &H,
     ) -> Result<(), AllocError> {
-        self.ask(alloc, value, trail, report, h)
+        self.ask(value, trail, report, h)
     }
 }
 
@@ -59,13 +57,12 @@ impl<'a, T, R: MemoryRule<T>> Check<'a, T> for IsInMemory<R> {
     #[inline(always)]
     fn check<H: I18n>(
         &self,
-        alloc: Global,
         value: &'a T,
         trail: &mut Trail<'a>,
         report: &mut Report,
         h: &H,
     ) -> Result<(), AllocError> {
-        self.ask(alloc, value, trail, report, h)
+        self.ask(value, trail, report, h)
     }
 }
 
@@ -79,13 +76,12 @@ impl<'a, 'c, T: Validate> Check<'a, T> for Dive<'c, T::Context> {
     #[inline(always)]
     fn check<H: I18n>(
         &self,
-        alloc: Global,
         value: &'a T,
         trail: &mut Trail<'a>,
         report: &mut Report,
         h: &H,
     ) -> Result<(), AllocError> {
-        value.validate_into(alloc, self.0, trail, report, h)
+        value.validate_into(self.0, trail, report, h)
     }
 }
 
@@ -96,13 +92,12 @@ impl<'a, 'r, T, C: Check<'a, T>> Check<'a, T> for &'r C {
     #[inline(always)]
     fn check<H: I18n>(
         &self,
-        alloc: Global,
         value: &'a T,
         trail: &mut Trail<'a>,
         report: &mut Report,
         h: &H,
     ) -> Result<(), AllocError> {
-        (**self).check(alloc, value, trail, report, h)
+        (**self).check(value, trail, report, h)
     }
 }
 
@@ -112,7 +107,6 @@ impl<'a, 'r, T, C: Check<'a, T>> Check<'a, T> for &'r C {
 /// `AllocError` is returned where memory runs out, under the terms of `Validate::validate_into`.
 #[inline(always)]
 pub fn check_under<'a, T, C: Check<'a, T>, H: I18n>(
-    alloc: Global,
     component: Component<'a>,
     check: &C,
     value: &'a T,
@@ -124,7 +118,7 @@ pub fn check_under<'a, T, C: Check<'a, T>, H: I18n>(
         (H.text h.now) trail.old trail.new report.old report.new result }
 {
     trail.push(component)?;
-    let checked = check.check(alloc, value, trail, report, h);
+    let checked = check.check(value, trail, report, h);
     trail.pop();
     checked
 }

@@ -5,7 +5,7 @@ use super::check::Check;
 use super::rules::Rules;
 use garde_i18n::I18n;
 use garde_report::{Report, Trail};
-use std::alloc::{AllocError, Global};
+use std::alloc::AllocError;
 
 /// The rules or the check, where the condition holds, and else none.
 #[derive(Clone, Copy)]
@@ -16,14 +16,13 @@ impl<'a, T, C: Check<'a, T>> Check<'a, T> for When<C> {
 
     fn check<H: I18n>(
         &self,
-        alloc: Global,
         value: &'a T,
         trail: &mut Trail<'a>,
         report: &mut Report,
         h: &H,
     ) -> Result<(), AllocError> {
         if self.0 {
-            self.1.check(alloc, value, trail, report, h)
+            self.1.check(value, trail, report, h)
         } else {
             Ok(())
         }
@@ -35,14 +34,13 @@ impl<T, R: Rules<T>> Rules<T> for When<R> {
 
     fn ask<'a, H: I18n>(
         &self,
-        alloc: Global,
         value: &T,
         trail: &mut Trail<'a>,
         report: &mut Report,
         h: &H,
     ) -> Result<(), AllocError> {
         if self.0 {
-            self.1.ask(alloc, value, trail, report, h)
+            self.1.ask(value, trail, report, h)
         } else {
             Ok(())
         }

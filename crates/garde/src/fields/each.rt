@@ -12,7 +12,7 @@ use super::check::{Check, check_under};
 use garde_i18n::I18n;
 use garde_report::{Component, Report, Trail};
 pub use part::check_part;
-use std::alloc::{AllocError, Global};
+use std::alloc::AllocError;
 
 /// The rules or the check of each item of a value in turn: the items of a sequence, a set or a heap under their
 /// indexes, the values of a map under their keys, and what an option holds under the component
@@ -27,14 +27,13 @@ impl<'a, T, C: Check<'a, T>> Check<'a, Option<T>> for Each<C> {
 
     fn check<H: I18n>(
         &self,
-        alloc: Global,
         value: &'a Option<T>,
         trail: &mut Trail<'a>,
         report: &mut Report,
         h: &H,
     ) -> Result<(), AllocError> {
         match value {
-            Some(item) => check_under(alloc, Component::unnamed(), &self.0, item, trail, report, h),
+            Some(item) => check_under(Component::unnamed(), &self.0, item, trail, report, h),
             None => Ok(()),
         }
     }

@@ -5,7 +5,7 @@ ghost use Rattle.garde.specs.Visits.{Visits, Visited, none, under};
 use super::check::{Check, check_under};
 use garde_i18n::I18n;
 use garde_report::{Component, Report, Trail};
-use std::alloc::{AllocError, Global};
+use std::alloc::AllocError;
 
 /// Fields that are checked in turn, each under its name. It is implemented for one `Field`, for one
 /// `Item`, for one `Transparent`, for tuples of fields and for `()`, which checks nothing.
@@ -19,7 +19,6 @@ pub trait Fields<'a> {
     /// `Validate::validate_into`.
     fn visit<H: I18n>(
         &self,
-        alloc: Global,
         trail: &mut Trail<'a>,
         report: &mut Report,
         h: &H,
@@ -32,7 +31,6 @@ pub trait Fields<'a> {
     final fn visit_of<W, H: I18n>(
         &self,
         _whole: &'a W,
-        alloc: Global,
         trail: &mut Trail<'a>,
         report: &mut Report,
         h: &H,
@@ -40,7 +38,7 @@ pub trait Fields<'a> {
         ensures { Visited (visits self.now) (H.text h.now)
             trail.old trail.new report.old report.new result }
     {
-        self.visit(alloc, trail, report, h)
+        self.visit(trail, report, h)
     }
 }
 
@@ -54,20 +52,11 @@ impl<'a, T, C: Check<'a, T>> Fields<'a> for Field<'a, T, C> {
     #[inline(always)]
     fn visit<H: I18n>(
         &self,
-        alloc: Global,
         trail: &mut Trail<'a>,
         report: &mut Report,
         h: &H,
     ) -> Result<(), AllocError> {
-        check_under(
-            alloc,
-            Component::key(self.0),
-            &self.2,
-            self.1,
-            trail,
-            report,
-            h,
-        )
+        check_under(Component::key(self.0), &self.2, self.1, trail, report, h)
     }
 }
 
@@ -81,20 +70,11 @@ impl<'a, T, C: Check<'a, T>> Fields<'a> for Item<'a, T, C> {
     #[inline(always)]
     fn visit<H: I18n>(
         &self,
-        alloc: Global,
         trail: &mut Trail<'a>,
         report: &mut Report,
         h: &H,
     ) -> Result<(), AllocError> {
-        check_under(
-            alloc,
-            Component::index(self.0),
-            &self.2,
-            self.1,
-            trail,
-            report,
-            h,
-        )
+        check_under(Component::index(self.0), &self.2, self.1, trail, report, h)
     }
 }
 
@@ -108,12 +88,11 @@ impl<'a, T, C: Check<'a, T>> Fields<'a> for Transparent<'a, T, C> {
 
     fn visit<H: I18n>(
         &self,
-        alloc: Global,
         trail: &mut Trail<'a>,
         report: &mut Report,
         h: &H,
     ) -> Result<(), AllocError> {
-        self.1.check(alloc, self.0, trail, report, h)
+        self.1.check(self.0, trail, report, h)
     }
 }
 
@@ -122,7 +101,6 @@ impl<'a> Fields<'a> for () {
 
     fn visit<H: I18n>(
         &self,
-        _alloc: Global,
         _trail: &mut Trail<'a>,
         _report: &mut Report,
         _h: &H,
@@ -137,11 +115,10 @@ impl<'a, 'r, F: Fields<'a>> Fields<'a> for &'r F {
     #[inline(always)]
     fn visit<H: I18n>(
         &self,
-        alloc: Global,
         trail: &mut Trail<'a>,
         report: &mut Report,
         h: &H,
     ) -> Result<(), AllocError> {
-        (**self).visit(alloc, trail, report, h)
+        (**self).visit(trail, report, h)
     }
 }

@@ -5,7 +5,7 @@ use super::check::Check;
 use super::rules::Rules;
 use garde_i18n::I18n;
 use garde_report::{Report, Trail};
-use std::alloc::{AllocError, Global};
+use std::alloc::AllocError;
 
 /// The rules or the check of what an option holds, with no component of its own. An option without a value
 /// passes.
@@ -19,14 +19,13 @@ impl<'a, T, C: Check<'a, T>> Check<'a, Option<T>> for IfSome<C> {
     #[inline(always)]
     fn check<H: I18n>(
         &self,
-        alloc: Global,
         value: &'a Option<T>,
         trail: &mut Trail<'a>,
         report: &mut Report,
         h: &H,
     ) -> Result<(), AllocError> {
         match value {
-            Some(item) => self.0.check(alloc, item, trail, report, h),
+            Some(item) => self.0.check(item, trail, report, h),
             None => Ok(()),
         }
     }
@@ -39,14 +38,13 @@ impl<T, R: Rules<T>> Rules<Option<T>> for IfSome<R> {
     #[inline(always)]
     fn ask<'a, H: I18n>(
         &self,
-        alloc: Global,
         value: &Option<T>,
         trail: &mut Trail<'a>,
         report: &mut Report,
         h: &H,
     ) -> Result<(), AllocError> {
         match value {
-            Some(item) => self.0.ask(alloc, item, trail, report, h),
+            Some(item) => self.0.ask(item, trail, report, h),
             None => Ok(()),
         }
     }

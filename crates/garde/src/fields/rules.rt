@@ -9,7 +9,7 @@ use garde_i18n::I18n;
 use garde_report::{Component, Report, Trail};
 use garde_rules::Rule;
 use garde_rules::values::MemoryRule;
-use std::alloc::{AllocError, Global};
+use std::alloc::AllocError;
 
 /// Rules that are asked of a `T` where the trail leads.
 ///
@@ -26,7 +26,6 @@ pub trait Rules<T> {
     /// `Validate::validate_into`.
     fn ask<'a, H: I18n>(
         &self,
-        alloc: Global,
         value: &T,
         trail: &mut Trail<'a>,
         report: &mut Report,
@@ -42,7 +41,6 @@ impl<T> Rules<T> for () {
 
     fn ask<'a, H: I18n>(
         &self,
-        _alloc: Global,
         _value: &T,
         _trail: &mut Trail<'a>,
         _report: &mut Report,
@@ -62,7 +60,6 @@ impl<T, R: Rule<T>> Rules<T> for Is<R> {
     #[inline(always)]
     fn ask<'a, H: I18n>(
         &self,
-        alloc: Global,
         value: &T,
         trail: &mut Trail<'a>,
         report: &mut Report,
@@ -71,7 +68,7 @@ impl<T, R: Rule<T>> Rules<T> for Is<R> {
         if self.0.holds(value) {
             trail.put(report, Ok(()))
         } else {
-            put_found(alloc, &self.0, value, trail, report, h)
+            put_found(&self.0, value, trail, report, h)
         }
     }
 }
@@ -80,7 +77,6 @@ impl<T, R: Rule<T>> Rules<T> for Is<R> {
 // test.
 #[inline(never)]
 fn put_found<'a, T, R: Rule<T>, H: I18n>(
-    alloc: Global,
     rule: &R,
     value: &T,
     trail: &mut Trail<'a>,
@@ -90,6 +86,7 @@ fn put_found<'a, T, R: Rule<T>, H: I18n>(
     ensures { Visited (found (R.finds rule.now value.now)) (H.text h.now)
         trail.old trail.new report.old report.new result }
 {
+    let alloc = trail.alloc();
     trail.put(report, rule.find(alloc, value, h))
 }
 
@@ -104,12 +101,12 @@ impl<T, R: MemoryRule<T>> Rules<T> for IsInMemory<R> {
     #[inline(always)]
     fn ask<'a, H: I18n>(
         &self,
-        alloc: Global,
         value: &T,
         trail: &mut Trail<'a>,
         report: &mut Report,
         h: &H,
     ) -> Result<(), AllocError> {
+        let alloc = trail.alloc();
         trail.put(report, self.0.find_in_memory(alloc, value, h))
     }
 }
@@ -121,13 +118,12 @@ impl<'r, T, R: Rules<T>> Rules<T> for &'r R {
     #[inline(always)]
     fn ask<'a, H: I18n>(
         &self,
-        alloc: Global,
         value: &T,
         trail: &mut Trail<'a>,
         report: &mut Report,
         h: &H,
     ) -> Result<(), AllocError> {
-        (**self).ask(alloc, value, trail, report, h)
+        (**self).ask(value, trail, report, h)
     }
 }
 
@@ -137,7 +133,6 @@ impl<'r, T, R: Rules<T>> Rules<T> for &'r R {
 /// `AllocError` is returned where memory runs out, under the terms of `Validate::validate_into`.
 #[inline(always)]
 pub fn ask_under<'a, T, R: Rules<T>, H: I18n>(
-    alloc: Global,
     component: Component<'a>,
     rules: &R,
     value: &T,
@@ -149,7 +144,7 @@ pub fn ask_under<'a, T, R: Rules<T>, H: I18n>(
         (H.text h.now) trail.old trail.new report.old report.new result }
 {
     trail.push(component)?;
-    let asked = rules.ask(alloc, value, trail, report, h);
+    let asked = rules.ask(value, trail, report, h);
     trail.pop();
     asked
 }

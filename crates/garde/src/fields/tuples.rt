@@ -4,7 +4,7 @@ ghost use Rattle.garde.specs.Visits.{◌and◌};
 use super::field::Fields;
 use garde_i18n::I18n;
 use garde_report::{Report, Trail};
-use std::alloc::{AllocError, Global};
+use std::alloc::AllocError;
 
 /// Two fields in turn.
 impl<'a, A: Fields<'a>, B: Fields<'a>> Fields<'a> for (A, B) {
@@ -13,13 +13,12 @@ impl<'a, A: Fields<'a>, B: Fields<'a>> Fields<'a> for (A, B) {
     #[inline(always)]
     fn visit<H: I18n>(
         &self,
-        alloc: Global,
         trail: &mut Trail<'a>,
         report: &mut Report,
         h: &H,
     ) -> Result<(), AllocError> {
-        self.0.visit(alloc, trail, report, h)?;
-        self.1.visit(alloc, trail, report, h)
+        self.0.visit(trail, report, h)?;
+        self.1.visit(trail, report, h)
     }
 }
 
@@ -30,12 +29,11 @@ impl<'a, A: Fields<'a>, B: Fields<'a>, C: Fields<'a>> Fields<'a> for (A, B, C) {
     #[inline(always)]
     fn visit<H: I18n>(
         &self,
-        alloc: Global,
         trail: &mut Trail<'a>,
         report: &mut Report,
         h: &H,
     ) -> Result<(), AllocError> {
-        (&self.0, (&self.1, &self.2)).visit(alloc, trail, report, h)
+        (&self.0, (&self.1, &self.2)).visit(trail, report, h)
     }
 }
 
@@ -47,12 +45,11 @@ impl<'a, A: Fields<'a>, B: Fields<'a>, C: Fields<'a>, D: Fields<'a>> Fields<'a> 
     #[inline(always)]
     fn visit<H: I18n>(
         &self,
-        alloc: Global,
         trail: &mut Trail<'a>,
         report: &mut Report,
         h: &H,
     ) -> Result<(), AllocError> {
-        (&self.0, (&self.1, (&self.2, &self.3))).visit(alloc, trail, report, h)
+        (&self.0, (&self.1, (&self.2, &self.3))).visit(trail, report, h)
     }
 }
 
@@ -66,13 +63,12 @@ impl<'a, A: Fields<'a>, B: Fields<'a>, C: Fields<'a>, D: Fields<'a>, E: Fields<'
     #[inline(always)]
     fn visit<H: I18n>(
         &self,
-        alloc: Global,
         trail: &mut Trail<'a>,
         report: &mut Report,
         h: &H,
     ) -> Result<(), AllocError> {
         let rest = (&self.3, &self.4);
-        (&self.0, &self.1, &self.2, rest).visit(alloc, trail, report, h)
+        (&self.0, &self.1, &self.2, rest).visit(trail, report, h)
     }
 }
 
@@ -93,12 +89,11 @@ impl<
     #[inline(always)]
     fn visit<H: I18n>(
         &self,
-        alloc: Global,
         trail: &mut Trail<'a>,
         report: &mut Report,
         h: &H,
     ) -> Result<(), AllocError> {
         let rest = (&self.3, &self.4, &self.5);
-        (&self.0, &self.1, &self.2, rest).visit(alloc, trail, report, h)
+        (&self.0, &self.1, &self.2, rest).visit(trail, report, h)
     }
 }

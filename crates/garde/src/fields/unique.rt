@@ -8,7 +8,7 @@ use super::check::Check;
 use super::rules::{Is, Rules, ask_under};
 use garde_i18n::I18n;
 use garde_report::{Component, Report, Trail};
-use std::alloc::{AllocError, Global};
+use std::alloc::AllocError;
 
 /// Which values of a `T` are the same, as two lines with one name.
 pub trait Same<T> {
@@ -45,7 +45,6 @@ impl<'s, T, S: Same<T>> Rules<&'s [T]> for Unique<'_, S> {
 
     fn ask<'a, H: I18n>(
         &self,
-        alloc: Global,
         value: &&'s [T],
         trail: &mut Trail<'a>,
         report: &mut Report,
@@ -54,15 +53,7 @@ impl<'s, T, S: Same<T>> Rules<&'s [T]> for Unique<'_, S> {
         let items = *value;
         for (index, item) in items.iter().enumerate() {
             let asks = Asks(self.0, !includes(&items[..index], &self.1, item));
-            ask_under(
-                alloc,
-                Component::index(index),
-                &Is(asks),
-                item,
-                trail,
-                report,
-                h,
-            )?;
+            ask_under(Component::index(index), &Is(asks), item, trail, report, h)?;
         }
         Ok(())
     }
@@ -73,13 +64,12 @@ impl<T, S: Same<T>> Rules<Vec<T>> for Unique<'_, S> {
 
     fn ask<'a, H: I18n>(
         &self,
-        alloc: Global,
         value: &Vec<T>,
         trail: &mut Trail<'a>,
         report: &mut Report,
         h: &H,
     ) -> Result<(), AllocError> {
-        self.ask(alloc, &value.as_slice(), trail, report, h)
+        self.ask(&value.as_slice(), trail, report, h)
     }
 }
 
@@ -88,13 +78,12 @@ impl<'a, T, S: Same<T>> Check<'a, Vec<T>> for Unique<'_, S> {
 
     fn check<H: I18n>(
         &self,
-        alloc: Global,
         value: &'a Vec<T>,
         trail: &mut Trail<'a>,
         report: &mut Report,
         h: &H,
     ) -> Result<(), AllocError> {
-        self.ask(alloc, value, trail, report, h)
+        self.ask(value, trail, report, h)
     }
 }
 

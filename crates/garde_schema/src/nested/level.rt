@@ -11,7 +11,7 @@ ghost use Rattle.garde_schema.specs.Nested.{below, made_of};
 
 use crate::items::Items;
 use garde::Report;
-use std::alloc::AllocError;
+use std::alloc::{AllocError, Global};
 
 /// What is known of an object before those in it are read: the value of its own members, and the
 /// objects in it, each where it is there.
@@ -64,6 +64,9 @@ pub(super) trait Level {
     ghost builds: { Self → Self.Own → List Self.Made → Self.Made };
 
     ghost parts_of: { Self → Self.Made → Self.Own × List Self.Made };
+
+    /// What the way allocates by.
+    fn alloc(&self, trail: &Self::Trail) -> Global;
 
     /// Reads the object's own members, and looks its list up.
     fn begin(

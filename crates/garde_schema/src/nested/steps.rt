@@ -16,7 +16,7 @@ use crate::put::{put, put_under, with};
 use crate::simple::Any;
 use garde::{I18n, Report, Trail};
 use garde_tape::{Found, Tree, TreeItems};
-use std::alloc::{AllocError, Global};
+use std::alloc::AllocError;
 
 // The items of the list under this name, or what is wrong with the member of this name.
 fn items_in<'t, 'a>(object: &Tree<'t, 'a>, name: &str) -> Result<TreeItems<'t, 'a>, FormFault>
@@ -35,7 +35,6 @@ fn items_in<'t, 'a>(object: &Tree<'t, 'a>, name: &str) -> Result<TreeItems<'t, '
 
 // Reads an object's own members, and looks its list up.
 pub(super) fn begin<'t, 'a, M: Members<'a>, H: I18n + FormI18n>(
-    alloc: Global,
     name: &'a str,
     members: &M,
     tree: &Tree<'t, 'a>,
@@ -59,9 +58,9 @@ pub(super) fn begin<'t, 'a, M: Members<'a>, H: I18n + FormI18n>(
             own: None,
             below: None,
         };
-        return with(put(alloc, fault, trail, report, h), nothing);
+        return with(put(fault, trail, report, h), nothing);
     };
-    let own = members.read_members(alloc, tree, trail, report, h)?;
+    let own = members.read_members(tree, trail, report, h)?;
     match items_in(tree, name) {
         Ok(items) => Ok(Begun {
             own,
@@ -69,14 +68,13 @@ pub(super) fn begin<'t, 'a, M: Members<'a>, H: I18n + FormI18n>(
         }),
         Err(fault) => {
             let nothing = Begun { own, below: None };
-            with(put_under(alloc, name, fault, trail, report, h), nothing)
+            with(put_under(name, fault, trail, report, h), nothing)
         }
     }
 }
 
 // Where the form is closed, puts a fault under the name of each member that it does not know.
 pub(super) fn check_rest<'t, 'a, M: Members<'a>, H: I18n + FormI18n>(
-    alloc: Global,
     closed: bool,
     name: &'a str,
     members: &M,
@@ -90,7 +88,7 @@ pub(super) fn check_rest<'t, 'a, M: Members<'a>, H: I18n + FormI18n>(
 {
     if closed {
         let known = (members, Optional(name, Any));
-        check_members(alloc, &known, object, trail, report, h)
+        check_members(&known, object, trail, report, h)
     } else {
         Ok(())
     }

@@ -12,12 +12,11 @@ ghost use Rattle.garde_schema.specs.Nested.{below, below_visits, below_value, le
 use super::level::Level;
 use crate::items::{Items, add};
 use garde::Report;
-use std::alloc::{AllocError, Global};
+use std::alloc::AllocError;
 
 // Reads an object of the form, and those in it.
 #[cycle(nested)]
 pub(super) fn read_level<L: Level>(
-    alloc: Global,
     level: &L,
     tree: &L::Tree,
     trail: &mut L::Trail,
@@ -34,14 +33,13 @@ pub(super) fn read_level<L: Level>(
         (level_value (L.name level.now) (L.spells level.now) (L.builds level.now)) depth (L.json tree.now))) }
 {
     let begun = level.begin(tree, trail, report)?;
-    let values = read_below(alloc, level, tree, begun.below, trail, report)?;
+    let values = read_below(level, tree, begun.below, trail, report)?;
     level.finish(tree, begun.own, values, trail, report)
 }
 
 // Reads the objects in an object, where it has their list.
 #[cycle(nested)]
 fn read_below<L: Level>(
-    alloc: Global,
     level: &L,
     object: &L::Tree,
     items: Option<L::Trees>,
@@ -68,7 +66,7 @@ fn read_below<L: Level>(
         return Ok(None);
     };
     level.enter(trail)?;
-    let values = read_items(alloc, level, object, items, trail, report);
+    let values = read_items(level, object, items, trail, report);
     level.leave(trail);
     values
 }
@@ -77,7 +75,6 @@ fn read_below<L: Level>(
 // read for their faults.
 #[cycle(nested)]
 fn read_items<L: Level>(
-    alloc: Global,
     level: &L,
     object: &L::Tree,
     items: L::Trees,
@@ -102,10 +99,10 @@ fn read_items<L: Level>(
         (L.jsons items))) }
 {
     let mut left = items;
-    let mut values = Some(Items::new(alloc));
+    let mut values = Some(Items::new(level.alloc(trail)));
     let mut index = 0;
     while let Some(item) = level.next(&mut left) {
-        values = read_item(alloc, level, object, index, &item, values, trail, report)?;
+        values = read_item(level, object, index, &item, values, trail, report)?;
         index += 1;
     }
     Ok(values)
@@ -114,7 +111,6 @@ fn read_items<L: Level>(
 // Reads one of these objects, and adds its value to those before it.
 #[cycle(nested)]
 fn read_item<L: Level>(
-    alloc: Global,
     level: &L,
     object: &L::Tree,
     index: usize,
@@ -137,7 +133,7 @@ fn read_item<L: Level>(
 {
     let _object = object;
     level.enter_item(index, trail)?;
-    let value = read_level(alloc, level, item, trail, report);
+    let value = read_level(level, item, trail, report);
     level.leave(trail);
     add(values, value?)
 }

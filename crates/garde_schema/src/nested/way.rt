@@ -19,7 +19,6 @@ use std::marker::PhantomData;
 /// The parts of the form, whether it is closed, the handler, and the tree that the walk begins at.
 #[derive(Drop)]
 pub(super) struct Way<'t, 'r, 'f, 'h, 'a, M, T, H> {
-    pub(super) alloc: Global,
     pub(super) name: &'a str,
     pub(super) members: &'f M,
     pub(super) made: PhantomData<T>,
@@ -64,21 +63,17 @@ impl<'t, 'r, 'f, 'h, 'a: 't, T: FromNested, M: Members<'a, Out = T::Own>, H: I18
 
     ghost parts_of = { λ way made. T.parts_of made };
 
+    fn alloc(&self, trail: &Trail<'a>) -> Global {
+        trail.alloc()
+    }
+
     fn begin(
         &self,
         tree: &Tree<'t, 'a>,
         trail: &mut Trail<'a>,
         report: &mut Report,
     ) -> Result<Begun<T::Own, TreeItems<'t, 'a>>, AllocError> {
-        begin(
-            self.alloc,
-            self.name,
-            self.members,
-            tree,
-            trail,
-            report,
-            self.h,
-        )
+        begin(self.name, self.members, tree, trail, report, self.h)
     }
 
     fn enter(&self, trail: &mut Trail<'a>) -> Result<(), AllocError> {
@@ -112,7 +107,6 @@ impl<'t, 'r, 'f, 'h, 'a: 't, T: FromNested, M: Members<'a, Out = T::Own>, H: I18
             out ≡ made_of T.builds own values) }
     {
         let told = check_rest(
-            self.alloc,
             self.closed,
             self.name,
             self.members,

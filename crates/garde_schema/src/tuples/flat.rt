@@ -8,7 +8,7 @@ use crate::form::Members;
 use crate::handler::FormI18n;
 use garde::{I18n, Report, Trail};
 use garde_tape::Tree;
-use std::alloc::{AllocError, Global};
+use std::alloc::AllocError;
 
 /// A tuple whose values lie in pairs as well.
 pub(crate) trait Flat {
@@ -35,7 +35,6 @@ pub(crate) fn read_nested<
     M: Members<'a, Out = T::Nested>,
     H: I18n + FormI18n,
 >(
-    alloc: Global,
     members: &M,
     object: &Tree<'t, 'a>,
     trail: &mut Trail<'a>,
@@ -49,7 +48,7 @@ pub(crate) fn read_nested<
         (λ out. M.keeps members.now (T.nested out))
         (option_map (λ v. T.flat v) (M.value members.now object.now))) }
 {
-    match members.read_members(alloc, object, trail, report, h) {
+    match members.read_members(object, trail, report, h) {
         Ok(Some(pairs)) => Ok(Some(T::flat(pairs))),
         Ok(None) => Ok(None),
         Err(refused) => Err(refused),

@@ -8,7 +8,7 @@ use crate::form::Members;
 use crate::handler::FormI18n;
 use garde::{I18n, Report, Trail};
 use garde_tape::Tree;
-use std::alloc::{AllocError, Global};
+use std::alloc::AllocError;
 
 /// Three in turn.
 impl<'a, A: Members<'a>, B: Members<'a>, C: Members<'a>> Members<'a> for (A, B, C) {
@@ -25,13 +25,12 @@ impl<'a, A: Members<'a>, B: Members<'a>, C: Members<'a>> Members<'a> for (A, B, 
 
     fn read_members<'t, H: I18n + FormI18n>(
         &self,
-        alloc: Global,
         object: &Tree<'t, 'a>,
         trail: &mut Trail<'a>,
         report: &mut Report,
         h: &H,
     ) -> Result<Option<Self::Out>, AllocError> {
-        read_nested(alloc, &nested!(self; [0] [1 2]), object, trail, report, h)
+        read_nested(&nested!(self; [0] [1 2]), object, trail, report, h)
     }
 
     fn names(&self, name: &str) -> bool {
@@ -59,13 +58,12 @@ impl<'a, A: Members<'a>, B: Members<'a>, C: Members<'a>, D: Members<'a>> Members
 
     fn read_members<'t, H: I18n + FormI18n>(
         &self,
-        alloc: Global,
         object: &Tree<'t, 'a>,
         trail: &mut Trail<'a>,
         report: &mut Report,
         h: &H,
     ) -> Result<Option<Self::Out>, AllocError> {
-        read_nested(alloc, &nested!(self; [0 1] [2 3]), object, trail, report, h)
+        read_nested(&nested!(self; [0 1] [2 3]), object, trail, report, h)
     }
 
     fn names(&self, name: &str) -> bool {
@@ -96,20 +94,12 @@ impl<'a, A: Members<'a>, B: Members<'a>, C: Members<'a>, D: Members<'a>, E: Memb
 
     fn read_members<'t, H: I18n + FormI18n>(
         &self,
-        alloc: Global,
         object: &Tree<'t, 'a>,
         trail: &mut Trail<'a>,
         report: &mut Report,
         h: &H,
     ) -> Result<Option<Self::Out>, AllocError> {
-        read_nested(
-            alloc,
-            &nested!(self; [0 1 2] [3 4]),
-            object,
-            trail,
-            report,
-            h,
-        )
+        read_nested(&nested!(self; [0 1 2] [3 4]), object, trail, report, h)
     }
 
     fn names(&self, name: &str) -> bool {
@@ -147,20 +137,12 @@ impl<
 
     fn read_members<'t, H: I18n + FormI18n>(
         &self,
-        alloc: Global,
         object: &Tree<'t, 'a>,
         trail: &mut Trail<'a>,
         report: &mut Report,
         h: &H,
     ) -> Result<Option<Self::Out>, AllocError> {
-        read_nested(
-            alloc,
-            &nested!(self; [0 1 2] [3 4 5]),
-            object,
-            trail,
-            report,
-            h,
-        )
+        read_nested(&nested!(self; [0 1 2] [3 4 5]), object, trail, report, h)
     }
 
     fn names(&self, name: &str) -> bool {

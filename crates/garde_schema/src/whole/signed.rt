@@ -25,18 +25,7 @@ impl WholeType for I8 {
     }
 
     fn spelled(&self, tree: &Tree<'_, '_>) -> Option<i8> {
-        match tree.as_i64() {
-            None => None,
-            Some(n) => {
-                if n < i8::MIN as i64 {
-                    None
-                } else if n > i8::MAX as i64 {
-                    None
-                } else {
-                    Some(n as i8)
-                }
-            }
-        }
+        i8::try_from(tree.as_i64()?).ok()
     }
 
     fn nearest(&self, below: bool) -> i8 {
@@ -62,18 +51,7 @@ impl WholeType for I16 {
     }
 
     fn spelled(&self, tree: &Tree<'_, '_>) -> Option<i16> {
-        match tree.as_i64() {
-            None => None,
-            Some(n) => {
-                if n < i16::MIN as i64 {
-                    None
-                } else if n > i16::MAX as i64 {
-                    None
-                } else {
-                    Some(n as i16)
-                }
-            }
-        }
+        i16::try_from(tree.as_i64()?).ok()
     }
 
     fn nearest(&self, below: bool) -> i16 {
@@ -99,18 +77,7 @@ impl WholeType for I32 {
     }
 
     fn spelled(&self, tree: &Tree<'_, '_>) -> Option<i32> {
-        match tree.as_i64() {
-            None => None,
-            Some(n) => {
-                if n < i32::MIN as i64 {
-                    None
-                } else if n > i32::MAX as i64 {
-                    None
-                } else {
-                    Some(n as i32)
-                }
-            }
-        }
+        i32::try_from(tree.as_i64()?).ok()
     }
 
     fn nearest(&self, below: bool) -> i32 {
@@ -162,10 +129,7 @@ impl WholeType for Isize {
     }
 
     fn spelled(&self, tree: &Tree<'_, '_>) -> Option<isize> {
-        match tree.as_i64() {
-            None => None,
-            Some(n) => Some(n as isize),
-        }
+        Some(tree.as_i64()? as isize)
     }
 
     fn nearest(&self, below: bool) -> isize {

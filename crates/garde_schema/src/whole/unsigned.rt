@@ -25,16 +25,7 @@ impl WholeType for U8 {
     }
 
     fn spelled(&self, tree: &Tree<'_, '_>) -> Option<u8> {
-        match tree.as_u64() {
-            None => None,
-            Some(n) => {
-                if n > u8::MAX as u64 {
-                    None
-                } else {
-                    Some(n as u8)
-                }
-            }
-        }
+        u8::try_from(tree.as_u64()?).ok()
     }
 
     fn nearest(&self, below: bool) -> u8 {
@@ -60,16 +51,7 @@ impl WholeType for U16 {
     }
 
     fn spelled(&self, tree: &Tree<'_, '_>) -> Option<u16> {
-        match tree.as_u64() {
-            None => None,
-            Some(n) => {
-                if n > u16::MAX as u64 {
-                    None
-                } else {
-                    Some(n as u16)
-                }
-            }
-        }
+        u16::try_from(tree.as_u64()?).ok()
     }
 
     fn nearest(&self, below: bool) -> u16 {
@@ -95,16 +77,7 @@ impl WholeType for U32 {
     }
 
     fn spelled(&self, tree: &Tree<'_, '_>) -> Option<u32> {
-        match tree.as_u64() {
-            None => None,
-            Some(n) => {
-                if n > u32::MAX as u64 {
-                    None
-                } else {
-                    Some(n as u32)
-                }
-            }
-        }
+        u32::try_from(tree.as_u64()?).ok()
     }
 
     fn nearest(&self, below: bool) -> u32 {
@@ -156,10 +129,7 @@ impl WholeType for Usize {
     }
 
     fn spelled(&self, tree: &Tree<'_, '_>) -> Option<usize> {
-        match tree.as_u64() {
-            None => None,
-            Some(n) => Some(n as usize),
-        }
+        Some(tree.as_u64()? as usize)
     }
 
     fn nearest(&self, below: bool) -> usize {

@@ -142,10 +142,7 @@ impl WholeType for U128 {
     }
 
     fn spelled(&self, tree: &Tree<'_, '_>) -> Option<u128> {
-        match tree.as_number() {
-            Some(text) => unsigned(text.as_bytes()),
-            None => None,
-        }
+        unsigned(tree.as_number()?.as_bytes())
     }
 
     fn nearest(&self, below: bool) -> u128 {
@@ -171,10 +168,7 @@ impl WholeType for I128 {
     }
 
     fn spelled(&self, tree: &Tree<'_, '_>) -> Option<i128> {
-        match tree.as_number() {
-            Some(text) => signed(text.as_bytes()),
-            None => None,
-        }
+        signed(tree.as_number()?.as_bytes())
     }
 
     fn nearest(&self, below: bool) -> i128 {

@@ -11,7 +11,7 @@ fn is_told<T, R: Rules<T>>(alloc: Global, rules: &R, value: &T, text: &str) -> b
     let mut trail = Trail::new(alloc);
     let v = Component::key("v");
     let h = &DefaultI18n;
-    let answer = ask_under(alloc, v, rules, value, &mut trail, &mut report, h);
+    let answer = ask_under(v, rules, value, &mut trail, &mut report, h);
     answer.is_ok() && reads(alloc, &report, text) == Ok(true)
 }
 

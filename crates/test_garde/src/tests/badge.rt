@@ -3,7 +3,7 @@ ghost use Rattle.garde.specs.Fields.{at_least, field, is, range};
 
 use garde::rules::range;
 use garde::{Component, I18n, Report, Stated, Trail, Validate};
-use std::alloc::{AllocError, Global};
+use std::alloc::AllocError;
 
 /// A number of at least 1.
 #[derive(Drop)]
@@ -20,12 +20,12 @@ impl Stated for Badge {
 impl Validate for Badge {
     fn validate_into<'a, H: I18n>(
         &'a self,
-        alloc: Global,
         _ctx: &(),
         trail: &mut Trail<'a>,
         report: &mut Report,
         h: &H,
     ) -> Result<(), AllocError> {
+        let alloc = trail.alloc();
         let Self { number } = self;
         trail.push(Component::key("number"))?;
         let answer = range::apply(alloc, number, (Some(1), None), h);

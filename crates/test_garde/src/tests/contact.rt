@@ -4,7 +4,7 @@ ghost use Rattle.test_garde.specs.declared.tests.contact.Contact.TheVariants.{Ma
 
 use garde::fields::{Ascii, Field, Fields, Is};
 use garde::{I18n, Report, Stated, Trail, Validate};
-use std::alloc::{AllocError, Global};
+use std::alloc::AllocError;
 
 /// How someone is reached.
 #[derive(Drop)]
@@ -25,15 +25,14 @@ impl Stated for Contact {
 impl Validate for Contact {
     fn validate_into<'a, H: I18n>(
         &'a self,
-        alloc: Global,
         _ctx: &(),
         trail: &mut Trail<'a>,
         report: &mut Report,
         h: &H,
     ) -> Result<(), AllocError> {
         match self {
-            Contact::Mail(text) => { Field("mail", text, Is(Ascii)).visit(alloc, trail, report, h) }
-            Contact::Silent => ().visit(alloc, trail, report, h),
+            Contact::Mail(text) => Field("mail", text, Is(Ascii)).visit(trail, report, h),
+            Contact::Silent => ().visit(trail, report, h),
         }
     }
 }

@@ -34,13 +34,12 @@ impl Stated for Marks {
 impl Validate for Marks {
     fn validate_into<'a, H: I18n>(
         &'a self,
-        alloc: Global,
         ctx: &Cell<usize>,
         trail: &mut Trail<'a>,
         report: &mut Report,
         h: &H,
     ) -> Result<(), AllocError> {
-        Transparent(&self.0, Each(Is(Counted(ctx)))).visit(alloc, trail, report, h)
+        Transparent(&self.0, Each(Is(Counted(ctx)))).visit(trail, report, h)
     }
 }
 

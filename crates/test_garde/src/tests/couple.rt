@@ -3,7 +3,7 @@ ghost use Rattle.garde.specs.Fields.{◌and◌, field};
 
 use garde::fields::{Dive, Field, Fields};
 use garde::{I18n, Report, Stated, Trail, Validate};
-use std::alloc::{AllocError, Global};
+use std::alloc::AllocError;
 
 /// Two values of one type.
 #[derive(Drop)]
@@ -22,7 +22,6 @@ impl<T: Stated> Stated for Couple<T> {
 impl<T: Validate> Validate for Couple<T> {
     fn validate_into<'a, H: I18n>(
         &'a self,
-        alloc: Global,
         ctx: &T::Context,
         trail: &mut Trail<'a>,
         report: &mut Report,
@@ -33,6 +32,6 @@ impl<T: Validate> Validate for Couple<T> {
             Field("left", left, Dive(ctx)),
             Field("right", right, Dive(ctx)),
         )
-            .visit_of(self, alloc, trail, report, h)
+            .visit_of(self, trail, report, h)
     }
 }

@@ -1,7 +1,7 @@
 //! A document, of which it depends on its switches what is asked.
 use super::text_of;
 use super::told::is_told_by_default;
-use garde::samples::{Document, Tag};
+use example_types::document::{Document, Tag};
 use std::alloc::Global;
 use std::process::Abort;
 

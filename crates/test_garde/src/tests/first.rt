@@ -90,7 +90,7 @@ fn is_first<V: Validate>(
 ) -> bool {
     let text = first_of(rt, alloc, most, lines);
     let mut trail = Trail::new(alloc);
-    let answer = value.validate_first_on(alloc, ctx, most, &mut trail, &DefaultI18n);
+    let answer = value.validate_first_on(ctx, most, &mut trail, &DefaultI18n);
     let nodes = match lines.get(most).or(lines.last()) {
         Some((_, nodes)) => *nodes,
         None => 0,
@@ -168,11 +168,11 @@ fn is_walked(rt: &impl Abort, alloc: Global, most: usize, ends: bool, count: usi
     let mut report = Report::new(alloc);
     let mut trail = Trail::new(alloc);
     users
-        .validate_into(alloc, &(), &mut trail, &mut report, &DefaultI18n)
+        .validate_into(&(), &mut trail, &mut report, &DefaultI18n)
         .or_end(rt);
     report.truncate(1);
     trail.limit(most);
-    let answer = users.validate_into(alloc, &(), &mut trail, &mut report, &DefaultI18n);
+    let answer = users.validate_into(&(), &mut trail, &mut report, &DefaultI18n);
     answer.is_ok() == ends && report.len() == count
 }
 

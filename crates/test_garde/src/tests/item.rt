@@ -3,7 +3,7 @@ ghost use Rattle.garde.specs.Fields.{◌and◌, ascii, at_least, at_most, bytes,
 
 use garde::fields::{Ascii, Dive, Each, Field, Fields, Is, Length, Range};
 use garde::{I18n, Report, Stated, Trail, Validate};
-use std::alloc::{AllocError, Global};
+use std::alloc::AllocError;
 
 /// A number of at most 4, under the key `id`.
 #[derive(Clone, Copy)]
@@ -20,7 +20,6 @@ impl Stated for Identifier {
 impl Validate for Identifier {
     fn validate_into<'a, H: I18n>(
         &'a self,
-        alloc: Global,
         _ctx: &(),
         trail: &mut Trail<'a>,
         report: &mut Report,
@@ -35,7 +34,7 @@ impl Validate for Identifier {
                 max: Some(4),
             }),
         )
-        .visit(alloc, trail, report, h)
+        .visit(trail, report, h)
     }
 }
 
@@ -57,7 +56,6 @@ impl Stated for Item {
 impl Validate for Item {
     fn validate_into<'a, H: I18n>(
         &'a self,
-        alloc: Global,
         ctx: &(),
         trail: &mut Trail<'a>,
         report: &mut Report,
@@ -75,6 +73,6 @@ impl Validate for Item {
             Field("name", name, plain),
             Field("identifiers", identifiers, Each(Dive(ctx))),
         )
-            .visit(alloc, trail, report, h)
+            .visit(trail, report, h)
     }
 }

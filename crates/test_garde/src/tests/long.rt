@@ -3,7 +3,7 @@ ghost use Rattle.garde.specs.Fields.{at_least, bytes, field, is, str};
 
 use garde::fields::{Field, Fields, Is, Length};
 use garde::{I18n, Report, Stated, Trail, Validate};
-use std::alloc::{AllocError, Global};
+use std::alloc::AllocError;
 
 /// A text of 5 bytes at least, under the key `s`.
 #[derive(Drop)]
@@ -20,7 +20,6 @@ impl Stated for Long {
 impl Validate for Long {
     fn validate_into<'a, H: I18n>(
         &'a self,
-        alloc: Global,
         _ctx: &(),
         trail: &mut Trail<'a>,
         report: &mut Report,
@@ -35,6 +34,6 @@ impl Validate for Long {
                 max: usize::MAX,
             }),
         )
-        .visit(alloc, trail, report, h)
+        .visit(trail, report, h)
     }
 }

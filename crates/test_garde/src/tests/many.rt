@@ -9,7 +9,7 @@ use std::alloc::Global;
 fn is_told<'a, F: Fields<'a>>(alloc: Global, fields: &F, text: &str) -> bool {
     let mut trail = Trail::new(alloc);
     let mut report = Report::new(alloc);
-    let answer = fields.visit(alloc, &mut trail, &mut report, &DefaultI18n);
+    let answer = fields.visit(&mut trail, &mut report, &DefaultI18n);
     answer.is_ok() && reads(alloc, &report, text) == Ok(true)
 }
 

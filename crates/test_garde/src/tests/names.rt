@@ -3,7 +3,7 @@ ghost use Rattle.garde.specs.Fields.{◌and◌, ascii, at_least, bytes, each, ea
 
 use garde::fields::{Ascii, Each, Field, Fields, Is, Length, Required};
 use garde::{I18n, Report, Stated, Trail, Validate};
-use std::alloc::{AllocError, Global};
+use std::alloc::AllocError;
 
 /// One name at least, each of them set, of ASCII and not empty.
 #[derive(Drop)]
@@ -23,7 +23,6 @@ impl Stated for Names {
 impl Validate for Names {
     fn validate_into<'a, H: I18n>(
         &'a self,
-        alloc: Global,
         _ctx: &(),
         trail: &mut Trail<'a>,
         report: &mut Report,
@@ -36,6 +35,6 @@ impl Validate for Names {
         });
         let text = (Is(Ascii), not_empty);
         let rules = (not_empty, Each(Is(Required)), Each(Each(text)));
-        Field("items", items, rules).visit(alloc, trail, report, h)
+        Field("items", items, rules).visit(trail, report, h)
     }
 }

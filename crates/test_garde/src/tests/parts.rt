@@ -24,7 +24,6 @@ fn report_of_part(alloc: Global, first: usize, part: &[User]) -> Result<Report, 
     let mut trail = Trail::new(alloc);
     let mut report = Report::new(alloc);
     check_part(
-        alloc,
         first,
         part,
         &Dive(&()),

@@ -33,10 +33,7 @@ fn is_told_of_a_badge(
     floor: u8,
     told: &str,
 ) -> bool {
-    let patterns = BadgePatterns {
-        number: pattern(rt, alloc, "^[A-Z]{2}[0-9]+$"),
-        colors: pattern(rt, alloc, "^[a-z]+$"),
-    };
+    let patterns = BadgePatterns::new(alloc).or_end(rt);
     let badge = Badge {
         number: text_of(rt, alloc, from[0]),
         colors: texts_of(rt, alloc, &[from[1]]),

@@ -7,7 +7,7 @@ use garde::fields::{
 };
 use garde::i18n::IpKind;
 use garde::{I18n, Report, Stated, Trail, Validate};
-use std::alloc::{AllocError, Global};
+use std::alloc::AllocError;
 
 /// A tag, an address, a host, a site and a temperature.
 #[derive(Drop)]
@@ -37,7 +37,6 @@ impl Stated for Profile {
 impl Validate for Profile {
     fn validate_into<'a, H: I18n>(
         &'a self,
-        alloc: Global,
         _ctx: &(),
         trail: &mut Trail<'a>,
         report: &mut Report,
@@ -71,6 +70,6 @@ impl Validate for Profile {
                 }),
             ),
         )
-            .visit(alloc, trail, report, h)
+            .visit(trail, report, h)
     }
 }

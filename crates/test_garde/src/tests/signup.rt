@@ -58,7 +58,6 @@ impl Stated for Address {
 impl Validate for Address {
     fn validate_into<'a, H: I18n>(
         &'a self,
-        alloc: Global,
         ctx: &Limits,
         trail: &mut Trail<'a>,
         report: &mut Report,
@@ -77,7 +76,7 @@ impl Validate for Address {
             ),
             Field("code", code, Is(Length { min: 5, max: 5 })),
         )
-            .visit(alloc, trail, report, h)
+            .visit(trail, report, h)
     }
 }
 
@@ -103,7 +102,6 @@ impl Stated for Signup {
 impl Validate for Signup {
     fn validate_into<'a, H: I18n>(
         &'a self,
-        alloc: Global,
         ctx: &Limits,
         trail: &mut Trail<'a>,
         report: &mut Report,
@@ -131,6 +129,6 @@ impl Validate for Signup {
             ),
             Field("address", address, Dive(ctx)),
         )
-            .visit(alloc, trail, report, h)
+            .visit(trail, report, h)
     }
 }

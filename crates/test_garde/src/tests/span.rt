@@ -41,12 +41,11 @@ impl Stated for Span {
 impl Validate for Span {
     fn validate_into<'a, H: I18n>(
         &'a self,
-        alloc: Global,
         _ctx: &(),
         trail: &mut Trail<'a>,
         report: &mut Report,
         h: &H,
     ) -> Result<(), AllocError> {
-        Is(InOrder).check(alloc, self, trail, report, h)
+        Is(InOrder).check(self, trail, report, h)
     }
 }

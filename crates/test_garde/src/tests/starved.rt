@@ -23,7 +23,7 @@ fn starved<V: Validate<Context = ()>>(rt: &impl Abort, alloc: Global, value: &V)
     let mut memory = Scarce::taken(alloc).or_end(rt);
     let mut trail = Trail::new(alloc);
     memory.begin();
-    let answer = value.validate_on(alloc, &(), &mut trail, &DefaultI18n);
+    let answer = value.validate_on(&(), &mut trail, &DefaultI18n);
     let valid = value.is_valid(alloc, &());
     memory.end();
     met(answer, valid)

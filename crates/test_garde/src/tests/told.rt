@@ -30,7 +30,7 @@ pub fn is_told<T: Validate, H: I18n>(
     (text, nodes): (&str, usize),
 ) -> bool {
     let mut trail = Trail::new(alloc);
-    let answer = value.validate_on(alloc, ctx, &mut trail, h);
+    let answer = value.validate_on(ctx, &mut trail, h);
     trail.nodes() == nodes && tells_all(alloc, answer, text)
 }
 

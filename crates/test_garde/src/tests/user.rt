@@ -3,7 +3,7 @@ ghost use Rattle.garde.specs.Fields.{◌and◌, ascii, between, bytes, field, is
 
 use garde::fields::{Ascii, Field, Fields, Is, Length};
 use garde::{I18n, Report, Stated, Trail, Validate};
-use std::alloc::{AllocError, Global};
+use std::alloc::AllocError;
 
 /// A user, whose name has 3 to 25 bytes, all of them ASCII.
 #[derive(Debug, Drop, PartialEq, Eq, PartialOrd, Ord, Hash)]
@@ -21,7 +21,6 @@ impl Stated for User {
 impl Validate for User {
     fn validate_into<'a, H: I18n>(
         &'a self,
-        alloc: Global,
         _ctx: &(),
         trail: &mut Trail<'a>,
         report: &mut Report,
@@ -29,6 +28,6 @@ impl Validate for User {
     ) -> Result<(), AllocError> {
         let Self { username } = self;
         let rules = (Is(Ascii), Is(Length { min: 3, max: 25 }));
-        Field("username", username, rules).visit(alloc, trail, report, h)
+        Field("username", username, rules).visit(trail, report, h)
     }
 }

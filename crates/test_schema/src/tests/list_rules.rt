@@ -7,7 +7,7 @@ use super::told::told;
 use garde::fields::{
     Ascii, Each, Equal, IfSome, Is, Required, Rule, Rules, Unique, When, includes,
 };
-use garde::{I18n, Report, RuleError, Trail, all, length};
+use garde::{I18n, Report, RuleError, Trail, length};
 use garde_schema::{
     Checked, Count, Flag, Items, List, ListUnder, Member, Object, Optional, Text, TextRef, U8,
     Under, Whole,
@@ -32,16 +32,17 @@ pub fn told_by(alloc: Global, tree: &Tree<'_, '_>, case: &Case) -> Result<String
         Case::Several => told(alloc, tree, &ListUnder(Is(Several), Whole(U8, ()))),
         // At most four texts, of which no two are the same.
         Case::Apart => {
-            let rules = (Is(length!(max = 4)), Unique("stands before", Equal));
-            let form = ListUnder(rules, Text(Is(Ascii)));
+            let texts = ListUnder(Is(length!(max = 4)), Text(Is(Ascii)));
+            let form = Checked(texts, Unique("stands before", Equal));
             told(alloc, tree, &form)
         }
         Case::Many => many(alloc, tree),
         // Texts of two bytes at most, asked after all of them, unless there are two or more.
         Case::Each => {
             let never = When(false, Is(length!(max = 1)));
-            let rules = When(true, (Each(Is(length!(max = 2))), never));
-            told(alloc, tree, &ListUnder(&rules, Text(Is(Ascii))))
+            let short = When(true, Each(Is(length!(max = 2))));
+            let texts = ListUnder(&never, Text(Is(Ascii)));
+            told(alloc, tree, &Checked(texts, &short))
         }
         // A list that may be missing, of texts that are all different.
         Case::MaybeApart => {
@@ -59,13 +60,16 @@ pub fn told_by(alloc: Global, tree: &Tree<'_, '_>, case: &Case) -> Result<String
     }
 }
 
-// Lists of texts under five and under six rules: of how many there are, and of the texts.
+// Lists of texts under rules of how many there are, and of the texts.
 fn many(alloc: Global, tree: &Tree<'_, '_>) -> Result<String, AllocError> {
     let (few, short) = (Is(length!(max = 2)), Each(Is(length!(max = 1))));
     let apart = Unique("stands before", Equal);
-    let five = ListUnder(all!(few, apart, few, short, Is(Several)), Text(()));
-    let six = ListUnder(all!(few, few, few, Is(Several), short, apart), Text(()));
-    let form = Object((Member("five", five), Member("six", six)));
+    let five = ListUnder((few, few, Is(Several)), Text(()));
+    let six = ListUnder((few, few, few, Is(Several)), Text(()));
+    let form = Object((
+        Member("five", Checked(five, (apart, short))),
+        Member("six", Checked(six, (short, apart))),
+    ));
     told(alloc, tree, &form)
 }
 
@@ -94,7 +98,6 @@ impl<'t, P> Rules<(Items<TextRef<'t>>, Option<P>)> for PhoneForRush {
 
     fn ask<'a, H: I18n>(
         &self,
-        alloc: Global,
         value: &(Items<TextRef<'t>>, Option<P>),
         trail: &mut Trail<'a>,
         report: &mut Report,
@@ -102,7 +105,7 @@ impl<'t, P> Rules<(Items<TextRef<'t>>, Option<P>)> for PhoneForRush {
     ) -> Result<(), AllocError> {
         let (tags, phone) = value;
         let is_rush = includes(tags.as_slice(), &Equal, &TextRef::new("rush"));
-        When(is_rush, Is(Required)).ask(alloc, phone, trail, report, h)
+        When(is_rush, Is(Required)).ask(phone, trail, report, h)
     }
 }
 

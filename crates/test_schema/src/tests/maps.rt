@@ -2,7 +2,7 @@
 
 use super::told::told;
 use garde::fields::{Alphanumeric, Ascii, Is};
-use garde::{all, length, range};
+use garde::{length, range};
 use garde_schema::{Flag, Keys, List, Map, MapUnder, Member, Object, Text, U8, U16, Whole};
 use garde_tape::Tree;
 use std::alloc::{AllocError, Global};
@@ -33,11 +33,8 @@ pub fn told_by(alloc: Global, tree: &Tree<'_, '_>, case: &Case) -> Result<String
         }
         // An object of one or two numbers under short names of letters and digits.
         Case::Named => {
-            let names = Keys((Is(Alphanumeric), Is(length!(max = 3))));
-            let form = MapUnder(
-                (Is(length!(max = 2)), names),
-                Whole(U8, Is(range!(max = 9))),
-            );
+            let numbers = MapUnder(Is(length!(max = 2)), Whole(U8, Is(range!(max = 9))));
+            let form = Keys(numbers, (Is(Alphanumeric), Is(length!(max = 3))));
             told(alloc, tree, &form)
         }
         Case::Many => many(alloc, tree),
@@ -46,12 +43,14 @@ pub fn told_by(alloc: Global, tree: &Tree<'_, '_>, case: &Case) -> Result<String
     }
 }
 
-// Numbers under five and under six rules: of how many there are, and of their names.
+// Numbers under rules of how many there are, and of their names.
 fn many(alloc: Global, tree: &Tree<'_, '_>) -> Result<String, AllocError> {
-    let (few, plain) = (Is(length!(max = 1)), Keys(Is(Alphanumeric)));
-    let short = Keys(Is(length!(max = 1)));
-    let five = MapUnder(all!(few, plain, short, few, plain), Whole(U8, ()));
-    let six = MapUnder(all!(plain, few, few, plain, few, short), Whole(U8, ()));
+    let (few, plain, short) = (Is(length!(max = 1)), Is(Alphanumeric), Is(length!(max = 1)));
+    let five = Keys(MapUnder((few, few), Whole(U8, ())), (plain, short, plain));
+    let six = Keys(
+        MapUnder((few, few, few), Whole(U8, ())),
+        (plain, plain, short),
+    );
     let form = Object((Member("five", five), Member("six", six)));
     told(alloc, tree, &form)
 }

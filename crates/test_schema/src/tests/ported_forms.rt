@@ -2,10 +2,12 @@
 use example_ported::basket::{read_basket, read_marks};
 use example_ported::bill::read_bill;
 use example_ported::folder::read_disk;
+use example_ported::hook::Subscription;
+use example_ported::openapi::OpenApi;
 use example_ported::parcel::read_parcel;
 use example_ported::stay::{Season, read_stay};
 use garde::DefaultI18n;
-use garde_schema::Scratch;
+use garde_schema::{ReadBody, Scratch};
 use std::alloc::{AllocError, Global};
 use std::fmt::{Debug, Display};
 use std::process::Abort;
@@ -16,7 +18,9 @@ enum Of {
     Basket,
     Bill,
     Disk,
+    Hook,
     Marks,
+    OpenApi,
     Parcel,
     Stay,
 }
@@ -76,7 +80,7 @@ const PARCELS: &[(&str, &str)] = &[
         "{\"number\":\"1\",\"things\":[{\"name\":\"\u{e9}\",\"pieces\":0},{\"pieces\":100},1]}",
         "number: not a whole number\nsentTo: missing\ngrams: not set\nthings[0].name: not ascii\nthings[0].pieces: lower than 1\nthings[1].name: missing\nthings[1].pieces: greater than 99\nthings[2]: not an object\nmarks: missing\nlabels: missing\n",
     ),
-    ("{\"number\":1", "not JSON at line 1 column 11"),
+    ("{\"number\":1", "not JSON at line 1 column 12"),
 ];
 
 const BILLS: &[(&str, &str)] = &[
@@ -117,6 +121,28 @@ const STAYS: &[(&str, &str)] = &[
     ),
 ];
 
+const HOOKS: &[(&str, &str)] = &[
+    (
+        "{\"name\":\"Ann\",\"callback\":\"https://a.org/\",\"events\":[\"payment\",\"refund\"],\"secret\":\"s\",\"active\":true}",
+        "Subscription { name: TextRef(\"Ann\"), callback: TextRef(\"https://a.org/\"), events: Items([Payment, Refund]), secret: Some(TextRef(\"s\")), retries: 3, active: true }",
+    ),
+    (
+        "{\"name\":\"\",\"callback\":\"http://a.org/\",\"events\":[\"payment\",\"payment\"],\"retries\":11,\"x\":0}",
+        "name: length is lower than 1\ncallback: value does not begin with \"https://\"\nevents[1]: stands before\nsecret: a secret is needed for payments\nretries: greater than 10\nx: not known here\n",
+    ),
+];
+
+const OPEN_APIS: &[(&str, &str)] = &[
+    (
+        "{\"openapi\":\"3.1.0\",\"info\":{\"title\":\"Shop\",\"license\":{\"name\":\"MIT\",\"identifier\":\"MIT\"},\"version\":\"1\"}}",
+        "OpenApi { openapi: TextRef(\"3.1.0\"), info: Info { title: TextRef(\"Shop\"), summary: None, description: None, terms_of_service: None, contact: None, license: Some(License { name: TextRef(\"MIT\"), identifier: Some(TextRef(\"MIT\")), url: None }), version: TextRef(\"1\") } }",
+    ),
+    (
+        "{\"openapi\":\"2.0\",\"info\":{\"title\":\"\",\"contact\":{\"name\":\"\",\"email\":\"a\"},\"license\":{\"name\":\"MIT\",\"identifier\":\"MIT\",\"url\":\"https://a.org/\"},\"version\":1}}",
+        "openapi: value does not begin with \"3.\"\ninfo.title: length is lower than 1\ninfo.contact.name: length is lower than 1\ninfo.contact.email: does not contain \"@\"\ninfo.license.identifier: either an identifier or a URL\ninfo.version: not a text\n",
+    ),
+];
+
 /// What was read: the value, or what is wrong.
 fn told_of<T: Debug + Drop, E: Display + Drop>(
     alloc: Global,
@@ -146,10 +172,24 @@ fn disk(alloc: Global, body: &[u8]) -> Result<String, AllocError> {
     told_of(alloc, read_disk(alloc, body, &mut scratch, &DefaultI18n))
 }
 
+/// What was read of a subscription by a webhook.
+fn hook(alloc: Global, body: &[u8]) -> Result<String, AllocError> {
+    let mut scratch = Scratch::new(alloc);
+    let read = Subscription::read_body(alloc, body, &mut scratch, usize::MAX, &DefaultI18n);
+    told_of(alloc, read)
+}
+
 /// What was read of marks.
 fn marks(alloc: Global, body: &[u8]) -> Result<String, AllocError> {
     let mut scratch = Scratch::new(alloc);
     told_of(alloc, read_marks(alloc, body, &mut scratch, &DefaultI18n))
+}
+
+/// What was read of the beginning of an OpenAPI document.
+fn open_api(alloc: Global, body: &[u8]) -> Result<String, AllocError> {
+    let mut scratch = Scratch::new(alloc);
+    let read = OpenApi::read_body(alloc, body, &mut scratch, usize::MAX, &DefaultI18n);
+    told_of(alloc, read)
 }
 
 /// What was read of a parcel.
@@ -174,7 +214,9 @@ fn told(alloc: Global, of: Of, body: &[u8]) -> Result<String, AllocError> {
         Of::Basket => basket(alloc, body),
         Of::Bill => bill(alloc, body),
         Of::Disk => disk(alloc, body),
+        Of::Hook => hook(alloc, body),
         Of::Marks => marks(alloc, body),
+        Of::OpenApi => open_api(alloc, body),
         Of::Parcel => parcel(alloc, body),
         Of::Stay => stay(alloc, body),
     }
@@ -203,4 +245,6 @@ fn each_body_by_its_form(rt: HostRuntime) {
     check(&rt, rt.alloc(), Of::Parcel, PARCELS);
     check(&rt, rt.alloc(), Of::Bill, BILLS);
     check(&rt, rt.alloc(), Of::Stay, STAYS);
+    check(&rt, rt.alloc(), Of::Hook, HOOKS);
+    check(&rt, rt.alloc(), Of::OpenApi, OPEN_APIS);
 }

@@ -6,7 +6,7 @@ use crate::stated::Stated;
 use crate::validate::Validate;
 use garde_i18n::I18n;
 use garde_report::{Report, Trail};
-use std::alloc::{AllocError, Global};
+use std::alloc::AllocError;
 
 /// Each item in order, under its index.
 impl<
@@ -37,13 +37,12 @@ impl<
 > Validate for (A, B, C, D, E, F, G) {
     fn validate_into<'a, H: I18n>(
         &'a self,
-        alloc: Global,
         ctx: &A::Context,
         trail: &mut Trail<'a>,
         report: &mut Report,
         h: &H,
     ) -> Result<(), AllocError> {
-        items!(self; 0 1 2 3 4 5 6).visit(alloc, ctx, self, trail, report, h)
+        items!(self; 0 1 2 3 4 5 6).visit(ctx, self, trail, report, h)
     }
 }
 
@@ -78,13 +77,12 @@ impl<
 > Validate for (A, B, C, D, E, F, G, H) {
     fn validate_into<'a, Z: I18n>(
         &'a self,
-        alloc: Global,
         ctx: &A::Context,
         trail: &mut Trail<'a>,
         report: &mut Report,
         h: &Z,
     ) -> Result<(), AllocError> {
-        items!(self; 0 1 2 3 4 5 6 7).visit(alloc, ctx, self, trail, report, h)
+        items!(self; 0 1 2 3 4 5 6 7).visit(ctx, self, trail, report, h)
     }
 }
 
@@ -121,13 +119,12 @@ impl<
 > Validate for (A, B, C, D, E, F, G, H, I) {
     fn validate_into<'a, Z: I18n>(
         &'a self,
-        alloc: Global,
         ctx: &A::Context,
         trail: &mut Trail<'a>,
         report: &mut Report,
         h: &Z,
     ) -> Result<(), AllocError> {
-        items!(self; 0 1 2 3 4 5 6 7 8).visit(alloc, ctx, self, trail, report, h)
+        items!(self; 0 1 2 3 4 5 6 7 8).visit(ctx, self, trail, report, h)
     }
 }
 
@@ -167,13 +164,12 @@ impl<
 > Validate for (A, B, C, D, E, F, G, H, I, J) {
     fn validate_into<'a, Z: I18n>(
         &'a self,
-        alloc: Global,
         ctx: &A::Context,
         trail: &mut Trail<'a>,
         report: &mut Report,
         h: &Z,
     ) -> Result<(), AllocError> {
-        items!(self; 0 1 2 3 4 5 6 7 8 9).visit(alloc, ctx, self, trail, report, h)
+        items!(self; 0 1 2 3 4 5 6 7 8 9).visit(ctx, self, trail, report, h)
     }
 }
 
@@ -215,13 +211,12 @@ impl<
 > Validate for (A, B, C, D, E, F, G, H, I, J, K) {
     fn validate_into<'a, Z: I18n>(
         &'a self,
-        alloc: Global,
         ctx: &A::Context,
         trail: &mut Trail<'a>,
         report: &mut Report,
         h: &Z,
     ) -> Result<(), AllocError> {
-        items!(self; 0 1 2 3 4 5 6 7 8 9 10).visit(alloc, ctx, self, trail, report, h)
+        items!(self; 0 1 2 3 4 5 6 7 8 9 10).visit(ctx, self, trail, report, h)
     }
 }
 
@@ -265,12 +260,11 @@ impl<
 > Validate for (A, B, C, D, E, F, G, H, I, J, K, L) {
     fn validate_into<'a, Z: I18n>(
         &'a self,
-        alloc: Global,
         ctx: &A::Context,
         trail: &mut Trail<'a>,
         report: &mut Report,
         h: &Z,
     ) -> Result<(), AllocError> {
-        items!(self; 0 1 2 3 4 5 6 7 8 9 10 11).visit(alloc, ctx, self, trail, report, h)
+        items!(self; 0 1 2 3 4 5 6 7 8 9 10 11).visit(ctx, self, trail, report, h)
     }
 }

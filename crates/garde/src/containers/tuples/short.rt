@@ -6,7 +6,7 @@ use crate::stated::Stated;
 use crate::validate::Validate;
 use garde_i18n::I18n;
 use garde_report::{Report, Trail};
-use std::alloc::{AllocError, Global};
+use std::alloc::AllocError;
 
 /// Each item in order, under its index.
 impl<A: Stated> Stated for (A,) {
@@ -18,13 +18,12 @@ impl<A: Stated> Stated for (A,) {
 impl<A: Validate> Validate for (A,) {
     fn validate_into<'a, H: I18n>(
         &'a self,
-        alloc: Global,
         ctx: &A::Context,
         trail: &mut Trail<'a>,
         report: &mut Report,
         h: &H,
     ) -> Result<(), AllocError> {
-        items!(self; 0).visit(alloc, ctx, self, trail, report, h)
+        items!(self; 0).visit(ctx, self, trail, report, h)
     }
 }
 
@@ -38,13 +37,12 @@ impl<A: Stated, B: Stated<Context = A::Context>> Stated for (A, B) {
 impl<A: Validate, B: Validate<Context = A::Context>> Validate for (A, B) {
     fn validate_into<'a, H: I18n>(
         &'a self,
-        alloc: Global,
         ctx: &A::Context,
         trail: &mut Trail<'a>,
         report: &mut Report,
         h: &H,
     ) -> Result<(), AllocError> {
-        items!(self; 0 1).visit(alloc, ctx, self, trail, report, h)
+        items!(self; 0 1).visit(ctx, self, trail, report, h)
     }
 }
 
@@ -61,13 +59,12 @@ impl<A: Validate, B: Validate<Context = A::Context>, C: Validate<Context = A::Co
     for (A, B, C) {
     fn validate_into<'a, H: I18n>(
         &'a self,
-        alloc: Global,
         ctx: &A::Context,
         trail: &mut Trail<'a>,
         report: &mut Report,
         h: &H,
     ) -> Result<(), AllocError> {
-        items!(self; 0 1 2).visit(alloc, ctx, self, trail, report, h)
+        items!(self; 0 1 2).visit(ctx, self, trail, report, h)
     }
 }
 
@@ -93,13 +90,12 @@ impl<
 > Validate for (A, B, C, D) {
     fn validate_into<'a, H: I18n>(
         &'a self,
-        alloc: Global,
         ctx: &A::Context,
         trail: &mut Trail<'a>,
         report: &mut Report,
         h: &H,
     ) -> Result<(), AllocError> {
-        items!(self; 0 1 2 3).visit(alloc, ctx, self, trail, report, h)
+        items!(self; 0 1 2 3).visit(ctx, self, trail, report, h)
     }
 }
 
@@ -127,13 +123,12 @@ impl<
 > Validate for (A, B, C, D, E) {
     fn validate_into<'a, H: I18n>(
         &'a self,
-        alloc: Global,
         ctx: &A::Context,
         trail: &mut Trail<'a>,
         report: &mut Report,
         h: &H,
     ) -> Result<(), AllocError> {
-        items!(self; 0 1 2 3 4).visit(alloc, ctx, self, trail, report, h)
+        items!(self; 0 1 2 3 4).visit(ctx, self, trail, report, h)
     }
 }
 
@@ -163,12 +158,11 @@ impl<
 > Validate for (A, B, C, D, E, F) {
     fn validate_into<'a, H: I18n>(
         &'a self,
-        alloc: Global,
         ctx: &A::Context,
         trail: &mut Trail<'a>,
         report: &mut Report,
         h: &H,
     ) -> Result<(), AllocError> {
-        items!(self; 0 1 2 3 4 5).visit(alloc, ctx, self, trail, report, h)
+        items!(self; 0 1 2 3 4 5).visit(ctx, self, trail, report, h)
     }
 }

@@ -4,7 +4,7 @@ ghost use Rattle.garde.specs.Visits.{◌and◌};
 use super::Check;
 use garde_i18n::I18n;
 use garde_report::{Report, Trail};
-use std::alloc::{AllocError, Global};
+use std::alloc::AllocError;
 
 /// One check, and then the other.
 impl<'a, T, A: Check<'a, T>, B: Check<'a, T>> Check<'a, T> for (A, B) {
@@ -13,14 +13,13 @@ impl<'a, T, A: Check<'a, T>, B: Check<'a, T>> Check<'a, T> for (A, B) {
     #[inline(always)]
     fn check<H: I18n>(
         &self,
-        alloc: Global,
         value: &'a T,
         trail: &mut Trail<'a>,
         report: &mut Report,
         h: &H,
     ) -> Result<(), AllocError> {
-        self.0.check(alloc, value, trail, report, h)?;
-        self.1.check(alloc, value, trail, report, h)
+        self.0.check(value, trail, report, h)?;
+        self.1.check(value, trail, report, h)
     }
 }
 
@@ -31,13 +30,12 @@ impl<'a, T, A: Check<'a, T>, B: Check<'a, T>, C: Check<'a, T>> Check<'a, T> for 
     #[inline(always)]
     fn check<H: I18n>(
         &self,
-        alloc: Global,
         value: &'a T,
         trail: &mut Trail<'a>,
         report: &mut Report,
         h: &H,
     ) -> Result<(), AllocError> {
-        (&self.0, (&self.1, &self.2)).check(alloc, value, trail, report, h)
+        (&self.0, (&self.1, &self.2)).check(value, trail, report, h)
     }
 }
 
@@ -50,13 +48,12 @@ impl<'a, T, A: Check<'a, T>, B: Check<'a, T>, C: Check<'a, T>, D: Check<'a, T>> 
     #[inline(always)]
     fn check<H: I18n>(
         &self,
-        alloc: Global,
         value: &'a T,
         trail: &mut Trail<'a>,
         report: &mut Report,
         h: &H,
     ) -> Result<(), AllocError> {
-        (&self.0, (&self.1, (&self.2, &self.3))).check(alloc, value, trail, report, h)
+        (&self.0, (&self.1, (&self.2, &self.3))).check(value, trail, report, h)
     }
 }
 
@@ -77,14 +74,13 @@ impl<
     #[inline(always)]
     fn check<H: I18n>(
         &self,
-        alloc: Global,
         value: &'a T,
         trail: &mut Trail<'a>,
         report: &mut Report,
         h: &H,
     ) -> Result<(), AllocError> {
         let rest = (&self.3, &self.4);
-        (&self.0, &self.1, &self.2, rest).check(alloc, value, trail, report, h)
+        (&self.0, &self.1, &self.2, rest).check(value, trail, report, h)
     }
 }
 
@@ -106,13 +102,12 @@ impl<
     #[inline(always)]
     fn check<H: I18n>(
         &self,
-        alloc: Global,
         value: &'a T,
         trail: &mut Trail<'a>,
         report: &mut Report,
         h: &H,
     ) -> Result<(), AllocError> {
         let rest = (&self.3, &self.4, &self.5);
-        (&self.0, &self.1, &self.2, rest).check(alloc, value, trail, report, h)
+        (&self.0, &self.1, &self.2, rest).check(value, trail, report, h)
     }
 }

@@ -5,7 +5,7 @@ use super::Each;
 use crate::fields::rules::{Rules, ask_under};
 use garde_i18n::I18n;
 use garde_report::{Component, Report, Trail};
-use std::alloc::{AllocError, Global};
+use std::alloc::AllocError;
 
 /// Each item in order, under its index.
 impl<'s, T, R: Rules<T>> Rules<&'s [T]> for Each<R> {
@@ -13,7 +13,6 @@ impl<'s, T, R: Rules<T>> Rules<&'s [T]> for Each<R> {
 
     fn ask<'a, H: I18n>(
         &self,
-        alloc: Global,
         value: &&'s [T],
         trail: &mut Trail<'a>,
         report: &mut Report,
@@ -22,7 +21,7 @@ impl<'s, T, R: Rules<T>> Rules<&'s [T]> for Each<R> {
         let items = *value;
         for (index, item) in items.iter().enumerate() {
             let place = Component::index(index);
-            ask_under(alloc, place, &self.0, item, trail, report, h)?;
+            ask_under(place, &self.0, item, trail, report, h)?;
         }
         Ok(())
     }
@@ -34,13 +33,12 @@ impl<T, R: Rules<T>> Rules<Vec<T>> for Each<R> {
 
     fn ask<'a, H: I18n>(
         &self,
-        alloc: Global,
         value: &Vec<T>,
         trail: &mut Trail<'a>,
         report: &mut Report,
         h: &H,
     ) -> Result<(), AllocError> {
-        self.ask(alloc, &value.as_slice(), trail, report, h)
+        self.ask(&value.as_slice(), trail, report, h)
     }
 }
 
@@ -51,14 +49,13 @@ impl<T, R: Rules<T>> Rules<Option<T>> for Each<R> {
 
     fn ask<'a, H: I18n>(
         &self,
-        alloc: Global,
         value: &Option<T>,
         trail: &mut Trail<'a>,
         report: &mut Report,
         h: &H,
     ) -> Result<(), AllocError> {
         match value {
-            Some(item) => ask_under(alloc, Component::unnamed(), &self.0, item, trail, report, h),
+            Some(item) => ask_under(Component::unnamed(), &self.0, item, trail, report, h),
             None => Ok(()),
         }
     }

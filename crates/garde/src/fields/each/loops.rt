@@ -9,13 +9,12 @@ ghost use Rattle.garde.specs.Visits.{Visited, items, entries};
 use crate::fields::check::{Check, check_under};
 use garde_i18n::I18n;
 use garde_report::{Component, PathComponentKind, Report, Trail};
-use std::alloc::{AllocError, Global};
+use std::alloc::AllocError;
 
 /// Checks the items in the order in which they come, each under its index in that order.
 ///
 /// `AllocError` is returned where memory runs out, under the terms of `Validate::validate_into`.
 pub(super) fn check_items<'a, T: 'a, I: Iterator<Item = &'a T>, C: Check<'a, T>, H: I18n>(
-    alloc: Global,
     source: I,
     check: &C,
     trail: &mut Trail<'a>,
@@ -31,15 +30,7 @@ pub(super) fn check_items<'a, T: 'a, I: Iterator<Item = &'a T>, C: Check<'a, T>,
         trail.old trail.new report.old report.new result }
 {
     for (index, item) in source.enumerate() {
-        check_under(
-            alloc,
-            Component::index(index),
-            check,
-            item,
-            trail,
-            report,
-            h,
-        )?;
+        check_under(Component::index(index), check, item, trail, report, h)?;
     }
     Ok(())
 }
@@ -54,14 +45,7 @@ pub(super) fn check_entries<
     I: Iterator<Item = (&'a K, &'a V)>,
     C: Check<'a, V>,
     H: I18n,
->(
-    alloc: Global,
-    source: I,
-    check: &C,
-    trail: &mut Trail<'a>,
-    report: &mut Report,
-    h: &H,
-) -> Result<(), AllocError>
+>(source: I, check: &C, trail: &mut Trail<'a>, report: &mut Report, h: &H) -> Result<(), AllocError>
     requires can { I.can_next source }
     requires ends { IsFinite (I.remaining source) }
     // It holds of whatever list the source gives.
@@ -70,7 +54,7 @@ pub(super) fn check_entries<
         trail.old trail.new report.old report.new result }
 {
     for (key, value) in source {
-        check_under(alloc, key.component(), check, value, trail, report, h)?;
+        check_under(key.component(), check, value, trail, report, h)?;
     }
     Ok(())
 }

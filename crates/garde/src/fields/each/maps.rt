@@ -7,7 +7,7 @@ use crate::fields::check::Check;
 use crate::fields::each::loops::check_entries;
 use garde_i18n::I18n;
 use garde_report::{PathComponentKind, Report, Trail};
-use std::alloc::{AllocError, Global};
+use std::alloc::AllocError;
 use std::collections::{BTreeMap, HashMap};
 use std::hash::{BuildHasher, Hash};
 
@@ -18,14 +18,13 @@ impl<'a, K: Ord + PathComponentKind, V, C: Check<'a, V>> Check<'a, BTreeMap<K, V
 
     fn check<H: I18n>(
         &self,
-        alloc: Global,
         value: &'a BTreeMap<K, V>,
         trail: &mut Trail<'a>,
         report: &mut Report,
         h: &H,
     ) -> Result<(), AllocError> {
         let ascending = value.iter();
-        check_entries(alloc, ascending, &self.0, trail, report, h)
+        check_entries(ascending, &self.0, trail, report, h)
     }
 }
 
@@ -39,13 +38,12 @@ impl<'a, K: Eq + Hash + PathComponentKind, V, S: BuildHasher, C: Check<'a, V>> C
 
     fn check<H: I18n>(
         &self,
-        alloc: Global,
         value: &'a HashMap<K, V, S>,
         trail: &mut Trail<'a>,
         report: &mut Report,
         h: &H,
     ) -> Result<(), AllocError> {
         let some_order = value.iter();
-        check_entries(alloc, some_order, &self.0, trail, report, h)
+        check_entries(some_order, &self.0, trail, report, h)
     }
 }

@@ -7,7 +7,7 @@ ghost use Rattle.garde.specs.Visits.{Visited, entries};
 use crate::fields::check::{Check, check_under};
 use garde_i18n::I18n;
 use garde_report::{Component, Report, Trail};
-use std::alloc::{AllocError, Global};
+use std::alloc::AllocError;
 
 /// Checks the items of a part of a list, each under its index in the whole list, where the first
 /// item of the part has the index `first`.
@@ -16,7 +16,6 @@ use std::alloc::{AllocError, Global};
 /// law `garde::laws::items_in_parts`. `AllocError` is returned where memory runs out, under the
 /// terms of `Validate::validate_into`.
 pub fn check_part<'a, T: 'a, C: Check<'a, T>, H: I18n>(
-    alloc: Global,
     first: usize,
     part: &'a [T],
     check: &C,
@@ -30,7 +29,6 @@ pub fn check_part<'a, T: 'a, C: Check<'a, T>, H: I18n>(
 {
     for (index, item) in part.iter().enumerate() {
         check_under(
-            alloc,
             Component::index(first + index),
             check,
             item,

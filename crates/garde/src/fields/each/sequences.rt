@@ -7,7 +7,7 @@ use crate::fields::check::Check;
 use crate::fields::each::loops::check_items;
 use garde_i18n::I18n;
 use garde_report::{Report, Trail};
-use std::alloc::{AllocError, Global};
+use std::alloc::AllocError;
 use std::boxed::BoxedSlice;
 use std::collections::{LinkedList, VecDeque};
 
@@ -17,13 +17,12 @@ impl<'a, T, C: Check<'a, T>> Check<'a, Vec<T>> for Each<C> {
 
     fn check<H: I18n>(
         &self,
-        alloc: Global,
         value: &'a Vec<T>,
         trail: &mut Trail<'a>,
         report: &mut Report,
         h: &H,
     ) -> Result<(), AllocError> {
-        check_items(alloc, value.iter(), &self.0, trail, report, h)
+        check_items(value.iter(), &self.0, trail, report, h)
     }
 }
 
@@ -33,14 +32,13 @@ impl<'a, T, C: Check<'a, T>> Check<'a, BoxedSlice<T>> for Each<C> {
 
     fn check<H: I18n>(
         &self,
-        alloc: Global,
         value: &'a BoxedSlice<T>,
         trail: &mut Trail<'a>,
         report: &mut Report,
         h: &H,
     ) -> Result<(), AllocError> {
         let boxed = value.as_slice();
-        check_items(alloc, boxed.iter(), &self.0, trail, report, h)
+        check_items(boxed.iter(), &self.0, trail, report, h)
     }
 }
 
@@ -50,14 +48,13 @@ impl<'a, 's, T, C: Check<'a, T>> Check<'a, &'s [T]> for Each<C> {
 
     fn check<H: I18n>(
         &self,
-        alloc: Global,
         value: &'a &'s [T],
         trail: &mut Trail<'a>,
         report: &mut Report,
         h: &H,
     ) -> Result<(), AllocError> {
         let borrowed = value.iter();
-        check_items(alloc, borrowed, &self.0, trail, report, h)
+        check_items(borrowed, &self.0, trail, report, h)
     }
 }
 
@@ -67,14 +64,13 @@ impl<'a, T, const N: usize, C: Check<'a, T>> Check<'a, [T; N]> for Each<C> {
 
     fn check<H: I18n>(
         &self,
-        alloc: Global,
         value: &'a [T; N],
         trail: &mut Trail<'a>,
         report: &mut Report,
         h: &H,
     ) -> Result<(), AllocError> {
         let items = value.iter();
-        check_items(alloc, items, &self.0, trail, report, h)
+        check_items(items, &self.0, trail, report, h)
     }
 }
 
@@ -84,14 +80,13 @@ impl<'a, T, C: Check<'a, T>> Check<'a, VecDeque<T>> for Each<C> {
 
     fn check<H: I18n>(
         &self,
-        alloc: Global,
         value: &'a VecDeque<T>,
         trail: &mut Trail<'a>,
         report: &mut Report,
         h: &H,
     ) -> Result<(), AllocError> {
         let front_to_back = value.iter();
-        check_items(alloc, front_to_back, &self.0, trail, report, h)
+        check_items(front_to_back, &self.0, trail, report, h)
     }
 }
 
@@ -101,13 +96,12 @@ impl<'a, T, C: Check<'a, T>> Check<'a, LinkedList<T>> for Each<C> {
 
     fn check<H: I18n>(
         &self,
-        alloc: Global,
         value: &'a LinkedList<T>,
         trail: &mut Trail<'a>,
         report: &mut Report,
         h: &H,
     ) -> Result<(), AllocError> {
         let head_to_tail = value.iter();
-        check_items(alloc, head_to_tail, &self.0, trail, report, h)
+        check_items(head_to_tail, &self.0, trail, report, h)
     }
 }

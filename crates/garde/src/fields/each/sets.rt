@@ -7,7 +7,7 @@ use crate::fields::check::Check;
 use crate::fields::each::loops::check_items;
 use garde_i18n::I18n;
 use garde_report::{Report, Trail};
-use std::alloc::{AllocError, Global};
+use std::alloc::AllocError;
 use std::collections::{BTreeSet, BinaryHeap, HashSet};
 use std::hash::{BuildHasher, Hash};
 
@@ -17,14 +17,13 @@ impl<'a, T: Ord, C: Check<'a, T>> Check<'a, BTreeSet<T>> for Each<C> {
 
     fn check<H: I18n>(
         &self,
-        alloc: Global,
         value: &'a BTreeSet<T>,
         trail: &mut Trail<'a>,
         report: &mut Report,
         h: &H,
     ) -> Result<(), AllocError> {
         let ascending = value.iter();
-        check_items(alloc, ascending, &self.0, trail, report, h)
+        check_items(ascending, &self.0, trail, report, h)
     }
 }
 
@@ -34,14 +33,13 @@ impl<'a, T: Eq + Hash, S: BuildHasher, C: Check<'a, T>> Check<'a, HashSet<T, S>>
 
     fn check<H: I18n>(
         &self,
-        alloc: Global,
         value: &'a HashSet<T, S>,
         trail: &mut Trail<'a>,
         report: &mut Report,
         h: &H,
     ) -> Result<(), AllocError> {
         let some_order = value.iter();
-        check_items(alloc, some_order, &self.0, trail, report, h)
+        check_items(some_order, &self.0, trail, report, h)
     }
 }
 
@@ -51,13 +49,12 @@ impl<'a, T: Ord, C: Check<'a, T>> Check<'a, BinaryHeap<T>> for Each<C> {
 
     fn check<H: I18n>(
         &self,
-        alloc: Global,
         value: &'a BinaryHeap<T>,
         trail: &mut Trail<'a>,
         report: &mut Report,
         h: &H,
     ) -> Result<(), AllocError> {
         let heap_order = value.iter();
-        check_items(alloc, heap_order, &self.0, trail, report, h)
+        check_items(heap_order, &self.0, trail, report, h)
     }
 }

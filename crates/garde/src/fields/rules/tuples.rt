@@ -4,7 +4,7 @@ ghost use Rattle.garde.specs.Visits.{◌and◌};
 use super::Rules;
 use garde_i18n::I18n;
 use garde_report::{Report, Trail};
-use std::alloc::{AllocError, Global};
+use std::alloc::AllocError;
 
 /// The one, and then the other.
 impl<T, A: Rules<T>, B: Rules<T>> Rules<T> for (A, B) {
@@ -13,14 +13,13 @@ impl<T, A: Rules<T>, B: Rules<T>> Rules<T> for (A, B) {
     #[inline(always)]
     fn ask<'a, H: I18n>(
         &self,
-        alloc: Global,
         value: &T,
         trail: &mut Trail<'a>,
         report: &mut Report,
         h: &H,
     ) -> Result<(), AllocError> {
-        self.0.ask(alloc, value, trail, report, h)?;
-        self.1.ask(alloc, value, trail, report, h)
+        self.0.ask(value, trail, report, h)?;
+        self.1.ask(value, trail, report, h)
     }
 }
 
@@ -32,13 +31,12 @@ impl<T, A: Rules<T>, B: Rules<T>, C: Rules<T>> Rules<T> for (A, B, C) {
     #[inline(always)]
     fn ask<'a, H: I18n>(
         &self,
-        alloc: Global,
         value: &T,
         trail: &mut Trail<'a>,
         report: &mut Report,
         h: &H,
     ) -> Result<(), AllocError> {
-        (&self.0, (&self.1, &self.2)).ask(alloc, value, trail, report, h)
+        (&self.0, (&self.1, &self.2)).ask(value, trail, report, h)
     }
 }
 
@@ -50,13 +48,12 @@ impl<T, A: Rules<T>, B: Rules<T>, C: Rules<T>, D: Rules<T>> Rules<T> for (A, B, 
     #[inline(always)]
     fn ask<'a, H: I18n>(
         &self,
-        alloc: Global,
         value: &T,
         trail: &mut Trail<'a>,
         report: &mut Report,
         h: &H,
     ) -> Result<(), AllocError> {
-        (&self.0, (&self.1, (&self.2, &self.3))).ask(alloc, value, trail, report, h)
+        (&self.0, (&self.1, (&self.2, &self.3))).ask(value, trail, report, h)
     }
 }
 
@@ -70,14 +67,13 @@ impl<T, A: Rules<T>, B: Rules<T>, C: Rules<T>, D: Rules<T>, E: Rules<T>> Rules<T
     #[inline(always)]
     fn ask<'a, H: I18n>(
         &self,
-        alloc: Global,
         value: &T,
         trail: &mut Trail<'a>,
         report: &mut Report,
         h: &H,
     ) -> Result<(), AllocError> {
         let rest = (&self.3, &self.4);
-        (&self.0, &self.1, &self.2, rest).ask(alloc, value, trail, report, h)
+        (&self.0, &self.1, &self.2, rest).ask(value, trail, report, h)
     }
 }
 
@@ -91,13 +87,12 @@ impl<T, A: Rules<T>, B: Rules<T>, C: Rules<T>, D: Rules<T>, E: Rules<T>, F: Rule
     #[inline(always)]
     fn ask<'a, H: I18n>(
         &self,
-        alloc: Global,
         value: &T,
         trail: &mut Trail<'a>,
         report: &mut Report,
         h: &H,
     ) -> Result<(), AllocError> {
         let rest = (&self.3, &self.4, &self.5);
-        (&self.0, &self.1, &self.2, rest).ask(alloc, value, trail, report, h)
+        (&self.0, &self.1, &self.2, rest).ask(value, trail, report, h)
     }
 }

@@ -1,7 +1,7 @@
 use Rattle.std.proofs.Common.{ℕ, List, ap, subst, ◌∙◌}
 use Rattle.json.specs.Json.{document}
 use Rattle.garde_places.specs.Listed.{AreListed}
-use Rattle.garde_places.specs.declared.place.Place.{Place}
+use Rattle.garde_tape.specs.declared.place.Place.{Place}
 use Rattle.garde_places.proofs.report.list_all.Goals as goal
 
 -- the places are those of the list that is given, in the text that is given

@@ -1,6 +1,7 @@
 use Rattle.std.proofs.Common.{◌≡◌, ◌+◌, ◌≤◌, ◌++◌, drop}
 use Rattle.garde_places.specs.declared.lex.Mode.TheVariants.{Between}
-use Rattle.garde_places.specs.Scan.{spots, text_start}
+use Rattle.garde_places.specs.Scan.{spots}
+use Rattle.garde_tape.specs.Place.{text_start}
 use Rattle.garde_places.proofs.scan.scan.Given as goal
 
 abbrev pub invariant-loop-byte : goal.invariant-loop-byte

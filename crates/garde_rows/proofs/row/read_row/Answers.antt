@@ -17,9 +17,9 @@ returns-clause-answer g c =
     let visits : Json → Visits = λ j. g.F.Form.visits c.args.form.now texts j in
     let same : fields_of c.columns.inside.header.now ≡ columns = cc in
     let is_row = c.fields.ensures ∙ ap (λ fields. object (field_members fields)) c.held_in.ensures ∙ c.in-Ok.ensures.fields ∙ ap (λ columns. row_json columns cells) same in
-    subst (λ whole. AnswersRow (under (index_part c.args.index) (if_whole texts whole (visits (row_json columns cells)))) (g.H.I18n.text c.args.h.now) (forget c.read.result))
+    subst (λ whole. AnswersRow columns (under (index_part c.args.index) (if_whole texts whole (visits (row_json columns cells)))) (g.H.I18n.text c.args.h.now) (forget c.read.result))
     c.is_whole-is_whole.ensures
-    (answers_row (λ j. under (index_part c.args.index) (if_whole texts c.is_whole-is_whole.result (visits j))) (g.H.I18n.text c.args.h.now) _ (row_json columns cells) (forget c.read.result) is_row c.read.ensures.answer)
+    (answers_row columns (λ j. under (index_part c.args.index) (if_whole texts c.is_whole-is_whole.result (visits j))) (g.H.I18n.text c.args.h.now) _ (row_json columns cells) (forget c.read.result) is_row c.read.ensures.answer)
 
 pub returns-clause-value : goal.returns-clause-value
 returns-clause-value g c =

@@ -5,12 +5,12 @@ use Rattle.garde_schema.proofs.Lists.{counted_then, counted_stop, sound_counted}
 use Rattle.garde_schema.proofs.Maps.{entries_length}
 use Rattle.garde_schema.proofs.map_under.read_counted.Goals as goal
 
-pub returns-in_err-ask_count-clause-answer : goal.returns-in_err-ask_count-clause-answer
-returns-in_err-ask_count-clause-answer g c = counted_stop (λ n. g.R.CountRules.counts c.args.form.now.0 n) _ c.from_residual.result c.requires.counted c.ask_count.ensures (search rules) c.from_residual.ensures.0
+pub returns-in_err-ask-clause-answer : goal.returns-in_err-ask-clause-answer
+returns-in_err-ask-clause-answer g c = counted_stop (λ n. g.R.Rules.asks c.args.form.now.0 n) _ c.from_residual.result c.requires.counted c.ask.ensures (search rules) c.from_residual.ensures.0
 
 pub returns-clause-answer : goal.returns-clause-answer
-returns-clause-answer g c = counted_then (λ n. g.R.CountRules.counts c.args.form.now.0 n) _ c.requires.counted c.ask_count.ensures (search rules) c.read_entries.ensures.answer
+returns-clause-answer g c = counted_then (λ n. g.R.Rules.asks c.args.form.now.0 n) _ c.requires.counted c.ask.ensures (search rules) c.read_entries.ensures.answer
 
 pub returns-clause-sound : goal.returns-clause-sound
 returns-clause-sound g c = on_ok_then c.read_entries.result c.read_entries.ensures.sound
-    (λ sound. sound_counted _ (λ n. g.R.CountRules.counts c.args.form.now.0 n) (λ out. All (λ e. g.F.Form.keeps c.args.form.now.1 e.1) out) (length c.args.members) _ sound (entries_length (λ v. g.F.Form.value c.args.form.now.1 v) c.args.members))
+    (λ sound. sound_counted _ (λ n. g.R.Rules.asks c.args.form.now.0 n) (λ out. All (λ e. g.F.Form.keeps c.args.form.now.1 e.1) out) (length c.args.members) _ sound (entries_length (λ v. g.F.Form.value c.args.form.now.1 v) c.args.members))

@@ -88,7 +88,7 @@ fn is_valid(rt: &impl Abort, alloc: Global, password: &str, username: &str) -> b
 fn is_refused_on(rt: &impl Abort, alloc: Global, password: &str, nodes: usize) -> bool {
     let weak = login(rt, alloc, "test", password);
     let mut trail = Trail::new(alloc);
-    let answer = weak.validate_on(alloc, &(), &mut trail, &DefaultI18n);
+    let answer = weak.validate_on(&(), &mut trail, &DefaultI18n);
     matches!(answer, Err(ValidateError::Report(_))) && trail.nodes() == nodes
 }
 

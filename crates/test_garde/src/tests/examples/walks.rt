@@ -39,7 +39,7 @@ pub fn is_told<V: Validate<Context = ()>>(
     nodes: usize,
 ) -> bool {
     let mut trail = Trail::new(alloc);
-    let answer = value.validate_on(alloc, &(), &mut trail, &DefaultI18n);
+    let answer = value.validate_on(&(), &mut trail, &DefaultI18n);
     prints_as(rt, alloc, answer, text)
         && trail.nodes() == nodes
         && is_told_first(rt, alloc, value, text)

@@ -4,7 +4,7 @@ use super::made::{
     LONG, document, errors, handlers, invalid, lists, paths, patterns, refused, reports, trees,
     valid, ways,
 };
-use garde::samples::Document;
+use example_types::document::Document;
 use std::alloc::{AllocError, Global};
 use test_memory::Hog;
 

@@ -3,10 +3,10 @@ use crate::tests::custom::Custom;
 use crate::tests::paths::{keys, longer};
 use crate::tests::reports::report_of;
 use crate::tests::rules::regex;
+use example_types::document::{Document, Tag};
 use garde::rc_list::List;
 use garde::rules::ascii;
 use garde::rules::pattern::regex::Regex;
-use garde::samples::{Document, Tag};
 use garde::{
     Component, Error, IntoValidError, Path, Report, RuleError, Trail, Unvalidated, Validate,
     ValidateError, select, with_i18n,

@@ -71,7 +71,6 @@ impl Stated for Account {
 impl Validate for Account {
     fn validate_into<'a, H: I18n>(
         &'a self,
-        alloc: Global,
         ctx: &Bank,
         trail: &mut Trail<'a>,
         report: &mut Report,
@@ -91,7 +90,7 @@ impl Validate for Account {
             Field("password", password, Is(Strong(ctx))),
             Field("again", again, Is(same)),
         )
-            .visit(alloc, trail, report, h)
+            .visit(trail, report, h)
     }
 }
 
@@ -126,12 +125,12 @@ fn a_length_a_context_and_a_match(rt: HostRuntime) {
 
 // Asks the text of a label for its beginning, under its component.
 fn check_label<'a>(
-    alloc: Global,
     label: &Label,
     component: Component<'a>,
     trail: &mut Trail<'a>,
     report: &mut Report,
 ) -> Result<(), AllocError> {
+    let alloc = trail.alloc();
     trail.push(component)?;
     let answer = adapt(
         label,
@@ -158,9 +157,7 @@ fn a_view_of_each_item(rt: HostRuntime) {
         &labels,
         &mut trail,
         &mut report,
-        |label: &Label, component, trail, report| {
-            check_label(alloc, label, component, trail, report)
-        },
+        |label: &Label, component, trail, report| { check_label(label, component, trail, report) },
     )
     .or_end(&rt);
     let text = "[1]: value does not begin with \"t-\"\n[3]: value does not begin with \"t-\"\n";

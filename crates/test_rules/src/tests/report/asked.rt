@@ -1,8 +1,9 @@
 //! What words of a command line ask for, and the lines of faults under the name of their file.
 
-use crate::tests::is_text;
 use crate::tests::report::samples::{places_in_lines, report_of};
-use garde_places::{Asked, Format, Place, Printed, faults_of, listed_faults_of, stop_of_utf8};
+use crate::tests::{OrEnd, is_text};
+use garde_command::{Asked, Spoken, Word, parted, without_mark};
+use garde_places::{Format, Place, Printed, faults_of, listed_faults_of, stop_of_utf8};
 use garde_report::{Path, Report};
 use std::alloc::Global;
 use std::process::Abort;
@@ -40,18 +41,25 @@ static ASKED: [(&[&str], Option<Answer>); 14] = [
     (&["-", "a"], None),
 ];
 
+// The words of a command line with two options.
+fn words_of(rt: &impl Abort, alloc: Global, texts: &[&str]) -> Vec<Word> {
+    let mut owned = Vec::new(alloc);
+    for text in texts {
+        let text = String::from_str(alloc, text).or_end(rt);
+        owned.push(text).or_end(rt);
+    }
+    parted(alloc, owned, &["--format", "--language"]).or_end(rt)
+}
+
 // What words ask for, if all of them are taken.
-fn asked_by<'w>(words: &[&'w str]) -> Option<Asked<'w>> {
+fn asked_by<'w>(words: &'w [Word]) -> Option<Asked<'w>> {
     let mut asked = Asked::new();
     for word in words {
         if asked.take(word) != Ok(true) {
             return None;
         }
     }
-    match asked.finish() {
-        Ok(asked) => Some(asked),
-        Err(_) => None,
-    }
+    Some(asked)
 }
 
 // Whether faults are printed in this format and under this name.
@@ -64,7 +72,7 @@ fn is_printed(printed: Option<Printed<'_>>, wanted: Option<(Format, &str)>) -> b
 }
 
 // Whether words ask for this.
-fn ask_for(words: &[&str], wanted: Option<Answer>) -> bool {
+fn ask_for(words: &[Word], wanted: Option<Answer>) -> bool {
     match (asked_by(words), wanted) {
         (Some(asked), Some((file, printed))) => {
             asked.file() == file && is_printed(asked.printed(), printed)
@@ -74,19 +82,55 @@ fn ask_for(words: &[&str], wanted: Option<Answer>) -> bool {
     }
 }
 
-// Whether a word is for the program itself.
-fn is_left(word: &str) -> bool {
-    Asked::new().take(word) == Ok(false)
+// Whether these are six words for the program itself, of which the last one has this value.
+fn are_left(words: &[Word], value: &str) -> bool {
+    for word in words {
+        if Asked::new().take(word) != Ok(false) {
+            return false;
+        }
+    }
+    match words {
+        [_, _, _, _, _, last] => last.value_or_empty() == value,
+        _ => false,
+    }
 }
 
 #[test]
 fn words_ask_for_a_file_and_a_format(rt: HostRuntime) {
+    let alloc = rt.alloc();
     for (words, wanted) in &ASKED {
-        assert!(rt; ask_for(words, *wanted));
+        assert!(rt; ask_for(&words_of(&rt, alloc, words), *wanted));
     }
-    assert!(rt;
-        is_left("") && is_left("20") && is_left("-1") && is_left("--") && is_left("--help")
-    );
+    let others = ["", "20", "-1", "--", "--help", "--language", "a"];
+    assert!(rt; are_left(&words_of(&rt, alloc, &others), "a"));
+}
+
+/// Words, and the tag that they ask for: nothing where they cannot be followed.
+static SPOKEN: [(&[&str], Option<Option<&str>>); 6] = [
+    (&["-", "--", "de"], Some(None)),
+    (&["20", "--language", "de-AT"], Some(Some("de-AT"))),
+    (&["--language"], Some(Some(""))),
+    (&["--language", "--language"], Some(Some("--language"))),
+    (&["--format", "--language", "de"], Some(None)),
+    (&["--language", "de", "--language"], None),
+];
+
+// The tag that words ask for, if they can be followed.
+fn tag_by<'w>(words: &'w [Word]) -> Option<Option<&'w str>> {
+    let mut spoken = Spoken::new();
+    for word in words {
+        if spoken.take(word).is_err() {
+            return None;
+        }
+    }
+    Some(spoken.tag)
+}
+
+#[test]
+fn words_ask_for_a_language(rt: HostRuntime) {
+    for (words, wanted) in &SPOKEN {
+        assert!(rt; tag_by(&words_of(&rt, rt.alloc(), words)) == *wanted);
+    }
 }
 
 /// A text whose members do not stand in the order of the faults.
@@ -154,4 +198,10 @@ fn bytes_stop_being_utf8(rt: HostRuntime) {
         None => rt.abort(),
     }
     assert!(rt; stop_of_utf8("\u{e4}".as_bytes()).is_none());
+}
+
+#[test]
+fn a_byte_order_mark_is_left_out(rt: HostRuntime) {
+    assert!(rt; without_mark(b"\xef\xbb\xbfa") == b"a".as_slice());
+    assert!(rt; without_mark(b"\xef\xbb") == b"\xef\xbb".as_slice());
 }

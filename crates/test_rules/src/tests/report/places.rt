@@ -117,36 +117,36 @@ static FAULTS: [(&str, &str); 6] = [
 ];
 
 /// The name of a file, with characters that mean something in a line.
-const FILE: &str = "a:b,%\n.json";
+const FILE: &str = "a:b,%\n\u{1b}.json";
 
 /// What they print by their places.
 const SHORT: &str = "\
-a\\u{3a}b,%\\n.json:1:1: error: 100% wrong: a,b\\nor\\r\\\\
-a\\u{3a}b,%\\n.json:1:1: error: a\\nb: c: missing
-a\\u{3a}b,%\\n.json:2:37: error: server.port: greater than 65535
-a\\u{3a}b,%\\n.json:5:5: error: routes[1].to: missing
-a\\u{3a}b,%\\n.json:5:20: error: routes[1].path: repeated
-a\\u{3a}b,%\\n.json:5:34: error: routes[1].extra: not known here
+a\\u{3a}b,%\\n\\u{1b}.json:1:1: error: 100% wrong: a,b\\nor\\r\\\\
+a\\u{3a}b,%\\n\\u{1b}.json:1:1: error: a\\nb: c: missing
+a\\u{3a}b,%\\n\\u{1b}.json:2:37: error: server.port: greater than 65535
+a\\u{3a}b,%\\n\\u{1b}.json:5:5: error: routes[1].to: missing
+a\\u{3a}b,%\\n\\u{1b}.json:5:20: error: routes[1].path: repeated
+a\\u{3a}b,%\\n\\u{1b}.json:5:34: error: routes[1].extra: not known here
 ";
 
 /// What they print as annotations.
 const ANNOTATIONS: &str = "\
-::error file=a%3Ab%2C%25%0A.json,line=1,col=1::100%25 wrong: a,b\\nor\\r\\\\
-::error file=a%3Ab%2C%25%0A.json,line=1,col=1::a\\nb: c: missing
-::error file=a%3Ab%2C%25%0A.json,line=2,col=37::server.port: greater than 65535
-::error file=a%3Ab%2C%25%0A.json,line=5,col=5::routes[1].to: missing
-::error file=a%3Ab%2C%25%0A.json,line=5,col=20::routes[1].path: repeated
-::error file=a%3Ab%2C%25%0A.json,line=5,col=34::routes[1].extra: not known here
+::error file=a%3Ab%2C%25%0A\\u{1b}.json,line=1,col=1::100%25 wrong: a,b\\nor\\r\\\\
+::error file=a%3Ab%2C%25%0A\\u{1b}.json,line=1,col=1::a\\nb: c: missing
+::error file=a%3Ab%2C%25%0A\\u{1b}.json,line=2,col=37::server.port: greater than 65535
+::error file=a%3Ab%2C%25%0A\\u{1b}.json,line=5,col=5::routes[1].to: missing
+::error file=a%3Ab%2C%25%0A\\u{1b}.json,line=5,col=20::routes[1].path: repeated
+::error file=a%3Ab%2C%25%0A\\u{1b}.json,line=5,col=34::routes[1].extra: not known here
 ";
 
 /// What they print as JSON.
 const OBJECTS: &str = "\
-{\"file\":\"a:b,%\\n.json\",\"path\":\"\",\"pointer\":\"\",\"line\":1,\"column\":1,\"detail\":\"100% wrong: a,b\\nor\\r\\\\\",\"code\":\"custom\",\"params\":{}}
-{\"file\":\"a:b,%\\n.json\",\"path\":\"a\\\\nb: c\",\"pointer\":\"/a\\nb: c\",\"line\":1,\"column\":1,\"detail\":\"missing\",\"code\":\"custom\",\"params\":{}}
-{\"file\":\"a:b,%\\n.json\",\"path\":\"server.port\",\"pointer\":\"/server/port\",\"line\":2,\"column\":37,\"detail\":\"greater than 65535\",\"code\":\"greater_than\",\"params\":{\"max\":\"65535\"}}
-{\"file\":\"a:b,%\\n.json\",\"path\":\"routes[1].to\",\"pointer\":\"/routes/1/to\",\"line\":5,\"column\":5,\"detail\":\"missing\",\"code\":\"custom\",\"params\":{}}
-{\"file\":\"a:b,%\\n.json\",\"path\":\"routes[1].path\",\"pointer\":\"/routes/1/path\",\"line\":5,\"column\":20,\"detail\":\"repeated\",\"code\":\"member_repeated\",\"params\":{}}
-{\"file\":\"a:b,%\\n.json\",\"path\":\"routes[1].extra\",\"pointer\":\"/routes/1/extra\",\"line\":5,\"column\":34,\"detail\":\"not known here\",\"code\":\"member_unknown\",\"params\":{}}
+{\"file\":\"a:b,%\\n\\u001b.json\",\"path\":\"\",\"pointer\":\"\",\"line\":1,\"column\":1,\"detail\":\"100% wrong: a,b\\nor\\r\\\\\",\"code\":\"custom\",\"params\":{}}
+{\"file\":\"a:b,%\\n\\u001b.json\",\"path\":\"a\\\\nb: c\",\"pointer\":\"/a\\nb: c\",\"line\":1,\"column\":1,\"detail\":\"missing\",\"code\":\"custom\",\"params\":{}}
+{\"file\":\"a:b,%\\n\\u001b.json\",\"path\":\"server.port\",\"pointer\":\"/server/port\",\"line\":2,\"column\":37,\"detail\":\"greater than 65535\",\"code\":\"greater_than\",\"params\":{\"max\":\"65535\"}}
+{\"file\":\"a:b,%\\n\\u001b.json\",\"path\":\"routes[1].to\",\"pointer\":\"/routes/1/to\",\"line\":5,\"column\":5,\"detail\":\"missing\",\"code\":\"custom\",\"params\":{}}
+{\"file\":\"a:b,%\\n\\u001b.json\",\"path\":\"routes[1].path\",\"pointer\":\"/routes/1/path\",\"line\":5,\"column\":20,\"detail\":\"repeated\",\"code\":\"member_repeated\",\"params\":{}}
+{\"file\":\"a:b,%\\n\\u001b.json\",\"path\":\"routes[1].extra\",\"pointer\":\"/routes/1/extra\",\"line\":5,\"column\":34,\"detail\":\"not known here\",\"code\":\"member_unknown\",\"params\":{}}
 ";
 
 // Asserts that each of these faults stands at its place where it is asked for alone.

@@ -4,12 +4,12 @@ use crate::tests::OrEnd;
 use crate::tests::report::samples::{places_in_lines, report_of};
 use garde_places::{Fault, ListedPlaces, Place, place_of_byte, stop_of};
 use garde_report::Report;
-use garde_tape::{Scratch, parse};
+use garde_tape::{ParseError, Scratch, parse, parse_bytes};
 use std::alloc::Global;
 use std::process::Abort;
 
 /// A text, the line and the column where it stops, and why: 0, 0 and nothing for one that is JSON.
-static STOPS: [(&[u8], usize, usize, &str); 34] = [
+static STOPS: [(&[u8], usize, usize, &str); 58] = [
     (b"", 1, 1, "expected a value"),
     (b" \n\t", 2, 2, "expected a value"),
     (b"{\"a\": 1", 1, 8, "expected , or } after a member"),
@@ -69,7 +69,51 @@ static STOPS: [(&[u8], usize, usize, &str); 34] = [
         129,
         "nested deeper than 128",
     ),
+    (b" ", 1, 2, "expected a value"),
+    (b"\n\n", 3, 1, "expected a value"),
+    (b"[", 1, 2, "expected a value or ]"),
+    (b"{", 1, 2, "expected a name or }"),
+    (b"{\"a\":", 1, 6, "expected a value"),
+    (b"{\"a\":}", 1, 6, "expected a value"),
+    (b"[\n\n  nul]", 3, 6, "expected true, false or null"),
+    (b"]", 1, 1, "expected a value"),
+    (b"[}", 1, 2, "expected a value or ]"),
+    (b"{]", 1, 2, "expected a name or }"),
+    (b"{} {}", 1, 4, "expected nothing after the value"),
+    (b"+1", 1, 1, "expected a value"),
+    (b"\xff{}", 1, 1, "not UTF-8"),
+    (b"\\ud83d\\ude00", 1, 1, "expected a value"),
+    (b"x\\ude00", 1, 1, "expected a value"),
+    (
+        b"\"a\" \"\\ud800\"",
+        1,
+        5,
+        "expected nothing after the value",
+    ),
+    (b"\"\\u00dg\"", 1, 7, "expected a hexadecimal digit"),
+    (b"\"\\udg", 1, 5, "expected a hexadecimal digit"),
+    (
+        b"\"\\ud83d\\u00",
+        1,
+        10,
+        "expected the second half of a surrogate pair",
+    ),
+    (
+        b"\"\\ud83d\\udcx",
+        1,
+        12,
+        "expected the second half of a surrogate pair",
+    ),
+    (b"\"\\\\ud800\0", 1, 9, "a control character in a text"),
+    (b"\"\\ud800", 1, 8, "a text is not closed"),
+    (
+        b"[\"\\ud83c\\udf00\" x",
+        1,
+        17,
+        "expected , or ] after an item",
+    ),
     (b"0", 0, 0, ""),
+    (b"\"\\ud83c\\udf00\"", 0, 0, ""),
     (b" -1.5e-7 ", 0, 0, ""),
     (b"\"\\ud83d\\ude00\\\"\\/\\u00e4\"", 0, 0, ""),
     (
@@ -81,13 +125,30 @@ static STOPS: [(&[u8], usize, usize, &str); 34] = [
     (b"[[],[[]], \"\" ]", 0, 0, ""),
 ];
 
-// Whether a text stops there.
+// Where an input is refused that is not read.
+fn refused_at(alloc: Global, input: &[u8]) -> Option<Place> {
+    match parse_bytes(alloc, input, &mut Scratch::new(alloc)) {
+        Err(
+            ParseError::NotUtf8(place)
+            | ParseError::NotJson(place)
+            | ParseError::TooDeep(place)
+            | ParseError::LoneSurrogate(place),
+        ) => Some(place),
+        _ => None,
+    }
+}
+
+// Whether a text stops there, and is refused there.
 fn stops(rt: &impl Abort, alloc: Global, row: &(&[u8], usize, usize, &str)) -> bool {
+    let refused = refused_at(alloc, row.0);
     match stop_of(alloc, row.0).or_end(rt) {
         Some(stop) => {
-            stop.place.line == row.1 && stop.place.column == row.2 && stop.why == row.3
+            stop.place.line == row.1
+                && stop.place.column == row.2
+                && stop.why == row.3
+                && refused == Some(stop.place)
         }
-        None => row.3.is_empty(),
+        None => row.3.is_empty() && refused.is_none(),
     }
 }
 
@@ -95,7 +156,7 @@ fn stops(rt: &impl Abort, alloc: Global, row: &(&[u8], usize, usize, &str)) -> b
 fn texts_stop_where_no_json_goes_on(rt: HostRuntime) {
     let alloc = rt.alloc();
     for row in &STOPS {
-        assert!(rt; stops(&rt, alloc, row));
+        assert!(rt; stops(&rt, alloc, row), "{}", row.3);
     }
 }
 

@@ -14,7 +14,7 @@ enum Step {
 }
 
 /// Takes a step. Returns whether the path has its text then, and the trail so many nodes.
-fn takes(rt: &impl Abort, trail: &mut Trail<'static>, alloc: Global, step: &Step) -> bool {
+fn takes(rt: &impl Abort, trail: &mut Trail<'static>, step: &Step) -> bool {
     match step {
         Step::Index(index) => trail.push(Component::index(*index)).is_ok(),
         Step::Key(text) => trail.push(Component::key(text)).is_ok(),
@@ -24,7 +24,7 @@ fn takes(rt: &impl Abort, trail: &mut Trail<'static>, alloc: Global, step: &Step
             }
             true
         }
-        Step::Path(text, nodes) => is_at(rt, alloc, trail, text) && trail.nodes() == *nodes,
+        Step::Path(text, nodes) => is_at(rt, trail, text) && trail.nodes() == *nodes,
     }
 }
 
@@ -32,7 +32,7 @@ fn takes(rt: &impl Abort, trail: &mut Trail<'static>, alloc: Global, step: &Step
 fn taken(rt: &impl Abort, alloc: Global, steps: &'static [Step]) -> usize {
     let mut trail = Trail::new(alloc);
     for (number, step) in steps.iter().enumerate() {
-        if !takes(rt, &mut trail, alloc, step) {
+        if !takes(rt, &mut trail, step) {
             return number;
         }
     }
@@ -97,7 +97,8 @@ fn a_path_is_made_once_and_goes_with_its_component(rt: HostRuntime) {
 }
 
 /// Puts the fault `weak`. Returns whether it was put.
-fn puts_weak(rt: &impl Abort, alloc: Global, trail: &mut Trail<'_>, report: &mut Report) -> bool {
+fn puts_weak(rt: &impl Abort, trail: &mut Trail<'_>, report: &mut Report) -> bool {
+    let alloc = trail.alloc();
     let weak = RuleError::Fault(Error::new(alloc, "weak").or_end(rt));
     trail.put(report, Err(weak)).is_ok()
 }
@@ -115,16 +116,16 @@ fn puts_a_fault(rt: &impl Abort, alloc: Global) -> bool {
     trail.push(Component::key("a")).is_ok()
         && passes(&mut trail, &mut report)
         && report.is_empty()
-        && puts_weak(rt, alloc, &mut trail, &mut report)
+        && puts_weak(rt, &mut trail, &mut report)
         && trail.put(&mut report, Err(RuleError::Memory)).is_err()
         && trail.nodes() == 1
         && has_text(rt, alloc, &report, "a: weak\n")
 }
 
 /// Whether no fault is put under a key, which makes no path, where Ok passes.
-fn is_full(rt: &impl Abort, alloc: Global, trail: &mut Trail<'_>, report: &mut Report) -> bool {
+fn is_full(rt: &impl Abort, trail: &mut Trail<'_>, report: &mut Report) -> bool {
     trail.push(Component::key("a")).is_ok()
-        && !puts_weak(rt, alloc, trail, report)
+        && !puts_weak(rt, trail, report)
         && passes(trail, report)
 }
 
@@ -133,13 +134,12 @@ fn is_full(rt: &impl Abort, alloc: Global, trail: &mut Trail<'_>, report: &mut R
 fn is_full_at_its_limit(rt: &impl Abort, alloc: Global) -> bool {
     let mut report = Report::new(alloc);
     let mut trail = Trail::new(alloc);
-    let is_put = puts_weak(rt, alloc, &mut trail, &mut report)
-        && puts_weak(rt, alloc, &mut trail, &mut report);
+    let is_put = puts_weak(rt, &mut trail, &mut report) && puts_weak(rt, &mut trail, &mut report);
     report.truncate(1);
     let unlimited = trail.limit(1);
-    let is_full = is_full(rt, alloc, &mut trail, &mut report);
+    let is_full = is_full(rt, &mut trail, &mut report);
     let was = trail.limit(unlimited);
-    let is_put_again = puts_weak(rt, alloc, &mut trail, &mut report);
+    let is_put_again = puts_weak(rt, &mut trail, &mut report);
     report.truncate(9);
     let is_two = has_text(rt, alloc, &report, "weak\na: weak\n");
     is_put && is_full && was == 1 && unlimited == usize::MAX && is_put_again && is_two

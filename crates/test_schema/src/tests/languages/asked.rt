@@ -3,7 +3,7 @@
 use super::english;
 use crate::tests::long_text::Long;
 use crate::tests::{OrEnd, is_text};
-use garde_catalog::{Catalog, Catalogs, Key, Language, Spoken, languages, ranges_of};
+use garde_catalog::{Catalog, Catalogs, Key, Language, languages, ranges_of};
 use std::alloc::Global;
 
 static ASKED: [(&str, &str); 33] = [
@@ -152,40 +152,19 @@ fn has_the_catalogs_of_all_languages(rt: HostRuntime) {
     assert!(rt; is_right);
 }
 
-// Words of a command line, each with the text of a missing member in the language that they ask for,
-// or why there is none.
-static WORDS: [(&[&str], &str); 8] = [
-    (&[], "missing"),
-    (&["-", "--", "de"], "missing"),
-    (&["--language", "de-AT"], "fehlt"),
-    (&["20", "--language", "en"], "missing"),
-    (
-        &["--language"],
-        "--language must be followed by one of en de",
-    ),
-    (
-        &["--language", "--language"],
-        "--language must be followed by one of en de",
-    ),
-    (
-        &["--language", "cs"],
-        "--language must be followed by one of en de",
-    ),
-    (
-        &["--language", "de", "--language"],
-        "--language must stand once at most",
-    ),
+// Tags behind `--language`, each with the text of a missing member in the language that it asks for, or why
+// there is none.
+static SPOKEN: [(Option<&str>, &str); 5] = [
+    (None, "missing"),
+    (Some("de-AT"), "fehlt"),
+    (Some("en"), "missing"),
+    (Some(""), "--language must be followed by one of en de"),
+    (Some("cs"), "--language must be followed by one of en de"),
 ];
 
-// Whether words are answered by this text, where two languages are offered.
-fn is_spoken(alloc: Global, words: &[&str], text: &str) -> bool {
-    let (mut spoken, offered) = (Spoken::new(), languages());
-    for word in words {
-        if let Err(reason) = spoken.take(word) {
-            return reason == text;
-        }
-    }
-    match spoken.catalog(alloc, &offered[..2], english()) {
+// Whether a tag is answered by this text, where two languages are offered.
+fn is_spoken(alloc: Global, tag: Option<&str>, text: &str) -> bool {
+    match Catalog::spoken(alloc, tag, &languages()[..2], english()) {
         Ok(catalog) => catalog.word(Key::MemberMissing) == text,
         Err(error) => is_text(error.to_string(alloc), text),
     }
@@ -193,7 +172,7 @@ fn is_spoken(alloc: Global, words: &[&str], text: &str) -> bool {
 
 #[test]
 fn makes_the_catalog_that_words_ask_for(rt: HostRuntime) {
-    for (words, text) in &WORDS {
-        assert!(rt; is_spoken(rt.alloc(), words, text));
+    for (tag, text) in &SPOKEN {
+        assert!(rt; is_spoken(rt.alloc(), *tag, text));
     }
 }

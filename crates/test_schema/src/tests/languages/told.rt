@@ -460,7 +460,7 @@ fn is_told(alloc: Global, bytes: &[u8], text: &str) -> bool {
 #[test]
 fn tells_why_a_text_is_no_json(rt: HostRuntime) {
     assert!(rt;
-        is_told(rt.alloc(), b"[\n1", "není JSON: řádek 2, sloupec 1")
+        is_told(rt.alloc(), b"[\n1", "není JSON: řádek 2, sloupec 2")
             && is_told(rt.alloc(), b"\xff", "není UTF-8: řádek 1, sloupec 1")
     );
 }

@@ -1,4 +1,4 @@
-use Rattle.std.proofs.Common.{Result, Ok, Err, IfOk, inl, inr}
+use Rattle.std.proofs.Common.{Result, Ok, Err, IfOk, IfErr, inl, inr}
 use Rattle.garde_catalog.specs.declared.catalog.Catalog.{Catalog}
 use Rattle.garde_catalog.proofs.catalog.Catalog.in_language.Goals as goal
 
@@ -7,8 +7,18 @@ of_ok : {E : Type 0} (made : Result Catalog E) (P Q : Catalog → Type 0) → ((
 of_ok (Ok catalog) P Q implies is = implies catalog is
 of_ok (Err error) P Q implies is = tt
 
-pub returns-in-Some : goal.returns-in-Some
-returns-in-Some c = of_ok _ _ _ (λ catalog is. inl (c.in-Some.language, c.in-Some.ensures, is)) c.new.ensures.ok
+of_err : {E : Type 0} (made : Result Catalog E) (P Q : E → Type 0) → ((error : E) → P error → Q error) → IfErr made P → IfErr made Q
+of_err (Ok catalog) P Q implies is = tt
+of_err (Err error) P Q implies is = implies error is
 
-pub returns-in-None : goal.returns-in-None
-returns-in-None c = of_ok _ _ _ (λ catalog is. inr (c.in-None.ensures, is)) c.new-in-None.ensures.ok
+pub returns-in-Some-clause-ok : goal.returns-in-Some-clause-ok
+returns-in-Some-clause-ok c = of_ok _ _ _ (λ catalog is. inl (c.in-Some.language, c.in-Some.ensures, is)) c.new.ensures.ok
+
+pub returns-in-Some-clause-err : goal.returns-in-Some-clause-err
+returns-in-Some-clause-err c = of_err _ _ _ (λ error is. inl (c.in-Some.language, c.in-Some.ensures, is)) c.new.ensures.err
+
+pub returns-in-None-clause-ok : goal.returns-in-None-clause-ok
+returns-in-None-clause-ok c = of_ok _ _ _ (λ catalog is. inr (c.in-None.ensures, is)) c.new-in-None.ensures.ok
+
+pub returns-in-None-clause-err : goal.returns-in-None-clause-err
+returns-in-None-clause-err c = of_err _ _ _ (λ error is. inr (c.in-None.ensures, is)) c.new-in-None.ensures.err

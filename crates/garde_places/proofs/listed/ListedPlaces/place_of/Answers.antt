@@ -2,7 +2,7 @@ use Rattle.std.proofs.Common.{◌≡◌, map, get_or, ap, ◌∙◌, subst}
 use Rattle.json.specs.Json.{document}
 use Rattle.json.specs.Tape.{node_token}
 use Rattle.garde_report.specs.Part.{item_part}
-use Rattle.garde_places.specs.Scan.{text_start}
+use Rattle.garde_tape.specs.Place.{text_start}
 use Rattle.garde_places.specs.Steps.{IsTokenBy}
 use Rattle.garde_places.specs.Listed.{IsSpotBy}
 use Rattle.garde_places.proofs.Listing.{spot_by}

@@ -1,5 +1,5 @@
 use Rattle.std.proofs.Common.{ap, ◌∙◌}
-use Rattle.garde_places.specs.Places.{place_at}
+use Rattle.garde_tape.specs.Place.{place_at}
 use Rattle.garde_toml.proofs.error.TomlError.stop.Goals as goal
 
 -- the bytes before the span are counted
