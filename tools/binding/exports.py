@@ -37,7 +37,6 @@ class Exports:
 
 
 def read_exports(crate):
-    """The exports of the crate in a folder."""
     path = pathlib.Path(crate) / "src" / "lib.rt"
     source = path.read_text(encoding="utf-8")
     found = [Export(*it) for it in EXPORT.findall(source)]

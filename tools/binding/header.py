@@ -24,7 +24,6 @@ typedef struct {{
 
 
 def comment(lines):
-    """A comment of C with these lines."""
     text = [line[1:] if line.startswith(" ") else line for line in lines]
     if any("*/" in line for line in text):
         raise Refusal("a comment holds */")

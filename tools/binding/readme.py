@@ -35,6 +35,5 @@ def readme(prefix, languages):
 
 
 def readme_of(prefix, language):
-    """The README of the caller in a language."""
     name, _, use = COMMANDS[language]
     return renamed(f"# `order` from {name}\n\n{MADE} {use}\n", prefix)

@@ -29,6 +29,7 @@ class Answer:
 
 # what stands in a library of which something is left out, and what the compiler says where a name or an implementation is missing
 LEFT_OUT = "call tools/vendor again"
+UNLISTED = re.compile(r"undeclared crate or module `(\w+)`|there is no `(garde\w*)` in (?:module|crate)")
 LACKS = re.compile(r"there is no `\w+` in (?:crate|module)|not supported yet|bounds are not met|not satisfied|not implemented")
 # how many errors of a crate that does not compile are printed
 MOST = 5
@@ -245,13 +246,19 @@ def look(folder):
     printed = prover.quick(folder.name, folder, top_of(folder))
     if not printed or printed[-1].startswith("only="):
         return Answer(0, [f"{folder.name}: it compiles. Nothing of it is proved by that"])
-    return Answer(1, [*forms.differences(folder), *printed, *(lacks(folder, printed) or imports(printed))])
+    return Answer(1, [*forms.differences(folder), *printed, *(unlisted(folder, printed) or lacks(folder, printed) or imports(printed))])
+
+
+def unlisted(folder, errors):
+    """What to do about crates that the crate's line does not list."""
+    found = [one or other for it in errors for one, other in UNLISTED.findall(it)]
+    return [f"crates.txt: the line of {folder.name} may lack {' '.join(dict.fromkeys(found))}: write them there, and call `tools/vendor FOLDER` in the clone of garde again"] if found else []
 
 
 def lacks(folder, errors):
     """What to do about what a copy of the libraries lacks, in which what was not needed is left out."""
     is_cut = any(LEFT_OUT in it.read_text(encoding="utf-8", errors="replace") for it in folder.parent.glob("garde*/src/lib.rt"))
-    return ["your copy of garde may lack this: call `tools/vendor` again, which adds what your crates need now"] if is_cut and any(map(LACKS.search, errors)) else []
+    return ["your copy of garde may lack this: call `tools/vendor FOLDER` in the clone of garde again, which adds what your crates need now"] if is_cut and any(map(LACKS.search, errors)) else []
 
 
 def imports(errors):

@@ -2,12 +2,14 @@
 import re
 from dataclasses import dataclass
 
-from .spans import Plain
+from lib import paths
 
-NAME = re.compile(r"(?:\w+\s*::\s*)*(\w+)\s*(?:::\s*<([^;{}]*?)>(?=\s*[(,)]))?")
+from .spans import Plain, Span
+
+NAME = re.compile(r"(?:\w+\s*::\s*)*(\w+)(!?)\s*(?:::\s*<([^;{}]*)>)?\s*")
 # Words of forms by what they read, where `F` is what the form within reads and its number among what is given.
 WITHIN = {
-    "Member": ("F", 1), "WithDefault": ("F", 1), "Object": ("F", 0), "Closed": ("F", 0), "Checked": ("F", 0), "List": ("Items", 0),
+    "Member": ("F", 1), "WithDefault": ("F", 1), "Object": ("F", 0), "Closed": ("F", 0), "Checked": ("F", 0), "Keys": ("F", 0), "List": ("Items", 0),
     "ListUnder": ("Items", 1), "Map": ("Entries", 0), "MapUnder": ("Entries", 1), "Nullish": ("Option", 1), "Optional": ("Option", 1),
     "Nullable": ("Option", 0), "OrEmpty": ("Option", 0),
 }
@@ -19,7 +21,8 @@ MOST = 6
 
 @dataclass(frozen=True)
 class Code:
-    """An expression: a call, a macro or a name with what it is given, or a tuple, whose head is empty. `at` is its place."""
+    """An expression: a call, a macro or a name with what it is given, or a tuple, whose head is empty. The head of any other is `_`. `at` is
+    its place."""
 
     head: str
     parts: tuple
@@ -42,88 +45,41 @@ class Kind:
 UNKNOWN = Kind("_")
 
 
-class Reader:
-    """Reads expressions of a text, from a place on."""
+def code_of(span):
+    """The expression of a piece."""
+    while span.blank[:1] and span.blank[0] in "&*!":
+        span = span.part(1, len(span.blank))
+    inner = span.inside()
+    if inner is not None:
+        parts = given(inner)
+        is_group = len(parts) == 1 and not inner.blank.endswith(",")
+        return code_of(parts[0]) if is_group else Code("", tuple(map(code_of, parts)), span.start)
+    found = NAME.match(span.blank)
+    rest = span.part(found.end(), len(span.blank)) if found else span
+    inner = rest.inside()
+    if not found or (rest.blank and inner is None):
+        return Code("_", (), span.start)
+    parts = tuple(map(code_of, given(inner))) if inner else ()
+    return Code(found[1] + found[2], parts, span.start, found[3] or "")
 
-    def __init__(self, plain, at):
-        self.plain, self.text, self.at = plain, plain.blank, at
 
-    def space(self):
-        self.at += len(self.text[self.at :]) - len(self.text[self.at :].lstrip())
-
-    def code(self):
-        """An expression."""
-        self.space()
-        while self.text[self.at : self.at + 1] in ("&", "*", "!"):
-            self.at += 1
-            self.space()
-        start, found = self.at, NAME.match(self.text, self.at)
-        if self.text[self.at : self.at + 1] == "(":
-            parts, has_comma = self.group()
-            return parts[0] if len(parts) == 1 and not has_comma else Code("", parts, start)
-        if not found:
-            self.skip()
-            return Code("_", (), start)
-        self.at = found.end()
-        mark = self.text[self.at : self.at + 2]
-        if mark == "!(":
-            self.at += 1
-        parts = self.group()[0] if self.text[self.at : self.at + 1] == "(" else ()
-        whole = Code(found[1] + ("!" if mark == "!(" else ""), parts, start, found[2] or "")
-        end = self.at
-        self.skip()
-        return whole if not self.text[end : self.at].strip() else Code("_", (), start)
-
-    def group(self):
-        """What stands between brackets, and whether a comma ends it."""
-        self.at += 1
-        found, has_comma = [], False
-        self.space()
-        while self.at < len(self.text) and self.text[self.at] != ")":
-            found.append(self.code())
-            self.space()
-            has_comma = self.text[self.at : self.at + 1] == ","
-            self.at += has_comma
-            self.space()
-        self.at += 1
-        return tuple(found), has_comma
-
-    def skip(self):
-        """Goes to what ends an expression."""
-        depth = 0
-        while self.at < len(self.text) and (depth or self.text[self.at] not in ",);"):
-            depth += (self.text[self.at] in "([{") - (self.text[self.at] in ")]}")
-            self.at += 1
+def given(inner):
+    """The parts between commas, but for those in `<..>`."""
+    parts = []
+    for it in inner.split(","):
+        if parts and parts[-1].blank.count("<") != parts[-1].blank.count(">"):
+            it = Span(it.plain, parts.pop().start, it.end)
+        parts.append(it)
+    return parts
 
 
 def read_kind(text):
     """A type as a text has it, without its lifetimes and the modules of its names."""
-    tokens = [it for it in re.findall(r"'\w+|\w+|[<>(),&]|::", text) if not it.startswith("'")]
-
-    def kind(at):
-        while at < len(tokens) and tokens[at] in ("&", ","):
-            at += 1
-        if at < len(tokens) and tokens[at] == "(":
-            parts, at = several(at + 1, ")")
-            return Kind("", parts), at
-        name = tokens[at] if at < len(tokens) else "_"
-        at += 1
-        while at + 1 < len(tokens) and tokens[at] == "::":
-            name, at = tokens[at + 1], at + 2
-        parts, at = several(at + 1, ">") if at < len(tokens) and tokens[at] == "<" else ((), at)
-        return Kind(name, parts), at
-
-    def several(at, end):
-        found = []
-        while at < len(tokens) and tokens[at] != end:
-            if tokens[at] == ",":
-                at += 1
-                continue
-            one, at = kind(at)
-            found.append(one)
-        return tuple(found), at + 1
-
-    return kind(0)[0]
+    text = re.sub(r"'\w+\s*,?\s*|&", "", text).strip()
+    if text.startswith("("):
+        return Kind("", tuple(map(read_kind, paths.split(text[1:-1]))))
+    path, bracket, rest = text.partition("<")
+    return Kind(path.strip().rpartition("::")[2] or "_", tuple(map(read_kind, paths.split(paths.behind_brackets(bracket + rest)[0]))))
 
 
 class File:
@@ -137,7 +93,7 @@ class File:
     def made(self):
         """The forms that make values, each with the name of the type."""
         for it in re.finditer(r"\bBuilt\s*\(", self.plain.blank):
-            code = Reader(self.plain, it.start()).code()
+            code = code_of(Span(self.plain, it.start(), self.plain.items.close(it.end() - 1)))
             found = re.search(r"&\s*(?:'\w+\s*)?(?:\w+\s*::\s*)*(\w+)", code.parts[1].kind) if len(code.parts) == 2 else None
             if found:
                 yield code.parts[0], found[1]
@@ -146,10 +102,9 @@ class File:
         """What a name stands for at a place: the expression that it was given last before. That in which the place lies is given to
         the name behind it: `let limit = Object(limit);`."""
         for start in (end for known, end in reversed(self.lets) if known == name and end <= at):
-            reader = Reader(self.plain, start)
-            code = reader.code()
-            if reader.at <= at:
-                return code
+            end = self.plain.items.ending(start, len(self.plain.blank))[0]
+            if end <= at:
+                return code_of(Span(self.plain, start, end).part(0, end - start))
         return None
 
     def solved(self, code):

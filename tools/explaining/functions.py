@@ -7,7 +7,7 @@ from .place import TRAIT
 WORDS = "garde_words"
 NAMED = re.compile(r"\bghost use Rattle\.garde\.specs\.Fields as (\w+);")
 # what checks nothing, as the code of a variant has it, so that the prover needs no steps of its own for it
-NOTHING = "garde::fields::Fields::visit(&(), alloc, trail, report, h),"
+NOTHING = "garde::fields::Fields::visit(&(), trail, report, h),"
 USE = f"ghost use Rattle.garde.specs.Fields as {WORDS};"
 DECLARED = """
 trait TRAIT {
@@ -17,7 +17,6 @@ trait TRAIT {
 
     fn validate_into<'a, H: garde::I18n>(
         &'a self,
-        alloc: std::alloc::Global,
         ctx: &Self::Context,
         trail: &mut garde::Trail<'a>,
         report: &mut garde::Report,
@@ -83,7 +82,6 @@ class Functions:
         return f"{DECLARED.replace('TRAIT', trait).replace('WORDS', self.words)}\n{head}{{\n{body}\n}}\n"
 
     def visits(self, pair):
-        """What is stated of a pair."""
         said = " and ".join(it.piece.text for it in pair.stated) or f"{self.words}.none"
         if not self.stated.head:
             return said
@@ -93,7 +91,6 @@ class Functions:
         return f"{self.stated.head} {' '.join(cases)} ]"
 
     def body(self, pair):
-        """The body that checks a pair."""
         outer = self.coded.body
         if not self.coded.matched:
             return braced(*self.checks(pair, outer))

@@ -13,7 +13,6 @@ def title(pair):
 
 
 def asked(pair):
-    """What is stated of a pair."""
     alone = len(pair.stated) == 1 and len(pair.coded) <= 1
     return " and ".join((it.asked if alone else it.piece).shown for it in pair.stated)
 

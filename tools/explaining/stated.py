@@ -59,7 +59,6 @@ def read_stated(place):
 
 
 def read_cases(place, stated, inner):
-    """Reads the cases of an enum."""
     flat = inner.flat
     at = flat.rindex("[") if "[" in flat else -1
     cases = inner.part(at, len(flat)).inside("[") if at > 0 else None

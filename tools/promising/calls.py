@@ -9,8 +9,8 @@ import functools
 import re
 from collections import Counter
 
-from lib import repository, source
-from lib.visible import Function, expanded
+from lib import paths, repository, source
+from lib.visible import Function
 
 # methods that types of the standard library have too
 STANDARD = set(
@@ -77,7 +77,7 @@ def imports(file):
     """The names that a file brings in, each with its path."""
     text = source.read(repository.text_of(file))
     uses = [" ".join(text.header(it).split()) for it in text.items if it.kind == "use"]
-    every = [way for use in uses for way in expanded(re.sub(r"^(?:pub )?use ", "", use))]
+    every = [way for use in uses for way in paths.imports(re.sub(r"^(?:pub )?use ", "", use))]
     return {name: path for path, name in every}
 
 

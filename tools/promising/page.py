@@ -5,7 +5,7 @@ from lib import repository
 
 from . import clauses, notes, promised
 
-PAGE = "docs/reference/promises.md"
+PAGE = "out/docs/promises.md"
 COLUMNS = "| function | what it promises | clauses | tests | mutants |\n|---|---|---|---|---|\n"
 OTHERS = "| other function | mutants |\n|---|---|\n"
 # crates that tests reach through C alone

@@ -1,9 +1,9 @@
-"""The page docs/reference/languages.md: a table for each key, with a row for each language."""
+"""The page of the texts: a table for each key, with a row for each language."""
 import re
 
 from lib import repository
 
-PAGE = "docs/reference/languages.md"
+PAGE = "out/docs/languages.md"
 HEAD = "docs/reference/languages/head.md"
 CRATE = "crates/garde_catalog/src/"
 ENTRY = re.compile(r'\(\s*Key::(\w+),\s*"((?:[^"\\]|\\.)*)",?\s*\)')
@@ -46,10 +46,9 @@ def offered():
 def tables():
     """The tables by their names, each as the lines of its file: a key and its text."""
     found = {}
-    for name in repository.files():
-        if name.startswith(CRATE + "tables/"):
-            source = repository.text_of(name)
-            found[TABLE.search(source).group(1)] = [(key, unescaped(text)) for key, text in ENTRY.findall(source)]
+    for file in sorted((repository.ROOT / CRATE / "tables").glob("*.rt")):
+        source = file.read_text(encoding="utf-8")
+        found[TABLE.search(source).group(1)] = [(key, unescaped(text)) for key, text in ENTRY.findall(source)]
     return found
 
 

@@ -70,7 +70,6 @@ class Needed:
                 self.read(self.ahead.pop())
 
     def add_all(self, crate):
-        """Adds all of a crate."""
         for it in crate.nodes():
             self.add(it)
         for path, text in crate.files.items():

@@ -2,6 +2,7 @@
 import re
 from dataclasses import dataclass
 
+from .begun import PROGRAM, begun_of
 from .origin import LICENCES, TOOL, Line, Refusal, is_product, names_of
 from .record import Record, hash_of
 from .sources import Crate
@@ -27,6 +28,7 @@ class Program:
     source: str
     copies: tuple
     run: str
+    told: tuple = ()
 
 
 @dataclass(frozen=True)
@@ -47,7 +49,10 @@ def plan_of(origin, folder, more, program, name, is_whole):
         known(origin, it, f"{it} is no crate of the product")
     for it in folder.record.asked:
         known(origin, it, f"{it}, which VENDORED-garde asks for, is a crate of the product no more")
+    begun = begun_of(origin.root, program, name) if program and program.endswith(".rs") else None
+    name, program = (name or begun.module, PROGRAM) if begun else (name, program)
     sources = origin.program(program) if program else []
+    sources = [begun.line(it) for it in sources] if begun else sources
     listed = [it for line in (*folder.own_lines(), *sources) for it in line.uses]
     listed = [it for it in listed if it in origin.lines and is_product(it) and it not in folder.own_names()]
     asked = tuple(sorted({"garde", *folder.record.asked, *more, *listed}))
@@ -56,7 +61,7 @@ def plan_of(origin, folder, more, program, name, is_whole):
     origin.load(lines)
     tool = origin.tool_files()
     origin.refuse_changes(["crates.txt", *LICENCES, *(f"crates/{it.name}" for it in lines), *(TOOL if tool else ()), *origin.tool_paths().values()])
-    copied = program_of(origin, folder, sources, name or program) if program else None
+    copied = program_of(origin, folder, sources, name or program, begun) if program else None
     refuse_names(folder, crates, lines, [it.name for it in sources])
     folder.refuse_tool(tool)
     whole = is_whole([it.name for it in crates])
@@ -90,8 +95,8 @@ def known(origin, name, told):
         raise Refusal(f"{told}: those are {', '.join(filter(is_product, origin.lines))}")
 
 
-def program_of(origin, folder, sources, name):
-    """The program to begin with, under its name. Its own line is the last one."""
+def program_of(origin, folder, sources, name, begun):
+    """The program to begin with, under its name, of a Rust source where there is one. Its own line is the last one."""
     program = sources[-1].name
     if not NAMES.match(name):
         raise Refusal(f"{name} cannot be the name of a crate: lower-case letters, digits and `_`, a letter first")
@@ -104,7 +109,10 @@ def program_of(origin, folder, sources, name):
         if folder.record.begun != name:
             folder.refuse_taken(copy, "yours already: choose another name for the program")
         line = Line(copy, source.options, tuple(names.get(it, it) for it in source.uses)).text()
-        copies.append(Copy(copy, line, origin.program_files(source.name, program, name)))
+        files = origin.program_files(source.name, program, name)
+        copies.append(Copy(copy, line, begun.files(files, name) if begun else files))
+    if begun:
+        return Program(name, f"{program} that reads `{begun.kind}`", tuple(copies), "rt try < body.json", begun.told)
     return Program(name, program, tuple(copies), run_of(sources[-1], copies[-1].files))
 
 

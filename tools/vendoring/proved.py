@@ -22,12 +22,13 @@ def first_check(root, folder, plan, brings):
         return takes
     proves = f"rt check first proves {len(left)} of {len(names)} libraries, but for those that a check elsewhere on this machine has proved, "
     proves += f"and prints a line `crate NAME: ..` as each is done: {' '.join(left)}"
-    return f"{takes}. {proves}" if taken else f"{proves} ({why})"
+    proves = f"{takes}. {proves}" if taken else proves
+    return f"{proves} ({why})" if why else proves
 
 
 def brought(root, folder, names):
     """The crates, of these, lowest first, that are proved in the folder: there already, or here in `root` of the same files by the
-    same toolchain. Those that are proved here are given to it. Where there is none, says why."""
+    same toolchain. Those that are proved here are given to it. Where there is none, or more could be given later, says why."""
     rtlib = module_of_rt()
     if rtlib is None:
         return [], "there is no command `rt` that says what was proved"
@@ -39,7 +40,15 @@ def brought(root, folder, names):
     except SystemExit:
         return [], " ".join(told.getvalue().split())
     taken = [it for it in names if there[it].is_built() or gives(rtlib, here[it], there[it])]
-    return taken, f"none of these files is proved in {root}"
+    if any(here[it].is_built() and is_busy(here[it]) for it in names if it not in taken):
+        return taken, f"`rt` is at work in {root}: call this again when it has ended, and what is proved there is taken"
+    return taken, "" if taken else f"none of these files is proved in {root}"
+
+
+def is_busy(crate):
+    """Whether `rt` works in a crate."""
+    with at_rest(crate.folder) as rests:
+        return not rests
 
 
 def are_proved(root, names):

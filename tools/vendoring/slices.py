@@ -53,7 +53,6 @@ class Slice:
     # Sources.
 
     def source(self, module):
-        """What is needed of a source."""
         text, cuts = module.source.text, sorted(self.cuts(module))
         if not cuts:
             return text
@@ -115,7 +114,6 @@ class Slice:
         return self.used[module]
 
     def read_names(self, module):
-        """Reads these names."""
         nodes = [it for below in module.all() for one in below.nodes for it in (one, *one.members) if self.need.has(it)]
         found = set()
         for it in nodes:

@@ -4,6 +4,7 @@ import re
 
 from lib import paths, source
 from lib.code import WITH_CLAUSE, blanked
+from lib.paths import imports, way_of
 
 NAME = re.compile(r"[A-Za-z_]\w*")
 PATH = re.compile(r"(?<![\w'$])(?<!(?<!\.)\.)(?<!\bfn )(?:\$crate|[A-Za-z_]\w*)(?:\s*::\s*[A-Za-z_]\w*)*")
@@ -24,20 +25,12 @@ def without_ghosts(text):
 
 
 @functools.cache
-def way_of(text):
-    """The names of a path."""
-    return tuple(re.sub(r"\s+", "", text).split("::"))
-
-
-@functools.cache
 def ways_in(text):
-    """The paths in a text."""
     return frozenset(way_of(found) for found in PATH.findall(text))
 
 
 @functools.cache
 def names_in(text):
-    """The names in a text."""
     return frozenset(NAME.findall(text))
 
 
@@ -45,19 +38,6 @@ def names_in(text):
 def calls_in(text):
     """The calls of macros in a text: the path of each, and the first word."""
     return frozenset(found.groups() for found in CALL.finditer(text))
-
-
-def imports(tree):
-    """What a tree of `use` brings in: of each name its path, and the name that it gets."""
-    head, brace, rest = tree.strip().partition("{")
-    if not brace:
-        path, _, name = head.partition(" as ")
-        way = way_of(path)
-        way = way[:-1] if way[-1] == "self" else way
-        yield from [(way, name.strip() or way[-1])] if way else ()
-        return
-    for part in paths.split(rest.rstrip()[:-1]):
-        yield from imports(head + part)
 
 
 class Node:
@@ -152,7 +132,6 @@ class Crate:
             self.root.name(it.item.name, it)
 
     def module(self, path):
-        """The module of this path."""
         return functools.reduce(lambda module, name: module.below[name], path, self.root)
 
     def nodes(self):
@@ -234,7 +213,6 @@ class Sources:
 
 
 def arms_of(macro):
-    """The arms of a macro."""
     text, item = macro.module.source, macro.item
     at, found = text.blank.index("{", item.head) + 1, []
     while start := re.compile(r"[(\[{]").search(text.blank, at, item.end - 1):
