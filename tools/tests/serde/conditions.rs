@@ -26,7 +26,7 @@ pub struct Span {
 /// A whole.
 #[derive(Debug, Deserialize, Validate)]
 pub struct Order {
-    #[garde(custom(asks("say no", !value)))]
+    #[garde(custom(asks("say no", value != true)))]
     pub flag: bool,
     #[garde(custom(asks("say so", value.is_some())))]
     pub some: Option<u8>,
@@ -40,7 +40,7 @@ pub struct Order {
     pub greatest: u8,
     #[garde(custom(asks("an end", value.from < value.until && value.named != "x" && !value.named.is_empty())), dive)]
     pub span: Span,
-    #[garde(custom(asks("empty", !value.is_empty() && value.contains("@"))))]
+    #[garde(custom(asks("empty", value.is_empty() == false && true == value.contains("@"))))]
     pub text: String,
     #[garde(custom(asks("many", value.len() <= 3)))]
     pub map: BTreeMap<String, u8>,

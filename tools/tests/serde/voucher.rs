@@ -2,6 +2,7 @@
 //@ --spelled Voucher --own crate::own
 use garde::Validate;
 use money::Money;
+use money::Text;
 use serde::{Deserialize, Deserializer};
 use std::time::Duration;
 
@@ -20,16 +21,18 @@ impl<'de> Deserialize<'de> for Holder {
 
 /// A voucher.
 #[derive(Deserialize, Validate)]
-pub struct Voucher {
+struct Voucher {
     #[garde(length(min = 1))]
     pub number: String,
     #[garde(skip)]
-    pub worth: Money,
+    pub worth: Money, //~ worth: the type `money::Money`, which is read elsewhere: any value passes and is kept as it was; narrow `Money` in crate::own
     #[garde(length(max = 9))]
-    pub steps: Vec<Option<Money>>,
+    pub steps: Vec<Option<Money>>, //~ steps: the type `money::Money`, which is read elsewhere: any value passes and is kept as it was; narrow `Money` in crate::own
     #[garde(skip)]
-    pub holder: Holder,
+    pub words: Option<Text>, //~ words: the type `money::Text`, which is read elsewhere: any value passes and is kept as it was; narrow `MoneyText` in crate::own
+    #[garde(skip)]
+    pub holder: Holder, //~ holder: the type `Holder`, which is read elsewhere: any value passes and is kept as it was; narrow `Holder` in crate::own
     #[garde(skip)]
     #[serde(rename = "validFor", with = "humantime_serde")]
-    pub valid_for: Duration,
+    pub valid_for: Duration, //~ valid_for: a field that `humantime_serde` reads: any value passes and is kept as it was; narrow `VoucherValidFor` in crate::own
 }
