@@ -10,7 +10,7 @@ pub struct Bad {
     pub discount: f64,
     #[garde(custom(multiple_of(0.0)))] //~ `multiple_of(0.0)`: write a number above 0 whose digits fit 64 bits
     pub step: f32,
-    #[garde(length(max = 3))] //~ the length of the type `Decimal<'t>`, which the port does not know
+    #[garde(length(max = 3))] //~ the length of the type `Decimal<'t>`, which the port does not know: of a number write `range`, of others a rule of your own, by `custom`
     pub size: f64,
     #[garde(dive)] //~ `dive` into the type `KeptValue<'t>`
     pub seller: serde_json::Value,

@@ -56,6 +56,15 @@ pub struct Whole {
     #[garde(url)]
     #[serde(default)]
     pub site: String, //~ the default of the field `site`: "" breaks `url`: give another default, or read an `Option`
+    #[garde(custom(asks("please accept the terms", value)))]
+    #[serde(default)]
+    pub accepted: bool, //~ the default of the field `accepted`: false breaks "please accept the terms": give another default, or read an `Option`
+    #[garde(custom(asks("any other", value != MOST && (value > 9 || value == self.few))), custom(asks("a fifth", value % 5 == 0)))]
+    #[serde(default = "four")]
+    pub other: u8,
+    #[garde(custom(asks("a long one", value.len() > 40 || value == "none")))]
+    #[serde(default = "long")]
+    pub wide: String, //~ the default of the field `wide`: "a text of thirty characters..." breaks "a long one": give another default, or read an `Option`
     #[garde(dive)]
     #[serde(default)]
     pub set: Set, //~ the default of the field `set`: 9 breaks `range(max = 8)`: give another default, or read an `Option`

@@ -11,7 +11,7 @@ pub struct Bad {
     #[garde(ascii)]
     #[schemars(title = "name")] //~ the attribute `schemars`, which the port does not know: take it out, or leave it out by `--leave-out schemars`
     pub name: String,
-    #[garde(email)] //~ the rule `email` is not ported: write `pattern(patterns.mail)` with a pattern of yours (see docs/guide/attributes.md), or a rule of your own, by `custom`
+    #[garde(email)] //~ the rule `email` is not ported: write `pattern("^[^@]+@[^@]+$")` with the pattern that you want, or a rule of your own, by `custom`
     pub mail: String,
 }
 

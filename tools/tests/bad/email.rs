@@ -2,6 +2,6 @@ use garde::Validate;
 
 #[derive(Validate)]
 pub struct Bad {
-    #[garde(email)] //~ the rule `email` is not ported: write `pattern(patterns.mail)` with a pattern of yours (see docs/guide/attributes.md), or a rule of your own, by `custom`
+    #[garde(email)] //~ the rule `email` is not ported: write `pattern("^[^@]+@[^@]+$")` with the pattern that you want, or a rule of your own, by `custom`
     pub name: String,
 }

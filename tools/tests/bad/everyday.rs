@@ -2,8 +2,7 @@
 use garde::Validate;
 use semver::Version;
 use serde::Deserialize;
-use std::collections::{BTreeMap, BTreeSet};
-use std::time::Duration;
+use std::collections::BTreeMap;
 use time::OffsetDateTime;
 
 #[derive(Clone, Debug, Deserialize, Validate)]
@@ -12,18 +11,10 @@ pub struct Stop {
     pub day: u8,
 }
 
-#[derive(Clone, Copy, Debug, Deserialize)]
-pub enum Class {
-    First,
-    Second,
-}
-
 #[derive(Debug, Deserialize, Validate)]
 pub struct Trip {
     #[garde(skip)]
     pub needs: Version, //~ the type `Version`, which no form of `--schema` reads: write a `String` with a rule of yours, as `custom(is_version)`
-    #[garde(skip)]
-    pub lasts: Duration, //~ the type `Duration`, which no form of `--schema` reads: write a struct with the fields `secs: u64` and `nanos: u32`, as serde reads it
     #[garde(skip)]
     pub at: OffsetDateTime, //~ the type `OffsetDateTime`, which no form of `--schema` reads: write `#[serde(with = "time::serde::rfc3339")]` at the field, since without it serde reads a list of numbers
     #[garde(skip)]
@@ -41,10 +32,4 @@ pub struct Trip {
     pub color: [u8; 3], //~ `default` of the array `color`, which no list without items is: write an `Option` of it
     #[garde(skip)]
     pub points: BTreeMap<(i8, i8), u8>, //~ a map whose keys are a tuple, an array or a reference: a form reads keys that are texts, whole numbers of at most 64 bits, `char`s, addresses, enums of names, or newtypes of these, so write `BTreeMap<String, ..>` with `custom(keys(..))`
-}
-
-#[derive(Debug, Deserialize, Validate)]
-pub struct Seen {
-    #[garde(skip)]
-    pub classes: BTreeSet<Class>, //~ `unique` of the type `Items<Class>`: it is written of lists of texts, of numbers and of types of this file that derive `PartialEq`
 }

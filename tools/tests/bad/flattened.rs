@@ -47,7 +47,7 @@ pub struct Twice {
 #[derive(Deserialize, Validate)]
 pub struct Mixed {
     #[garde(dive)]
-    #[serde(flatten)] //~ `flatten` at the field `maybe`: each member of `Maybe` may be missing, so serde always gives a value: write `Maybe` in place of the option
+    #[serde(flatten)]
     pub maybe: Option<Maybe>,
     #[garde(length(max = 3))]
     #[serde(flatten)] //~ `flatten` at the field `rest`: it takes every other member, so write this field last //~ `flatten` at the field `rest`: a form asks rules of its values alone, so take out `length`
@@ -56,7 +56,7 @@ pub struct Mixed {
     #[serde(flatten)] //~ `flatten` at the field `more`: `Open` takes every other member, so write this field last
     pub more: Open,
     #[garde(skip)]
-    #[serde(flatten)] //~ `flatten` at the field `count`: its type is no struct of this file with named fields, no option of one and no map, so write `count` as a member, without `flatten`
+    #[serde(flatten)] //~ `flatten` at the field `count`: its type is no struct of this file with named fields, no option of one and no map, so write `count` as a member, without `flatten`, or say `--own` for a form of your own
     pub count: u8,
 }
 

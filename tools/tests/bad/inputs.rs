@@ -25,7 +25,7 @@ pub struct Page {
     pub many: u128, //~ the type `u128`, which no text of `--input web-form` writes
     #[garde(skip)]
     pub thrice: Option<Option<Option<u8>>>, //~ `Option` within `Option`, which no text of `--input web-form` writes
-    #[garde(pattern("a"))] //~ `pattern` in quotes, of which a form has none: name a pattern of the type's context, as `pattern(patterns.mail)` (see docs/guide/attributes.md) //~ a pattern in quotes under a context of one's own: add a field of type `Regex` to it, and write `pattern(ctx.FIELD)`
+    #[garde(pattern("a"))] //~ a pattern in quotes under a context of one's own: add a field of type `Regex` to it, and write `pattern(ctx.FIELD)`
     pub quoted: String,
     #[garde(if(cond = self.host.parse::<u8>().is_ok(), ascii))] //~ `parse` of another type than `IpAddr`, `Ipv4Addr` or `Ipv6Addr`, or without `is_ok()` or `is_err()` behind it
     pub host: String,

@@ -33,7 +33,7 @@ pub struct Few {
     #[garde(ascii)]
     pub name: String,
     #[garde(length(max = 3), dive)]
-    pub parts: Vec<Few>, //~ the field `parts` of a type that holds itself, with more than `dive`
+    pub parts: Vec<Few>, //~ the field `parts` of a type that holds itself, with more than `dive`: no form asks a rule of that list, so ask it by your code
 }
 
 #[derive(Deserialize, Validate)]
@@ -41,7 +41,16 @@ pub struct Asked {
     #[garde(if(cond = self.parts.contains("x"), ascii))]
     pub name: String,
     #[garde(dive)]
-    pub parts: Vec<Asked>, //~ the field `parts` of a type that holds itself, with more than `dive`
+    pub parts: Vec<Asked>, //~ the field `parts` of a type that holds itself, with more than `dive`: no form asks a rule of that list, so ask it by your code
+}
+
+#[derive(Deserialize, Validate)]
+pub struct Empty {
+    #[garde(ascii)]
+    pub name: String,
+    #[garde(dive)]
+    #[serde(default)]
+    pub parts: Vec<Empty>, //~ the default of the field `parts` of a type that holds itself, whose list has to be there: take it out, and write `[]` in the input
 }
 
 #[derive(Deserialize, Validate)]
@@ -55,5 +64,5 @@ pub struct Right {
 #[derive(Deserialize, Validate)]
 pub struct Outer {
     #[garde(dive)]
-    pub right: Right, //~ the field `right` of a type that holds itself, whose rules `Outer` cannot state: take `Validate` out of its derives
+    pub right: Right,
 }

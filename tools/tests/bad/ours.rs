@@ -10,9 +10,9 @@ pub enum Kind {
 
 #[derive(Validate)]
 pub struct Bad {
-    #[garde(custom(unique))] //~ `unique` of the type `String`: it is written of lists of texts, of numbers and of types of this file that derive `PartialEq`
+    #[garde(custom(unique))] //~ `unique` of the type `String`: it is written of lists of texts, of numbers and of types of this file that derive `PartialEq`; of others write `custom(unique_by(..))`, or a rule of your own, by `custom`
     pub name: String,
-    #[garde(custom(unique))] //~ `unique` of the type `Vec<Kind>`: it is written of lists of texts, of numbers and of types of this file that derive `PartialEq`
+    #[garde(custom(unique))] //~ `unique` of the type `Vec<Kind>`: it is written of lists of texts, of numbers and of types of this file that derive `PartialEq`; of others write `custom(unique_by(..))`, or a rule of your own, by `custom`
     pub kinds: Vec<Kind>,
     #[garde(custom(unique(3)))] //~ a text in quotes is expected in place of `3`
     pub parts: Vec<u8>,

@@ -54,7 +54,7 @@ pub struct Words {
     #[garde(adapt(crate::own::tag_text), ascii)]
     tag: u8, //~ `adapt`, of which `--schema` writes no form
     #[garde(skip)]
-    #[serde(with = "crate::own")] //~ `with` of serde, of which `--schema` writes no form
+    #[serde(with = "crate::own")] //~ `with` of serde, of which `--schema` writes no form: say `--own` for a form of your own
     own: u8,
 }
 

@@ -17,7 +17,7 @@ pub struct Order {
     #[garde(ascii)]
     pub code: String,
     #[garde(dive)]
-    #[serde(flatten)] //~ `flatten` at the field `sum`: its type is no struct of this file with named fields, no option of one and no map, so write `sum` as a member, without `flatten`
+    #[serde(flatten)] //~ `flatten` at the field `sum`: its type is no struct of this file with named fields, no option of one and no map, so write `sum` as a member, without `flatten`, or say `--own` for a form of your own
     pub sum: Sum,
     #[garde(matches(code))]
     pub again: String,
@@ -33,7 +33,7 @@ pub struct Order {
     #[serde(default = "few")] //~ the default of the field `few`: `Order::MOST` is no constant of this file: write a constant, or read an `Option` and fill it in by your code
     pub few: u8,
     #[garde(skip)]
-    #[serde(alias = "rate")] //~ `alias` of serde, of which `--schema` writes no form
+    #[serde(alias = "rate")] //~ `alias` of serde, of which `--schema` writes no form: say `--own` for a form of your own
     pub share: Duration, //~ the type `Duration`, which no form of `--schema` reads: see docs/guide/attributes.md#types-that-no-form-reads
     #[garde(skip)]
     pub ends: (u8,), //~ a tuple of one value, which no form of `--schema` reads: write the value, or a list
@@ -42,7 +42,7 @@ pub struct Order {
     #[garde(skip)]
     #[serde(skip)]
     pub own: bool,
-    #[garde(pattern("a+"))] //~ `pattern` in quotes, of which a form has none: say `--spelled TYPE`, and name a pattern of the type's context, as `pattern(patterns.mail)` (see docs/guide/attributes.md)
+    #[garde(pattern("a+"))] //~ `pattern` in quotes, which no form of `--schema` holds compiled: say `--spelled TYPE`
     pub mark: String,
     #[garde(inner(ascii))]
     pub names: BTreeMap<String, String>,

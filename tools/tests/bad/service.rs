@@ -24,7 +24,7 @@ pub struct Guest {
     #[garde(length(chars, min = 1, max = 40))]
     #[schema(example = "Ada")] //~ the attribute `schema`, which the port does not know: take it out, or leave it out by `--leave-out schema`
     pub name: String,
-    #[garde(pattern(SLUG))] //~ the pattern `SLUG` is no part of the context
+    #[garde(pattern(SLUG))] //~ the pattern `SLUG` is no part of the context: write its text in quotes, as `pattern("..")`
     pub slug: String,
     #[serde(default, skip_serializing_if = "Option::is_none")]
     #[garde(inner(length(max = 200)))]

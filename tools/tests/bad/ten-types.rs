@@ -17,7 +17,7 @@ static WORDS: [&str; 2] = ["a", "b"];
 pub struct User {
     #[garde(length(min = 3, max = 2))] //~ the `min` of `length` is greater than its `max`
     pub name: String,
-    #[garde(email)] //~ the rule `email` is not ported: write `pattern(patterns.mail)` with a pattern of yours (see docs/guide/attributes.md), or a rule of your own, by `custom`
+    #[garde(email)] //~ the rule `email` is not ported: write `pattern("^[^@]+@[^@]+$")` with the pattern that you want, or a rule of your own, by `custom`
     pub mail: Option<String>,
     #[garde(range(min = 0, max = 300))] //~ the bound 300, which is no `u8`
     pub age: u8,
@@ -49,7 +49,7 @@ pub struct Rules { pub most: usize }
 /// Three.
 #[derive(Validate)]
 pub enum Event {
-    Login { #[garde(ascii)] user: String, #[garde(ip)] from: std::net::IpAddr }, //~ `ip` of the type `IpAddr`, which is no text
+    Login { #[garde(ascii)] user: String, #[garde(ip)] from: std::net::IpAddr }, //~ `ip` of the type `IpAddr`, which is no text: write a rule of your own, by `custom`
     Logout(#[garde(dive)] User, #[garde(skip)] u8), //~ `dive` into `User`, whose patterns make a context of it: give both types a context with compiled patterns
     Code = 3, //~ the variant `Code` with a number, beside variants with fields: take the number out
     #[garde(skip)]
@@ -61,7 +61,7 @@ pub enum Event {
 pub struct Wrapper<T: Validate> where T: Clone { //~ a `where` clause: write the bounds at the parameters
     #[garde(dive)]
     pub value: T,
-    #[garde(email)] //~ the rule `email` is not ported: write `pattern(patterns.mail)` with a pattern of yours (see docs/guide/attributes.md), or a rule of your own, by `custom`
+    #[garde(email)] //~ the rule `email` is not ported: write `pattern("^[^@]+@[^@]+$")` with the pattern that you want, or a rule of your own, by `custom`
     pub mail: String,
 }
 
@@ -138,6 +138,6 @@ pub struct Last {
     pub b: u16,
     #[garde(range(min = 5, max = 9_000_000_000))] //~ the bound 9000000000, which is no `u16`
     pub c: u16,
-    #[garde(rename(""), ascii)] //~ `ascii` of the type `Valid<String>`, which is no text
+    #[garde(rename(""), ascii)] //~ `ascii` of the type `Valid<String>`, which is no text: write a rule of your own, by `custom`
     pub d: Valid<String>,
 }

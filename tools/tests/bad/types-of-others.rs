@@ -23,6 +23,8 @@ pub struct Order {
     #[garde(skip)]
     pub text: my_types::String, //~ the type `my_types::String`, which no form of `--schema` reads: see docs/guide/attributes.md#types-that-no-form-reads
     #[garde(skip)]
+    pub lasts: my_types::Duration, //~ the type `my_types::Duration`, which no form of `--schema` reads: see docs/guide/attributes.md#types-that-no-form-reads
+    #[garde(skip)]
     pub map: std::collections::HashMap<std::string::String, self::Line>,
     #[garde(skip)]
     pub old: OldLine, //~ the type `crate::orders::Line`, which no form of `--schema` reads: see docs/guide/attributes.md#types-that-no-form-reads
