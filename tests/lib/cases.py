@@ -21,5 +21,4 @@ def wanted_of(case):
 
 
 def command_of(case, program):
-    """The program with the words of a case."""
     return [program, *bytes_of(case, "args").splitlines()]

@@ -1,8 +1,7 @@
 """Random inputs of a program, and a small one of those that it answers otherwise than its description.
 
-Python's `random` makes the choices. Where the package `hypothesis` is, it makes those of every second round, and finds smaller ones that
-are answered otherwise too: it is slower, and tries other inputs. Then parts of the input are left out, of a JSON text first members and
-items, and then bytes, while the answer stays another one.
+To make an input small parts of it are left out, of a JSON text first members and items, and then bytes, while the answer stays another
+one.
 """
 import random
 import time
@@ -13,12 +12,6 @@ from lib.described import fits
 from lib.json_values import NoJson, Pairs, of_bytes
 from lib.spoiled import json_text
 from lib.urls import Unsaid
-
-try:
-    import hypothesis
-    from hypothesis.strategies import composite, integers
-except ImportError:
-    hypothesis = None
 
 MOST_SECONDS = 5
 # an input of so many bytes is told as it is
@@ -66,20 +59,6 @@ class Comparison:
             raise Differs
 
 
-class Dice(random.Random):
-    """The choices of `hypothesis`, as a generator of random numbers. The simplest choice is the first, and that nothing goes wrong."""
-
-    def __init__(self, draw):
-        super().__init__(0)
-        self.draw = draw
-
-    def random(self):
-        return 1 - (self.draw(integers(0, 2**16 - 1)) + 1) / 2**16
-
-    def getrandbits(self, bits):
-        return self.draw(integers(0, 2**bits - 1))
-
-
 def by_size(comparison):
     """The large cases of a description."""
     for case in getattr(comparison.described, "large", tuple)():
@@ -89,15 +68,6 @@ def by_size(comparison):
 def by_random(comparison, seed, count):
     for number in range(count):
         comparison.tried(comparison.described.some(random.Random(f"{seed}/{number}")))
-
-
-def by_hypothesis(comparison, seed, count):
-    cases = composite(lambda draw: comparison.described.some(Dice(draw)))
-    settings = hypothesis.settings(
-        max_examples=count, database=None, deadline=None, print_blob=False, suppress_health_check=list(hypothesis.HealthCheck),
-        phases=(hypothesis.Phase.generate, hypothesis.Phase.shrink), verbosity=hypothesis.Verbosity.quiet,
-    )
-    hypothesis.seed(seed)(settings(hypothesis.given(cases())(comparison.tried)))()
 
 
 def simpler(value):
@@ -158,7 +128,7 @@ def compared(name, described, met, seed, number, count):
     try:
         if number == 0:
             by_size(comparison)
-        (by_hypothesis if hypothesis and number % 2 else by_random)(comparison, f"{seed}/{number}/{name}", count)
+        by_random(comparison, f"{seed}/{number}/{name}", count)
     except Differs:
         case = comparison.last if len(comparison.last.given) > LARGE else small(comparison, comparison.last)
         wrong = [(case, comparison.met(case), described.wanted(case))]

@@ -205,28 +205,6 @@ class ListUnder:
         return [self.form.some(dice, odd) for _ in range(some_count(dice, odd, self.rules))]
 
 
-class InOrder:
-    """A list of these forms, an item each. An item that is missing is a fault at its index; of further ones there is one fault, at the first."""
-
-    def __init__(self, *forms):
-        self.forms = forms
-
-    def read(self, tree, path, walk):
-        if not isinstance(tree, list) or isinstance(tree, Pairs):
-            return walk.other(path, "List", tree)
-        values = []
-        for index, form in enumerate(self.forms):
-            at = (*path, index)
-            values.append(form.read(tree[index], at, walk) if index < len(tree) else walk.put(at, "member_missing"))
-        if len(tree) > len(self.forms):
-            walk.put((*path, len(self.forms)), "member_unknown")
-        return NO if NO in values else tuple(values)
-
-    def some(self, dice, odd):
-        items = [form.some(dice, odd) for form in self.forms]
-        return dice.choice([items[:-1], [*items, None]]) if dice.random() < odd else items
-
-
 class MapUnder:
     """An object of any names: the rules of how many members there are come first. A name that came before is a fault, each time."""
 

@@ -5,10 +5,10 @@ import codecs
 import json
 import re
 
+from lib import positions, stops
+
 DEEPEST = 128
-WHY = ("not JSON", "nested deeper than 128", "a lone surrogate")
 SURROGATE = re.compile("[\ud800-\udfff]")
-PLACE = r" at line \d+ column \d+"
 
 
 class Number(str):
@@ -20,7 +20,7 @@ class Pairs(list):
 
 
 class NoJson(Exception):
-    """Why bytes are no JSON text: a pattern of what a program says. Of bytes that are not UTF-8 it has the place."""
+    """Why bytes are no JSON text, and where: a pattern of what a program says."""
 
 
 def is_text(value):
@@ -36,7 +36,6 @@ def kind(value):
 
 
 def parts_of(value):
-    """The values in a value."""
     if isinstance(value, Pairs):
         return [part for _, part in value]
     return value if isinstance(value, list) else []
@@ -62,6 +61,11 @@ def refused(constant):
     raise ValueError(constant)
 
 
+def stopped(why, place):
+    """Bytes stop at this place, for a reason of this pattern."""
+    return NoJson(f"{why} at line %d column %d" % place)
+
+
 def of_bytes(body):
     """The value of a body, perhaps behind a byte order mark. Of several reasons why there is none Python's reader does not say which
     comes first, so that the pattern has each of them that may."""
@@ -69,8 +73,7 @@ def of_bytes(body):
     try:
         text = body.decode("utf-8")
     except UnicodeDecodeError as error:
-        line, column = body.count(b"\n", 0, error.start) + 1, error.start - body.rfind(b"\n", 0, error.start)
-        raise NoJson(f"not UTF-8 at line {line} column {column}") from None
+        raise stopped("not UTF-8", positions.end_of(body[: error.start].decode())) from None
     try:
         value = json.loads(text, object_pairs_hook=Pairs, parse_int=Number, parse_float=Number, parse_constant=refused)
         found = {"nested deeper than 128": depth(value) > DEEPEST, "a lone surrogate": any(map(SURROGATE.search, texts(value)))}
@@ -78,7 +81,7 @@ def of_bytes(body):
         opened = text.count("[") + text.count("{") > DEEPEST
         found = {"not JSON": True, "nested deeper than 128": opened, "a lone surrogate": "\\u" in text}
     if any(found.values()):
-        raise NoJson("(" + "|".join(why for why in found if found[why]) + ")" + PLACE)
+        raise stopped("(" + "|".join(why for why in found if found[why]) + ")", stops.place_of(text))
     return value
 
 

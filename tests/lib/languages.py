@@ -1,16 +1,18 @@
-"""The languages of the catalogs: the texts of faults, as docs/reference/languages.md has them, and which language a field
+"""The languages of the catalogs: the texts of faults, as the tables of `garde_catalog` have them, and which language a field
 `Accept-Language` (RFC 9110, section 12.5.4) or a tag asks for, by the look-up of RFC 4647, section 3.4.
 
 A language is a table from codes to texts, as in `faults`.
 """
 import re
+import sys
 
 from lib import repository
 from lib.faults import INTEGERS
 
-PAGE = "docs/reference/languages.md"
-KEY = re.compile(r"^`Key::(\w+)`", re.MULTILINE)
-ROW = re.compile(r"^\| ([\w-]+) \| (.*) \|$", re.MULTILINE)
+sys.path.append(str(repository.ROOT / "tools"))
+
+from side_by_side import page  # noqa: E402
+
 # Tags under which a language is offered too.
 OTHER_TAGS = {"pt": "pt-BR", "zh-CN": "zh-Hans", "zh-SG": "zh-Hans", "zh": "zh-Hans"}
 RANGE = re.compile(r"[ \t]*([A-Za-z]{1,8}(?:-[A-Za-z0-9]{1,8})*)[ \t]*(?:;[ \t]*[qQ]=(0(?:\.[0-9]{0,3})?|1(?:\.0{0,3})?)[ \t]*)?")
@@ -30,13 +32,9 @@ NO_JSON = {"not UTF-8": "NotUtf8", "not JSON": "NotJson", "nested deeper than 12
 
 
 def texts():
-    """The texts of the page: by their tag, and then by their key."""
-    found = {}
-    for part in repository.text_of(PAGE).split("\n## ")[1:]:
-        for tag, text in ROW.findall(part):
-            if tag != "language":
-                found.setdefault(tag, {})[KEY.search(part).group(1)] = text
-    return found
+    """The texts: by their tag, and then by their key."""
+    tables = page.tables()
+    return {tag: dict(tables[table]) for table, tag in page.offered().items()}
 
 
 def camel(code):
@@ -109,14 +107,8 @@ def of_tag(tag):
     return LANGUAGES[OTHER_TAGS.get(tag, tag)]
 
 
-def placed(text):
-    """The pattern of a text with a line and a column in it."""
-    return re.sub(r"\\{(line|column)\\}", "[0-9]+", re.escape(text))
-
-
 def no_json(why, said):
     """The pattern of why bytes are no JSON, by the texts of a language, by that in English."""
-    if exact := re.fullmatch(r"not UTF-8 at line (\d+) column (\d+)", why):
-        return re.escape(said["NotUtf8"].format(line=exact.group(1), column=exact.group(2)))
-    reasons = re.match(r"\((.*?)\)", why).group(1).split("|")
-    return f"({'|'.join(placed(said[NO_JSON[reason]]) for reason in reasons)})"
+    reasons, line, column = re.fullmatch(r"\(?(.*?)\)? at line (\d+) column (\d+)", why).groups()
+    texts = (said[NO_JSON[reason]].format(line=line, column=column) for reason in reasons.split("|"))
+    return f"({'|'.join(map(re.escape, texts))})"

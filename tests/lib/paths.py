@@ -4,6 +4,7 @@ the impl block or trait, and the function. A closure's path is that of its funct
 The name of an impl block is that of its type and of its trait with its arguments, without the block's parameters: `OptionIp` is
 `impl<T: Ip> Ip for Option<T>`, and `AnyIp` is `impl<T: AsRef<str>> Ip for T`.
 """
+import functools
 import re
 
 
@@ -16,6 +17,25 @@ def split(text, between=","):
             parts.append(text[start:at])
             start = at + 1
     return [part.strip() for part in [*parts, text[start:]] if part.strip()]
+
+
+@functools.cache
+def way_of(text):
+    """The names of a path."""
+    return tuple(re.sub(r"\s+", "", text).split("::"))
+
+
+def imports(tree):
+    """What a tree of `use` brings in: of each name its path, and the name that it gets."""
+    head, brace, rest = tree.strip().partition("{")
+    if not brace:
+        path, _, name = head.partition(" as ")
+        way = way_of(path)
+        way = way[:-1] if way[-1] == "self" else way
+        yield from [(way, name.strip() or way[-1])] if way else ()
+        return
+    for part in split(rest.rstrip()[:-1]):
+        yield from imports(head + part)
 
 
 def behind_brackets(text):

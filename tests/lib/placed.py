@@ -24,7 +24,7 @@ def line(form, file, place, path, detail, code, params):
     if form == "short":
         return escaped(file).replace(":", "\\u{3a}") + ":%d:%d: error: " % place + told(path, detail)
     if form == "github":
-        name = "".join(PROPERTY.get(it, it) for it in file)
+        name = escaped("".join(PROPERTY.get(it, it) for it in file))
         return f"::error file={name},line={place[0]},col={place[1]}::" + told(path, detail).replace("%", "%25")
     members = {"file": file, "path": path_text(path), "pointer": pointer(path), "line": place[0], "column": place[1]}
     return printed({**members, "detail": detail, "code": code, "params": params}).decode()
@@ -75,8 +75,7 @@ def stops_at(form, file, body, code):
     try:
         return re.compile(stop(form, file, body.decode(), code).encode(), re.DOTALL)
     except UnicodeDecodeError as error:
-        text = body[: error.start].decode()
-        place = text.count("\n") + 1, len(text) - text.rfind("\n")
+        place = positions.end_of(body[: error.start].decode())
         return (line(form, file, place, (), "not UTF-8", code, {}) + "\n").encode()
 
 

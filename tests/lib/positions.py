@@ -45,8 +45,9 @@ class Reader:
         return line, self.at - self.lines[line - 1] + 1
 
     def past(self, mark):
-        """Whether this mark stands here; goes past it."""
-        is_here = self.here() == mark
+        """Whether this mark stands here behind white space; goes past it."""
+        self.take(SPACE)
+        is_here = self.text.startswith(mark, self.at)
         self.at += is_here
         return is_here
 
@@ -70,6 +71,11 @@ class Reader:
             return Spot(place, items=tuple(self.parts("]", self.value)))
         self.take(TEXT if first == '"' else WORD)
         return Spot(place)
+
+
+def end_of(text):
+    """The line and the column behind a text."""
+    return text.count("\n") + 1, len(text) - text.rfind("\n")
 
 
 def spots_of(text):

@@ -21,18 +21,22 @@ def kit():
     return pathlib.Path(said.strip()).parent
 
 
+def words_of(crate, root, verb):
+    """The words of a command of the prover on a crate, with the toolchain's libraries and its logic."""
+    main = "src/main.rt" if (repository.folder(root) / crate / "src/main.rt").is_file() else "src/lib.rt"
+    words = [f"{kit()}/bin/rattle", verb, "--crate-name", crate, main, "-L", f"dependency={kit()}/rlibs", "--links", f"{crate}="]
+    return [*words, "--antt-project", f"{kit()}/rattle/logic/antt-project.json", "--logic-built", f"{kit()}/logic_built"]
+
+
 def command(crate, functions, jobs, root=repository.ROOT, verb="check"):
     """A check of some functions of a crate, over the libraries as they were built last, by so many jobs."""
-    libraries, rlibs, crates = repository.libraries(root), kit() / "rlibs", repository.folder(root)
-    main = "src/main.rt" if (crates / crate / "src/main.rt").is_file() else "src/lib.rt"
-    words = [f"{kit()}/bin/rattle", verb, "--crate-name", crate, main, "--extern", f"std={rlibs}/std.rlib"]
-    for it in libraries[crate]:
-        folder = crates / it / "out/rlib" if it in libraries else rlibs
+    libraries, crates, words = repository.libraries(root), repository.folder(root), words_of(crate, root, verb)
+    for it in ("std", *libraries[crate]):
+        folder = crates / it / "out/rlib" if it in libraries else kit() / "rlibs"
         words += ["--extern", f"{it}={folder}/{it}.rlib"]
     for it in repository.below(crate, root):
         words += ["-L", f"dependency={crates}/{it}/out/rlib"]
-    words += ["-L", f"dependency={rlibs}", "--antt-project", f"{kit()}/rattle/logic/antt-project.json"]
-    words += ["--logic-built", f"{kit()}/logic_built", "--links", f"{crate}=", "--jobs", str(jobs)]
+    words += ["--jobs", str(jobs)]
     for it in functions:
         words += ["--only", it]
     return words
@@ -58,17 +62,14 @@ def quick(crate, room, root=repository.ROOT):
 
 def quick_words(crate, root):
     """The words of the compiler's quick pass."""
-    libraries, rlibs, crates = repository.libraries(root), kit() / "rlibs", repository.folder(root)
-    main = "src/main.rt" if (crates / crate / "src/main.rt").is_file() else "src/lib.rt"
-    words = [f"{kit()}/bin/rattle", "check", "--crate-name", crate, main]
-    below = repository.below(crate, root)
+    libraries, below = repository.libraries(root), repository.below(crate, root)
+    words = [*words_of(crate, root, "check"), "--jobs", "1", "--only", ""]
     uses = {it: [*dict.fromkeys(["core", "std", *libraries[it]])] for it in [*below, crate]}
     for it in dict.fromkeys(name for names in uses.values() for name in names if name not in libraries):
-        words += ["--extern", f"{it}={rlibs}/{it}.rlib"]
+        words += ["--extern", f"{it}={kit()}/rlibs/{it}.rlib"]
     for it in below:
-        words += ["--lib", f"{it}:{','.join(uses[it])}={crates / it}/src/lib.rt"]
-    words += ["-L", f"dependency={rlibs}", "--antt-project", f"{kit()}/rattle/logic/antt-project.json"]
-    return [*words, "--logic-built", f"{kit()}/logic_built", "--links", f"{crate}=", "--jobs", "1", "--only", ""]
+        words += ["--lib", f"{it}:{','.join(uses[it])}={repository.folder(root) / it}/src/lib.rt"]
+    return words
 
 
 def edited(crate, edits, room):

@@ -37,5 +37,4 @@ def pointer(path):
 
 
 def details(walk, language=ENGLISH):
-    """The faults of problem details."""
     return [{"pointer": pointer(path), "detail": found.text(language), "code": found.code, "params": found.told()} for path, found in walk]

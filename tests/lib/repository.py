@@ -24,6 +24,12 @@ def text_of(name):
     return file.read_text(encoding="utf-8", errors="replace") if file.is_file() else ""
 
 
+def write(name, text):
+    """Writes a file, and the folder that it is in."""
+    (ROOT / name).parent.mkdir(parents=True, exist_ok=True)
+    (ROOT / name).write_text(text, encoding="utf-8")
+
+
 def lines_of(name):
     """The lines of a file with their numbers."""
     return list(enumerate(text_of(name).splitlines(), 1))

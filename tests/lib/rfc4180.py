@@ -64,7 +64,6 @@ def record_at(text, place):
 
 
 def records(text):
-    """The records of a text in turn."""
     place = 1 if text.startswith("\ufeff") else 0
     while place < len(text):
         if text[place] in "\r\n":

@@ -48,14 +48,14 @@ def judged(batch, found, lines, in_place):
     return [it for it in done if it not in survivors], [it for it in lost if not isinstance(it, Copy)]
 
 
-def rounds(crate, edits, room):
+def rounds(crate, edits, jobs):
     """Tries a crate's edits. Gives what came of each, and how many checks that took."""
     came, number, most, in_place, unread = {}, 0, len(edits), set(), set()
     with tempfile.TemporaryDirectory(prefix="wrong-bodies-kept-") as kept:
         left = sorted(edits, key=lambda it: it.is_alone)
         while left:
             batch, tried_in_place = batch_of(left, in_place)[:most], len(in_place)
-            lines, number = checked(crate, batch, kept, room.share()), number + 1
+            lines, number = checked(crate, batch, kept, jobs), number + 1
             is_read = bool(lines) and re.match(r"(logic|only)=", lines[-1])
             found = verdicts(lines) if is_read else {}
             again = [it for it in batch if found.get(it.function) == NAMED and leaves_out(it, lines)]
@@ -72,12 +72,12 @@ def rounds(crate, edits, room):
     return came, number
 
 
-def tried(crate, folder, room):
+def tried(crate, folder, jobs, with_seldom):
     """Tries the edits of a folder on a crate. Prints those that fail, and a line. Gives how many there are, and how many fail."""
     start = time.monotonic()
     every = edits_of_crates.of(crate, folder)
-    edits = [it for it in every if room.with_seldom or not it.is_seldom]
-    came, number = rounds(crate, [it for it in edits if not it.fault], room)
+    edits = [it for it in every if with_seldom or not it.is_seldom]
+    came, number = rounds(crate, [it for it in edits if not it.fault], jobs)
     came.update({it.title: f"NO LONGER APPLIES: {it.fault}" for it in edits if it.fault})
     wrong = [f"{crate}/{it.title}: {came[it.title]} ({it.function})" for it in edits if not came[it.title].startswith(it.expects)]
     of = "" if folder.parent.name == crate else " planted"

@@ -1,8 +1,8 @@
 """The service of use_signup, by crates/use_signup/README.md: which answer a request has, as bytes, where no date is added."""
 import re
-import typing
 
 from lib import languages
+from lib.requests import Request, bytes_of, requests_of
 
 TAGS = ("en", "cs", "ar")
 FORM = "application/x-www-form-urlencoded"
@@ -27,14 +27,6 @@ VIEWPORT = '<meta charset="utf-8">\n<meta name="viewport" content="width=device-
 MEDIA = (FORM, FORM, FORM, FORM.upper(), f"{FORM}; charset=utf-8", f"{FORM}x", "multipart/form-data; boundary=x", "text/plain", "")
 PATHS = ("/", "/", "/", "/?x=1", "/thanks", "/thanks?", "/thank", "/thanks/", "//", "/form")
 FIELDS = ("", "cs", "ar", "ar-EG", "cs-CZ,cs;q=0.9,en;q=0.8", "de", "en;q=0.5, ar", "cs;q=0", "de, *", "AR;q=0.2,CS;q=0.3", "cs,,ar", "x;q=2")
-
-
-class Request(typing.NamedTuple):
-    body: bytes = b""
-    method: str = "POST"
-    target: str = "/"
-    media: str = FORM
-    language: str = ""
 
 
 def tag_of(request):
@@ -75,23 +67,16 @@ def answer(request, page):
 
 
 def answered(request, page):
-    """The bytes of an answer."""
     status, fields, text = answer(request, page)
     body = text.encode("utf-8")
     head = "".join(f"{name}: {value}\r\n" for name, value in (*fields, ("content-length", len(body))))
     return f"HTTP/1.1 {status} {PHRASES[status]}\r\n{head}\r\n".encode() + (b"" if request.method == "HEAD" else body)
 
 
-def bytes_of(request):
-    fields = {"Host": "x", "Content-Length": len(request.body), "Content-Type": request.media, "Accept-Language": request.language}
-    head = "".join(f"{name}: {value}\r\n" for name, value in fields.items() if value != "")
-    return f"{request.method} {request.target} HTTP/1.1\r\n{head}\r\n".encode() + request.body
-
-
 def some_request(dice, body):
     """A request, most often with a form."""
     if dice.random() < 0.7:
-        return Request(body, language=dice.choice(FIELDS))
+        return Request(body, media=FORM, language=dice.choice(FIELDS))
     method = dice.choice(("POST", "GET", "GET", "HEAD", "PUT", "DELETE", "OPTIONS"))
     return Request(body if method != "HEAD" else b"", method, dice.choice(PATHS), dice.choice(MEDIA), dice.choice(FIELDS))
 
@@ -102,15 +87,3 @@ def are_requests(given):
         return b"".join(map(bytes_of, requests_of(given))) == given
     except (KeyError, ValueError):
         return False
-
-
-def requests_of(given):
-    """The requests of these bytes, which `bytes_of` wrote one behind the other."""
-    while given:
-        head, _, rest = given.partition(b"\r\n\r\n")
-        first, *lines = head.decode().split("\r\n")
-        fields = dict(line.split(": ", 1) for line in lines)
-        method, target, _ = first.split(" ")
-        length = int(fields["Content-Length"])
-        yield Request(rest[:length], method, target, fields.get("Content-Type", ""), fields.get("Accept-Language", ""))
-        given = rest[length:]

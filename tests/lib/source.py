@@ -133,7 +133,6 @@ class Source:
 
 @functools.lru_cache(maxsize=4096)
 def read(text):
-    """The source of a text."""
     return Source(text)
 
 

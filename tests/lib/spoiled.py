@@ -1,7 +1,6 @@
 """Wrong inputs, made of right ones: by changes of a value, of its text and of its bytes.
 
-A value is one of `json_values`, in which a `Raw` stands for what is written as it is. `dice` is a `random.Random`, or what `hypothesis`
-has in its place.
+A value is one of `json_values`, in which a `Raw` stands for what is written as it is. `dice` is a `random.Random`.
 """
 import codecs
 import json

@@ -3,12 +3,10 @@
 A step whose last line of output is `N passed, M failed`, as that of `rt ci` and of `tests/wrong-bodies`, counts as that line
 says. Every other step counts as one, and so does a step that fails though its own line tells of no failure.
 """
-import os
 import re
 import subprocess
 import sys
 import time
-from concurrent.futures import ThreadPoolExecutor
 
 from lib.repository import ROOT
 
@@ -16,7 +14,7 @@ from lib.repository import ROOT
 QUICK = (
     "tests/documents", "tests/sources", "tests/words", "tests/layout", "tests/promises", "tests/since", "tests/successors",
     "tests/ported", "tests/kept", "tests/json-schema", "tests/vendored", "tests/needed",
-    "tests/languages", "tests/bind", "tests/why", "tests/why-finds", "tests/random-finds", "tests/finds", "tests/ported-finds",
+    "tests/languages", "tests/bind", "tests/why", "tests/finds",
 )
 COUNTS = re.compile(r"(?:[\w-]+: )?(\d+) passed, (\d+) failed$")
 
@@ -31,27 +29,15 @@ class Steps:
         print(f"{self.command}: {line}", flush=True)
 
     def run(self, *words):
-        """Runs a step by itself."""
-        start = time.monotonic()
-        self.add(words, *ended(words, sys.stdout.buffer), start)
-
-    def run_beside(self, words, others):
-        """Runs a step, and beside it another one, which reads and prints what the first one prints."""
-        start, (reading, writing) = time.monotonic(), os.pipe()
-        with ThreadPoolExecutor(1) as pool:
-            beside = pool.submit(ended, others, sys.stdout.buffer, reading)
-            with open(writing, "wb", buffering=0) as pipe:
-                self.add(words, *ended(words, Pipe(pipe)), start)
-            self.add(others, *beside.result(), start)
-
-    def add(self, words, status, last, start):
-        """Adds a step that ended with this status and this last line of output."""
+        """Runs a step, and says whether it passed."""
+        start, (status, last) = time.monotonic(), ended(words)
         counts = COUNTS.match(last)
         passed, failed = map(int, counts.groups()) if counts else (int(not status), 0)
         failed = max(failed, int(status != 0))
         self.passed, self.failed = self.passed + passed, self.failed + failed
         self.names += [" ".join(words)] * (failed > 0)
         self.say(f"{' '.join(words)}: {'FAILED' if failed else 'passed'} ({time.monotonic() - start:.1f} s)")
+        return not failed
 
     def leave_out(self, name, why):
         """Adds a step that is not run, which counts as failed."""
@@ -66,37 +52,17 @@ class Steps:
         return 1 if self.failed else 0
 
 
-class Pipe:
-    """A pipe to a process that prints each line which it reads. Once that process has ended, the lines are printed here."""
-
-    def __init__(self, pipe):
-        self.out, self.is_read = pipe, True
-
-    def write(self, line):
-        try:
-            self.out.write(line)
-        except BrokenPipeError:
-            self.out = sys.stdout.buffer
-            self.out.write(line)
-
-    def flush(self):
-        self.out.flush()
-
-
-def ended(words, out, given=None):
+def ended(words):
     """Runs a process in the repository's folder, and hands on its output line by line. Gives its status and its last line."""
     last = b""
     try:
-        process = subprocess.Popen(words, cwd=ROOT, stdin=given or subprocess.DEVNULL, stdout=subprocess.PIPE)
+        process = subprocess.Popen(words, cwd=ROOT, stdin=subprocess.DEVNULL, stdout=subprocess.PIPE)
     except OSError as error:
         print(f"{words[0]} cannot be run: {error.strerror}", flush=True)
         return 1, ""
-    finally:
-        if given:
-            os.close(given)
     with process:
         for line in process.stdout:
             last = line if line.strip() else last
-            out.write(line)
-            out.flush()
+            sys.stdout.buffer.write(line)
+            sys.stdout.buffer.flush()
     return process.returncode, last.decode(errors="replace").strip()

@@ -1,119 +1,85 @@
-"""Where a text stops being JSON (RFC 8259): up to where some JSON text begins as it does. It asks Python's own reader of completions and shares
-nothing with the library."""
-import json
+"""Where a text stops being JSON (RFC 8259): up to where some JSON text begins as it does. It shares nothing with the library."""
 import re
 
+from lib import positions
+from lib.positions import SPACE
+
 DEEPEST = 128
-# What ends a value that is begun, so that a reader takes it; an escape and a surrogate pair among them.
-ENDS = ("", '"', '\\"', "0", "00", "000", "0000", "0\\udc00", "00\\udc00", "dc00", "udc00", "\\udc00", "c00", "rue", "ue", "e", "alse", "lse", "se", "ull", "ll", "l")
-ENDS = tuple(dict.fromkeys(it + quote for it in ENDS for quote in ("", '"')))
-# What stands behind it, where a member or an item is begun.
-GOES_ON = ("", ":0", "0", '"":0')
-SURROGATE = re.compile(r"[\ud800-\udfff]")
+HEX = "[0-9a-fA-F]"
+# The escape of a character, or of both halves of one; and the beginnings of such.
+ESCAPE = rf'\\(?:["\\/bfnrt]|u(?:[0-9a-cefA-CEF]{HEX}{{3}}|[dD][0-7]{HEX}{{2}}|[dD][89abAB]{HEX}{{2}}\\u[dD][c-fC-F]{HEX}{{2}}))'
+LOW = rf"(?:\\(?:u(?:[dD](?:[c-fC-F]{HEX}?)?)?)?)?"
+BEGUN = re.compile(
+    rf"(?:\\(?:u(?:[0-9a-cefA-CEF]{HEX}{{0,2}}|[dD](?:[0-7]{HEX}?|[89abAB](?:{HEX}{{2}}{LOW}|{HEX}?))?)?)?)?"
+)
+TEXT = re.compile(rf'"(?:[^"\\\x00-\x1f]|{ESCAPE})*')
+WHOLE = r"-?(?:0|[1-9][0-9]*)"
+NUMBER = re.compile(rf"{WHOLE}(?:\.[0-9]+)?(?:[eE][-+]?[0-9]+)?")
+BEGUN_NUMBER = re.compile(rf"{WHOLE}(?:\.[0-9]+)?[eE][-+]?[0-9]*|{WHOLE}(?:\.[0-9]*)?|-?")
 
 
-class Refused(ValueError):
+class Stopped(Exception):
     pass
 
 
-def lone(text):
-    return SURROGATE.search(text) is not None
+class Beginning(positions.Reader):
+    """A text, and how far it is a beginning of a JSON text."""
 
+    def want(self, is_here):
+        if not is_here:
+            raise Stopped
 
-def names_of(value):
-    if isinstance(value, dict):
-        for name, it in value.items():
-            yield name
-            yield from names_of(it)
-    elif isinstance(value, list):
-        for it in value:
-            yield from names_of(it)
-    elif isinstance(value, str):
-        yield value
+    def quoted(self):
+        self.take(TEXT)
+        if not self.text.startswith('"', self.at):
+            self.take(BEGUN)
+            raise Stopped
+        self.at += 1
 
+    def word(self):
+        """A number or a name."""
+        for name in ("true", "false", "null"):
+            if self.text.startswith(name[0], self.at):
+                for letter in name:
+                    self.want(self.text.startswith(letter, self.at))
+                    self.at += 1
+                return
+        self.want(NUMBER.fullmatch(self.take(BEGUN_NUMBER)))
 
-def no_constant(word):
-    raise Refused(word)
+    def several(self, end, part):
+        """What stands between brackets, up to this one."""
+        if not self.past(end):
+            part()
+            while not self.past(end):
+                self.want(self.past(","))
+                part()
 
+    def member(self, depth):
+        self.take(SPACE)
+        self.want(self.text.startswith('"', self.at))
+        self.quoted()
+        self.want(self.past(":"))
+        self.value(depth)
 
-def pairs_of(pairs):
-    if lone("".join(name for name, _ in pairs)):
-        raise Refused("a lone surrogate")
-    return dict(enumerate(value for _, value in pairs))
-
-
-# Readers of Python. Most texts are refused by the quicker one, at once.
-QUICK = json.JSONDecoder(parse_int=str, parse_float=str)
-EXACT = json.JSONDecoder(parse_constant=no_constant, object_pairs_hook=pairs_of, parse_int=str, parse_float=str)
-
-
-def text_ok(value):
-    if isinstance(value, str):
-        return not lone(value)
-    if isinstance(value, dict):
-        return all(text_ok(it) for it in value.values())
-    return not isinstance(value, list) or all(text_ok(it) for it in value)
-
-
-def is_json(text):
-    if text.strip(" \t\r\n") != text.strip():
-        return False
-    try:
-        QUICK.decode(text)
-        return text_ok(EXACT.decode(text))
-    except (ValueError, RecursionError):
-        return False
-
-
-def brackets(text):
-    """The brackets that close what is open, from a reader of texts alone; nothing where more than 128 are open."""
-    closing, is_text, is_escape = [], False, False
-    for it in text:
-        if is_text:
-            is_escape, is_text = (it == "\\" and not is_escape), (it != '"' or is_escape)
-        elif it == '"':
-            is_text = True
-        elif it in "[{":
-            closing.append("]" if it == "[" else "}")
-            if len(closing) > DEEPEST:
-                return None
-        elif it in "]}" and closing:
-            closing.pop()
-    return "".join(reversed(closing))
-
-
-def begins_json(text):
-    closing = brackets(text)
-    return closing is not None and any(is_json(text + end + more + closing) for end in ENDS for more in GOES_ON)
-
-
-def told_of(text):
-    """The place that Python's reader tells of a text: often the one where it stops."""
-    try:
-        QUICK.decode(text)
-    except json.JSONDecodeError as error:
-        return error.pos
-    except RecursionError:
-        pass
-    return len(text)
-
-
-def stop_of(text):
-    """How many characters the longest beginning has that begins some JSON text; nothing where the whole text is one."""
-    if is_json(text) and brackets(text) is not None:
-        return None
-    low, high, told = 0, len(text), told_of(text)
-    ahead = [told + 1, told]
-    while low < high:
-        middle = ahead.pop() if ahead else (low + high + 1) // 2
-        if low < middle <= high:
-            low, high = (middle, high) if begins_json(text[:middle]) else (low, middle - 1)
-    return low
+    def value(self, depth=0):
+        self.take(SPACE)
+        first = self.text[self.at : self.at + 1]
+        if first == '"':
+            self.quoted()
+        elif first and first in "[{":
+            self.want(depth < DEEPEST)
+            self.at += 1
+            self.several("]" if first == "[" else "}", lambda: (self.value if first == "[" else self.member)(depth + 1))
+        else:
+            self.word()
+        self.take(SPACE)
 
 
 def place_of(text):
-    stop = stop_of(text)
-    if stop is None:
-        return None
-    before = text[:stop]
-    return before.count("\n") + 1, len(before) - before.rfind("\n")
+    """The line and the column up to which it begins as some JSON text does; nothing where the whole is one."""
+    reader = Beginning(text)
+    try:
+        reader.value()
+    except Stopped:
+        return reader.place()
+    return None if reader.at == len(text) else reader.place()

@@ -1,4 +1,4 @@
-"""Files of texts, by the README of `garde_catalog` and docs/reference/languages.md: under the name of each key its text, with the
+"""Files of texts, by the README of `garde_catalog`: under the name of each key its text, with the
 parameters in braces. A text is at fault where a brace is not that of a name, where a name is no parameter, or a parameter has no name.
 """
 import re
@@ -18,12 +18,10 @@ UNKNOWN = ("", "LengthLowerThan", "length_lower_than ", "a.b", "\n", "é", "leng
 
 
 def name_of(key):
-    """The name of a key in a file."""
     return re.sub("(?<=.)([A-Z])", r"_\1", key).lower()
 
 
 def found(text, params):
-    """What is wrong with a text of these parameters."""
     if not WHOLE.fullmatch(text):
         return fault("template_brace_stray")
     names = NAME.findall(text)

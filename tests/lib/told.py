@@ -7,7 +7,6 @@ from explaining.place import Unknown, find
 
 HEAD = """fn validate_into<'a, H: I18n>(
         &'a self,
-        alloc: Global,
     ) -> Result<(), AllocError> """
 TOWN = f"""use garde::{{Stated, Validate}};
 
@@ -38,22 +37,22 @@ impl Validate for Town {{
             min = 4, // more than is stated
         ));
         let rest = (Field("post", city, When(near, Is(length!(max = 41)))), Item(2, &self.lines, Is(length!(max = 2))));
-        (Field("name", &self.name, long), rest).visit(alloc, trail, report, h)
+        (Field("name", &self.name, long), rest).visit(trail, report, h)
     }}
 }}
 """
 TOWN_SAYS = [
-    'src/a/town.rt:17: field `name`: `visits` asks `is (bytes (at_least 3) (str v.name))`, the code checks `long` with `long = Is(length!(min = 4))` (line 33)',
+    'src/a/town.rt:17: field `name`: `visits` asks `is (bytes (at_least 3) (str v.name))`, the code checks `long` with `long = Is(length!(min = 4))` (line 32)',
     'src/a/town.rt:19: field `post`: `visits` asks `when v.near (is (bytes (at_most 40) (str v.post)))`, the code checks `When(near, Is(length!(max = 41)))` of `city` '
-    "with `near = is_near(self)` (line 32)",
-    "src/a/town.rt:20: field 2: `visits` asks `is (items (between 1 2) (slice v.lines))`, the code checks `Is(length!(max = 2))` (line 32)",
+    "with `near = is_near(self)` (line 31)",
+    "src/a/town.rt:20: field 2: `visits` asks `is (items (between 1 2) (slice v.lines))`, the code checks `Is(length!(max = 2))` (line 31)",
 ]
 PLACE = f"""use garde::{{Stated, Validate}};
 
 impl garde::Validate for Place {{
     {HEAD}{{
         let wide = Is(length!(min = 2));
-        wide.check(alloc, &self.x, trail, report, h)
+        wide.check(&self.x, trail, report, h)
     }}
 }}
 
@@ -92,14 +91,14 @@ def faults_of_types(folder):
         (town, all_open(town), 1, TOWN_SAYS),
         (town, lambda *_: ERRORS, 2, [does_not_compile, *ERRORS[:2]]),
         (town, lambda *_: ERRORS[2:], 2, [parts_do_not, *ERRORS[2:]]),
-        (place, all_open(place), 1, ["src/a/place.rt:14: field `x`: `visits` asks `is (bytes (at_least 1) (str v.x))`, the code checks `wide` with `wide = Is(length!(min = 2))` (line 9)"]),
+        (place, all_open(place), 1, ["src/a/place.rt:13: field `x`: `visits` asks `is (bytes (at_least 1) (str v.x))`, the code checks `wide` with `wide = Is(length!(min = 2))` (line 8)"]),
     ):
         said = explain(it, check)
         if (said.status, said.lines) != (status, says):
             yield f"{it.place.name()}: status {said.status}, and it says:"
             yield from (f"    {line}" for line in said.lines)
     # a body that calls no `visit` is checked as it stands, with its statements
-    if "{ let wide = Is(length!(min = 2)); wide.check(alloc, &self.x, trail, report, h) }" not in place.functions.texts[0]:
+    if "{ let wide = Is(length!(min = 2)); wide.check(&self.x, trail, report, h) }" not in place.functions.texts[0]:
         yield f"the part of {place.place.name()} is checked by {place.functions.texts[0]}"
     yield from faults_of_lines(town)
 
@@ -112,14 +111,13 @@ def faults_of_lines(it):
 
 
 def faults_of_names(folder):
-    """What is wrong with the answer to names of types."""
     for name, says in (
         ("Town", f"several types of the name `Town` with `impl Validate`: it has {NAMES}"),
         ("own", f"no type of the name `own` with `impl Validate`: it has {NAMES}"),
         ("", f"no type of the name `` with `impl Validate`: it has {NAMES}"),
         ("a::Town", f"no type of the name `a::Town` with `impl Validate`: it has {NAMES}"),
         ("Path", f"no type of the name `Path` with `impl Validate`: it has {NAMES}"),
-        ("Road", f"src/a/place.rt:18: `Road` {STATED_ALONE}"),
+        ("Road", f"src/a/place.rt:17: `Road` {STATED_ALONE}"),
         *((name, None) for name in ("Place", "place::Place", "crate::b::town::Town", "towns::b::town::Town", "::a::town::Town")),
     ):
         try:

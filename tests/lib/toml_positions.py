@@ -7,6 +7,7 @@ the place of its header, and one without a header that of its key. The README of
 import re
 import tomllib
 
+from lib import positions
 from lib.positions import Spot
 
 SPACE = re.compile(r"[ \t]*")
@@ -33,20 +34,8 @@ class Part:
         return Spot(self.place, members, tuple(it.spot() for it in self.items))
 
 
-class Reader:
-    """A text, and how far it is read."""
-
-    def __init__(self, text):
-        self.text, self.at = text, 0
-
-    def place(self):
-        return self.text.count("\n", 0, self.at) + 1, self.at - self.text.rfind("\n", 0, self.at)
-
-    def take(self, pattern):
-        """Goes past what matches here, and gives it."""
-        found = pattern.match(self.text, self.at).group()
-        self.at += len(found)
-        return found
+class Reader(positions.Reader):
+    """A text in TOML, where its lines begin, and how far it is read."""
 
     def past(self, mark):
         """Whether this mark stands here; goes past it."""

@@ -9,7 +9,7 @@ import re
 import sys
 from dataclasses import dataclass, field
 
-from lib import repository, source
+from lib import paths, repository, source
 
 
 @dataclass(frozen=True, eq=False)
@@ -43,26 +43,6 @@ class Module:
     reexports: list = field(default_factory=list)  # (path, new name)
 
 
-def expanded(tree, before=()):
-    """The paths of a `use` tree, each with the name that it gets."""
-    tree = tree.strip()
-    group = re.match(r"(.*?)\{(.*)\}$", tree, re.S)
-    if not group:
-        path, _, alias = tree.partition(" as ")
-        parts = [*before, *path.split("::")]
-        parts = parts[:-1] if parts[-1] == "self" else parts
-        return [(parts, alias.strip() or parts[-1])]
-    before = [*before, *filter(None, group.group(1).split("::"))]
-    depth, starts = 0, [0]
-    for at, letter in enumerate(group.group(2)):
-        depth += (letter == "{") - (letter == "}")
-        if letter == "," and depth == 0:
-            starts.append(at + 1)
-    ends = [start - 1 for start in starts[1:]] + [None]
-    parts = [group.group(2)[start:end] for start, end in zip(starts, ends)]
-    return [found for part in parts if part.strip() for found in expanded(part, before)]
-
-
 def declare(module, text, item):
     """Adds what an item makes public, where it is no module."""
     functions = {it.name: Function(module.file, text, it) for it in item.members if it.kind == "fn"}
@@ -75,7 +55,7 @@ def declare(module, text, item):
     elif not item.is_public:
         return
     elif item.kind == "use":
-        module.reexports += expanded(" ".join(re.sub(r"^pub\s+use\s+", "", text.header(item)).split()))
+        module.reexports += paths.imports(re.sub(r"^pub\s+use\s+", "", text.header(item)))
     elif item.kind == "trait":
         module.items[item.name] = functions
     elif item.kind == "fn":

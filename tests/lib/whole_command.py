@@ -16,8 +16,8 @@ from lib.repository import ROOT
 WHY = Command(ROOT / "tools/why")
 # the types of `example_types`
 TYPES = (
-    "contact::Contact, data::Data, ledger::Ledger, login::Login, names::Names, order::Order, payment::Payment, profile::Profile, "
-    "recursive::comment::Comment, recursive::expr::Expr, recursive::folder::Folder, recursive::menu::Menu, recursive::question::Entry, "
+    "contact::Contact, data::Data, document::Document, ledger::Ledger, login::Login, names::Names, order::Order, payment::Payment, "
+    "profile::Profile, recursive::comment::Comment, recursive::expr::Expr, recursive::folder::Folder, recursive::menu::Menu, recursive::question::Entry, "
     "recursive::tree::Tree, signup::Signup, stay::Stay, stock::Stock, table::Table, tag::Tag, team::Member, team::Team, "
     "username::Username, username::NumberedUsername, username::User, valid::basket::Basket, valid::bill::Bill, valid::level::Level, "
     "valid::page::Page, valid::panel::Reading, valid::parcel::Parcel, valid::seat::Seat, valid::tariff::Tariff"
@@ -90,7 +90,6 @@ class Run:
 
 @contextlib.contextmanager
 def run_of(mistake):
-    """A run on the crate of a mistake."""
     with tempfile.TemporaryDirectory(prefix="why-test-") as name:
         room = pathlib.Path(name)
         yield Run(room, mistake.copy(room), mistake.stored().read_text(encoding="utf-8"))
@@ -144,7 +143,9 @@ def faults_of_look():
     unknown, unfit = "src/order.rt:9:1: error[unknown-name]: unresolved import: there is no `Flag` in crate `garde_schema`", "src/order.rt:9:1: error[overflowing-bound]: overflow"
     line, parts = (text[: text.index(it)].count("\n") + 1 for it in ('"count", Whole(U32,', "type Parts = (TextRef<'t>, u32"))
     member, cut = f"src/order.rt:{line}: member `count` of `Line`: its form reads `u16`, and the parts have `u32` there (line {parts})", "// What is not needed: call tools/vendor again.\n"
-    again = "your copy of garde may lack this: call `tools/vendor` again, which adds what your crates need now"
+    other = "src/order.rt:9:1: error[unknown-name]: unresolved import: there is no `garde_form` in module `order`\nsrc/order.rt:10:1: error[unknown-name]: failed to resolve: use of undeclared crate or module `jiff`"
+    listed = "crates.txt: the line of mine may lack garde_form jiff: write them there, and call `tools/vendor FOLDER` in the clone of garde again"
+    again = "your copy of garde may lack this: call `tools/vendor FOLDER` in the clone of garde again, which adds what your crates need now"
     fix = "`rt check --fix-imports` writes imports that are missing (docs/guide/rejected.md)"
     with tempfile.TemporaryDirectory(prefix="why-test-") as name:
         room = pathlib.Path(name)
@@ -154,7 +155,7 @@ def faults_of_look():
         run = Run(room, room / "mine", "")
         for printed, order, library, says in (
             (None, text, "", ["mine: it compiles. Nothing of it is proved by that"]), ("only=0 proved=0", text, "", ["mine: it compiles. Nothing of it is proved by that"]),
-            (f"{unknown}\n  a line below", text, "", [unknown, "  a line below", fix]), (unknown, text, cut, [unknown, again]), (unfit, text, cut, [unfit]),
+            (f"{unknown}\n  a line below", text, "", [unknown, "  a line below", fix]), (unknown, text, cut, [unknown, again]), (f"{other}\n{unknown}", text, cut, [*other.split("\n"), unknown, listed]), (unfit, text, cut, [unfit]),
             ("killed", text, "", ["error: the compiler was ended by the signal 9"]),
             (unfit, text.replace('"count", Whole(U32,', '"count", Whole(U16,'), "", [member, unfit]),
         ):

@@ -11,6 +11,7 @@ import codecs
 import datetime
 import ipaddress
 import json
+import random
 import re
 import typing
 import unicodedata
@@ -18,8 +19,8 @@ import unicodedata
 from lib import languages, placed, positions, text_files, toml_positions
 from lib.described import Case, pattern
 from lib.faults import REQUIRED, Rule, between, items, length, matches, suffix
-from lib.form import Checked, Closed, ListUnder, MapUnder, Member, Nullish, Object, OneOf, Text, Under, Whole, read
-from lib.json_values import DEEPEST, NoJson, Number, Pairs, depth, of_bytes
+from lib.form import Checked, Closed, MapUnder, Member, Nullish, Object, OneOf, Text, Under, Whole, read
+from lib.json_values import DEEPEST, NoJson, Number, Pairs, depth, is_text, of_bytes
 from lib.reports import lines
 from lib.spoiled import Raw, json_text, many, missing, renamed, repeated, some_bytes, some_json, some_of, unknown, wrong_type
 from lib.urls import Unsaid
@@ -63,7 +64,10 @@ BARE = "1979-05-27 07:32:00 1979-05-27T07:32:00 1979-05-27T07:32:00Z 1979-05-27T
 BAD = ["2023-02-29", "24:00:00", "007", "1__0", "9223372036854775808", "'a", '"\\q"', "[1", "{", "{a = 1", "", "tru", "+-1", "0x", "1979-13-01", "1."]
 OTHERS = ["", "a", "A", "a.b", "::1", "256.1.1.1", "a.pem", "debug", "Info", "é" * 127, "é" * 128, "\n", "\x1b[2K", '"', "\\", "𝄞", True, False]
 OTHERS += [[], [Number(1)], ["a", Pairs()], Pairs(), Pairs([("min", Number(2)), ("max", Number(1))])]
+WAYS = (missing, repeated, wrong_type, wrong_type, unknown, renamed, many)
 PIECES = [b"=", b'"', b"]", b"0", b"\x00", b"\t", b".", b"#", b"'", b"\xff"]
+
+MORE = ("[[more]]", "min = 1", "[more.b]", "[[ more ]]", "a.b = { c = 1 }")
 
 
 def some_value(dice):
@@ -75,8 +79,12 @@ def text_of(dice, text):
     """A text in one of the forms that TOML has for it."""
     if dice.random() < 0.3 and not re.search("['\\x00-\\x1f\\x7f]", text):
         return f"'{text}'"
+    return f'"{escaped(text)}"'
+
+
+def escaped(text):
     short = {'"': '\\"', "\\": "\\\\", "\n": "\\n"}
-    return '"' + "".join(short.get(c) or (f"\\u{ord(c):04X}" if ord(c) < 32 or ord(c) == 127 else c) for c in text) + '"'
+    return "".join(short.get(c) or (f"\\u{ord(c):04X}" if ord(c) < 32 or ord(c) == 127 else c) for c in text)
 
 
 def key_of(dice, key):
@@ -91,7 +99,17 @@ def inline(dice, value):
     return text_of(dice, value) if isinstance(value, str) and not isinstance(value, (Number, Raw)) else json_text(dice, value)
 
 
-def toml_lines(dice, path, value):
+def spread(dice, value):
+    """A value behind a key, where a list or a text may have several lines."""
+    if isinstance(value, list) and not isinstance(value, Pairs):
+        between = dice.choice(("\n", " # a comment]\n\t", "\n\n  ", " "))
+        return "[" + between + f",{between}".join(inline(dice, part) for part in value) + between + "]"
+    if is_text(value) and not isinstance(value, Raw) and dice.random() < 0.5:
+        return '"""\n' + escaped(value).replace("a", "a\\\n  ") + '"""'
+    return inline(dice, value)
+
+
+def toml_lines(dice, path, value, written=inline):
     """The lines of a table: its keys, and then the tables inside it, each under a header, inline or by dotted keys."""
     below = []
     for key, part in dice.sample(list(value), len(value)):
@@ -102,12 +120,12 @@ def toml_lines(dice, path, value):
             else:
                 below.append(([*path, name], part))
         else:
-            yield f"{name} = {inline(dice, part)}"
+            yield f"{name} = {written(dice, part)}"
             if dice.random() < 0.1:
                 yield dice.choice(("", "# a comment", "  "))
     for inner, part in below:
         yield f"[{'.'.join(inner)}]"
-        yield from toml_lines(dice, inner, part)
+        yield from toml_lines(dice, inner, part, written)
 
 
 def some(dice):
@@ -130,7 +148,7 @@ def some_settings(dice):
     form = placed.some_format(dice)
     if tomllib is None or dice.random() < 0.3:
         return Case(languages.some_words(dice) + dice.choice((("json", *form), (*form, "json"))), *some_json(dice, CONFIG))
-    value, ways = some_of(dice, CONFIG, some_value, (missing, repeated, wrong_type, wrong_type, unknown, renamed, many))
+    value, ways = some_of(dice, CONFIG, some_value, WAYS)
     end = dice.choice(("\n", "\n", "\r\n"))
     body, cuts = some_bytes(dice, (end.join(toml_lines(dice, [], without_nulls(value))) + end).encode("utf-8"), PIECES)
     mark = codecs.BOM_UTF8 if dice.random() < 0.1 else b""
@@ -138,7 +156,8 @@ def some_settings(dice):
 
 
 def large():
-    """A hundred limits under names of 800 characters, each in order or none, in JSON and, where it can be read, in TOML."""
+    """A hundred limits under names of 800 characters, each in order or none, in JSON and, where it can be read, in TOML; and settings in
+    TOML whose lists and texts have several lines, behind them an array of tables."""
     server = {"host": "a", "port": 1, "workers": 1, "connections": 1}
     for least in 1, 3:
         limits = {f"{number:0800}": {"min": least, "max": 2} for number in range(100)}
@@ -147,6 +166,11 @@ def large():
         rows = (f"[{name}]\n" + "".join(f"{key} = {json.dumps(part)}\n" for key, part in it.items()) for name, it in tables.items())
         if tomllib is not None:
             yield Case((), "".join(rows).encode())
+    dice = random.Random(1)
+    for form in placed.FORMATS * 100 if tomllib else ():
+        value, ways = some_of(dice, CONFIG, some_value, WAYS)
+        lines_of = [*toml_lines(dice, [], without_nulls(value), spread), *dice.choice(((), MORE))]
+        yield Case(("--format", form), "".join(f"{it}\n" for it in lines_of).encode(), ways)
 
 
 def without_nulls(value):

@@ -1,7 +1,6 @@
 """The program use_http, by crates/use_http/README.md: orders in JSON over HTTP, and problem details in the language that is asked for.
 The order is that of `example_order` too."""
 import re
-import typing
 
 from lib import languages, repository
 from lib.described import Case, run
@@ -9,6 +8,7 @@ from lib.faults import between, chars, items, prefix
 from lib.form import Closed, ListUnder, Member, Object, Text, Whole, read
 from lib.json_values import NoJson, of_bytes, printed
 from lib.reports import details
+from lib.requests import Request, bytes_of, requests_of
 from lib.spoiled import some_json
 
 ORDER = Object(Closed(
@@ -24,6 +24,7 @@ PHRASES = {
     415: "Unsupported Media Type", 431: "Request Header Fields Too Large", 501: "Not Implemented", 505: "HTTP Version Not Supported",
 }
 TARGETS = {"": "CONNECT", "*": "OPTIONS"}
+ORDERS = Request(target="/orders", media="application/json")
 DESCRIPTION = "tools/tests/library/order.openapi.json"
 MEDIA = ("", "text/plain", "application/json; charset=utf-8", "application/jsonp", "APPLICATION/JSON")
 PATHS = ("/orders", "/orders?x=1", "/health", "/openapi.json", "/openapi.json?x", "/openapi", "/", "/orders/1", "orders", "x:80", "*", "http://x/orders", "http://x")
@@ -31,14 +32,6 @@ PATHS = ("/orders", "/orders?x=1", "/health", "/openapi.json", "/openapi.json?x"
 
 RANGES = ("en", "cs", "cs-CZ", "CS", "csb", "de-AT-1901", "zh-Hant-TW", "zh-CN", "pt", "ja", "ar-EG", "tlh", "*", "e", "", "fr--ca", "hi-abcdefghi")
 WEIGHTS = ("", "", ";q=0.5", ";q=0", "; q=1.000", " ;Q=0.1", ";q=0.501", ";q=1.001", ";q=", ";level=1")
-
-
-class Request(typing.NamedTuple):
-    body: bytes = b""
-    method: str = "POST"
-    path: str = "/orders"
-    media: str = "application/json"
-    language: str = ""
 
 
 def refused(status):
@@ -79,7 +72,7 @@ def tag_of(request):
 
 def answer(request):
     """The status and the body of the answer to a request."""
-    path = path_of(request.path)
+    path = path_of(request.target)
     if len(request.body) > MOST:
         return refused(413)
     if path in TARGETS:
@@ -105,13 +98,13 @@ def media_of(status, body):
 def offered(request, status):
     """The field of an answer that says what would do, beside its value: the methods of a path, or the form of a body."""
     if status == 405:
-        return "allow", "POST" if path_of(request.path) == "/orders" else "GET, HEAD"
+        return "allow", "POST" if path_of(request.target) == "/orders" else "GET, HEAD"
     return ("accept", "application/json") if status == 415 else None
 
 
 def spoken(request, status):
     """The fields of an answer that name its language: of an order that was judged, and has faults or is not read."""
-    is_order = path_of(request.path) == "/orders" and request.method == "POST"
+    is_order = path_of(request.target) == "/orders" and request.method == "POST"
     return (tag_of(request), "accept-language") if status == 422 or (status == 400 and is_order) else (None, None)
 
 
@@ -127,19 +120,9 @@ def some_request(dice):
     """A request, and how its body was spoiled."""
     body, ways = some_json(dice, ORDER)
     if dice.random() < 0.9:
-        return Request(body, language=some_field(dice)), ways
-    return Request(body, dice.choice(("POST", "GET", "PUT", "DELETE", "OPTIONS")), dice.choice(PATHS), dice.choice(MEDIA)), {"no order"}
-
-
-def fields_of(request):
-    fields = {"Content-Type": request.media, "Accept-Language": request.language}
-    return {name: value for name, value in fields.items() if value}
-
-
-def bytes_of(request):
-    fields = {"Host": "x", "Content-Length": len(request.body), **fields_of(request)}
-    head = "".join(f"{name}: {value}\r\n" for name, value in fields.items())
-    return f"{request.method} {request.path} HTTP/1.1\r\n{head}\r\n".encode() + request.body
+        return ORDERS._replace(body=body, language=some_field(dice)), ways
+    method = dice.choice(("POST", "GET", "PUT", "DELETE", "OPTIONS"))
+    return Request(body, method, dice.choice(PATHS), dice.choice(MEDIA)), {"no order"}
 
 
 def some(dice):
@@ -147,18 +130,13 @@ def some(dice):
     return Case(("--no-date",), bytes_of(request), ways)
 
 
-def request_of(given):
-    """The request of these bytes, which `bytes_of` wrote."""
-    head, _, body = given.partition(b"\r\n\r\n")
-    first, *rest = head.decode().split("\r\n")
-    fields = dict(line.split(": ", 1) for line in rest)
-    method, path, _ = first.split(" ")
-    return Request(body, method, path, fields.get("Content-Type", ""), fields.get("Accept-Language", ""))
+def request_of(case):
+    return next(requests_of(case.given))
 
 
 def wanted(case):
     """The status of the run, the status of the answer, its type, its body, its language, what it offers, and standard error."""
-    request = request_of(case.given)
+    request = request_of(case)
     status, body = answer(request)
     return 0, status, media_of(status, body), body, spoken(request, status), offered(request, status), b""
 
@@ -169,11 +147,11 @@ def status(answer):
 
 
 def body_of(case):
-    return request_of(case.given).body
+    return request_of(case).body
 
 
 def with_body(case, body):
-    return case._replace(given=bytes_of(request_of(case.given)._replace(body=body)))
+    return case._replace(given=bytes_of(request_of(case)._replace(body=body)))
 
 
 def met(program, case):

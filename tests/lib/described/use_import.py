@@ -92,7 +92,6 @@ def row_lines(place, header, record, tag):
 
 
 def placed_lines(form, index, header, record, tag):
-    """The lines of a record with the line in which it begins."""
     place, walk = (record.line, 1), Walk()
     if record.fault:
         return placed.line(form, "<stdin>", place, (index,), record.fault, "not_csv", {}) + "\n"

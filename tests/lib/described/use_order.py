@@ -1,5 +1,6 @@
 """The program use_order, by crates/use_order/README.md: a page of orders in JSON."""
 import json
+import random
 
 from lib import placed
 from lib.described import Case, pattern
@@ -29,6 +30,12 @@ PAGE = Object(Closed(
     Member("number", Whole("u32", between(1))),
     Member("entries", ListUnder([items(0, 20)], ORDER)),
 ))
+# Pieces of texts that are mostly no JSON.
+PIECES = (
+    *'{}[],:"\\01-.eE+ \n\t\r\x00\x7fx', "\\u", "\\ud83d", "\\ude00", "\\udc00", "dbff", "\\n", "\\q", "true", "false", "null", "nul",
+    '"a"', '"a":', '{"a":1}', "[1]", "\u00e9", "\U0001f600", "\ufeff",
+)
+VALUES = ("0", "[]", "[1, {}]", '"\u00e9"', '{"k1": 1, "k1": 2}', "null")
 
 
 def some(dice):
@@ -37,15 +44,28 @@ def some(dice):
 
 
 def large():
-    """Pages with as many lines as there may be, of more than 64 KiB: valid, and with three faults in each line."""
+    """Pages with as many lines as there may be, of more than 64 KiB: valid, and with three faults in each line; wide pages; and short
+    texts that are mostly no JSON."""
     for line, words in (("P\u00e9", 1, 1), ()), (("Q", 0, 10_000), ()), (("Q", 0, 10_000), ("2500",)):
         lines = [dict(zip(("code", "count", "cents"), line))] * 50
         order = {"customer": "x" * 80, "delivery": "post", "address": "y" * 200, "lines": lines}
         yield Case(words, json.dumps({"number": 1, "entries": [order] * 20}, indent=8).encode())
+    dice = random.Random(1)
+    for form in placed.FORMATS * 4:
+        yield Case(("--format", form), wide(dice).encode())
+    for form in placed.FORMATS * 200:
+        yield Case(("--format", form), "".join(dice.choice(PIECES) for _ in range(dice.randint(0, 9))).encode())
+
+
+def wide(dice):
+    """A page with hundreds of unknown members, some of one name, in one line or in many."""
+    names = [f"k{dice.randrange(600)}" for _ in range(dice.randint(100, 500))]
+    end = dice.choice((",", ", ", ",\r\n", "\t,\n"))
+    members = ['"number":1', '"entries": []', *(f'"{name}":{dice.choice(VALUES)}' for name in names)]
+    return "{" + end.join(dice.sample(members, len(members))) + "}"
 
 
 def confirmed(order):
-    """What confirms a valid order."""
     place = f"by post to {quoted(order['address'])}" if order["delivery"] == "post" else "at the counter"
     yield f"{quoted(order['customer'])}: {quoted(order['lines'][0]['code'])} .., {place}\n"
     for it in order["lines"]:

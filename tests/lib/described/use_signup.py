@@ -10,6 +10,7 @@ from lib.faults import ALPHANUMERIC, REQUIRED, between, chars, fault, items, len
 from lib.form import Checked, Closed, ListUnder, Member, Object, OneOf, Optional, OrEmpty, Parsed, Text, Under, read
 from lib.json_values import Pairs
 from lib.reports import lines, quoted
+from lib.requests import bytes_of, requests_of
 from lib.spoiled import many, missing, renamed, repeated, some_bytes, some_of, unknown, wrong_type
 
 PASSWORDS = ("analytical engine", "é" * 128, "a+b=c&d%e f?")
@@ -88,7 +89,7 @@ def some(dice):
     if dice.random() < 0.6:
         return Case((*languages.some_words(dice), *dice.choice(((), ("--page",)))), body, ways)
     requests = [sign_up_service.some_request(dice, it) for it in (body, *(some_body(dice)[0] for _ in range(dice.choice((0, 0, 1, 2)))))]
-    return Case(SERVE, b"".join(map(sign_up_service.bytes_of, requests)), ways)
+    return Case(SERVE, b"".join(map(bytes_of, requests)), ways)
 
 
 def fields_of(body):
@@ -117,7 +118,6 @@ def page_of(tag, fields, faults, language):
 
 
 def language_of(tag):
-    """The texts of faults in a language."""
     return {**languages.of_tag(tag), "terms": WORDS[tag.split("-")[0]][1]}
 
 
@@ -137,19 +137,19 @@ def knows(case):
 
 
 def body_of(case):
-    return [*sign_up_service.requests_of(case.given)][-1].body if "--serve" in case.words else case.given
+    return [*requests_of(case.given)][-1].body if "--serve" in case.words else case.given
 
 
 def with_body(case, body):
     if "--serve" not in case.words:
         return case._replace(given=body)
-    *first, last = sign_up_service.requests_of(case.given)
-    return case._replace(given=b"".join(map(sign_up_service.bytes_of, (*first, last._replace(body=body)))))
+    *first, last = requests_of(case.given)
+    return case._replace(given=b"".join(map(bytes_of, (*first, last._replace(body=body)))))
 
 
 def wanted(case):
     if "--serve" in case.words:
-        return 0, b"".join(sign_up_service.answered(it, served) for it in sign_up_service.requests_of(case.given)), b""
+        return 0, b"".join(sign_up_service.answered(it, served) for it in requests_of(case.given)), b""
     tag = languages.spoken(case.words)[1]
     if tag is None:
         return 2, b"", pattern(f"use_signup: {languages.unknown()}\n")
