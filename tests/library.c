@@ -170,6 +170,36 @@ static void try_checker(void) {
   expect(blocks == before && !checker.room && !checker.has_room, "a freed checker holds nothing");
 }
 
+/* How many requests for memory a check makes. */
+static long requests_of(order_checker *checker, const char *body) {
+  requests = 0;
+  checked(checker, body, SIZE_MAX);
+  return requests;
+}
+
+/* Room that was made is there at the first check, and room of a check at the next one: then a valid body takes room for its list of
+ * lines alone. Where no room can be made, the answer is ORDER_MEMORY. */
+static void try_reserved(void) {
+  order_checker empty = ORDER_CHECKER_EMPTY, ready = ORDER_CHECKER_EMPTY;
+  expect(order_reserve(&ready, 4096) == ORDER_VALID, "room is made");
+  expect(requests_of(&ready, GOOD) < requests_of(&empty, GOOD), "the room is there at the first check");
+  for (int i = 0; i < 1000; i++) {
+    checked(&ready, BAD, SIZE_MAX);
+    expect(requests_of(&ready, GOOD) == 1, "a valid body takes room for its list alone");
+  }
+  order_free(&ready);
+  for (refused = 1; refused < 100; refused++) {
+    requests = 0;
+    int status = order_reserve(&ready, 4096);
+    bool was_refused = requests >= refused;
+    expect(status == (was_refused ? ORDER_MEMORY : ORDER_VALID), "no room is ORDER_MEMORY");
+    order_free(&ready);
+    if (!was_refused) break;
+  }
+  refused = 0;
+  order_free(&empty);
+}
+
 static void *in_thread(void *given) {
   const char *body = given;
   order_checker checker = ORDER_CHECKER_EMPTY;
@@ -211,6 +241,7 @@ int main(int count, char **words) {
     try_memory("nope", kept);
   }
   try_checker();
+  try_reserved();
   try_threads();
   try_calls();
   return wrong != 0;
