@@ -1,6 +1,4 @@
 //! The input that a command line names.
-ghost use Rattle.std.specs.Prelude.{◌≡◌};
-ghost use Rattle.garde_tape.specs.Input.{without_mark};
 
 use anyhow::{Context, Result, bail};
 use std::fs;
@@ -27,15 +25,5 @@ pub fn read_input(rt: &HostRuntime, file: Option<&str>) -> Result<Vec<u8>> {
     match fs::read(rt, name) {
         Ok(bytes) => Ok(bytes),
         Err(error) => bail!("{name:?}: {error}"),
-    }
-}
-
-/// The bytes behind a byte order mark (RFC 8259, section 8.1), where the input begins with one.
-pub fn without_mark(input: &[u8]) -> &[u8]
-    ensures { result.now ≡ without_mark input.now }
-{
-    match input {
-        [0xEF, 0xBB, 0xBF, rest @ ..] => rest,
-        _ => input,
     }
 }

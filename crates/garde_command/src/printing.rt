@@ -1,11 +1,11 @@
 //! The faults of an input, printed.
 
-use crate::input::without_mark;
 use crate::program::NOT_JUDGED;
 use anyhow::{Error, Result};
 use garde_places::{Fault, Printed, Stop, faults_of, stop_of};
 use garde_problem::{Escaped, coded_message};
 use garde_report::{Path, Report};
+use garde_tape::without_mark;
 use std::process::ExitCode;
 
 /// Prints faults, each in a line with its place, and returns status 1.

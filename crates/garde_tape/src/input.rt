@@ -3,8 +3,8 @@ ghost use Rattle.std.specs.Prelude.{◌≡◌, Some};
 ghost use Rattle.json.specs.Json.{Json, document};
 ghost use Rattle.garde_tape.specs.Input.{without_mark};
 
-// The bytes behind a byte order mark (RFC 8259, section 8.1), where the input begins with one.
-pub(crate) fn without_mark(input: &[u8]) -> &[u8]
+/// The bytes behind a byte order mark (RFC 8259, section 8.1), where the input begins with one.
+pub fn without_mark(input: &[u8]) -> &[u8]
     ensures { result.now ≡ without_mark input.now }
 {
     match input {

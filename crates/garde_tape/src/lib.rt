@@ -32,7 +32,7 @@ mod tree;
 
 pub use field::FieldValue;
 pub use found::Found;
-pub use input::json_has_no_mark;
+pub use input::{json_has_no_mark, without_mark};
 pub use items::TreeItems;
 pub use kind::Kind;
 pub use members::TreeMembers;

@@ -2,9 +2,10 @@
 
 use crate::tests::report::samples::{places_in_lines, report_of};
 use crate::tests::{OrEnd, is_text};
-use garde_command::{Asked, Spoken, Word, parted, without_mark};
+use garde_command::{Asked, Spoken, Word, parted};
 use garde_places::{Format, Place, Printed, faults_of, listed_faults_of, stop_of_utf8};
 use garde_report::{Path, Report};
+use garde_tape::without_mark;
 use std::alloc::Global;
 use std::process::Abort;
 
