@@ -10,7 +10,6 @@ HELD = r"\b(Each|IfSome|WithMessage)\s*\("
 def of_pair(place, coded, pair):
     """The causes that a pair has the look of."""
     stated = " ".join(it.piece.blank for it in pair.stated)
-    body = coded.bodies[pair.at]
     lets, code = code_of(coded, pair)
     yield from of_constructors(coded, pair)
     if "==" in stated:
@@ -20,12 +19,12 @@ def of_pair(place, coded, pair):
     if re.search(r"\bof_option\b", stated) and re.search(r"\bIfSome\b", code):
         yield "`of_option` in `visits` is a rule of the whole option; `IfSome(..)` is `if_some`"
     yield from of_conditions(place, lets, code)
-    yield from of_call(place, body)
+    yield from of_call(place, pair.case.body)
 
 
 def code_of(coded, pair):
     """The names that the code of a pair may use, each with what it stands for, and that code with what its names stand for."""
-    lets = {**dict(coded.body.lets()), **coded.bodies[pair.at].lets()}
+    lets = {**coded.body.lets(), **pair.case.body.lets()}
     code = " ".join(it.piece.blank for it in pair.coded)
     return lets, code + " " + " ".join(lets[name].blank for name in lets if re.search(rf"\b{name}\b", code))
 
@@ -57,7 +56,7 @@ def of_whole(place, stated, coded, pairs):
     """The causes that a type has the look of whose parts all agree."""
     for pair in pairs:
         yield from of_constructors(coded, pair)
-    yield from dict.fromkeys(it for body in coded.bodies for it in of_call(place, body))
+    yield from dict.fromkeys(it for case in coded.cases for it in of_call(place, case.body))
     for case, other in zip_cases(stated, coded):
         if case.shape != other.shape:
             where = f" of the variant `{case.variant}`" if case.variant else ""

@@ -1,6 +1,6 @@
 """What the code of a type checks: its parts, and of an enum the arms."""
 import re
-from dataclasses import dataclass, field
+from dataclasses import dataclass
 
 from .spans import Span
 from .stated import TEXT, Case, Part
@@ -39,32 +39,22 @@ class Body:
 
 @dataclass
 class Coded:
-    """What the code checks: its body, its cases with the body of each, and of an enum what is matched. A case without a call
-    of `visit` has no parts that could stand alone."""
+    """What the code checks: its body, its cases, and of an enum what is matched. A case without a call of `visit` has no parts that
+    could stand alone."""
 
     body: Body
-    cases: list = field(default_factory=list)
-    bodies: list = field(default_factory=list)
+    cases: list
     matched: str = ""
 
 
 def read_coded(place):
     """Reads the body of `validate_into`."""
-    item = place.code
-    body = body_of(place.span(item.body, item.end))
-    found = Coded(body)
+    body = body_of(place.span(place.code.body, place.code.end))
     arms = arms_of(body.last)
     if arms is None:
-        found.cases, found.bodies = [case_of(body)], [body]
-        return found
-    found.matched = body.last.text[: body.last.flat.rindex("{") + 1]
-    for pattern, inner in arms:
-        case = case_of(inner, body)
-        case.pattern = pattern.text
-        case.variant = re.match(r"(?:\w+\s*::\s*)*(\w+)", pattern.blank)[1]
-        found.cases.append(case)
-        found.bodies.append(inner)
-    return found
+        return Coded(body, [case_of(body)])
+    matched = body.last.text[: body.last.flat.rindex("{") + 1]
+    return Coded(body, [case_of(inner, body, pattern) for pattern, inner in arms], matched)
 
 
 def body_of(span):
@@ -100,14 +90,16 @@ def arms_of(last):
     return arms
 
 
-def case_of(body, outer=None):
-    """The parts of a body that ends with a call of `visit`; of another one its whole as one part."""
-    lets = {**(outer.lets() if outer else {}), **body.lets()}
+def case_of(body, outer=None, pattern=None):
+    """The parts of a body that ends with a call of `visit`; of another one its whole as one part. `outer` is what the body is an arm of."""
+    variant = re.match(r"(?:\w+\s*::\s*)*(\w+)", pattern.blank)[1] if pattern else ""
+    pattern = pattern.text if pattern else ""
     if not body.call:
         part = whole_part(body.last)
-        return Case([part] if part else [], [1] if part else [], piece=body.last)
+        return Case([part] if part else [], [1] if part else [], body.last, variant, pattern, body)
     fields = body.last.part(0, len(body.last.text) - len(body.call))
-    return Case(*parts_of(fields, lets), piece=body.last)
+    lets = {**(outer.lets() if outer else {}), **body.lets()}
+    return Case(*parts_of(fields, lets), body.last, variant, pattern, body)
 
 
 def parts_of(span, lets):

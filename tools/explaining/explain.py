@@ -13,7 +13,7 @@ from . import answers, causes, forms, said
 from .coded import read_coded
 from .functions import Functions
 from .pairs import pairs_of
-from .place import Unknown
+from .place import Unknown, crate_in
 from .stated import read_stated
 
 ERROR = re.compile(r"(?:\./)?((?:src|specs)/\S+?):(\d+):\d+: error(?:\[[\w-]+\])?: (.*)|error\b.*")
@@ -37,6 +37,26 @@ MOST = 5
 UNFIT = re.compile(r"the method `visit(?:_of)?` exists for .*, but its bounds are not met|the method call `\.visit(?:_of)?\(\)` on type ")
 
 
+# a file of parts
+ANSWERS = """use Rattle.std.proofs.Common.{{rules}}
+use Rattle.garde.proofs.Author.{{as_stated, part, ◌also◌}}
+use {module}.Goals as goal
+
+pub returns : goal.returns
+returns g c = as_stated c.{call}.ensures (
+    {rows}
+    )
+"""
+
+
+def errors_in(lines):
+    return [it for it in map(ERROR.fullmatch, lines) if it]
+
+
+def first(errors):
+    return [*dict.fromkeys(errors)][:MOST]
+
+
 class Type:
     """A type with what it states and its code, part by part."""
 
@@ -44,7 +64,7 @@ class Type:
         self.place, self.stated, self.coded = place, read_stated(place), read_coded(place)
         if bool(self.stated.head) != bool(self.coded.matched):
             sides = ("`visits` goes by variants", "the code") if self.stated.head else ("the code goes by variants", "`visits`")
-            raise Unknown(f"{place.file}:{place.visits_line}: {sides[0]}, and {sides[1]} does not in a form that the command reads")
+            raise Unknown(place.line(f"{sides[0]}, and {sides[1]} does not in a form that the command reads"))
         self.refuse_unnamed()
         self.pairs, self.differences = pairs_of(self.stated, self.coded)
         self.functions = Functions(place, self.stated, self.coded, self.pairs)
@@ -53,8 +73,8 @@ class Type:
         """Refuses a statement that names no field, of code that does: a definition of its own, which the command does not read."""
         for case, other in causes.zip_cases(self.stated, self.coded):
             if case.parts and all(it.key is None for it in case.parts) and any(it.key is not None for it in other.parts):
-                text = f"`visits` is `{case.piece.shown}`, which names no field, and the code names some"
-                raise Unknown(f"{self.place.file}:{case.piece.line}: {text}: the command compares `field \"name\" (..)` with `Field(\"name\", ..)`")
+                text = f"`visits` is `{case.piece.shown}`, which names no field, and the code names some: the command compares"
+                raise Unknown(said.line(self.place, case.piece, f"{text} `field \"name\" (..)` with `Field(\"name\", ..)`"))
 
     def differing(self):
         """The lines of what differs without the prover."""
@@ -62,18 +82,16 @@ class Type:
 
     def unread(self):
         """The lines of the variants that are not found once on each side."""
-        sides = ([it.variant for it in cases] for cases in (self.stated.cases, self.coded.cases))
-        left, right = sides
+        left, right = ([it.variant for it in side.cases] for side in (self.stated, self.coded))
         odd = dict.fromkeys(it for it in [*left, *right] if (left.count(it), right.count(it)) != (1, 1))
-        return [f"{self.place.file}:{self.place.visits_line}: variant `{it}`: the command does not find it once in `visits` and once in the code" for it in odd]
+        return [self.place.line(f"variant `{it}`: the command does not find it once in `visits` and once in the code") for it in odd]
 
     def verdicts(self, lines, check):
         """What a check of the functions of the parts says of each. Where the search gave up, the prover is asked once more under the
         files that it asks for: a part that it then accepts is proved."""
-        known = verdicts(lines)
-        files = answers.files(self.place.crate, lines)
-        paths = [it for it in self.functions.paths() if known.get(f"{self.place.crate}::{it}") == OPEN]
-        paths = [it for it in paths if f"proofs/{it.replace('::', '/')}/Answers.antt" in files]
+        known, files = verdicts(lines), answers.files(self.place.crate, lines)
+        paths = [it for it in self.functions.paths() if f"proofs/{it.replace('::', '/')}/Answers.antt" in files]
+        paths = [it for it in paths if known.get(f"{self.place.crate}::{it}") == OPEN]
         if paths:
             again = verdicts(check(paths, {self.place.file: self.functions.text(), **files}))
             known.update({name: it for name, it in again.items() if it == PROVED})
@@ -100,7 +118,7 @@ class Type:
     def said_of_pairs(self, lines):
         """The first error of the function of each pair, without its place there and without advice."""
         found = {}
-        for it in filter(None, map(ERROR.fullmatch, lines)):
+        for it in errors_in(lines):
             pair = self.functions.pair_at(int(it[2])) if it[1] == self.place.file else None
             if pair:
                 found.setdefault(pair, re.sub(r"^`visits-value`: |: (?:add|help:) .*", "", it[3]))
@@ -108,26 +126,19 @@ class Type:
 
     def errors(self, lines):
         """The errors of a check that did not come to the parts, those of the author's own lines first."""
-        most = self.place.plain.text.count("\n") + 1
-        found = [it for it in map(ERROR.fullmatch, lines) if it]
+        most, found = self.place.plain.text.count("\n") + 1, errors_in(lines)
         own = [it[0] for it in found if it[1] and (it[1] != self.place.file or int(it[2]) <= most)]
-        return bool(own), list(dict.fromkeys(own or [it[0] for it in found]))[:5]
+        return bool(own), first(own or [it[0] for it in found])
 
     def answers(self):
         """The file of parts that the prover takes in place of its own search, and its name. None for an enum."""
-        pairs, names, call = self.pairs, self.place, re.match(r"\.\s*(visit\w*)", self.coded.body.call)
+        pairs, call = self.pairs, re.match(r"\.\s*(visit\w*)", self.coded.body.call)
         if self.stated.head or not call or not pairs or any(len(it.stated) != 1 or it.is_whole for it in pairs):
             return None
-        module = ".".join(["Rattle", names.crate, "proofs", *names.modules, f"{names.type_name}Validate", "validate_into"])
+        path = f"proofs/{self.place.function().replace('::', '/')}/Answers.antt"
         rows = [f"part (search rules)  -- {it.stated[0].key or 'the value'}" for it in pairs]
-        text = (
-            "use Rattle.std.proofs.Common.{rules}\n"
-            "use Rattle.garde.proofs.Author.{as_stated, part, ◌also◌}\n"
-            f"use {module}.Goals as goal\n\n"
-            f"pub returns : goal.returns\nreturns g c = as_stated c.{call[1]}.ensures (\n    "
-            + "\n    also ".join(rows) + "\n    )\n"
-        )
-        return f"proofs/{'/'.join(module.split('.')[3:])}/Answers.antt", text
+        module = answers.module(self.place.crate, path)
+        return path, ANSWERS.format(module=module, call=call[1], rows="\n    also ".join(rows))
 
 
 class Room:
@@ -141,19 +152,13 @@ class Room:
     def __enter__(self):
         self.folder = tempfile.TemporaryDirectory(prefix="why-")
         self.at = pathlib.Path(self.folder.name, "crate")
-        if self.kept is None:
-            self.kept = pathlib.Path(self.folder.name, "kept")
-            self.begin()
         self.at.mkdir()
         prover.copied(self.place.folder, self.at)
+        if self.kept is None:
+            self.kept = pathlib.Path(self.folder.name, "kept")
+            earlier = self.place.folder / "out/incremental"
+            shutil.copytree(earlier, self.kept, symlinks=True) if earlier.is_dir() else self.kept.mkdir()
         return self
-
-    def begin(self):
-        """Begins with what earlier checks of the crate kept."""
-        kept = self.place.folder / "out/incremental"
-        if kept.is_dir():
-            shutil.copytree(kept, self.kept, symlinks=True)
-        self.kept.mkdir(exist_ok=True)
 
     def __exit__(self, *_):
         self.folder.cleanup()
@@ -182,20 +187,14 @@ class Room:
 
 def explain(it, check):
     """What differs in a type, where `check` gives the lines of a check of functions under texts of files."""
-    place, lines = it.place, [*it.unread(), *it.differing()]
+    lines, opened, unjudged = [*it.unread(), *it.differing()], [], []
     if it.pairs:
-        printed = check(it.functions.paths(), {place.file: it.functions.text()})
+        printed = check(it.functions.paths(), {it.place.file: it.functions.text()})
         opened, unjudged = it.opened(printed, it.verdicts(printed, check))
         if len(unjudged) == len(it.pairs):
             return uncompiled(it, lines, printed, unjudged)
         lines += [*opened, *unjudged, *imports(unjudged)]
-        if opened or it.differences:
-            return Answer(1, lines)
-        if unjudged:
-            return Answer(2, lines)
-    if lines:
-        return Answer(1 if it.differences else 2, lines)
-    return whole(it, check)
+    return Answer(1 if opened or it.differences else 2, lines) if lines else whole(it, check)
 
 
 def uncompiled(it, lines, printed, unjudged=()):
@@ -212,21 +211,19 @@ def at_once(it, quick):
     """What differs in a type of a crate that does not compile, where `quick` gives the lines of the compiler's quick pass under texts of
     files. Of one that compiles nothing."""
     printed = quick({it.place.file: it.functions.text()})
-    if not any(map(ERROR.fullmatch, printed)):
-        return None
-    return uncompiled(it, [*it.unread(), *it.differing()], printed)
+    return uncompiled(it, [*it.unread(), *it.differing()], printed) if errors_in(printed) else None
 
 
 def formed(place, told, quick):
     """What to say of a type that a form reads, and that has no code to compare: what the quick pass says of the crate, and of its forms
     the members whose values are not the parts of their type."""
-    printed = [it for it in map(ERROR.fullmatch, quick({})) if it]
+    printed = errors_in(quick({}))
     if not printed:
         return Answer(2, [told])
     found = list(forms.differences(place.folder))
     if found:
         return Answer(1, found)
-    errors = [*dict.fromkeys(it[0] for it in printed)][:MOST]
+    errors = first(it[0] for it in printed)
     return Answer(2, [f"{place.name()}: the crate does not compile:", *errors, *imports(errors)])
 
 
@@ -240,9 +237,7 @@ def top_of(folder):
 
 def look(folder):
     """What the compiler says of a crate, by its quick pass, behind the members of forms whose values are not the parts of their type."""
-    folder = folder.resolve()
-    if not (folder / "src").is_dir():
-        raise Unknown(f"{folder}: there is no crate in it: it has no folder `src`")
+    folder = crate_in(folder)
     printed = prover.quick(folder.name, folder, top_of(folder))
     if not printed or printed[-1].startswith("only="):
         return Answer(0, [f"{folder.name}: it compiles. Nothing of it is proved by that"])
@@ -251,14 +246,16 @@ def look(folder):
 
 def unlisted(folder, errors):
     """What to do about crates that the crate's line does not list."""
-    found = [one or other for it in errors for one, other in UNLISTED.findall(it)]
-    return [f"crates.txt: the line of {folder.name} may lack {' '.join(dict.fromkeys(found))}: write them there, and call `tools/vendor FOLDER` in the clone of garde again"] if found else []
+    found = dict.fromkeys(one or other for it in errors for one, other in UNLISTED.findall(it))
+    told = f"crates.txt: the line of {folder.name} may lack {' '.join(found)}: write them there, and call `tools/vendor FOLDER` in the clone of garde again"
+    return [told] if found else []
 
 
 def lacks(folder, errors):
     """What to do about what a copy of the libraries lacks, in which what was not needed is left out."""
     is_cut = any(LEFT_OUT in it.read_text(encoding="utf-8", errors="replace") for it in folder.parent.glob("garde*/src/lib.rt"))
-    return ["your copy of garde may lack this: call `tools/vendor FOLDER` in the clone of garde again, which adds what your crates need now"] if is_cut and any(map(LACKS.search, errors)) else []
+    told = "your copy of garde may lack this: call `tools/vendor FOLDER` in the clone of garde again, which adds what your crates need now"
+    return [told] if is_cut and any(map(LACKS.search, errors)) else []
 
 
 def imports(errors):
@@ -273,7 +270,7 @@ def whole(it, check):
     known, printed = f"{place.crate}::{path}", check([path], {place.file: place.plain.text})
     if verdicts(printed).get(known) == PROVED:
         return Answer(0, [f"{place.name()}: the prover accepts it"])
-    agrees = f"{place.file}:{place.visits_line}: each part of `{place.type_name}` agrees, and the prover does not accept the whole"
+    agrees = place.line(f"each part of `{place.type_name}` agrees, and the prover does not accept the whole")
     found = [f"  it may be this: {text} ({causes.PAGE})" for text in causes.of_whole(place, it.stated, it.coded, it.pairs)]
     tried = [*answers.files(place.crate, printed).items(), *filter(None, [it.answers()])] if not found else []
     for file, text in tried:

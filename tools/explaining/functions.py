@@ -85,20 +85,16 @@ class Functions:
         said = " and ".join(it.piece.text for it in pair.stated) or f"{self.words}.none"
         if not self.stated.head:
             return said
-        cases = [
-            f"| {case.pattern} ↦ {said if at == pair.stated_at else f'{self.words}.none'}" for at, case in enumerate(self.stated.cases)
-        ]
+        cases = [f"| {case.pattern} ↦ {said if case is pair.said else f'{self.words}.none'}" for case in self.stated.cases]
         return f"{self.stated.head} {' '.join(cases)} ]"
 
     def body(self, pair):
         outer = self.coded.body
         if not self.coded.matched:
             return braced(*self.checks(pair, outer))
-        statements, last = self.checks(pair, self.coded.bodies[pair.at])
+        statements, last = self.checks(pair, pair.case.body)
         wanted = outer.wanted(*statements, last, self.coded.matched)
-        arms = [
-            f"{case.pattern} => {braced(statements, last) if at == pair.at else NOTHING}" for at, case in enumerate(self.coded.cases)
-        ]
+        arms = [f"{case.pattern} => {braced(statements, last) if case is pair.case else NOTHING}" for case in self.coded.cases]
         return braced([it.text for it in wanted], f"{self.coded.matched} {' '.join(arms)} }}")
 
     def checks(self, pair, body):

@@ -60,9 +60,9 @@ class Place:
         """The path of its function under the crate, or of that of another trait, as the prover has it."""
         return "::".join([*self.modules, f"{self.type_name}{trait}", "validate_into"])
 
-    @property
-    def visits_line(self):
-        return self.plain.line_of(self.visits.head)
+    def line(self, text):
+        """What is said at the line of `visits`."""
+        return f"{self.file}:{self.plain.line_of(self.visits.head)}: {text}"
 
     def name(self):
         return "::".join([*self.modules, self.type_name])
@@ -78,21 +78,22 @@ def stating(folder):
         text = path.read_text(encoding="utf-8", errors="replace")
         if STATED.search(text):
             plain = Plain(text)
-            blocks = [it for it in plain.items.items if it.kind == "impl" and STATED.search(plain.items.header(it))]
-            found += [it for it in (place(folder, path, plain, block) for block in blocks) if it]
+            found += [it for block in blocks_of(plain.items, STATED) for it in place(folder, path, plain, block)]
     return found
 
 
+def blocks_of(items, trait):
+    return [it for it in items.items if it.kind == "impl" and trait.search(items.header(it))]
+
+
 def place(folder, path, plain, stated):
-    """A type that states its rules, or None where the block lacks them."""
+    """The type of a block, where it states its rules once and has code once at most."""
     visits = [it for it in stated.members if it.kind == "ghost" and it.name == "visits"]
-    name = paths.name_of_block(plain.items, stated).removesuffix("Stated")
-    blocks = [it for it in plain.items.items if it.kind == "impl" and TRAIT.search(plain.items.header(it))]
-    blocks = [it for it in blocks if paths.name_of_block(plain.items, it) == f"{name}Validate"]
+    wanted = paths.name_of_block(plain.items, stated).removesuffix("Stated") + "Validate"
+    blocks = [it for it in blocks_of(plain.items, TRAIT) if paths.name_of_block(plain.items, it) == wanted]
     code = [(block, it) for block in blocks for it in block.members if it.kind == "fn" and it.name == "validate_into"]
-    if len(visits) != 1 or len(code) > 1:
-        return None
-    return Place(folder, str(path.relative_to(folder)), plain, stated, visits[0], *(code[0] if code else ()))
+    if len(visits) == 1 and len(code) <= 1:
+        yield Place(folder, str(path.relative_to(folder)), plain, stated, visits[0], *(code[0] if code else ()))
 
 
 def places(folder):
@@ -100,11 +101,16 @@ def places(folder):
     return [it for it in stating(folder) if it.code]
 
 
-def find(folder, name):
-    """The type of a crate that a path names, from its end on."""
+def crate_in(folder):
     folder = folder.resolve()
     if not (folder / "src").is_dir():
         raise Unknown(f"{folder}: there is no crate in it: it has no folder `src`")
+    return folder
+
+
+def find(folder, name):
+    """The type of a crate that a path names, from its end on."""
+    folder = crate_in(folder)
     every = stating(folder)
     wanted = [it for it in name.split("::") if it not in ("", "crate", folder.name)]
     fit = [it for it in every if it.name().split("::")[-len(wanted) :] == wanted] if wanted else []
@@ -113,7 +119,7 @@ def find(folder, name):
         return coded[0]
     if len(fit) == 1:
         text = "has `impl Stated` and no `impl Validate`, so there is no code to compare"
-        raise Formed(fit[0], f"{fit[0].file}:{fit[0].visits_line}: `{fit[0].type_name}` {text}: a form of it is compared where `Valid::known` stands")
+        raise Formed(fit[0], fit[0].line(f"`{fit[0].type_name}` {text}: a form of it is compared where `Valid::known` stands"))
     known = ", ".join(it.name() for it in every if it.code) or "none"
     said = "several types" if coded else "no type"
     raise Unknown(f"{folder.name}: {said} of the name `{name}` with `impl Validate`: it has {known}")

@@ -19,12 +19,11 @@ def asked(pair):
 
 def checked(pair, coded):
     """What the code checks of a pair, with the value where it has another name, and the checks that it has names for."""
-    body = coded.bodies[pair.at]
     texts, values, names = [], [], {}
     for it in pair.coded:
         texts.append((it.asked if len(pair.coded) == 1 else it.piece).shown)
         values += [it.of] if is_odd(it, pair) else []
-        names.update((name, span) for one in (coded.body, body) for name, span in one.named(it.asked.blank) if name != it.of)
+        names.update((name, span) for one in (coded.body, pair.case.body) for name, span in one.named(it.asked.blank) if name != it.of)
     of = f" of `{values[0]}`" if values else ""
     where = " and ".join(f"`{name} = {span.shown}`" for name, span in names.items())
     return f"`{', '.join(texts)}`{of}" + (f" with {where}" if where else "")
@@ -37,37 +36,28 @@ def is_odd(it, pair):
 
 
 def difference(place, coded, it):
-    """The line of a part whose name or place differs."""
-    pair = it.pair
-    first = (pair.stated or pair.coded)[0].piece
-    if it.kind == "unstated":
-        return line(place, first, f"{title(pair)}: the code checks {checked(pair, coded)}, `visits` does not ask it")
-    said = f"{title(pair)}: `visits` asks `{asked(pair)}`"
-    if it.kind == "missing":
-        return line(place, first, f"{said}, the code does not check it")
-    at = pair.coded[0].piece.line
-    if it.kind == "name":
-        return line(place, first, f"{said}, the code checks {checked(pair, coded)} under the name `{pair.coded[0].key}` (line {at})")
-    before = it.before
+    """The line of a part whose name or place differs, or that one side lacks."""
+    pair, before = it.pair, it.before
+    if not before:
+        return opened(place, coded, pair, f" under the name `{pair.coded[0].key}`" if pair.coded else "")
     other = "the value" if before.key is None else f"`{before.key}`"
-    return line(place, first, f"{title(pair)}: the code has {other} in its place (line {before.piece.line})")
+    return line(place, pair.stated[0].piece, f"{title(pair)}: the code has {other} in its place (line {before.piece.line})")
 
 
-def opened(place, coded, pair):
+def opened(place, coded, pair, name=""):
     """The line of a part of which the prover does not see that both sides agree."""
     first = (pair.stated or pair.coded)[0].piece
     if not pair.stated:
         return line(place, first, f"{title(pair)}: the code checks {checked(pair, coded)}, `visits` does not ask it")
+    said = f"{title(pair)}: `visits` asks `{asked(pair)}`"
     if not pair.coded:
-        return line(place, first, f"{title(pair)}: `visits` asks `{asked(pair)}`, the code does not check it")
-    at = pair.coded[0].piece.line
-    return line(place, first, f"{title(pair)}: `visits` asks `{asked(pair)}`, the code checks {checked(pair, coded)} (line {at})")
+        return line(place, first, f"{said}, the code does not check it")
+    return line(place, first, f"{said}, the code checks {checked(pair, coded)}{name} (line {pair.coded[0].piece.line})")
 
 
 def unfit(place, coded, pair):
     """The line of a part whose check does not fit the type of its value."""
-    piece = pair.coded[0].piece
-    return line(place, piece, f"{title(pair)}: the check {checked(pair, coded)} does not fit the type of this field")
+    return line(place, pair.coded[0].piece, f"{title(pair)}: the check {checked(pair, coded)} does not fit the type of this field")
 
 
 def unjudged(place, pair, why):

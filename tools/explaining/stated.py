@@ -1,6 +1,6 @@
 """What `visits` states of a type: its parts, and of an enum the cases."""
 import re
-from dataclasses import dataclass, field
+from dataclasses import dataclass
 
 from .place import Unknown
 from .spans import Span
@@ -23,13 +23,14 @@ class Part:
 
 @dataclass
 class Case:
-    """The parts of a struct, or of a variant with its name and its pattern. `shape` is how they nest."""
+    """The parts of a struct, or of a variant with its name and its pattern; `shape` is how they nest. Of code it has its body."""
 
     parts: list
     shape: list
+    piece: Span
     variant: str = ""
     pattern: str = ""
-    piece: Span = None
+    body: object = None
 
 
 @dataclass
@@ -37,7 +38,7 @@ class Stated:
     """What `visits` states: the names behind its λ, its cases, and of an enum what stands in front of them."""
 
     names: str
-    cases: list = field(default_factory=list)
+    cases: list
     head: str = ""
 
 
@@ -50,27 +51,22 @@ def read_stated(place):
     found = re.match(r"λ\s*([^.]*)\.", body.blank)
     if not found:
         raise Unknown(f"{place.file}:{whole.line}: `visits` is `{body.shown}`, which has no parts that the command could compare")
-    stated, inner = Stated(found[1].strip()), body.part(found.end(), len(body.blank))
-    if re.match(r"elim\b", inner.blank):
-        read_cases(place, stated, inner)
-    else:
-        stated.cases.append(Case(*parts_of(inner), piece=inner))
-    return stated
-
-
-def read_cases(place, stated, inner):
-    flat = inner.flat
-    at = flat.rindex("[") if "[" in flat else -1
-    cases = inner.part(at, len(flat)).inside("[") if at > 0 else None
+    names, inner = found[1].strip(), body.part(found.end(), len(body.blank))
+    if not re.match(r"elim\b", inner.blank):
+        return Stated(names, [Case(*parts_of(inner), inner)])
+    at = inner.flat.rfind("[")
+    cases = inner.part(at, len(inner.flat)).inside("[") if at > 0 else None
     if cases is None:
         raise Unknown(f"{place.file}:{inner.line}: `visits` begins with `elim` and has no cases that the command can read")
-    stated.head = inner.text[: at + 1]
-    for case in cases.split(r"\|"):
-        arrow = case.flat.find("↦")
-        pattern, body = case.part(0, arrow), case.part(arrow + 1, len(case.blank))
-        if arrow < 0 or not re.match(r"\w+'?", pattern.blank):
-            raise Unknown(f"{place.file}:{case.line}: a case of `visits` that the command cannot read: `{case.shown}`")
-        stated.cases.append(Case(*parts_of(body), pattern.blank.split()[0], pattern.text, body))
+    return Stated(names, [read_case(place, it) for it in cases.split(r"\|")], inner.text[: at + 1])
+
+
+def read_case(place, case):
+    arrow = case.flat.find("↦")
+    pattern, body = case.part(0, arrow), case.part(arrow + 1, len(case.blank))
+    if arrow < 0 or not re.match(r"\w+'?", pattern.blank):
+        raise Unknown(f"{place.file}:{case.line}: a case of `visits` that the command cannot read: `{case.shown}`")
+    return Case(*parts_of(body), body, pattern.blank.split()[0], pattern.text)
 
 
 def parts_of(span):
