@@ -6,7 +6,11 @@ import sys
 import tempfile
 
 HERE = pathlib.Path(__file__).resolve().parent
-CRATES = HERE.parent / "crates"
+sys.path.insert(0, str(HERE.parent / "tests"))
+
+from lib import prover, repository  # noqa: E402
+from lib.prover import CRATES, kit  # noqa: E402, F401
+
 # What each lists, as crates.txt says it of the others.
 LISTED = {
     "bodies": ("garde", "garde_json", "garde_schema", "anyhow", "hex"),
@@ -19,8 +23,6 @@ LISTED = {
     "request": ("garde", "garde_schema", "memchr"),
     "urls": ("garde_i18n", "garde_engines"),
 }
-# The crates below those that a program lists.
-BELOW = ("garde_i18n", "garde_report", "garde_engines", "garde_rules", "garde_tape", "garde_problem")
 
 
 def run(words, room):
@@ -29,16 +31,10 @@ def run(words, room):
         sys.exit(f"the program was not built: {done.stdout[-2000:]}")
 
 
-def kit():
-    """The folder of the toolchain."""
-    said = subprocess.run(["rt", "doc"], check=True, capture_output=True, text=True).stdout
-    return pathlib.Path(said.strip()).parent
-
-
 def sources(folder, room):
     """Copies the files of a program into a folder `src`."""
     source = pathlib.Path(room, "src")
-    source.mkdir()
+    source.mkdir(parents=True)
     for it in (folder if folder.is_absolute() else HERE / folder).glob("*.rt.txt"):
         (source / it.name[: -len(".txt")]).write_text(it.read_text(encoding="utf-8"), encoding="utf-8")
     return source
@@ -49,28 +45,31 @@ def build(folder, is_library=False):
     files and of these libraries changed since. Gives where it lies, in bench/out/."""
     name = f"garde_{pathlib.Path(folder).name}"
     files, made = list((HERE / folder).glob("*.rt.txt")), HERE / "out" / (f"lib{name}.a" if is_library else name)
-    own = [it for it in LISTED[folder] if (CRATES / it).is_dir()]
-    libraries = {it: CRATES / it / "out/rlib" / f"{it}.rlib" for it in (*own, *BELOW)}
+    own = [it for it in LISTED[folder] if it in repository.libraries()]
+    libraries = {it: CRATES / it / "out/rlib" / f"{it}.rlib" for one in own for it in (*repository.below(one), one)}
     for it in own:
         if not libraries[it].exists():
             sys.exit(f"{it} is not built: rt ci builds it")
     if made.is_file() and made.stat().st_mtime > max(it.stat().st_mtime for it in (*files, *libraries.values())):
         return made
     made.parent.mkdir(exist_ok=True)
-    root = ["src/lib.rt", "--crate-type", "staticlib"] if is_library else ["src/main.rt"]
-    words = [kit() / "bin/rattle", "build", "--crate-name", name, *root, "--links", f"{name}=", "--jobs", str(os.cpu_count())]
-    words += ["--antt-project", kit() / "rattle/logic/antt-project.json", "--logic-built", kit() / "logic_built"]
-    words += ["--toolchain", kit() / "toolchain"]
-    for it in ("std", *LISTED[folder]):
-        words += ["--extern", f"{it}={libraries.get(it, kit() / f'rlibs/{it}.rlib')}"]
-    for it in [*(file.parent for file in libraries.values()), kit() / "rlibs"]:
-        words += ["-L", f"dependency={it}"]
     with tempfile.TemporaryDirectory() as room:
-        sources(pathlib.Path(folder), room)
-        run([*words, "-o", made if is_library else f"{room}/made.o"], room)
-        if not is_library:
+        words = [*checked_words(folder, name, pathlib.Path(room)), "--toolchain", kit() / "toolchain"]
+        if is_library:
+            run([*words, "--crate-type", "staticlib", "-o", made], f"{room}/crates/{name}")
+        else:
+            run([*words, "-o", f"{room}/made.o"], f"{room}/crates/{name}")
             link(f"{room}/made.o", made, room)
     return made
+
+
+def checked_words(folder, name, root):
+    """The words of a build of a program, as that of a crate beside the others in a repository in this folder."""
+    sources(pathlib.Path(folder), root / "crates" / name)
+    for it in repository.crates():
+        (root / "crates" / it).symlink_to(CRATES / it)
+    (root / "crates.txt").write_text((CRATES.parent / "crates.txt").read_text() + f"{name}: {' '.join(LISTED[folder])}\n")
+    return prover.command(name, (), os.cpu_count(), root, verb="build")
 
 
 def link(made, program, room):
