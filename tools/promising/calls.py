@@ -20,34 +20,27 @@ STANDARD = set(
 TOKEN = re.compile(r"(?:(\.)\s*|(\w+)(?:::<[^<>]*>)?::)?\b([a-z_]\w*)(\s*(?:::<[^;{}()]*>)?\()?")
 
 
-def header_of(function):
-    """The head of the block that a function stands in, without generics and conditions."""
-    block = function.item.owner
-    words = " ".join(source.without_generics(function.text.header(block)).split())
-    return re.split(r" where\b", words)[0]
+def method_of(function):
+    """A trait and the method of it that the function declares or implements; the trait is empty where it is none of one."""
+    return block_of(function)[0], function.item.name
 
 
 def owner_of(function):
     """The type or trait that a function belongs to, and nothing of one that stands free."""
+    trait, of = block_of(function)
+    return of or trait
+
+
+def block_of(function):
+    """The trait and the type of the block that a function stands in. Each is empty where there is none."""
     block = function.item.owner
     if block is None or block.kind not in ("impl", "trait"):
-        return ""
+        return "", ""
     if block.kind == "trait":
-        return block.name
-    return re.search(r"\w*", re.sub(r"^\W*", "", header_of(function).rpartition(" for ")[2].removeprefix("impl "))).group()
-
-
-def is_declared(function):
-    """Whether a trait declares it."""
-    return function.item.owner is not None and function.item.owner.kind == "trait"
-
-
-def method_of(function):
-    """A trait and the method of it that the function declares or implements; the trait is empty where it is none of one."""
-    block = function.item.owner
-    is_implemented = block is not None and block.kind == "impl"
-    trait = re.search(r"\w+$", header_of(function).rpartition(" for ")[0]) if is_implemented else None
-    return trait.group() if trait else block.name if is_declared(function) else "", function.item.name
+        return block.name, ""
+    header = re.split(r" where\b", " ".join(source.without_generics(function.text.header(block)).split()))[0]
+    trait, _, of = header.removeprefix("impl ").rpartition(" for ")
+    return re.search(r"\w*$", trait)[0], re.search(r"\w+|$", of)[0]
 
 
 def crate_of(function):
@@ -64,8 +57,7 @@ def module_of(function):
 def functions_of(crate):
     """Each function of a crate, tests among them."""
     names = [name for name in repository.files() if re.match(rf"crates/{crate}/src/.*\.rt$", name)]
-    read = [(name, source.read(repository.text_of(name))) for name in names]
-    return [Function(name, text, it) for name, text in read for it in text.functions()]
+    return [Function(name, text, it) for name in names for text in [source.read(repository.text_of(name))] for it in text.functions()]
 
 
 def is_test(function):

@@ -82,7 +82,7 @@ class Mutants:
     def __init__(self, crate):
         self.crate, self.of, self.others = crate, {}, {}
         self.names = {function.place: name for name, function in of(crate).items()}
-        self.traits = {calls.method_of(it): name for name, it in of(crate).items() if calls.is_declared(it)}
+        self.traits = {calls.method_of(it): name for name, it in of(crate).items() if it.item.owner and it.item.owner.kind == "trait"}
         self.functions = {it.place: it for it in calls.functions_of(crate) if not calls.is_test(it)}
         self.callers, graph = {}, calls.Calls(list(self.functions.values()))
         for caller in self.functions.values():

@@ -1,5 +1,4 @@
 """What has become of the public functions of an earlier commit: which are gone, and whose heads or clauses differ."""
-import contextlib
 import pathlib
 import re
 import subprocess
@@ -37,34 +36,23 @@ def stated(function):
     return Stated(head, tuple(" ".join(filter(None, [kind, name, f"{{ {text} }}"])) for kind, name, text in said))
 
 
-@contextlib.contextmanager
-def tree_of(commit):
-    """The crates of a commit, in a folder that goes away."""
-    packed = subprocess.run(
-        ["git", "archive", commit, "crates", "crates.txt"], cwd=repository.ROOT, check=True, capture_output=True
-    ).stdout
+def functions_of(commit):
+    """The public functions of a commit that promise something."""
+    words, now = ["git", "archive", commit, "crates", "crates.txt"], repository.ROOT
+    packed = subprocess.run(words, cwd=now, check=True, capture_output=True).stdout
     with tempfile.TemporaryDirectory(prefix="since-") as folder:
         subprocess.run(["tar", "-x", "-C", folder], input=packed, check=True)
-        yield pathlib.Path(folder)
+        repository.ROOT = pathlib.Path(folder)
+        found = functions()
+    repository.ROOT = now
+    return found
 
 
-@contextlib.contextmanager
-def read_from(root):
-    """Reads the files of another tree in place of the repository's."""
-    kept, repository.ROOT = repository.ROOT, root
+def functions():
+    """The public functions of the crates of the repository, or of a tree in its place, that promise something."""
     repository.text_of.cache_clear()
-    try:
-        yield
-    finally:
-        repository.ROOT = kept
-        repository.text_of.cache_clear()
-
-
-def functions(root):
-    """The public functions of the crates of a tree that promise something."""
-    crates = [name for name in repository.libraries(root) if re.match(r"(garde|example|use)(_|$)", name)]
-    with read_from(root):
-        return {name: stated(it) for crate in crates for name, it in public_functions(crate).items()}
+    crates = [name for name in repository.libraries(repository.ROOT) if re.match(r"(garde|example|use)(_|$)", name)]
+    return {name: stated(it) for crate in crates for name, it in public_functions(crate).items()}
 
 
 def named_now(name, renamed):
@@ -83,9 +71,7 @@ def differing(before, now):
 
 def report(commit, renamed):
     """What is said of each public function of a commit that is gone or differs, and the sums."""
-    with tree_of(commit) as root:
-        before = functions(root)
-    now = functions(repository.ROOT)
+    before, now = functions_of(commit), functions()
     names = {name: named_now(name, renamed) for name in before}
     gone = [name for name, new in names.items() if new not in now]
     there = {name: differing(before[name], now[new]) for name, new in names.items() if new in now}

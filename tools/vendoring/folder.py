@@ -1,4 +1,5 @@
 """The repository that gets the copy."""
+import contextlib
 import fcntl
 import os
 import pathlib
@@ -74,23 +75,22 @@ class Folder:
             if path not in self.record.files and os.path.lexists(self.place(path)):
                 raise Refusal(f"{self.place(path)}: a file of that name is there, which is not a copy of ours")
 
-    def refuse_changes(self, new):
+    def refuse_changes(self):
         """Refuses a copy that was changed by hand. What is missing is copied again."""
         for it in self.lines:
             if it.name in self.record.lines and it.text() not in self.record.lines[it.name]:
                 raise Refusal(f"{self.path}/crates.txt: the line of {it.name} was changed by hand")
-        for name in self.record.lines:
-            for path in self.files(name):
-                if path not in self.record.files:
-                    raise Refusal(f"{self.place(path)}: this file is not of the copy: move it to a crate of your own")
-                self.refuse_change(path)
-        for path in filter(lambda it: it.startswith(TOOL) and os.path.lexists(self.place(it)), self.record.files):
-            self.refuse_change(path)
+        for path in self.copied():
+            if path not in self.record.files:
+                raise Refusal(f"{self.place(path)}: this file is not of the copy: move it to a crate of your own")
+            if self.mark(path) not in self.record.files[path]:
+                raise Refusal(f"{self.place(path)}: it was changed by hand: put it back, or delete it to have it copied again")
 
-    def refuse_change(self, path):
-        """Refuses a file of the copy that was changed by hand."""
-        if self.mark(path) not in self.record.files[path]:
-            raise Refusal(f"{self.place(path)}: it was changed by hand: put it back, or delete it to have it copied again")
+    def copied(self):
+        """The files of the copied crates as they lie there, one by one, and those of the commands."""
+        for name in self.record.lines:
+            yield from self.files(name)
+        yield from (it for it in self.record.files if it.startswith(TOOL) and os.path.lexists(self.place(it)))
 
     def files(self, crate):
         """The files of a copied crate as they lie there, but for what `rt` builds."""
@@ -116,8 +116,7 @@ class Folder:
     def write(self, plan):
         """Writes what is planned, and returns what was done. Wherever it ends, a second call can go on."""
         changed = [path for path, text in plan.files.items() if self.mark(path) != hash_of(text)]
-        gone = [path for name in self.record.lines for path in self.files(name) if path not in plan.files]
-        gone += [path for path in self.record.files if path.startswith(TOOL) and path not in plan.files and os.path.lexists(self.place(path))]
+        gone = [path for path in self.copied() if path not in plan.files]
         was = f" (before: {self.record.commit[:12]})" if self.record.commit not in ("", plan.record.commit) else ""
         listing, ignored = with_lines(self.read("crates.txt"), self.record, plan), self.read(".gitignore")
         if changed or gone or plan.program or self.record.begun:
@@ -138,29 +137,31 @@ class Folder:
     def put(self, path, text, mode=None):
         """Writes a file if it is not so already: in full, or not at all. `mode` are its rights, where they are not the usual ones."""
         content = text if isinstance(text, bytes) else text.encode("utf-8", "surrogateescape")
-        place, part = self.path / path, self.path / PART
+        place = self.path / path
         if place.is_file() and place.read_bytes() == content:
             return
         place.parent.mkdir(parents=True, exist_ok=True)
-        self.clear()
-        try:
+        with self.part() as part:
             part.write_bytes(content)
             if mode:
                 part.chmod(mode)
             os.replace(part, place)
-        finally:
-            self.clear()
 
     def put_copy(self, copy):
         """Writes the folder of a crate that is the reader's: in full, or not at all."""
-        part = self.path / PART
-        self.clear()
-        try:
+        with self.part() as part:
             for path, content in copy.files.items():
                 (part / path).parent.mkdir(parents=True, exist_ok=True)
                 (part / path).write_bytes(content)
             self.place("").mkdir(exist_ok=True)
             os.rename(part, self.place(copy.name))
+
+    @contextlib.contextmanager
+    def part(self):
+        """Where something is written before it is moved to its place."""
+        self.clear()
+        try:
+            yield self.path / PART
         finally:
             self.clear()
 

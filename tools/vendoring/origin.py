@@ -17,8 +17,10 @@ NOT_COPIED = ("must-fail", "wrong-bodies")
 COMMANDS = ("tools/port-garde", "tools/why")
 TOOL = (*COMMANDS, "tools/port_garde/", "tools/explaining/")
 SHARED = ("__init__", "copies", "edits", "paths", "prover", "repository", "source", "verdicts")
+# What is read of the repository.
+READ = ("crates.txt", "crates/", "tests/lib/", *LICENCES, *TOOL)
 PROGRAM_FILES = ("stdin", "stdout", "args", "status")
-PROGRAM_FOLDERS = ("src", "specs", "proofs", "data")
+PROGRAM_SOURCES = ("src", "specs", "proofs")
 LINK = re.compile(r"\[([^]]+)\]\(\.\./([^)/]+)/([^)]+)\)")
 TOLD = "A copy of `{program}` of `garde` by `tools/vendor`. The tests and documents that it names are in that repository."
 
@@ -80,7 +82,7 @@ class Origin:
     """The repository at `root`. Everything is read from the last commit."""
 
     def __init__(self, root):
-        self.root, self.known = root, {}
+        self.root = root
         try:
             top = self.git("rev-parse", "--show-toplevel").strip()
             self.commit, self.date = self.git("log", "-1", "--format=%H %cs").split()
@@ -88,14 +90,25 @@ class Origin:
             raise Refusal(f"{root} is no git repository with a commit, so that the copy could not say what it is of: {refusal}")
         if os.path.realpath(top) != os.path.realpath(root):
             raise Refusal(f"{root} is a part of the repository {top}: call tools/vendor of a clone")
-        rows = self.git("ls-tree", "-rz", self.commit).split("\0")[:-1]
-        self.paths = {path: modes.split()[0] for modes, _, path in (it.partition("\t") for it in rows)}
+        self.texts = dict(self.read())
         for it in ("crates.txt", *LICENCES):
-            if it not in self.paths:
+            if it not in self.texts:
                 raise Refusal(f"{root}: there is no {it}")
-        listing, *_ = self.texts(["crates.txt", *LICENCES, *self.tool_paths().values()])
-        lines = filter(None, map(read_line, listing.decode().splitlines()))
+        lines = filter(None, map(read_line, self.texts["crates.txt"].decode().splitlines()))
         self.lines = {it.name: it for it in lines}
+
+    def read(self):
+        """The paths of what may be copied, each with what the file holds, or None of what is no plain file."""
+        rows = [it.partition("\t") for it in self.git("ls-tree", "-rz", self.commit).split("\0")]
+        found = {path: head.split() for head, _, path in rows if path.startswith(READ)}
+        plain = {path: mark for path, (mode, _, mark) in found.items() if mode.startswith("100")}
+        yield from ((path, None) for path in found if path not in plain)
+        output, at = self.git("cat-file", "--batch", binary=True, given="\n".join([*plain.values(), ""]).encode()), 0
+        for path in plain:
+            start = output.index(b"\n", at) + 1
+            end = start + int(output[at:start].split()[2])
+            yield path, output[start:end]
+            at = end + 1
 
     def git(self, *words, binary=False, given=b""):
         """The output of a git command, which is given some bytes."""
@@ -140,17 +153,7 @@ class Origin:
     def tool_paths(self):
         """Where the files of the commands stand here, by their paths in a copy."""
         shared = {f"tools/explaining/lib/{it}.py": f"tests/lib/{it}.py" for it in SHARED}
-        return {it: it for it in self.paths if it.startswith(TOOL)} | {place: it for place, it in shared.items() if it in self.paths}
-
-    def tool_files(self):
-        """The files of the commands, by their paths in a copy."""
-        paths = self.tool_paths()
-        return dict(zip(paths, self.texts(paths.values())))
-
-    def load(self, lines):
-        """Reads the files of crates at once, which takes one command in place of one for each."""
-        folders = tuple(f"crates/{it.name}/" for it in lines)
-        self.texts([path for path, mode in self.paths.items() if path.startswith(folders) and mode.startswith("100")])
+        return {it: it for it in self.texts if it.startswith(TOOL)} | {place: it for place, it in shared.items() if it in self.texts}
 
     def crate_files(self, name):
         """The files of a crate by their paths in it, but for its mutants."""
@@ -164,7 +167,7 @@ class Origin:
             names |= {f"{prefix}_": f"{copy}_", f"{prefix}_".upper(): f"{copy}_".upper()}
         for path, it in self.files(f"crates/{name}").items():
             first, *more = path.split("/")
-            if first in PROGRAM_FOLDERS and more and first != "data":
+            if first in PROGRAM_SOURCES and more:
                 kept[path] = renamed(it, names)
             elif path in PROGRAM_FILES or first == "data":
                 kept[path] = it
@@ -180,20 +183,7 @@ class Origin:
 
     def files(self, folder):
         """The files under a folder by their paths in it."""
-        paths = [it for it in self.paths if it.startswith(f"{folder}/")]
-        for path in paths:
-            if not self.paths[path].startswith("100"):
-                raise Refusal(f"{path} is no plain file")
-        return {path[len(folder) + 1 :]: text for path, text in zip(paths, self.texts(paths))}
-
-    def texts(self, paths):
-        """What files hold. Each is read once."""
-        new = [it for it in dict.fromkeys(paths) if it not in self.known]
-        asked = "".join(f"{self.commit}:{path}\n" for path in new).encode()
-        output, at = self.git("cat-file", "--batch", binary=True, given=asked) if new else b"", 0
-        for path in new:
-            end = output.index(b"\n", at)
-            size = int(output[at:end].split()[2])
-            self.known[path] = output[end + 1 : end + 1 + size]
-            at = end + size + 2
-        return [self.known[it] for it in paths]
+        found = {path: text for path, text in self.texts.items() if path.startswith(f"{folder}/")}
+        for path in (path for path, text in found.items() if text is None):
+            raise Refusal(f"{path} is no plain file")
+        return {path.removeprefix(f"{folder}/"): text for path, text in found.items()}

@@ -57,22 +57,20 @@ def plan_of(origin, folder, more, program, name, is_whole):
     listed = [it for it in listed if it in origin.lines and is_product(it) and it not in folder.own_names()]
     asked = tuple(sorted({"garde", *folder.record.asked, *more, *listed}))
     crates = origin.closure(asked)
-    lines = [*crates, *sources]
-    origin.load(lines)
-    tool = origin.tool_files()
-    origin.refuse_changes(["crates.txt", *LICENCES, *(f"crates/{it.name}" for it in lines), *(TOOL if tool else ()), *origin.tool_paths().values()])
+    lines, paths = [*crates, *sources], origin.tool_paths()
+    tool = {place: origin.texts[path] for place, path in paths.items()}
+    origin.refuse_changes(["crates.txt", *LICENCES, *(f"crates/{it.name}" for it in lines), *(TOOL if tool else ()), *paths.values()])
     copied = program_of(origin, folder, sources, name or program, begun) if program else None
     refuse_names(folder, crates, lines, [it.name for it in sources])
     folder.refuse_tool(tool)
     whole = is_whole([it.name for it in crates])
     files, told = files_of(origin, folder, crates, copied, set(asked) - set(listed) - {"garde"}, whole)
-    files.update(zip((f"garde/{it}" for it in LICENCES), origin.texts(LICENCES)))
-    files.update(tool)
+    files |= {**{f"garde/{it}": origin.texts[it] for it in LICENCES}, **tool}
     record = Record(origin.commit, origin.date, asked, is_whole=whole)
     for it in crates:
         record.add(it)
     record.files = {path: [hash_of(text)] for path, text in files.items()}
-    folder.refuse_changes(record)
+    folder.refuse_changes()
     return Plan(tuple(crates), files, record, copied, told)
 
 
