@@ -42,18 +42,14 @@ class Kind:
         return f"({inside})" if not self.name else f"{self.name}<{inside}>" if inside else self.name
 
 
-UNKNOWN = Kind("_")
-
-
 def code_of(span):
     """The expression of a piece."""
     while span.blank[:1] and span.blank[0] in "&*!":
         span = span.part(1, len(span.blank))
     inner = span.inside()
     if inner is not None:
-        parts = given(inner)
-        is_group = len(parts) == 1 and not inner.blank.endswith(",")
-        return code_of(parts[0]) if is_group else Code("", tuple(map(code_of, parts)), span.start)
+        parts = tuple(map(code_of, given(inner)))
+        return parts[0] if len(parts) == 1 and not inner.blank.endswith(",") else Code("", parts, span.start)
     found = NAME.match(span.blank)
     rest = span.part(found.end(), len(span.blank)) if found else span
     inner = rest.inside()
@@ -61,6 +57,12 @@ def code_of(span):
         return Code("_", (), span.start)
     parts = tuple(map(code_of, given(inner))) if inner else ()
     return Code(found[1] + found[2], parts, span.start, found[3] or "")
+
+
+def built(code):
+    """The name of the type that a form makes, or None."""
+    found = re.search(r"&\s*(?:'\w+\s*)?(?:\w+\s*::\s*)*(\w+)", code.parts[1].kind) if code.head == "Built" and len(code.parts) == 2 else None
+    return found and found[1]
 
 
 def given(inner):
@@ -94,9 +96,8 @@ class File:
         """The forms that make values, each with the name of the type."""
         for it in re.finditer(r"\bBuilt\s*\(", self.plain.blank):
             code = code_of(Span(self.plain, it.start(), self.plain.items.close(it.end() - 1)))
-            found = re.search(r"&\s*(?:'\w+\s*)?(?:\w+\s*::\s*)*(\w+)", code.parts[1].kind) if len(code.parts) == 2 else None
-            if found:
-                yield code.parts[0], found[1]
+            if name := built(code):
+                yield code.parts[0], name
 
     def bound(self, name, at):
         """What a name stands for at a place: the expression that it was given last before. That in which the place lies is given to
@@ -123,12 +124,8 @@ class File:
             name, number = WITHIN[code.head]
             within = self.read(code.parts[number])
             return within if name == "F" else Kind(name, (within,))
-        if code.head in ("Whole", "Parsed") and code.parts:
-            return Kind(PLAIN.get(self.solved(code.parts[0]).head, "_"))
-        if code.head == "Built" and len(code.parts) == 2:
-            found = re.search(r"&\s*(?:'\w+\s*)?(?:\w+\s*::\s*)*(\w+)", code.parts[1].kind)
-            return Kind(found[1]) if found else UNKNOWN
-        return Kind(PLAIN[code.head]) if code.head in PLAIN else UNKNOWN
+        word = self.solved(code.parts[0]) if code.head in ("Whole", "Parsed") and code.parts else code
+        return Kind(built(code) or PLAIN.get(word.head, "_"))
 
     def members(self, code):
         """The members of a form in turn, within the words that hold them."""
@@ -147,20 +144,20 @@ class File:
         found = re.match(r'\w+\s*\(\s*"([^"]*)"', self.plain.text[code.at :])
         return found[1] if found else None
 
-    def differing(self, code, wanted):
-        """The members whose values differ from these parts: the place, the name, and what is read and wanted."""
+    def differing(self, code, wanted, name):
+        """The members of the form of a type whose values differ from these parts: the place of each, and what is read and wanted."""
         members = self.members(code)
         parts = wanted.parts if not wanted.name and (len(members) > 1 or not members) else (wanted,)
         if len(parts) != len(members):
-            yield code.at, None, f"{len(members)} member{'s' * (len(members) != 1)}", f"{len(parts)}"
+            yield code.at, f"the form of `{name}` has {len(members)} member{'s' * (len(members) != 1)}, and its parts are {len(parts)}"
             return
         for member, part in zip(members, parts):
+            met, known = self.read(member), self.name_of(member)
             if len(self.members(member)) > 1:
-                yield from self.differing(member, part)
-                continue
-            met = self.read(member)
-            if not agree(met, part):
-                yield member.at, self.name_of(member), met.text(), part.text()
+                yield from self.differing(member, part, name)
+            elif not agree(met, part):
+                said = f"member `{known}`" if known else "the value"
+                yield member.at, f"{said} of `{name}`: its form reads `{met.text()}`, and the parts have `{part.text()}` there"
 
 
 def nested(code):
@@ -191,9 +188,5 @@ def differences(folder):
                 continue
             wanted, other, at = parts[name]
             where = f"(line {other.plain.line_of(at)}{'' if other is file else f' of {other.name}'})"
-            for place, member, met, part in file.differing(code, wanted):
-                head = f"{file.name}:{file.plain.line_of(place)}: "
-                if member is None and met.endswith(("member", "members")):
-                    yield f"{head}the form of `{name}` has {met}, and its parts are {part} {where}"
-                else:
-                    yield f"{head}{f'member `{member}`' if member else 'the value'} of `{name}`: its form reads `{met}`, and the parts have `{part}` there {where}"
+            for place, said in file.differing(code, wanted, name):
+                yield f"{file.name}:{file.plain.line_of(place)}: {said} {where}"
