@@ -4,6 +4,8 @@ import re
 CITED = re.compile(r"\bRattle\.(\w+)\.(specs|proofs)\.(?:([\w.+]+)|\{([^}]*)\})")
 NAMED = re.compile(r"\b(\w+)::(specs|proofs)::(\w+)")
 LIB = "specs/Lib.antt"
+# How a path begins that leads to an item of a source.
+DECLARED = ("declared.", "contracts.")
 
 
 def names_in(text):
@@ -28,8 +30,9 @@ class Cited:
                 continue
             if listed:
                 self.read_lib(crate, names_in(listed))
-            elif place.startswith(("declared.", "contracts.")):
-                self.read_declared(crate, place.rstrip(".").split(".")[1:])
+            elif place.startswith(DECLARED):
+                for it in self.declared(crate, place):
+                    self.show(it)
             else:
                 self.add(crate, self.file(crate, kind, place))
         for crate, kind, name in NAMED.findall(text):
@@ -56,15 +59,14 @@ class Cited:
             if listed and names & names_in(listed[1]):
                 self.read(line, crate)
 
-    def read_declared(self, crate, names):
-        """Shows the items that a path through declarations or contracts leads to: of a module's constants all of them."""
+    def declared(self, crate, place):
+        """The items that a path through declarations or contracts leads to: of a module's constants all of them."""
         module = self.sources.crates[crate].root
-        for name in names:
+        for name in place.rstrip(".").split(".")[1:]:
             found = [it for it in module.nodes if it.item.name == name and it.item.kind != "impl"]
             if name == "TheConstants":
                 found = [it for it in module.nodes if it.item.kind in ("const", "static")]
             if found or name not in module.below:
-                for it in found:
-                    self.show(it)
-                return
+                return found
             module = module.below[name]
+        return []

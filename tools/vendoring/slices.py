@@ -1,9 +1,10 @@
 """The files of a crate with what is needed of it alone."""
+import functools
 import re
 
 from lib import paths
 
-from .cited import CITED, LIB, Cited
+from .cited import CITED, DECLARED, LIB
 from .sources import IMPORT, NAME, Node, names_in, way_of
 
 LISTS = re.compile(r"(?:(?:pub )?mod \w+\s*|pub use [^\n]*\s*)+")
@@ -26,7 +27,7 @@ class Slice:
     """What is needed of a crate."""
 
     def __init__(self, sources, need, crate):
-        self.sources, self.need, self.crate, self.used = sources, need, crate, {}
+        self.sources, self.need, self.crate, self.names = sources, need, crate, functools.cache(self.read_names)
 
     def files(self):
         """Its files. One that holds all that it held is as it was."""
@@ -107,13 +108,8 @@ class Slice:
             return False
         return any(self.need.has(it) if isinstance(it, Node) else self.is_kept(it) for it in found)
 
-    def names(self, module):
-        """The names in what is needed of a module and of those below it."""
-        if module not in self.used:
-            self.used[module] = self.read_names(module)
-        return self.used[module]
-
     def read_names(self, module):
+        """The names in what is needed of a module and of those below it."""
         nodes = [it for below in module.all() for one in below.nodes for it in (one, *one.members) if self.need.has(it)]
         found = set()
         for it in nodes:
@@ -140,18 +136,15 @@ class Slice:
 
     def is_said(self, text):
         """Whether the definitions that a line imports are there."""
-        for crate, kind, place, listed in CITED.findall(text):
-            if crate in self.sources.crates and not listed and not self.is_defined(crate, kind, place):
-                return False
-        return True
+        found = [it for *it, listed in CITED.findall(text) if it[0] in self.sources.crates and not listed]
+        return all(self.is_defined(*it) for it in found)
 
     def is_defined(self, crate, kind, place):
         """Whether a path of definitions leads to what is there."""
-        if not place.startswith(("declared.", "contracts.")):
-            return self.need.cited.has(crate, self.need.cited.file(crate, kind, place))
-        shown = []
-        Cited(self.sources, shown.append).read_declared(crate, place.rstrip(".").split(".")[1:])
-        return any(map(self.need.has, shown))
+        cited = self.need.cited
+        if place.startswith(DECLARED):
+            return any(map(self.need.has, cited.declared(crate, place)))
+        return cited.has(crate, cited.file(crate, kind, place))
 
 
 def noted(text):
