@@ -1,5 +1,7 @@
 """Sign-ups of eight members in JSON, one on a line, and what programs that read them take."""
+import argparse
 import json
+import os
 import random
 import statistics
 import tempfile
@@ -44,6 +46,15 @@ KINDS = {"valid": valid, "one fault": with_one_fault, "every member faulty": all
 def lines_of(kind, count):
     dice = random.Random(7)
     return [json.dumps(KINDS[kind](dice), ensure_ascii=False, separators=(",", ":")) + "\n" for _ in range(count)]
+
+
+def arguments(doc, program):
+    """The words of a script: another program, by this word, how many pairs of runs, and of how many lines."""
+    parser = argparse.ArgumentParser(description=doc, formatter_class=argparse.RawDescriptionHelpFormatter)
+    parser.add_argument(program, metavar="PROGRAM", type=os.path.abspath)
+    parser.add_argument("--pairs", metavar="N", type=int, default=9)
+    parser.add_argument("--lines", metavar="N", type=int, default=20000)
+    return parser.parse_args()
 
 
 def turns_of(programs, lines, pairs):

@@ -1,4 +1,4 @@
-"""The page of the texts: a table for each key, with a row for each language."""
+"""The page of the texts in every language."""
 import re
 
 from lib import repository
@@ -9,7 +9,6 @@ CRATE = "crates/garde_catalog/src/"
 ENTRY = re.compile(r'\(\s*Key::(\w+),\s*"((?:[^"\\]|\\.)*)",?\s*\)')
 KEY = re.compile(r"^    /// (.*)\n    (\w+),$", re.MULTILINE)
 PARAM = re.compile(r'Key::(\w+) => "(\w+)"')
-NAMES = CRATE + "key_name.rt"
 OFFERED = re.compile(r'tagged\("([\w-]+)", &?(\w+)\)')
 NAMED = re.compile(r"let (\w+): &\[Entry<'_>\] = &(\w+);")
 TABLE = re.compile(r"pub static (\w+):")
@@ -31,7 +30,7 @@ def params():
 
 def names():
     """The name of each key in a file."""
-    return dict(PARAM.findall(repository.text_of(NAMES)))
+    return dict(PARAM.findall(repository.text_of(CRATE + "key_name.rt")))
 
 
 def offered():
@@ -44,17 +43,10 @@ def offered():
 
 
 def tables():
-    """The tables by their names, each as the lines of its file: a key and its text."""
-    found = {}
-    for file in sorted((repository.ROOT / CRATE / "tables").glob("*.rt")):
-        source = file.read_text(encoding="utf-8")
-        found[TABLE.search(source).group(1)] = [(key, unescaped(text)) for key, text in ENTRY.findall(source)]
-    return found
-
-
-def unescaped(text):
-    """A text of a source without its escapes."""
-    return text.replace('\\"', '"').replace("\\\\", "\\")
+    """The tables by their names, each as the lines of its file: a key and its text, without the escapes of a source."""
+    sources = [it.read_text(encoding="utf-8") for it in sorted((repository.ROOT / CRATE / "tables").glob("*.rt"))]
+    lines = {TABLE.search(it)[1]: ENTRY.findall(it) for it in sources}
+    return {name: [(key, text.replace('\\"', '"').replace("\\\\", "\\")) for key, text in found] for name, found in lines.items()}
 
 
 def words(name):
@@ -62,16 +54,11 @@ def words(name):
     return re.sub(r"(?<!^)(?=[A-Z])", " ", name).lower()
 
 
-def rows(key, every):
-    """The rows of a key: a tag and a text."""
-    for table, tag in offered().items():
-        yield from (f"| {tag} | {text} |" for name, text in every[table] if name == key)
-
-
 def text():
-    """The page."""
+    """The page: a table for each key, with a row for each language."""
     every, written, parts = tables(), names(), [repository.text_of(HEAD).rstrip()]
     for name, said in keys():
+        rows = [f"| {tag} | {text} |" for table, tag in offered().items() for key, text in every[table] if key == name]
         parts.append(f"## {words(name).capitalize()}\n\n`Key::{name}`, in a file `{written.get(name)}`. {said}")
-        parts.append("\n".join(["| language | text |", "|---|---|", *rows(name, every)]))
+        parts.append("\n".join(["| language | text |", "|---|---|", *rows]))
     return "\n\n".join(parts) + "\n"

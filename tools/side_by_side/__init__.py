@@ -1,1 +1,0 @@
-"""The page of the texts in every language."""
