@@ -5,7 +5,7 @@ import os
 import pathlib
 import shutil
 
-from .listing import with_lines
+from .listing import closed, with_lines
 from .origin import COMMANDS, TOOL, Refusal, read_line
 from .record import NAME, Record, hash_of, read_record
 
@@ -129,7 +129,7 @@ class Folder:
                 if not self.place(copy.name).exists():
                     self.put_copy(copy)
         if not {it.strip() for it in ignored.splitlines()} & {"out/", "out", "**/out/", "**/out"}:
-            self.put(".gitignore", ignored + ("\n" if ignored and not ignored.endswith("\n") else "") + "out/\n")
+            self.put(".gitignore", "".join([*closed(ignored.splitlines(keepends=True)), "out/\n"]))
         self.put("crates.txt", listing)
         self.put(NAME, plan.record.text())
         return f"{len(changed)} files written, {len(gone)} removed{was}" if changed or gone else f"up to date{was}"

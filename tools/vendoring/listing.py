@@ -12,7 +12,7 @@ def with_lines(text, record, plan):
     if [read_line(rows[at]).text() for at in ours] != wanted:
         marks = [at for at, row in enumerate(rows) if row.strip() == MARK]
         first = min([*marks, *ours], default=len(rows))
-        before = [row for row in rows[:first]]
+        before = rows[:first]
         after = [row for at, row in enumerate(rows) if at >= first and at not in ours and at not in marks]
         gap = ["\n"] if before and before[-1].strip() and first == len(rows) else []
         rows = [*closed(before), *gap, *(f"{row}\n" for row in (MARK, *wanted)), *after]
@@ -30,4 +30,4 @@ def named(row):
 
 def closed(rows):
     """Rows whose last one ends its line."""
-    return [*rows[:-1], rows[-1] if rows[-1].endswith("\n") else rows[-1] + "\n"] if rows else rows
+    return [*rows[:-1], *(row if row.endswith("\n") else row + "\n" for row in rows[-1:])]

@@ -159,9 +159,9 @@ class Needed:
     def members(self, module, text):
         """The names of a text's paths that stand behind something else than a module."""
         found = set()
-        for way in ways_in(text):
-            at = self.sources.lead(module, way[:-1]) if len(way) > 1 else ()
-            if len(way) > 1 and (not at or any(isinstance(it, Node) for it in at)):
+        for way in (it for it in ways_in(text) if len(it) > 1):
+            at = self.sources.lead(module, way[:-1])
+            if not at or any(isinstance(it, Node) for it in at):
                 found.update(way[1:])
         return found
 

@@ -50,7 +50,7 @@ def plan_of(origin, folder, more, program, name, is_whole):
     for it in folder.record.asked:
         known(origin, it, f"{it}, which VENDORED-garde asks for, is a crate of the product no more")
     begun = begun_of(origin.root, program, name) if program and program.endswith(".rs") else None
-    name, program = (name or begun.module, PROGRAM) if begun else (name, program)
+    name, program = (name or begun.module, PROGRAM) if begun else (name or program, program)
     sources = origin.program(program) if program else []
     sources = [begun.line(it) for it in sources] if begun else sources
     listed = [it for line in (*folder.own_lines(), *sources) for it in line.uses]
@@ -60,8 +60,8 @@ def plan_of(origin, folder, more, program, name, is_whole):
     lines, paths = [*crates, *sources], origin.tool_paths()
     tool = {place: origin.texts[path] for place, path in paths.items()}
     origin.refuse_changes(["crates.txt", *LICENCES, *(f"crates/{it.name}" for it in lines), *(TOOL if tool else ()), *paths.values()])
-    copied = program_of(origin, folder, sources, name or program, begun) if program else None
-    refuse_names(folder, crates, lines, [it.name for it in sources])
+    copied = program_of(origin, folder, sources, name, begun) if program else None
+    refuse_names(folder, crates, lines)
     folder.refuse_tool(tool)
     whole = is_whole([it.name for it in crates])
     files, told = files_of(origin, folder, crates, copied, set(asked) - set(listed) - {"garde"}, whole)
@@ -82,10 +82,10 @@ def files_of(origin, folder, lines, program, asked, is_whole):
     if not own:
         told = "" if is_whole else "all of them, since no source of yours says what it needs"
         return {f"{name}/{path}": text for name, files in texts.items() for path, text in files.items()}, told
-    parts, kept, every = needed_of([Crate(it.name, it.uses, texts[it.name]) for it in lines], own, asked & set(texts))
-    files = {f"{name}/{path}": text for name, part in parts.items() for path, text in part.items()}
+    files, kept, every = needed_of([Crate(it.name, it.uses, texts[it.name]) for it in lines], own, asked & set(texts))
     told = f"of their {every} functions the {kept} that {', '.join(it.name for it in own)} may need"
-    return files, f"{told} ({', '.join(empty)} has no sources yet)" if empty else told
+    told += f" ({', '.join(empty)} has no sources yet)" if empty else ""
+    return {f"{name}/{path}": text for (name, path), text in files.items()}, told
 
 
 def known(origin, name, told):
@@ -122,14 +122,14 @@ def run_of(line, files):
     return " ".join(["rt try", *(["--", *words] if words else []), *(["< stdin"] if "stdin" in files else [])])
 
 
-def refuse_names(folder, crates, lines, sources):
-    """Refuses crates whose names the folder uses for others, or whose toolchain crates it does. Sources of a program get other
-    names."""
+def refuse_names(folder, crates, lines):
+    """Refuses crates whose names the folder uses for others, or whose toolchain crates it does. Sources of a program, which are among
+    the lines, get other names."""
     for it in crates:
         if it.name not in folder.record.lines:
             folder.refuse_taken(it.name, "a crate of that name is there, which is not a copy of ours")
-    copied, own = {*sources, *(it.name for it in crates)}, folder.own_names()
+    strange = folder.own_names() - {it.name for it in lines}
     for line in lines:
         for it in line.uses:
-            if it not in copied and it in own:
+            if it in strange:
                 raise Refusal(f"{folder.path}/crates.txt: {it} is a crate of yours, and {line.name} stands on the toolchain's of that name")

@@ -1,5 +1,4 @@
 """The files of libraries, and what of them the crates of a repository need."""
-import os
 import pathlib
 import subprocess
 import tempfile
@@ -18,36 +17,25 @@ def own_crates(folder, copied, product):
     while more := {name for name, (uses, _) in files.items() if above.intersection(uses)} - above:
         above |= more
     users = {name: it for name, it in files.items() if name in above}
-    return [Crate(name, *it) for name, it in users.items() if has_root(it[1])], [name for name, it in users.items() if not has_root(it[1])]
-
-
-def has_root(files):
-    return "src/lib.rt" in files or "src/main.rt" in files
+    empty = [name for name, (_, files) in users.items() if not files.keys() & {"src/lib.rt", "src/main.rt"}]
+    return [Crate(name, *it) for name, it in users.items() if name not in empty], empty
 
 
 def read_files(top):
     """The sources, definitions and proofs of a crate as they lie there."""
-    found = {}
-    for part in ("src", "specs", "proofs"):
-        for folder, _, names in os.walk(top / part):
-            for it in names:
-                place = os.path.join(folder, it)
-                if it.endswith((".rt", ".antt")) and os.path.isfile(place):
-                    with open(place, "rb") as file:
-                        found[os.path.relpath(place, top)] = file.read()
-    return found
+    files = [it for part in ("src", "specs", "proofs") for it in (top / part).rglob("*") if it.suffix in (".rt", ".antt")]
+    return {str(it.relative_to(top)): it.read_bytes() for it in files if it.is_file()}
 
 
 def needed_of(libraries, own, whole):
-    """The files of libraries by their names, with what is needed of them alone, and how many of their functions these have. `own` are
-    the crates that need them. Of the libraries in `whole` everything is."""
+    """The files of libraries with what is needed of them alone, by their crates and paths, and how many of their functions these have.
+    `own` are the crates that need them. Of the libraries in `whole` everything is."""
     sources = Sources([*libraries, *own])
     needed = Needed(sources, [*(it.name for it in own), *whole])
-    kept = sum(functions(it) for library in libraries for it in library.nodes() if it in needed.live)
-    every = sum(functions(it) for library in libraries for it in library.nodes())
+    every = [it for library in libraries for it in library.nodes()]
     files = {(it.name, path): text for it in libraries for path, text in Slice(sources, needed, it).files().items()}
     files |= laid_out({key: text for key, text in files.items() if key[1].endswith(".rt") and text != sources.crates[key[0]].files[key[1]]})
-    return {it.name: {path: text for (name, path), text in files.items() if name == it.name} for it in libraries}, kept, every
+    return files, sum(functions(it) for it in every if it in needed.live), sum(map(functions, every))
 
 
 def laid_out(files):
