@@ -126,25 +126,29 @@ def is_field(span):
 def part_of(span):
     """A field with its name or its index, its value and its check."""
     found = is_field(span)
-    given = span.part(span.flat.index("("), len(span.flat)).inside().split(",") if found else []
-    if len(given) == (2 if found and found[1] == "Transparent" else 3):
-        key = re.fullmatch(rf"{TEXT}|(\d+)", given[0].text) if len(given) == 3 else None
-        name = next(it for it in key.groups() if it is not None) if key else given[0].text if len(given) == 3 else None
-        return Part(name, span, given[-1], value_name(given[-2]))
-    return Part(None, span, span, is_read=False)
+    given = arguments(span) if found else []
+    if len(given) != (2 if found and found[1] == "Transparent" else 3):
+        return Part(None, span, span, is_read=False)
+    *names, value, check = given
+    name = names[0].text if names else None
+    key = re.fullmatch(rf"{TEXT}|(\d+)", name or "")
+    return Part(key[key.lastindex] if key else name, span, check, value_name(value))
+
+
+def arguments(call):
+    """What a call is given."""
+    return call.part(call.flat.index("("), len(call.flat)).inside().split(",")
 
 
 def whole_part(last):
     """A part that is checked without `visit`: by `check`, or under a component; None of code that checks nothing."""
     if re.fullmatch(r"Ok\(\s*\(\s*\)\s*\)", last.blank):
         return None
-    call = re.match(r"check_under\s*\(\0*\)$", last.flat)
-    given = last.part(last.flat.index("("), len(last.flat)).inside().split(",") if call else []
+    given = arguments(last) if re.match(r"check_under\s*\(\0*\)$", last.flat) else []
     if len(given) == 7:
         key = KEY_OF_COMPONENT.match(given[1].text)
-        name = next(it for it in key.groups() if it is not None) if key else None
         check = given[2].part(1, len(given[2].blank)) if given[2].blank[:1] == "&" else given[2]
-        return Part(name, last, check, value_name(given[3]))
+        return Part(key[key.lastindex] if key else None, last, check, value_name(given[3]))
     found = re.search(r"\.\s*check\s*\(\0*\)$", last.flat)
     return Part(None, last, last.part(0, found.start()) if found else last)
 

@@ -7,6 +7,8 @@ from lib.source import spaces
 
 OPENING, CLOSING = "([{⟦", ")]}⟧"
 INSIDE = "\0"
+# a comment of a statement
+COMMENT = re.compile(r"--[^\n]*")
 
 
 class Plain:
@@ -17,16 +19,9 @@ class Plain:
         self.text = text
         self.kept = source.SKIPPED.sub(lambda it: spaces(it.group()) if it.group()[0] == "/" else it.group(), text)
         self.blank = self.items.blank
-        for item in self.items.all_items():
-            if item.kind == "ghost":
-                self.drop_comments(item.head, item.end)
-
-    def drop_comments(self, start, end):
-        """Puts spaces for the comments of a statement, which begin with `--`."""
-        for found in re.finditer(r"--[^\n]*", self.blank[start:end]):
-            first, last = start + found.start(), start + found.end()
-            self.kept = self.kept[:first] + spaces(self.kept[first:last]) + self.kept[last:]
-            self.blank = self.blank[:first] + spaces(self.blank[first:last]) + self.blank[last:]
+        ghosts = [it for it in self.items.all_items() if it.kind == "ghost"]
+        for first, last in (found.span() for it in ghosts for found in COMMENT.finditer(self.blank, it.head, it.end)):
+            self.kept, self.blank = (it[:first] + spaces(it[first:last]) + it[last:] for it in (self.kept, self.blank))
 
     def line_of(self, at):
         return self.items.line_of(at)

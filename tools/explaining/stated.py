@@ -94,5 +94,4 @@ def part_of(piece):
     if not found:
         return Part(None, piece, piece)
     rest = piece.part(found.end(), len(piece.blank))
-    key = next(it for it in found.groups() if it is not None)
-    return Part(key, piece, rest.inside() or rest)
+    return Part(found[found.lastindex], piece, rest.inside() or rest)

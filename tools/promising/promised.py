@@ -41,17 +41,13 @@ def gives_valid(function):
     return "Valid<" in function.text.header(function.item).partition("->")[2]
 
 
-def is_of_tests(function):
-    """Whether a function stands among tests."""
-    return calls.crate_of(function).startswith("test_") or "/tests" in function.file
-
-
 @functools.cache
 def tests():
     """All tests by their names, each with the public functions that it calls, itself or by functions of its crate's tests."""
-    helpers = {crate: [it for it in calls.functions_of(crate) if is_of_tests(it)] for crate in repository.crates()}
+    is_whole = {crate: crate.startswith("test_") for crate in repository.crates()}
+    helpers = {crate: [it for it in calls.functions_of(crate) if whole or "/tests" in it.file] for crate, whole in is_whole.items()}
     own = [it for functions in helpers.values() for it in functions if calls.method_of(it)[0] == ""]
-    targets, found = calls.Calls(list(every().values()), own), {}
+    targets, found = calls.Calls(every().values(), own), {}
     names = {function.place: name for name, function in every().items()}
     for crate, functions in helpers.items():
         beside = calls.Calls([it for it in functions if not calls.is_test(it)])
@@ -84,7 +80,7 @@ class Mutants:
         self.names = {function.place: name for name, function in of(crate).items()}
         self.traits = {calls.method_of(it): name for name, it in of(crate).items() if it.item.owner and it.item.owner.kind == "trait"}
         self.functions = {it.place: it for it in calls.functions_of(crate) if not calls.is_test(it)}
-        self.callers, graph = {}, calls.Calls(list(self.functions.values()))
+        self.callers, graph = {}, calls.Calls(self.functions.values())
         for caller in self.functions.values():
             for it in graph.called(caller):
                 self.callers.setdefault(it.place, []).append(caller)
