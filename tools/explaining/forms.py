@@ -61,7 +61,8 @@ def code_of(span):
 
 def built(code):
     """The name of the type that a form makes, or None."""
-    found = re.search(r"&\s*(?:'\w+\s*)?(?:\w+\s*::\s*)*(\w+)", code.parts[1].kind) if code.head == "Built" and len(code.parts) == 2 else None
+    kind = code.parts[1].kind if code.head == "Built" and len(code.parts) == 2 else ""
+    found = re.search(r"&\s*(?:'\w+\s*)?(?:\w+\s*::\s*)*(\w+)", kind)
     return found and found[1]
 
 

@@ -7,7 +7,7 @@ import shutil
 
 from .listing import closed, with_lines
 from .origin import COMMANDS, TOOL, Refusal, read_line
-from .record import NAME, Record, hash_of, read_record
+from .record import NAME, hash_of, read_record
 
 PART = ".vendored-garde.part"
 

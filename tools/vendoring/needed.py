@@ -59,8 +59,12 @@ class Needed:
         self.live, self.shown, self.modules, self.ahead = set(), set(), set(), []
         self.words, self.called, self.counts = set(), set(), {0, 1}
         self.blocks = [it for crate in sources.crates.values() for it in crate.nodes() if it.item.kind == "impl"]
-        for name in roots:
-            self.add_all(sources.crates[name])
+        for crate in (sources.crates[name] for name in roots):
+            for it in crate.nodes():
+                self.add(it)
+            for path in crate.files:
+                if path.endswith(".antt"):
+                    self.cited.add(crate.name, path)
         self.go_on()
 
     def go_on(self):
@@ -68,13 +72,6 @@ class Needed:
         while self.ahead or self.has_grown():
             while self.ahead:
                 self.read(self.ahead.pop())
-
-    def add_all(self, crate):
-        for it in crate.nodes():
-            self.add(it)
-        for path, text in crate.files.items():
-            if path.endswith(".antt"):
-                self.cited.add(crate.name, path)
 
     def has(self, node):
         return node in self.live or node in self.shown
@@ -108,7 +105,7 @@ class Needed:
         """Reads what an item names."""
         self.sources.passed = self.modules
         is_live, module = node in self.live, node.module
-        for modules, text in self.texts(node, module.code):
+        for modules, text in self.texts(node):
             self.read_names(modules, text, self.add if is_live else self.show, node)
             if is_live:
                 self.note(modules[0], text, node)
@@ -118,10 +115,10 @@ class Needed:
         self.sources.passed = set()
         self.read_definitions(node, names_in(whole))
 
-    def texts(self, node, code):
+    def texts(self, node):
         """The texts of an item: its own, and the bodies of the macros that it calls. With each stand the modules by whose scopes
         its names are read: those of a macro by that of the macro, of the caller, and of what the macro puts names behind."""
-        texts, ahead, family, seen = [], [(node.module, node.text(code))], [], set()
+        texts, ahead, family, seen = [], [(node.module, node.text(node.module.code))], [], set()
         yield [node.module], ahead[0][1]
         while ahead:
             module, text = ahead.pop()
@@ -188,12 +185,8 @@ class Needed:
             if not traits and node.trait == "Model":
                 self.weigh_model(node)
             elif not traits or self.live.intersection(traits):
-                self.add_block(node)
-
-    def add_block(self, node):
-        """Adds an impl block of a trait that is in use, if the types of its head are."""
-        if self.are_used(node, node.trait.partition("<")[2]) and self.are_used(node, node.of):
-            self.add(node)
+                if self.are_used(node, node.trait.partition("<")[2]) and self.are_used(node, node.of):
+                    self.add(node)
 
     def weigh_model(self, node):
         """Adds what contracts see of a type, where they speak of it."""

@@ -41,8 +41,9 @@ class Slice:
             else:
                 made[path] = text
         made = {path: text for path, text in made.items() if text or not self.crate.files[path]}
-        if made != self.crate.files and self.crate.root.file in made:
-            made[self.crate.root.file] = noted(made[self.crate.root.file].decode()).encode()
+        root = self.crate.root.file
+        if made != self.crate.files and root in made:
+            made[root] = re.sub(rb"(?://![^\n]*\n)*", lambda it: it[0] + LEFT_OUT.encode(), made[root], count=1)
         return made
 
     def is_kept(self, module):
@@ -104,7 +105,7 @@ class Slice:
         if not found:
             at = [it for it in self.sources.lead(module, way[:-1]) if not isinstance(it, Node) and way[-1] in it.scope]
             return any(map(self.is_kept, at)) if at else way[0] not in (*self.sources.crates, *module.below, "crate", "self", "super")
-        if used is not None and name not in used and not any(is_trait(it) for it in found):
+        if used is not None and name not in used and not any(isinstance(it, Node) and it.item.kind == "trait" for it in found):
             return False
         return any(self.need.has(it) if isinstance(it, Node) else self.is_kept(it) for it in found)
 
@@ -114,7 +115,7 @@ class Slice:
         found = set()
         for it in nodes:
             found.update(names_in(it.text(it.module.source.blank)), re.findall(r"\{(\w+)", it.text(it.module.source.text)))
-            for _, text in self.need.texts(it, it.module.code):
+            for _, text in self.need.texts(it):
                 found.update(names_in(text))
         return found
 
@@ -145,16 +146,6 @@ class Slice:
         if place.startswith(DECLARED):
             return any(map(self.need.has, cited.declared(crate, place)))
         return cited.has(crate, cited.file(crate, kind, place))
-
-
-def noted(text):
-    """The root file of a crate with a line that something is left out."""
-    head = re.match(r"(?://![^\n]*\n)*", text).end()
-    return text[:head] + LEFT_OUT + text[head:]
-
-
-def is_trait(it):
-    return isinstance(it, Node) and it.item.kind == "trait"
 
 
 def whole(source, item):
