@@ -7,26 +7,25 @@ UNFIT = "items are checked by `Each(..)`, what an option holds by `IfSome(..)`, 
 HELD = r"\b(Each|IfSome|WithMessage)\s*\("
 
 
-def of_pair(place, coded, pair):
+def of_pair(place, pair):
     """The causes that a pair has the look of."""
     stated = " ".join(it.piece.blank for it in pair.stated)
-    lets, code = code_of(coded, pair)
-    yield from of_constructors(coded, pair)
+    code = code_of(pair)
+    yield from of_constructors(code)
     if "==" in stated:
         yield "`==` of `Prelude` in `visits`: write `nat_eq` of numbers, and `text_eq` or `text_is` of texts"
     if re.search(r"\bif_some\b", stated) and not re.search(r"\bIfSome\b", code):
         yield "`if_some` in `visits` is `IfSome(..)` in the code; a rule of the whole option is `of_option`"
     if re.search(r"\bof_option\b", stated) and re.search(r"\bIfSome\b", code):
         yield "`of_option` in `visits` is a rule of the whole option; `IfSome(..)` is `if_some`"
-    yield from of_conditions(place, lets, code)
+    yield from of_conditions(place, pair.case.body.known(), code)
     yield from of_call(place, pair.case.body)
 
 
-def code_of(coded, pair):
-    """The names that the code of a pair may use, each with what it stands for, and that code with what its names stand for."""
-    lets = {**coded.body.lets(), **pair.case.body.lets()}
+def code_of(pair):
+    """The code of a pair with what its names stand for."""
     code = " ".join(it.piece.blank for it in pair.coded)
-    return lets, code + " " + " ".join(lets[name].blank for name in lets if re.search(rf"\b{name}\b", code))
+    return " ".join([code, *(it.blank for _, it in pair.case.body.named(code))])
 
 
 def of_call(place, body):
@@ -35,9 +34,8 @@ def of_call(place, body):
         yield "a type with parameters or lifetimes calls `visit_of(self, ..)` in place of `visit(..)`"
 
 
-def of_constructors(coded, pair):
+def of_constructors(code):
     """A constructor that the prover does not see through."""
-    _, code = code_of(coded, pair)
     if (held := re.search(HELD, code)) and re.search(CONSTRUCTOR, code):
         yield f"a constructor inside `{held[1]}` is not seen through: write `length!(..)` or `range!(..)`"
 
@@ -55,7 +53,7 @@ def of_conditions(place, lets, code):
 def of_whole(place, stated, coded, pairs):
     """The causes that a type has the look of whose parts all agree."""
     for pair in pairs:
-        yield from of_constructors(coded, pair)
+        yield from of_constructors(code_of(pair))
     yield from dict.fromkeys(it for case in coded.cases for it in of_call(place, case.body))
     for case, other in zip_cases(stated, coded):
         if case.shape != other.shape:

@@ -1,6 +1,6 @@
 """What the code of a type checks: its parts, and of an enum the arms."""
 import re
-from dataclasses import dataclass
+from dataclasses import dataclass, replace
 
 from .spans import Span
 from .stated import TEXT, Case, Part
@@ -12,11 +12,12 @@ KEY_OF_COMPONENT = re.compile(rf"Component::(?:key\(\s*{TEXT}\s*\)|index\(\s*(\d
 
 @dataclass
 class Body:
-    """A body: its statements, its last expression, and of that the call of `visit`, where it is one."""
+    """A body: its statements, its last expression, of that the call of `visit`, where it is one, and the body that it is an arm of."""
 
     statements: list
     last: Span
     call: str = ""
+    outer: object = None
 
     def lets(self):
         """The statements that give a name to an expression, by these names."""
@@ -32,9 +33,13 @@ class Body:
             new = {it for name in new & lets.keys() for it in re.findall(r"\w+", lets[name].blank)} - names
         return [it for it in self.statements if not LET.match(it.blank) or LET.match(it.blank)[1] in names]
 
+    def known(self):
+        """The names that the last expression may use, each with its expression."""
+        return {**(self.outer.known() if self.outer else {}), **self.lets()}
+
     def named(self, text):
         """The names of checks that a piece of code uses, each with its expression."""
-        return [(name, it) for name, it in self.lets().items() if re.search(rf"\b{name}\b", text)]
+        return [(name, it) for name, it in self.known().items() if re.search(rf"\b{name}\b", text)]
 
 
 @dataclass
@@ -54,7 +59,7 @@ def read_coded(place):
     if arms is None:
         return Coded(body, [case_of(body)])
     matched = body.last.text[: body.last.flat.rindex("{") + 1]
-    return Coded(body, [case_of(inner, body, pattern) for pattern, inner in arms], matched)
+    return Coded(body, [case_of(replace(inner, outer=body), pattern) for pattern, inner in arms], matched)
 
 
 def body_of(span):
@@ -90,16 +95,15 @@ def arms_of(last):
     return arms
 
 
-def case_of(body, outer=None, pattern=None):
-    """The parts of a body that ends with a call of `visit`; of another one its whole as one part. `outer` is what the body is an arm of."""
+def case_of(body, pattern=None):
+    """The parts of a body that ends with a call of `visit`; of another one its whole as one part."""
     variant = re.match(r"(?:\w+\s*::\s*)*(\w+)", pattern.blank)[1] if pattern else ""
     pattern = pattern.text if pattern else ""
     if not body.call:
         part = whole_part(body.last)
         return Case([part] if part else [], [1] if part else [], body.last, variant, pattern, body)
     fields = body.last.part(0, len(body.last.text) - len(body.call))
-    lets = {**(outer.lets() if outer else {}), **body.lets()}
-    return Case(*parts_of(fields, lets), body.last, variant, pattern, body)
+    return Case(*parts_of(fields, body.known()), body.last, variant, pattern, body)
 
 
 def parts_of(span, lets):

@@ -74,11 +74,11 @@ class Type:
         for case, other in causes.zip_cases(self.stated, self.coded):
             if case.parts and all(it.key is None for it in case.parts) and any(it.key is not None for it in other.parts):
                 text = f"`visits` is `{case.piece.shown}`, which names no field, and the code names some: the command compares"
-                raise Unknown(said.line(self.place, case.piece, f"{text} `field \"name\" (..)` with `Field(\"name\", ..)`"))
+                raise Unknown(case.piece.said(f"{text} `field \"name\" (..)` with `Field(\"name\", ..)`"))
 
     def differing(self):
         """The lines of what differs without the prover."""
-        return [said.difference(self.place, self.coded, it) for it in self.differences]
+        return [said.difference(it) for it in self.differences]
 
     def unread(self):
         """The lines of the variants that are not found once on each side."""
@@ -103,16 +103,16 @@ class Type:
         for pair, path in zip(self.pairs, self.functions.paths()):
             verdict = known.get(f"{self.place.crate}::{path}", "no verdict")
             if verdict == OPEN:
-                found.append(said.opened(self.place, self.coded, pair))
-                found += [f"  it may be this: {it} ({causes.PAGE})" for it in causes.of_pair(self.place, self.coded, pair)]
+                found.append(said.opened(pair))
+                found += [f"  it may be this: {it} ({causes.PAGE})" for it in causes.of_pair(self.place, pair)]
             elif verdict != PROVED:
-                unjudged.append(said.unjudged(self.place, pair, said_of.get(pair, verdict)))
+                unjudged.append(said.unjudged(pair, said_of.get(pair, verdict)))
         return found, unjudged
 
     def unfit(self, lines):
         """The lines of the parts whose check is none of a value of its type, of a type that does not compile."""
         pairs = [pair for pair, text in self.said_of_pairs(lines).items() if UNFIT.match(text) and pair.coded]
-        found = [said.unfit(self.place, self.coded, pair) for pair in pairs]
+        found = [said.unfit(pair) for pair in pairs]
         return found + [f"  it may be this: {causes.UNFIT} ({causes.PAGE})"] if found else []
 
     def said_of_pairs(self, lines):

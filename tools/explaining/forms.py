@@ -4,7 +4,7 @@ from dataclasses import dataclass
 
 from lib import paths
 
-from .spans import Plain, Span
+from .spans import Plain, Span, texts
 
 NAME = re.compile(r"(?:\w+\s*::\s*)*(\w+)(!?)\s*(?:::\s*<([^;{}]*)>)?\s*")
 # Words of forms by what they read, where `F` is what the form within reads and its number among what is given.
@@ -88,8 +88,8 @@ def read_kind(text):
 class File:
     """The forms of a file, by which values of types are made."""
 
-    def __init__(self, name, text):
-        self.name, self.plain = name, Plain(text)
+    def __init__(self, file, text):
+        self.plain = Plain(file, text)
         self.parts = {it[1]: (read_kind(it[2]), it.start(2)) for it in re.finditer(r"\bFromParts\s+for\s+(\w+)[^{]*\{\s*type\s+Parts\s*=\s*([^;]*);", self.plain.blank)}
         self.lets = [(it[1], it.end()) for it in re.finditer(r"\blet\s+(\w+)\s*=", self.plain.blank)]
 
@@ -181,13 +181,13 @@ def agree(met, wanted):
 
 def differences(folder):
     """The lines of the members of a crate's forms whose values differ from the parts of the type that is made of them."""
-    files = [File(str(it.relative_to(folder)), it.read_text(encoding="utf-8", errors="replace")) for it in sorted(folder.glob("src/**/*.rt"))]
+    files = [File(*it) for it in texts(folder).items()]
     parts = {name: (kind, file, at) for file in files for name, (kind, at) in file.parts.items()}
     for file in files:
         for code, name in file.made():
             if name not in parts:
                 continue
             wanted, other, at = parts[name]
-            where = f"(line {other.plain.line_of(at)}{'' if other is file else f' of {other.name}'})"
-            for place, said in file.differing(code, wanted, name):
-                yield f"{file.name}:{file.plain.line_of(place)}: {said} {where}"
+            where = f"(line {other.plain.line_of(at)}{'' if other is file else f' of {other.plain.file}'})"
+            for start, said in file.differing(code, wanted, name):
+                yield Span(file.plain, start, start).said(f"{said} {where}")

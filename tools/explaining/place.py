@@ -5,7 +5,7 @@ from dataclasses import dataclass
 
 from lib import paths
 
-from .spans import Plain, Span
+from .spans import Plain, Span, texts
 
 TRAIT = re.compile(r"(?:\w+\s*::\s*)*\bValidate(?=\s+for\b)")
 STATED = re.compile(r"\bStated\s+for\b")
@@ -25,11 +25,10 @@ class Formed(Unknown):
 
 @dataclass(frozen=True)
 class Place:
-    """A type that implements `Validate`: the folder of its crate, its file there, the two blocks, and an item of each. A type that
-    states its rules alone has no block of code."""
+    """A type that implements `Validate`: the folder of its crate, its source, the two blocks, and an item of each. A type that states
+    its rules alone has no block of code."""
 
     folder: pathlib.Path
-    file: str
     plain: Plain
     stated: object
     visits: object
@@ -39,6 +38,10 @@ class Place:
     @property
     def crate(self):
         return self.folder.name
+
+    @property
+    def file(self):
+        return self.plain.file
 
     @property
     def modules(self):
@@ -62,7 +65,7 @@ class Place:
 
     def line(self, text):
         """What is said at the line of `visits`."""
-        return f"{self.file}:{self.plain.line_of(self.visits.head)}: {text}"
+        return self.span(self.visits.head, self.visits.end).said(text)
 
     def name(self):
         return "::".join([*self.modules, self.type_name])
@@ -73,27 +76,22 @@ class Place:
 
 def stating(folder):
     """The types of a crate that state their rules, with the code where they have one."""
-    found = []
-    for path in sorted(folder.glob("src/**/*.rt")):
-        text = path.read_text(encoding="utf-8", errors="replace")
-        if STATED.search(text):
-            plain = Plain(text)
-            found += [it for block in blocks_of(plain.items, STATED) for it in place(folder, path, plain, block)]
-    return found
+    sources = [Plain(*it) for it in texts(folder).items() if STATED.search(it[1])]
+    return [it for plain in sources for block in blocks_of(plain.items, STATED) for it in place(folder, plain, block)]
 
 
 def blocks_of(items, trait):
     return [it for it in items.items if it.kind == "impl" and trait.search(items.header(it))]
 
 
-def place(folder, path, plain, stated):
+def place(folder, plain, stated):
     """The type of a block, where it states its rules once and has code once at most."""
     visits = [it for it in stated.members if it.kind == "ghost" and it.name == "visits"]
     wanted = paths.name_of_block(plain.items, stated).removesuffix("Stated") + "Validate"
     blocks = [it for it in blocks_of(plain.items, TRAIT) if paths.name_of_block(plain.items, it) == wanted]
     code = [(block, it) for block in blocks for it in block.members if it.kind == "fn" and it.name == "validate_into"]
     if len(visits) == 1 and len(code) <= 1:
-        yield Place(folder, str(path.relative_to(folder)), plain, stated, visits[0], *(code[0] if code else ()))
+        yield Place(folder, plain, stated, visits[0], *(code[0] if code else ()))
 
 
 def places(folder):

@@ -11,12 +11,17 @@ INSIDE = "\0"
 COMMENT = re.compile(r"--[^\n]*")
 
 
+def texts(folder):
+    """The texts of a crate's sources, by their paths there."""
+    files = sorted(folder.glob("src/**/*.rt"))
+    return {str(it.relative_to(folder)): it.read_text(encoding="utf-8", errors="replace") for it in files}
+
+
 class Plain:
     """A source with spaces for its comments (`kept`), and with spaces for what stands in quotes too (`blank`)."""
 
-    def __init__(self, text):
-        self.items = source.read(text)
-        self.text = text
+    def __init__(self, file, text):
+        self.file, self.text, self.items = file, text, source.read(text)
         self.kept = source.SKIPPED.sub(lambda it: spaces(it.group()) if it.group()[0] == "/" else it.group(), text)
         self.blank = self.items.blank
         ghosts = [it for it in self.items.all_items() if it.kind == "ghost"]
@@ -48,6 +53,10 @@ class Span:
     def line(self):
         """The line that it begins in, from 1 on."""
         return self.plain.line_of(self.start)
+
+    def said(self, text):
+        """What is said at this line."""
+        return f"{self.plain.file}:{self.line}: {text}"
 
     @property
     def shown(self):

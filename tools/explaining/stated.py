@@ -50,22 +50,22 @@ def read_stated(place):
     body = whole.part(at, whole.flat.rindex("}") + 1).inside("{")
     found = re.match(r"λ\s*([^.]*)\.", body.blank)
     if not found:
-        raise Unknown(f"{place.file}:{whole.line}: `visits` is `{body.shown}`, which has no parts that the command could compare")
+        raise Unknown(whole.said(f"`visits` is `{body.shown}`, which has no parts that the command could compare"))
     names, inner = found[1].strip(), body.part(found.end(), len(body.blank))
     if not re.match(r"elim\b", inner.blank):
         return Stated(names, [Case(*parts_of(inner), inner)])
     at = inner.flat.rfind("[")
     cases = inner.part(at, len(inner.flat)).inside("[") if at > 0 else None
     if cases is None:
-        raise Unknown(f"{place.file}:{inner.line}: `visits` begins with `elim` and has no cases that the command can read")
-    return Stated(names, [read_case(place, it) for it in cases.split(r"\|")], inner.text[: at + 1])
+        raise Unknown(inner.said("`visits` begins with `elim` and has no cases that the command can read"))
+    return Stated(names, [read_case(it) for it in cases.split(r"\|")], inner.text[: at + 1])
 
 
-def read_case(place, case):
+def read_case(case):
     arrow = case.flat.find("↦")
     pattern, body = case.part(0, arrow), case.part(arrow + 1, len(case.blank))
     if arrow < 0 or not re.match(r"\w+'?", pattern.blank):
-        raise Unknown(f"{place.file}:{case.line}: a case of `visits` that the command cannot read: `{case.shown}`")
+        raise Unknown(case.said(f"a case of `visits` that the command cannot read: `{case.shown}`"))
     return Case(*parts_of(body), body, pattern.blank.split()[0], pattern.text)
 
 
