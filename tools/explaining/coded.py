@@ -25,7 +25,7 @@ class Body:
         return {name[1]: it.part(name.end(), len(it.blank.rstrip(";"))) for name, it in found if name}
 
     def wanted(self, *texts):
-        """The statements that a piece of code wants: all but those that name an expression which it does not use."""
+        """The statements that pieces of code want: all but those that name an expression which they do not use."""
         lets, names = self.lets(), set()
         new = {it for text in texts for it in re.findall(r"\w+", text)}
         while new:

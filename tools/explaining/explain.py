@@ -247,8 +247,8 @@ def look(folder):
 def unlisted(folder, errors):
     """What to do about crates that the crate's line does not list."""
     found = dict.fromkeys(one or other for it in errors for one, other in UNLISTED.findall(it))
-    told = f"crates.txt: the line of {folder.name} may lack {' '.join(found)}: write them there, and call `tools/vendor FOLDER` in the clone of garde again"
-    return [told] if found else []
+    told = f"crates.txt: the line of {folder.name} may lack {' '.join(found)}: write them there, and call"
+    return [f"{told} `tools/vendor FOLDER` in the clone of garde again"] if found else []
 
 
 def lacks(folder, errors):

@@ -89,22 +89,17 @@ class Functions:
         return f"{self.stated.head} {' '.join(cases)} ]"
 
     def body(self, pair):
-        outer = self.coded.body
-        if not self.coded.matched:
-            return braced(*self.checks(pair, outer))
-        statements, last = self.checks(pair, pair.case.body)
-        wanted = outer.wanted(*statements, last, self.coded.matched)
-        arms = [f"{case.pattern} => {braced(statements, last) if case is pair.case else NOTHING}" for case in self.coded.cases]
-        return braced([it.text for it in wanted], f"{self.coded.matched} {' '.join(arms)} }}")
-
-    def checks(self, pair, body):
-        """The statements and the last expression of a body that checks a pair alone."""
-        if pair.is_whole:
-            return [it.text for it in body.statements], body.last.text
-        fields = ", ".join(it.piece.text for it in pair.coded)
-        last = (fields if len(pair.coded) == 1 else f"({fields})") + body.call
-        return [it.text for it in body.wanted(last)], last
+        matched, checks = self.coded.matched, checks_of(pair)
+        if not matched:
+            return checks
+        wanted = [it.text for it in self.coded.body.wanted(checks, matched)]
+        arms = [f"{case.pattern} => {checks if case is pair.case else NOTHING}" for case in self.coded.cases]
+        return " ".join(["{", *wanted, matched, *arms, "} }"])
 
 
-def braced(statements, last):
-    return "{ " + " ".join([*statements, last]) + " }"
+def checks_of(pair):
+    """A body that checks a pair alone."""
+    body, fields = pair.case.body, ", ".join(it.piece.text for it in pair.coded)
+    last = body.last.text if pair.is_whole else (fields if len(pair.coded) == 1 else f"({fields})") + body.call
+    statements = body.statements if pair.is_whole else body.wanted(last)
+    return " ".join(["{", *(it.text for it in statements), last, "}"])
