@@ -1,4 +1,5 @@
 """What runs of a program take: processor time and memory, and by valgrind instructions and requests for memory."""
+import contextlib
 import os
 import re
 import subprocess
@@ -16,6 +17,15 @@ def run(words, source=os.devnull, taken=subprocess.DEVNULL, statuses=(0,)):
     if child.returncode not in statuses:
         sys.exit(f"{' '.join(map(str, words))} ended with status {child.returncode}")
     return usage.ru_utime + usage.ru_stime, usage.ru_maxrss / 1024
+
+
+@contextlib.contextmanager
+def written(pieces):
+    """The name of a file that has these pieces of bytes or of text."""
+    with tempfile.NamedTemporaryFile() as file:
+        file.writelines(it if isinstance(it, bytes) else it.encode() for it in pieces)
+        file.flush()
+        yield file.name
 
 
 def answered(words, source=os.devnull, statuses=(0, 1)):

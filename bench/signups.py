@@ -4,9 +4,8 @@ import json
 import os
 import random
 import statistics
-import tempfile
 
-from runs import answered, by_turns, counted, counts_of_each
+from runs import answered, by_turns, counted, counts_of_each, written
 
 COUNTED = 1000
 
@@ -59,10 +58,8 @@ def arguments(doc, program):
 
 def turns_of(programs, lines, pairs):
     """The processor seconds and the output of each program on the lines, in each turn."""
-    with tempfile.NamedTemporaryFile("w", encoding="utf-8") as file:
-        file.writelines(lines)
-        file.flush()
-        return list(by_turns(programs, lambda it: answered([it], file.name), pairs))
+    with written(lines) as source:
+        return list(by_turns(programs, lambda it: answered([it], source), pairs))
 
 
 def ratio(turns, at, other):
