@@ -68,10 +68,16 @@ class Needed:
         self.go_on()
 
     def go_on(self):
-        """Reads what is added, and what that leads to."""
-        while self.ahead or self.has_grown():
+        """Reads what is added, and what that leads to: then the impl blocks that are needed by now, and the definitions and proofs."""
+        while True:
             while self.ahead:
                 self.read(self.ahead.pop())
+            for it in self.blocks:
+                self.weigh(it)
+            if not self.ahead:
+                self.add_proofs()
+            if not self.ahead:
+                return
 
     def has(self, node):
         return node in self.live or node in self.shown
@@ -89,15 +95,6 @@ class Needed:
         if not self.has(node):
             self.shown.add(node)
             self.ahead.append(node)
-
-    def has_grown(self):
-        """Adds the impl blocks that are needed by now, and the definitions and proofs of what is. Says whether more is to be read."""
-        for it in self.blocks:
-            self.weigh(it)
-        if not self.ahead:
-            for crate in self.sources.crates.values():
-                self.add_proofs(crate)
-        return bool(self.ahead)
 
     # What an item leads to.
 
@@ -219,18 +216,23 @@ class Needed:
         types = self.sources.items(node.module, way_of(of.group())) if of else ()
         return (*types[0].module.path, types[0].item.name, node.item.name) if types else node.place()
 
-    def add_proofs(self, crate):
-        """Adds the proofs of what is live of a crate, and the definitions that are of an item by their place."""
-        kept = {"/".join(self.place(it)) for it in crate.nodes() if it in self.live and it.item.kind in PROVED and not it.is_own_block}
-        shown = {f"{'/'.join(it.module.path)}/{it.item.name}" for it in crate.nodes() if self.has(it)}
-        for path in crate.files:
-            kind, _, place = path.partition("/")
-            if kind == "proofs" and "/" in place and is_of(place.rpartition("/")[0], crate.files[path], kept):
-                self.cited.add(crate.name, path)
-            elif path.startswith("specs/formers/") and path.removeprefix("specs/formers/").removesuffix(".antt") in shown:
-                self.cited.add(crate.name, path)
-                for count in range(path.count("/"), 1, -1):
-                    self.cited.add(crate.name, "/".join(path.split("/")[:count]) + ".antt")
+    def add_proofs(self):
+        """Adds the proofs of what is live, and the definitions that are of an item by their place."""
+        for crate in self.sources.crates.values():
+            kept = {"/".join(self.place(it)) for it in crate.nodes() if it in self.live and it.item.kind in PROVED and not it.is_own_block}
+            shown = {f"specs/formers/{'/'.join(it.module.path)}/{it.item.name}" for it in crate.nodes() if self.has(it)}
+            for path, text in crate.files.items():
+                folder = path.rpartition("/")[0]
+                if folder.startswith("proofs/") and is_of(folder.removeprefix("proofs/"), text, kept):
+                    self.cited.add(crate.name, path)
+                elif path.removesuffix(".antt") in shown:
+                    self.add_formers(crate.name, path)
+
+    def add_formers(self, crate, path):
+        """Adds a file of definitions, and those above it, which list it."""
+        self.cited.add(crate, path)
+        for count in range(path.count("/"), 1, -1):
+            self.cited.add(crate, "/".join(path.split("/")[:count]) + ".antt")
 
 
 @functools.cache
