@@ -90,7 +90,7 @@ class Begun:
         named = sorted({name for it in self.written.values() for name in crates_named(it)})
         return replace(line, uses=(*line.uses, *(it for it in named if it not in line.uses)))
 
-    def files(self, files, crate):
+    def files(self, files):
         """The files of the program with this type in place of its own."""
         kept = {path: it for path, it in files.items() if path not in LEFT_OUT}
         lines = "\n".join(f"mod {it};" for it in sorted({self.module, *(pathlib.Path(path).stem for path in self.written)}))

@@ -108,7 +108,7 @@ def program_of(origin, folder, sources, name, begun):
             folder.refuse_taken(copy, "yours already: choose another name for the program")
         line = Line(copy, source.options, tuple(names.get(it, it) for it in source.uses)).text()
         files = origin.program_files(source.name, program, name)
-        copies.append(Copy(copy, line, begun.files(files, name) if begun else files))
+        copies.append(Copy(copy, line, begun.files(files) if begun else files))
     if begun:
         return Program(name, f"{program} that reads `{begun.kind}`", tuple(copies), "rt try < body.json", begun.told)
     return Program(name, program, tuple(copies), run_of(sources[-1], copies[-1].files))
