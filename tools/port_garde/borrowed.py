@@ -13,8 +13,8 @@ from .parsed import parser_of, value_type, way_out
 from .names import of_variant, others_of_variant
 from .scope import SIGNED, UNSIGNED, is_option, is_path, is_text
 from .quoted import BESIDE_CONTEXT
-from .rules import no_attributes
-from .source import Item, Param, Type, all_rules, is_ported
+from .rules import Attributes
+from .source import Item, Param, Type, all_rules, fields_of, is_ported, named_type, with_fields
 from .tokens import Refusal, meant
 from .unions import Shapes, is_other, is_unit
 from .values import DECIMAL, KEPT, as_read, canonical, is_any, is_float
@@ -56,16 +56,12 @@ def is_named(item):
 
 def hole(name):
     """The type of a hole, which has no form here."""
-    return Item("hole", name, (), (), 0, no_attributes(), derives=("Deserialize",))
+    return Item("hole", name, (), (), 0, Attributes(), derives=("Deserialize",))
 
 
 def seen_in(vis):
     """How far a visibility goes."""
     return 0 if not vis else 2 if vis == "pub " else 1
-
-
-def fields_of(item):
-    return [it for variant in item.variants for it in variant.fields]
 
 
 # The rules of lists and of maps that a form asks.
@@ -100,7 +96,9 @@ class Borrowed:
         self.each_field(self.with_rules_of_sets)
         self.each_field(lambda it: always_there(it, self))
         self.defaults = Defaults(source)
-        self.let_be_missing()
+        # where the source has a module of one's own each member may be missing whose default is not known
+        unknown = {id(it): told for item in self.items.values() for it in fields_of(item) for told in [self.unknown_default(it, item)] if told}
+        self.each_field(lambda it: self.unmade(it, unknown[id(it)]) if id(it) in unknown else it)
         self.show_parts(root)
 
     def show_parts(self, root):
@@ -118,13 +116,7 @@ class Borrowed:
         """Changes each field of the types."""
         for at, item in enumerate(self.source.items):
             if item.name in self.items and item.name not in self.holes:
-                variants = tuple(replace(it, fields=tuple(map(change, it.fields))) for it in item.variants)
-                self.source.items[at] = self.items[item.name] = replace(item, variants=variants)
-
-    def let_be_missing(self):
-        """Lets each member be missing whose default is not known, where the source has a module of one's own."""
-        found = {id(it): told for item in self.items.values() for it in fields_of(item) for told in [self.unknown_default(it, item)] if told}
-        self.each_field(lambda it: self.unmade(it, found[id(it)]) if id(it) in found else it)
+                self.source.items[at] = self.items[item.name] = with_fields(item, change)
 
     def unknown_default(self, it, item):
         """Why the default of a member is not known, or nothing. Where rules speak of it besides others it has to be."""
@@ -146,8 +138,7 @@ class Borrowed:
 
     def canonical(self, item):
         """A type whose fields of any kind are known by one name."""
-        fields = lambda variant: tuple(replace(it, type=canonical(it.type, self.source.imports)) for it in variant.fields)
-        return replace(item, variants=tuple(replace(it, fields=fields(it)) for it in item.variants))
+        return with_fields(item, lambda it: replace(it, type=canonical(it.type, self.source.imports)))
 
     def found_holes(self, root):
         """The types whose reading stands elsewhere, by their names, each with why that is so. They are types of the source from here on, and
@@ -225,8 +216,8 @@ class Borrowed:
     def turned(self, item):
         """A type with other texts, lists and maps, without what is serde's. A variant with brackets that hold no field is one without."""
         params = (Param("lifetime", LIFE),) if item.name in self.borrowing else ()
-        fields = lambda variant: tuple(self.turned_field(self.stated_field(it, item)) for it in variant.fields)
-        variants = tuple(replace(it, fields=fields(it), serde=()) for it in item.variants)
+        changed = with_fields(item, lambda it: self.turned_field(self.stated_field(it, item)))
+        variants = tuple(replace(it, serde=()) for it in changed.variants)
         if item.kind == "enum":
             variants = tuple(it if it.fields else replace(it, shape="unit") for it in variants)
         derives = self.derives_of(item)
@@ -274,7 +265,7 @@ class Borrowed:
         if isinstance(kind, str):
             return kind
         if is_text(kind):
-            return Type("path", "TextRef", kind.line, path=("TextRef",), args=(LIFE,))
+            return named_type("TextRef", kind.line, LIFE)
         parser = parser_of(kind, self.source)
         if parser:
             return value_type(parser, kind.line)
@@ -282,9 +273,9 @@ class Borrowed:
             return as_read(kind, LIFE)
         args = tuple(self.type_of(it) for it in kind.args)
         if is_path(kind, "Vec") and len(args) == 1:
-            return Type("path", "Items", kind.line, path=("Items",), args=args)
+            return named_type("Items", kind.line, *args)
         if is_map(kind):
-            return Type("path", "Entries", kind.line, path=("Entries",), args=(LIFE, args[1]))
+            return named_type("Entries", kind.line, LIFE, args[1])
         if kind.kind == "path" and kind.name in self.borrowing:
             return replace(kind, args=(LIFE,))
         return replace(kind, args=args)

@@ -6,11 +6,11 @@ from dataclasses import dataclass, replace
 from .derives import options
 from .expressions import inside_of, number_of
 from .groups import own_rules
-from .layout import WIDTH, Literal, Method, Word, call, statement
+from .layout import WIDTH, Method, Word, call, literal, statement
 from .names import of_field, of_variant
 from .prelude import is_declared
 from .scope import SIGNED, UNSIGNED, is_option, is_path, is_text, range_of, resolved
-from .source import Type, read_path, read_type
+from .source import named_type, read_type
 from .tokens import Refusal, Refusals, Tokens, tokens_of
 from .tried import holds
 from .words import camel
@@ -53,7 +53,7 @@ class Value:
     value."""
 
     form: str
-    kind: Type
+    kind: object
     value: object = None
     parts: tuple = ()
     item: object = None
@@ -90,7 +90,7 @@ class Constants:
 
     def keep(self, tokens, owner, is_conditional):
         """Notes what an item gives. One that cannot be read gives nothing."""
-        tokens = Tokens(tokens.tokens, tokens.text, tokens.notes)
+        tokens = tokens.again()
         try:
             while not tokens.ended() and (not any(map(tokens.sees, LAST)) or tokens.sees("const", "fn")):
                 tokens.take()
@@ -108,7 +108,10 @@ class Constants:
         tokens.expect(":")
         read_type(tokens)
         tokens.expect("=")
-        return tokens.taken_to_end()
+        start = tokens.at
+        while not tokens.ended() and not tokens.sees(";"):
+            tokens.take()
+        return tokens.taken(start)
 
     def of_function(self, tokens):
         """The body of a function without arguments, or nothing."""
@@ -211,7 +214,7 @@ class Reader:
 
     def __init__(self, constants, tokens, owner=""):
         self.constants, self.owner = constants, owner
-        self.tokens = Tokens(tokens.tokens, tokens.text, tokens.notes)
+        self.tokens = tokens.again()
 
     def inside(self):
         """What reads the group of brackets that comes next."""
@@ -261,7 +264,7 @@ class Reader:
             raise NoConstant(f"`{token.text}` begins no constant of the type `{kind.name}`")
         if token.text in ("true", "false"):
             return self.wanted(Value("bool", kind, tokens.take().text == "true"), is_path(kind, "bool"), token)
-        names = read_path(tokens)
+        names = tokens.path("a path")
         if tokens.takes("!"):
             return self.list(names, kind)
         return self.called(names, kind) if tokens.opens("(") else self.named(names, kind)
@@ -305,7 +308,7 @@ class Reader:
 
     def span(self, name, kind):
         """A `Duration` of so many seconds, or parts of one."""
-        count = self.ended(self.number(Type("path", "u64", kind.line, path=("u64",)))).value
+        count = self.ended(self.number(named_type("u64", kind.line))).value
         item = self.constants.items[kind.name]
         parts = zip((it.type for it in item.variants[0].fields), (count // SPANS[name], count % SPANS[name] * (10**9 // SPANS[name])))
         return Value("made", kind, item.variants[0].name, tuple(Value("number", it, number) for it, number in parts), item)
@@ -425,7 +428,7 @@ class Reader:
         token = self.tokens.first
         if token.kind != "name":
             raise NoConstant(f"`{token.text}` begins no `{kind.name}`")
-        names = read_path(self.tokens)
+        names = self.tokens.path("a path")
         if len(names) == 2 and names[0] in (*UNSIGNED, *SIGNED) and names[1] in ("MIN", "MAX"):
             return range_of(names[0])[names[1] == "MAX"]
         if names[1:] == ["from"] and names[0] in (*UNSIGNED, *SIGNED):
@@ -464,7 +467,7 @@ class Defaults:
             return None
         try:
             if own is None and whole is not None:
-                made = self.said(whole, Type("path", item.name, item.line, path=(item.name,)))
+                made = self.said(whole, named_type(item.name, item.line))
                 return known(dict(zip((field.name for field in item.variants[0].fields), made.parts)).get(it.name))
             return known(self.said(own, it.type))
         except NoConstant as why:
@@ -476,7 +479,7 @@ class Defaults:
         if said is None or said.value is None:
             return self.constants.of_type(kind)
         try:
-            names = read_path(Tokens(tokens_of(said.value), said.value, self.source.notes))
+            names = Tokens(tokens_of(said.value), said.value, self.source.notes).path("a path")
         except (Refusal, Refusals) as refusal:
             raise NoConstant(f"`{said.value}` is no path of a function") from refusal
         return self.constants.called(names, kind, "")
@@ -666,7 +669,7 @@ class Making:
         variant = self.variant(found)
         head = found.item.name if found.item.kind == "struct" else f"{found.item.name}::{variant.name}"
         if variant.shape == "named":
-            return Literal(head, tuple((it.name, part) for it, part in zip(variant.fields, parts)))
+            return literal(head, ((it.name, part) for it, part in zip(variant.fields, parts)))
         return call(head, *parts) if parts else Word(head)
 
     def stated(self, found):

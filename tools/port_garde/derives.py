@@ -80,6 +80,11 @@ def kept_derives(item):
     return [name for name in item.derives if name in (*OWN, *SERDE)]
 
 
+def fields_of(item):
+    """The fields of all variants of a type."""
+    return [it for variant in item.variants for it in variant.fields]
+
+
 def has_serde(item):
     return any(name in SERDE for name in item.derives)
 
@@ -139,7 +144,7 @@ class Derives:
         yield from self.of_attributes(item)
         if not has_serde(item):
             told = f"an attribute of serde at `{item.name}`, which has neither `Serialize` nor `Deserialize` among its derives"
-            parts = (item, *item.variants, *(it for variant in item.variants for it in variant.fields))
+            parts = (item, *item.variants, *fields_of(item))
             yield from ((said.line, told) for part in parts for group in part.serde for said in group[:1])
             return
         yield from self.of_the_type(item)
@@ -290,5 +295,4 @@ class Derives:
         found = self.items.get(kind.name) if kind.kind == "path" else None
         if found is None:
             return False
-        fields = [it.type for variant in found.variants for it in variant.fields]
-        return any(self.leads_back(it, name, {*seen, kind.name}) for it in fields)
+        return any(self.leads_back(it.type, name, {*seen, kind.name}) for it in fields_of(found))

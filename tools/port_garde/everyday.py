@@ -6,14 +6,13 @@ from .defaults import Constants, NoConstant
 from .derives import options
 from .expressions import VALUE, Expression
 from .holes import BY_FUNCTION, BY_IMPL, Hole
-from .names import of_variant, others_of_variant
 from .parsed import place_of, with_moments
 from .prelude import NOTHING, NUMBERS
 from .rules import REPEATED, Rule
-from .scope import SIGNED, UNSIGNED, is_option, is_path, is_text
-from .source import Type
+from .scope import SIGNED, UNSIGNED, is_option, is_path, is_text, range_of
+from .source import Type, named_type, with_fields
 from .tokens import Refusal
-from .unions import is_other
+from .unions import is_other, names_of
 
 PATHS = ("PathBuf", "Utf8PathBuf", "Path", "Utf8Path")
 SETS = ("BTreeSet", "HashSet", "IndexSet")
@@ -32,8 +31,7 @@ def plain(source, has_own=False):
     source.has_own = has_own
     for at, item in enumerate(source.items):
         if "Deserialize" in item.derives:
-            variants = tuple(replace(it, fields=tuple(plain_field(field, item, source) for field in it.fields)) for it in item.variants)
-            source.items[at] = replace(item, variants=variants)
+            source.items[at] = with_fields(item, lambda it: plain_field(it, item, source))
 
 
 def plain_field(it, item, source):
@@ -61,16 +59,12 @@ def of_names(rules):
     return tuple(found for it in rules for found in ([it] if it.name != "keys" else whole if it is keys[0] else []))
 
 
-def path(name, line, *args):
-    return Type("path", name, line, path=(name,), args=args)
-
-
 def plain_type(kind, source):
     """A type as a form reads it, and what is asked of its values besides."""
     if isinstance(kind, str):
         return kind, ()
     if is_path(kind, *PATHS) or kind.kind == "ref" and is_path(kind.args[0], *PATHS):
-        return path("String", kind.line), ()
+        return named_type("String", kind.line), ()
     if place_of(kind, source) in NUMBERS or is_path(kind, "NonZero"):
         return of_number(kind, source)
     if is_path(kind, "ArrayVec", "ArrayString") and kind.path[0] == "arrayvec":
@@ -114,7 +108,7 @@ def of_number(kind, source):
     """A number that is not 0, or one that a float holds, as a number under a rule."""
     known = kind.name if kind.name != "NonZero" else f"NonZero{kind.args[0].name.capitalize()}"
     name, least, most = NUMBERS[place_of(kind, source)[0] or "std", known]
-    number = path(name, kind.line)
+    number = named_type(name, kind.line)
     if (least, most) == (None, None):
         place = Expression("!=", kind.line, parts=(Expression("place", kind.line, (VALUE,)), Expression("number", kind.line, 0)))
         return number, (Rule("custom", kind.line, source="asks(0)", message="must not be 0", place=place),)
@@ -126,18 +120,18 @@ def of_room(kind, source):
     """A list or a text of so many items or bytes at most."""
     most = size_of(replace(kind, size=kind.args[-1].name), source)
     asked = Rule("length", kind.line, mode="simple", bounds={"max": most})
-    return (path("String", kind.line), (asked,)) if kind.name == "ArrayString" else of_list(kind, source, asked)
+    return (named_type("String", kind.line), (asked,)) if kind.name == "ArrayString" else of_list(kind, source, asked)
 
 
 def of_list(kind, source, *asked):
     held, rules = plain_type(kind.args[0], source)
-    return path("Vec", kind.line, held), (*asked, *([within(rules)] if rules else []))
+    return named_type("Vec", kind.line, held), (*asked, *([within(rules)] if rules else []))
 
 
 def size_of(kind, source):
     """The length of an array: numbers and constants of the file."""
     try:
-        found = Constants(source).value_of(kind.size, path("usize", kind.line))
+        found = Constants(source).value_of(kind.size, named_type("usize", kind.line))
     except NoConstant as why:
         raise Refusal(kind.line, f"an array of `{kind.size}` items, which is no number and no constant of this file: write the number") from why
     return Expression("number", kind.line, found.value)
@@ -150,7 +144,7 @@ def of_map(kind, source):
     name = kind.name if kind.name != "IndexMap" else "BTreeMap"
     if is_text(kind.args[0]) and held is kind.args[1] and name == kind.name and len(kind.args) == 2:
         return kind, ()
-    return path(name, kind.line, path("String", kind.line), held), rules
+    return named_type(name, kind.line, named_type("String", kind.line), held), rules
 
 
 def of_key(kind, source):
@@ -167,8 +161,8 @@ def of_key(kind, source):
         return (whole_key(kind),)
     units = [it for it in held.variants if it.shape == "unit"] if held is not None and held.kind == "enum" and not {"tag", "untagged"} & set(options(held)) else []
     if units:
-        return () if any(map(is_other, units)) else (known_names(held, units, kind.line),)
-    if held is not None and held.kind == "struct" and len(held.variants[0].fields) == 1 and is_newtype(held):
+        return () if any(map(is_other, units)) else (one_of([name for it in units for name in names_of(it, held)], kind.line),)
+    if held is not None and held.kind == "struct" and len(held.variants[0].fields) == 1 and (held.variants[0].shape == "tuple" or "transparent" in options(held)):
         one = held.variants[0].fields[0]
         return (*of_key(one.type, source), *(it for it in one.attributes.rules if it.name != "dive"))
     if is_path(kind, "bool"):
@@ -182,19 +176,8 @@ def of_key(kind, source):
 
 def whole_key(kind):
     """The rule that a text is a whole number of a type, as serde reads it of a name."""
-    bits, signed = 64 if kind.name.endswith("size") else int(kind.name[1:]), kind.name in SIGNED
-    least, most = -(2 ** (bits - 1)) * signed, 2 ** (bits - signed) - 1
+    least, most = range_of(kind.name)
     return Rule("whole_key", kind.line, mode=kind.name, text=f"not a whole number from {least} to {most}")
-
-
-def is_newtype(item):
-    """Whether a struct of one field is written in JSON as that field."""
-    return item.variants[0].shape == "tuple" or any(said.word == "transparent" for group in item.serde for said in group)
-
-
-def known_names(item, variants, line):
-    """The rule that a text is the name of one of these variants."""
-    return one_of([name for it in variants for name in (of_variant(it, item), *others_of_variant(it))], line)
 
 
 def one_of(names, line):

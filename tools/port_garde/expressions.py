@@ -53,19 +53,7 @@ def read_all(tokens):
 
 def read_expression(tokens):
     """Reads an expression: `||` binds least."""
-    found = read_both(tokens)
-    while tokens.sees("||"):
-        line = tokens.take().line
-        found = Expression("or", line, parts=(found, read_both(tokens)))
-    return found
-
-
-def read_both(tokens):
-    found = read_comparison(tokens)
-    while tokens.sees("&&"):
-        line = tokens.take().line
-        found = Expression("and", line, parts=(found, read_comparison(tokens)))
-    return found
+    return read_chain(tokens, {"||": "or"}, lambda it: read_chain(it, {"&&": "and"}, read_comparison))
 
 
 def read_comparison(tokens):
@@ -94,20 +82,20 @@ def denied(part, line):
 
 def read_sum(tokens):
     """Reads numbers that are added or taken away."""
-    return read_chain(tokens, ("+", "-"), read_product)
+    return read_chain(tokens, {it: it for it in "+-"}, read_product)
 
 
 def read_product(tokens):
     """Reads what is multiplied, and what a division gives, or leaves over."""
-    return read_chain(tokens, ("*", "%", "/"), read_unary)
+    return read_chain(tokens, {it: it for it in "*%/"}, read_unary)
 
 
 def read_chain(tokens, marks, read_part):
-    """Reads parts with these marks between them, from the left."""
+    """Reads parts with these marks between them, from the left: each with the kind of what it makes."""
     found = read_part(tokens)
     while any(map(tokens.sees, marks)):
         mark = tokens.take()
-        found = Expression(mark.text, mark.line, parts=(found, read_part(tokens)))
+        found = Expression(marks[mark.text], mark.line, parts=(found, read_part(tokens)))
     return found
 
 
@@ -249,12 +237,11 @@ def read_method(tokens, names, line):
 
 def read_variants(tokens, line):
     """Reads what `matches!` is given: a place, and variants by their paths, with whatever they hold."""
-    place, paths = read_unary(tokens), []
+    place = read_unary(tokens)
     tokens.expect(",")
-    while True:
+    paths = [read_variant(tokens)]
+    while tokens.takes("|"):
         paths.append(read_variant(tokens))
-        if not tokens.takes("|"):
-            break
     tokens.takes(",")
     if not tokens.ended() or place.kind != "place":
         raise Refusal(line, "`matches!` of what is no field and variants, as `matches!(self.kind, Kind::One | Kind::Two)`")
@@ -263,9 +250,7 @@ def read_variants(tokens, line):
 
 def read_variant(tokens):
     """Reads the path of a variant; behind it may stand `(..)` or `{ .. }`."""
-    names = [tokens.name("a variant")]
-    while tokens.takes("::"):
-        names.append(tokens.name("a variant"))
+    names = tokens.path("a variant")
     if tokens.opens("(") or tokens.opens("{"):
         inside = tokens.group()
         if not inside.takes("..") or not inside.ended():

@@ -10,7 +10,7 @@ from .holes import BY_FUNCTION
 from .names import of_field, renamed
 from .prelude import declared
 from .scope import is_path
-from .source import Type, is_ported
+from .source import Type, fields_of, is_ported, named_type, with_fields, with_variants
 from .tokens import Tokens
 
 STD = ("std", "core", "alloc")
@@ -69,8 +69,7 @@ class Front:
         self.imports, self.made, self.chosen, self.read, self.declared, self.depth = {}, {}, {}, {}, [], 0
         for path, name in source.imports:
             self.imports.setdefault(name, []).append(path)
-        fields = [it.type for item in source.items for variant in item.variants for it in variant.fields]
-        self.plain = set().union(*map(names_alone, fields))
+        self.plain = {name for item in source.items for it in fields_of(item) for name in names_alone(it.type)}
 
     def turn(self):
         """Puts the types of the source in their new form."""
@@ -80,7 +79,8 @@ class Front:
         for it in self.source.items:
             if not self.is_generic(it):
                 self.read[it.name] = self.resolved(it, self.reads(it))
-        named = {name for it in self.read.values() for variant in it.variants for one in variant.fields if not set(BY_FUNCTION) & set(options(one)) for name in type_names(one.type)}
+        fields = [one for it in self.read.values() for one in fields_of(it) if not set(BY_FUNCTION) & set(options(one))]
+        named = {name for it in fields for name in type_names(it.type)}
         items = [found for name in self.declared for found in self.forms_of(self.items[name]) if found.name in named]
         items += [found for it in self.source.items for found in self.forms_of(it)]
         if self.is_form:
@@ -135,11 +135,7 @@ class Front:
     def resolved(self, item, is_form):
         """A type whose fields have the types that their names stand for."""
         params = {it.name for it in item.params}
-        variants = []
-        for variant in item.variants:
-            fields = tuple(replace(it, type=self.type_of(it.type, item, params, is_form)) for it in variant.fields)
-            variants.append(replace(variant, fields=fields))
-        return replace(item, variants=tuple(variants))
+        return with_fields(item, lambda it: replace(it, type=self.type_of(it.type, item, params, is_form)))
 
     def type_of(self, kind, item, params, is_form, seen=()):
         """What a type in an item stands for; `seen` are the other names of types through which it is reached."""
@@ -215,7 +211,7 @@ class Front:
             self.instance(replace(kind, name=self.full(kind.path)[-1], args=args), name)
         for it in self.source.items:
             if self.is_generic(it) and all(one.kind == "lifetime" or one.default for one in it.params):
-                self.instance(Type("path", it.name, it.line, path=(it.name,)), it.name)
+                self.instance(named_type(it.name, it.line), it.name)
 
     def instance(self, kind, name=None):
         """A use of a type with parameters, as a type of its own."""
@@ -232,7 +228,7 @@ class Front:
         if key not in self.made:
             self.made[key] = self.free_name(name or f"{item.name}Of{'And'.join(map(camel_name, given))}", item)
             self.depth += 1
-            itself = Type("path", self.made[key], kind.line, path=(self.made[key],))
+            itself = named_type(self.made[key], kind.line)
             self.write_instance(item, {"Self": itself, **dict(zip((it.name for it in wanted), given))}, key)
             self.depth -= 1
         lives = tuple(it for it in kind.args if isinstance(it, str))
@@ -245,12 +241,9 @@ class Front:
 
     def write_instance(self, item, values, key):
         """The type that a use of one with parameters is."""
-        variants = []
-        for variant in item.variants:
-            fields = tuple(replace(it, type=substituted(it.type, values)) for it in variant.fields)
-            variants.append(replace(variant, fields=fields))
         docs = item.docs + told_docs(item.docs, f"{key[0]}<{key[1]}>")
-        made = replace(item, params=tuple(it for it in item.params if it.kind == "lifetime"), variants=tuple(variants), docs=docs)
+        made = with_fields(item, lambda it: replace(it, type=substituted(it.type, values)))
+        made = replace(made, params=tuple(it for it in item.params if it.kind == "lifetime"), docs=docs)
         self.read[self.made[key]] = replace(self.resolved(made, True), name=self.made[key])
 
     # Names that stand for something else.
@@ -263,13 +256,11 @@ class Front:
         fields = {}
         if self.reads(item):
             item, fields = self.fields_named(item)
-        for it in (it for variant in item.variants for it in variant.fields if it.name in KEYWORDS):
+        for it in (it for it in fields_of(item) if it.name in KEYWORDS):
             self.notes.refuse(it.line, f"the field `{it.name}`, whose name is a keyword: call it `{it.name}_`, and write `#[garde(rename = \"{it.name}\")]` beside its rules")
-        variants = []
-        for variant in item.variants:
-            known = tuple(replace(it, type=self.type_named(it.type)) for it in variant.fields)
-            stated = f"{variant.name}_of_{item.name}" if (item.known, variant.name) in self.taken else ""
-            variants.append(replace(variant, fields=known, stated=stated))
+        item = with_fields(item, lambda it: replace(it, type=self.type_named(it.type)))
+        stated = [f"{it.name}_of_{item.name}" if (item.known, it.name) in self.taken else "" for it in item.variants]
+        variants = [replace(it, stated=word) for it, word in zip(item.variants, stated)]
         docs = item.docs + (told_docs(item.docs, item.name) if item.name in self.taken else ())
         context = item.attributes.context and (item.attributes.context[0], self.tokens_named(item.attributes.context[1]))
         return replace(
@@ -292,21 +283,16 @@ class Front:
 
     def fields_named(self, item):
         """A type whose fields have names that may stand in code and in statements, and which of them have other ones than in the source."""
-        found, variants = {}, []
+        found = {}
         for variant in item.variants:
             words, taken = WORDS if item.kind == "struct" else OF_PATTERNS, {it.name for it in variant.fields}
-            for it in variant.fields:
-                if it.name in words:
-                    found[it.name] = f"{it.name}_"
-                    while found[it.name] in taken:
-                        found[it.name] += "_"
-            variants.append(variant)
+            for it in (it for it in variant.fields if it.name in words):
+                found[it.name] = f"{it.name}_"
+                while found[it.name] in taken:
+                    found[it.name] += "_"
         if not found:
             return item, found
-        turned = []
-        for variant in variants:
-            turned.append(replace(variant, fields=tuple(self.field_named(it, variant, item, found) for it in variant.fields)))
-        return replace(item, variants=tuple(turned)), found
+        return with_variants(item, lambda variant: [self.field_named(it, variant, item, found) for it in variant.fields]), found
 
     def field_named(self, it, variant, item, found):
         """A field under its name here. It keeps its name in JSON and in the paths of a walk."""
@@ -363,7 +349,7 @@ def mentioned(item):
     """The names that a type's fields and its context speak of, or of one that a form reads its context alone."""
     context = item.attributes.context
     names = {token.text for token in context[1].tokens} if context else set()
-    return names if is_read(item) else names.union(*(type_names(it.type) for variant in item.variants for it in variant.fields))
+    return names if is_read(item) else names.union(*(type_names(it.type) for it in fields_of(item)))
 
 
 def names_alone(kind):

@@ -8,7 +8,7 @@ from .defaults import is_skipped
 from .derives import options
 from .rules import Rule
 from .scope import is_option, is_path, is_text
-from .source import Type
+from .source import Type, named_type, with_variants
 from .tokens import Notes
 from .words import camel
 
@@ -130,8 +130,7 @@ class Hole:
 def optional(it):
     """A field as an option of what is there, with the rules of that."""
     rules = tuple(Rule("inner", rule.line, rules=(rule,), added=rule.added) if rule.name in WITHIN else rule for rule in it.attributes.rules)
-    kind = Type("path", "Option", it.line, path=("Option",), args=(it.type,))
-    return replace(it, type=kind, attributes=replace(it.attributes, rules=rules), unmade=True)
+    return replace(it, type=named_type("Option", it.line, it.type), attributes=replace(it.attributes, rules=rules), unmade=True)
 
 
 def nothing(it):
@@ -166,8 +165,7 @@ class Holes:
 
     def of_item(self, item):
         """An item whose fields have the types of their holes."""
-        fields = lambda variant: tuple(found for it in variant.fields for found in self.of_names(it, item))
-        return replace(item, variants=tuple(replace(it, fields=fields(it)) for it in item.variants))
+        return with_variants(item, lambda variant: [found for it in variant.fields for found in self.of_names(it, item)])
 
     def of_names(self, it, item):
         """A field for each name that a member may have. One that is not read has no hole."""

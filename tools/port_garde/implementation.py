@@ -1,10 +1,10 @@
 """The implementations of `Stated` and of `Validate` for a type."""
 import re
 
-from .layout import WIDTH, Call, Literal, Method, Word, arm, call, statement
+from .layout import WIDTH, Method, Word, arm, call, literal, statement, wide_call
 from .scope import Place, Scope, Seen
-from .source import Param, all_rules, read_type, type_names
-from .tokens import Refusal, Tokens
+from .source import Param, all_rules, fields_of, read_type, type_names
+from .tokens import Refusal
 from .words import Checks, together
 
 ORDINALS = ("first", "second", "third", "fourth", "fifth", "sixth")
@@ -45,7 +45,7 @@ class Implementation:
             dived = [it.name for it in self.item.params if self.is_dived(it)]
             return (f"{dived[0]}::Context", "ctx", True) if dived else ("()", "ctx", True)
         line, tokens = self.item.attributes.context
-        tokens = Tokens(tokens.tokens, tokens.text, tokens.notes)
+        tokens = tokens.again()
         if tokens.opens("("):
             raise Refusal(line, "a context that is a tuple")
         kind = read_type(tokens)
@@ -62,7 +62,7 @@ class Implementation:
 
     def dives(self, name):
         """Whether a field dives into a parameter."""
-        fields = [it for variant in self.item.variants for it in variant.fields if name in type_names(it.type)]
+        fields = [it for it in fields_of(self.item) if name in type_names(it.type)]
         return any(rule.name == "dive" for it in fields for rule in all_rules(it.attributes.rules))
 
     def text(self, is_walked=True):
@@ -204,8 +204,8 @@ class Implementation:
         """The pattern that takes a value apart."""
         bound = [name if self.is_bound(it, scope) else "_" for it, name in zip(variant.fields, names)]
         if variant.shape == "named":
-            return Literal(head, tuple((it.name, Word(name)) for it, name in zip(variant.fields, bound)))
-        return Call(head, tuple(map(Word, bound)), WIDTH) if variant.fields else Word(head)
+            return literal(head, ((it.name, Word(name)) for it, name in zip(variant.fields, bound)))
+        return wide_call(head, *map(Word, bound)) if variant.fields else Word(head)
 
     def visit(self, fields):
         """The call that visits the fields."""

@@ -1,6 +1,4 @@
 """Lists of so many items, each of its own form: tuples, and structs and variants of several fields without names; and what has no parts."""
-from .layout import Word, call
-
 # More are a tuple in a tuple, whose value is another one.
 MOST = 6
 
@@ -20,31 +18,6 @@ def faults(kind):
         yield "a tuple of one value, which no form of `--schema` reads: write the value, or a list"
     if len(kind.args) > MOST:
         yield f"a tuple of more than {MOST} values, which no form of `--schema` reads: write a struct with fields without names, as `struct Row(..);`"
-
-
-def nth(schema, index, form):
-    return call(schema.use("Nth"), str(index), form)
-
-
-def of_tuple(schema, kind):
-    """The form of a tuple, whose items are under no rules."""
-    if not kind.args:
-        return Word(schema.use("Null"))
-    parts = [nth(schema, at, schema.form(it, ())) for at, it in enumerate(kind.args)]
-    return call(schema.use("InOrder"), str(len(parts)), call("", *parts))
-
-
-def without_parts(schema, variant, item):
-    """The form of a struct without fields."""
-    if variant.shape == "unit":
-        return Word(schema.use("Null"))
-    return call(schema.use("InOrder"), "0", "()") if variant.shape == "tuple" else call(schema.use("Object"), schema.closed(Word("()"), item))
-
-
-def word(uses, name, module="InOrder"):
-    """A word of the statements of this module, which is imported."""
-    uses.stated.add((f"Rattle.garde_schema.specs.{module}", name))
-    return name
 
 
 def names(fields):

@@ -7,22 +7,21 @@ from .layout import WIDTH
 from .names import of_field
 from .parsed import KNOWN
 from .scope import SIGNED, UNSIGNED, is_option, is_path, is_text
+from .source import is_ported
 from .unborrowed import is_unborrowed, reader
 
 READ = """{constant}{docs}
-#[tactic(auto, unfolding(garde::specs::Fields::Known))]
-{vis}fn read_{name}<{lives}, H: I18n + FormI18n>(
+{tactic}{vis}fn read_{name}<{lives}, H: I18n + FormI18n>(
 {params}
-) -> Result<Valid<{made}>, {error}>
-    ensures answer {{ {answer} }}
-    ensures value {{ IfOk result (λ v. {value} }}
-{{
+) -> Result<{made}, {error}>{clauses}{{
 {forms}
-    match {call} {{
-        Ok(value) => Ok(Valid::known(value, {context})),
-        Err(error) => Err(error),
-    }}
+{read}
 }}"""
+TACTIC = "#[tactic(auto, unfolding(garde::specs::Fields::Known))]\n"
+VALID = """    match {call} {{
+        Ok(value) => Ok({value}),
+        Err(error) => Err(error),
+    }}"""
 LISTED = """/// The fields of the form that are sent once for each choice.
 fn listed() -> [&'static str; {count}]
     ensures {{ map (λ name. name.now) result ≡ {names} }}
@@ -140,37 +139,56 @@ class Reader:
         self.kind = self.writer.input
         self.input = INPUTS["first of json" if self.kind == "json" and self.writer.first else self.kind]
 
-    def text(self, spelling, context):
-        """The function, of a spelling as it is stated, under a context: its type and its name, or nothing."""
-        uses, given = self.writer.uses, self.input
-        uses.others |= {*given.uses, "std::alloc::Global", "garde::I18n", "garde::Valid", "garde_schema::FormI18n"}
-        uses.prelude |= {"◌≡◌", "Some", "IfOk"}
-        name, made = self.schema.names_of(self.item)
-        lists = ""
-        if self.kind == "web-form":
-            uses.prelude |= {"◌≢◌", "Err", "codes", "map", "[]"} | ({"◌∷◌"} if self.lists() else set())
-            uses.written.add("OfForm")
-            lists = "    let lists = listed();\n"
-            crate, *modules = self.writer.module.split("::")
-            self.writer.answers = (f"read_{name}", ANSWERS.format(module=".".join(["Rattle", crate, "proofs", *modules, f"read_{name}"])))
-        uses.paths |= set(given.ghosts)
+    def text(self, spelling=None, context=None):
+        """The function, of a spelling as it is stated, where it is, under a context: its type and its name, or nothing."""
+        writer, given, item = self.writer, self.input, self.item
+        is_valid = spelling is not None or is_ported(item) and not writer.is_nested(item)
+        writer.uses.others |= {*given.uses, "std::alloc::Global", "garde::I18n", "garde_schema::FormI18n"} | ({"garde::Valid"} if is_valid else set())
+        name, made = self.schema.names_of(item)
+        made, value = (f"Valid<{made}>", f"Valid::known(value, {context[1] if context else '&()'})") if is_valid else (made, "value")
         params = ["alloc: Global", *given.params, *([f"{context[1]}: &{context[0]}"] if context else []), "h: &H"]
-        told = "at most so many faults" if self.writer.first else "every fault of its form and of its rules"
         said = {
-            "docs": docs_of(f"Reads a value of the type `{self.item.name}` {given.told}, or reports {told}."), "vis": self.item.vis, "name": name,
-            "params": "\n".join(f"    {it}," for it in params), "error": given.error, "forms": lists + self.schema.forms(self.item, 4),
+            "docs": self.docs(spelling), "vis": item.vis, "name": name, "made": made, "error": given.error,
+            "params": "\n".join(f"    {it}," for it in params), "forms": self.lists_text(spelling, name) + self.schema.forms(item, 4),
         }
+        clauses = self.clauses(spelling) if spelling else " "
+        if is_unborrowed(item, writer):
+            # what is read beside the lifetime is the first part of a result
+            within = clauses.replace("Some v)", "Some v.0)")
+            return reader(item, self.schema, {**said, "value": value, "call": given.call.format(form="within_form")}, clauses, within)
+        call = given.call.format(form=f"{name}_form")
+        return READ.format(
+            **said, constant=self.constant() if spelling else "", tactic=TACTIC if is_valid else "", lives=given.lives, clauses=clauses,
+            read=VALID.format(call=call, value=value) if is_valid else f"    {call}",
+        )
+
+    def docs(self, spelling):
+        """What is said of the function."""
+        told = f"Reads a value of the type `{self.item.name}` {self.input.told}, or reports"
+        if spelling:
+            told = f"{told} {'at most so many faults' if self.writer.first else 'every fault of its form and of its rules'}."
+            return "\n".join(f"/// {line}" for line in textwrap.wrap(told, WIDTH - 4))
+        rules = " and of its rules" if is_ported(self.item) else ""
+        return f"/// {told} {'so many faults at most' if self.writer.first else f'every fault of its form{rules}'}."
+
+    def clauses(self, spelling):
+        """What the function promises."""
+        uses, given = self.writer.uses, self.input
+        uses.prelude |= {"◌≡◌", "Some", "IfOk"}
+        uses.paths |= set(given.ghosts)
         answer = clause(given.answer, spelling, self.stated(), "    ensures answer { ")
         value = clause(given.value, spelling, self.stated(), "    ensures value { IfOk result (λ v. ", ")")
-        context = context[1] if context else "&()"
-        if is_unborrowed(self.item, self.writer):
-            clauses = f"\n    ensures answer {{ {answer} }}\n    ensures value {{ IfOk result (λ v. {value} }}\n"
-            said["clauses"] = lambda place: clauses if place == "v" else clauses.replace("Some v)", f"Some {place})")
-            return reader(self.item, self.schema, {**said, "made": f"Valid<{made}>", "value": f"Valid::known(value, {context})", "call": given.call.format(form="within_form")})
-        return READ.format(
-            **said, constant=self.constant(), lives=given.lives, made=made, answer=answer, value=value, call=given.call.format(form=f"{name}_form"),
-            context=context,
-        )
+        return f"\n    ensures answer {{ {answer} }}\n    ensures value {{ IfOk result (λ v. {value} }}\n"
+
+    def lists_text(self, spelling, name):
+        """The lists by which a web form is read, whose promise has answers of its own."""
+        if self.kind != "web-form" or not spelling:
+            return ""
+        uses, (crate, *modules) = self.writer.uses, self.writer.module.split("::")
+        uses.prelude |= {"◌≢◌", "Err", "codes", "map", "[]"} | ({"◌∷◌"} if self.lists() else set())
+        uses.state("garde_form.specs.Spelling", "OfForm")
+        self.writer.answers = (f"read_{name}", ANSWERS.format(module=".".join(["Rattle", crate, "proofs", *modules, f"read_{name}"])))
+        return "    let lists = listed();\n"
 
     def constant(self):
         """The names that the input is read by, as a constant."""
@@ -196,11 +214,6 @@ class Reader:
     def stated(self):
         """The same as they are stated."""
         return f"({' ∷ '.join([*(f'codes {it}' for it in self.lists()), '[]'])})" if self.lists() else "[]"
-
-
-def docs_of(text):
-    """A doc, in lines."""
-    return "\n".join(f"/// {line}" for line in textwrap.wrap(text, WIDTH - 4))
 
 
 def clause(parts, spelling, lists, before, after=""):

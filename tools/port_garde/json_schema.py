@@ -10,9 +10,9 @@ from .everyday import UNKNOWN
 from .front import OF_CODE
 from .flattened import fields_among, flat_part, held_part, is_closed, own_part
 from .groups import is_flat, is_rest, own_rules, shared_rules
-from .names import of_field, of_variant
+from .names import of_field
 from .parsed import parser_of
-from .scope import SIGNED, is_option, is_path, is_text
+from .scope import SIGNED, is_option, is_path, is_text, range_of
 from .tokens import Refusal
 from .unions import Shapes, beside_units, is_other, is_unit, names_of, units_of
 from .values import is_any, is_float
@@ -274,8 +274,7 @@ class JsonSchema:
 
     def bounds(self, kind, rules):
         """The least and the greatest number that a type and its rules allow, and what is not said of them."""
-        bits, signed = 64 if kind.name.endswith("size") else int(kind.name[1:]), kind.name in SIGNED
-        least, most = -(2 ** (bits - 1)) * signed, 2 ** (bits - signed) - 1
+        least, most = range_of(kind.name)
         for it in (it for it in rules if it.name == "range"):
             low, high = self.ends(it)
             least, most = max(least, low if low is not None else least), min(most, high if high is not None else most)

@@ -34,10 +34,6 @@ def name_of(crate):
     return crate.resolve().name
 
 
-def shown_path(path):
-    return "".join(map(shown, str(path)))
-
-
 def sources_of(crate):
     """The sources of a crate, and what is said of those that are none."""
     sources = sorted((crate / "src").rglob(f"*{END}"))
@@ -46,14 +42,14 @@ def sources_of(crate):
         names = names_of(crate, source)
         wrong = [it for it in names if not NAME.fullmatch(it)]
         if wrong:
-            found.append(f"{shown_path(source)}: the module `{shown_path(wrong[0])}`, which is no name in small letters")
+            found.append(f"{shown(source)}: the module `{shown(wrong[0])}`, which is no name in small letters")
         elif names in (("lib",), ("main",)):
-            found.append(f"{shown_path(source)}: the root of a crate, which is written by hand")
+            found.append(f"{shown(source)}: the root of a crate, which is written by hand")
         elif names in modules:
-            found.append(f"{shown_path(source)}: the module `{names[-1]}` has two sources: {shown_path(modules[names])} too")
+            found.append(f"{shown(source)}: the module `{names[-1]}` has two sources: {shown(modules[names])} too")
         modules[names] = source
     if not sources:
-        found.append(f"{shown_path(crate)}: there is no file `src/NAME{END}`")
+        found.append(f"{shown(crate)}: there is no file `src/NAME{END}`")
     return sources, found
 
 
@@ -96,18 +92,18 @@ def first_difference(file, given):
 
 def quoted(lines, at):
     text = lines[at].decode("utf-8", "backslashreplace") if at < len(lines) else ""
-    return f"`{''.join(map(shown, text))}`" if at < len(lines) else "the end of the file"
+    return f"`{shown(text)}`" if at < len(lines) else "the end of the file"
 
 
 def fault_of_check(output, source, given, crate):
     """Why an output is not what its source gives, or nothing."""
     file = old(output)
     if file is None:
-        return f"{shown_path(output)}: it is not there: write it by `tools/port-garde --write`"
+        return f"{shown(output)}: it is not there: write it by `tools/port-garde --write`"
     if file == given:
         return None
     line, here, there = first_difference(file, given)
-    return f"{shown_path(output)}:{line}: here stands {here}, and {source.name} gives {there}"
+    return f"{shown(output)}:{line}: here stands {here}, and {source.name} gives {there}"
 
 
 def fault_of_write(output, source, given, crate):
@@ -118,7 +114,7 @@ def fault_of_write(output, source, given, crate):
     line, here, there = first_difference(file, given)
     how = "edited" if WRITTEN.match(file) else "written"
     told = f"this file was {how} by hand: here stands {here}, and {source.name} gives {there}"
-    return f"{shown_path(output)}:{line}: {told}. Move the edit to {source.name} or another module, or drop it by `--force`"
+    return f"{shown(output)}:{line}: {told}. Move the edit to {source.name} or another module, or drop it by `--force`"
 
 
 def strays(crate, outputs):
@@ -127,12 +123,12 @@ def strays(crate, outputs):
         try:
             head = WRITTEN.match(file.read_bytes()[:400]) if file.is_file() and file not in outputs else None
         except OSError as error:
-            yield f"{shown_path(file)}: {error.strerror or error}"
+            yield f"{shown(file)}: {error.strerror or error}"
             continue
         if head:
-            name = shown_path(head[1].decode("utf-8", "backslashreplace"))
+            name = shown(head[1].decode("utf-8", "backslashreplace"))
             is_there = (crate / "src").joinpath(file.relative_to(crate / "src").parent, name).is_file() if file.suffix == ".rt" else any((crate / "src").rglob(name))
-            yield f"{shown_path(file)}: it is written from {name}, which {'does not give it any more' if is_there else 'is not there'}: remove it"
+            yield f"{shown(file)}: it is written from {name}, which {'does not give it any more' if is_there else 'is not there'}: remove it"
 
 
 def put(output, given):
@@ -163,7 +159,7 @@ def faults_of(given, judge):
         try:
             told = judge(output, source, text, crate)
         except OSError as error:
-            told = f"{shown_path(output)}: {error.strerror or error}"
+            told = f"{shown(output)}: {error.strerror or error}"
         if told:
             yield told
 
@@ -173,4 +169,4 @@ def write(output, source, text, crate):
     if old(output) != text:
         output.parent.mkdir(parents=True, exist_ok=True)
         put(output, text)
-        print(f"{shown_path(output)}: written")
+        print(f"{shown(output)}: written")

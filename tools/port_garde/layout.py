@@ -23,21 +23,22 @@ class Chain:
 
 
 @dataclass(frozen=True)
-class Call:
-    """A call, a constructor or its pattern, or, with an empty head, a tuple."""
+class Parts:
+    """Parts between brackets, which are so wide at most on one line: a call, a constructor or its pattern, a literal, or a type with its
+    arguments; with an empty head a tuple or a reference to an array."""
 
     head: str
     parts: tuple
     width: int = CALL
+    brackets: tuple = ("(", ")")
 
 
 @dataclass(frozen=True)
-class Literal:
-    """A struct's literal or its pattern: each field is a pair, of which a Word may say both by one name."""
+class Field:
+    """A part of a literal or of its pattern, of which a Word may say both by one name."""
 
-    head: str
-    fields: tuple
-    width: int = LITERAL
+    name: str
+    value: object
 
 
 @dataclass(frozen=True)
@@ -45,24 +46,6 @@ class Lent:
     """A reference to what a piece of code says."""
 
     part: object
-
-
-@dataclass(frozen=True)
-class Rows:
-    """A reference to an array."""
-
-    parts: tuple
-    width: int = CALL
-    head: str = "&["
-
-
-@dataclass(frozen=True)
-class Angles:
-    """A type with its arguments."""
-
-    head: str
-    parts: tuple
-    width: int = WIDTH
 
 
 @dataclass(frozen=True)
@@ -75,94 +58,89 @@ class Method:
 
 
 def call(head, *parts):
-    return Call(head, tuple(it if not isinstance(it, str) else Word(it) for it in parts))
+    return Parts(head, tuple(it if not isinstance(it, str) else Word(it) for it in parts))
+
+
+def wide_call(head, *parts):
+    """A call, a constructor or a pattern that may fill a line."""
+    return Parts(head, parts, WIDTH)
+
+
+def literal(head, fields):
+    return Parts(head, tuple(Field(name, value) for name, value in fields), LITERAL, (" { ", " }"))
+
+
+def rows(parts):
+    return Parts("", tuple(parts), CALL, ("&[", "]"))
+
+
+def angles(head, parts):
+    return Parts(head, tuple(parts), WIDTH, ("<", ">"))
 
 
 def flat(tree):
     """The code on one line."""
-    if isinstance(tree, Word):
-        return tree.text
-    if isinstance(tree, Chain):
-        return f" {tree.mark} ".join(tree.parts)
-    if isinstance(tree, Lent):
-        return f"&{flat(tree.part)}"
-    if isinstance(tree, Method):
-        return f"{flat(tree.receiver)}.{tree.name}({commas(tree.parts)})"
-    if isinstance(tree, Literal):
-        return f"{tree.head} {{ {fields_of(tree)} }}"
-    if isinstance(tree, Rows):
-        return f"&[{commas(tree.parts)}]"
-    if isinstance(tree, Angles):
-        return f"{tree.head}<{commas(tree.parts)}>"
-    return f"{tree.head}({commas(tree.parts)})"
+    match tree:
+        case Word():
+            return tree.text
+        case Chain():
+            return f" {tree.mark} ".join(tree.parts)
+        case Lent():
+            return f"&{flat(tree.part)}"
+        case Field():
+            return tree.name if tree.value == Word(tree.name) else f"{tree.name}: {flat(tree.value)}"
+        case Method():
+            return f"{flat(tree.receiver)}.{tree.name}({commas(tree.parts)})"
+    return commas(tree.parts).join([tree.head + tree.brackets[0], tree.brackets[1]])
 
 
 def commas(parts):
     return ", ".join(flat(it) for it in parts)
 
 
-def fields_of(literal):
-    return ", ".join(name if value == Word(name) else f"{name}: {flat(value)}" for name, value in literal.fields)
-
-
 def may_be_flat(tree):
     """Whether nothing in the code is too wide for one line."""
-    if isinstance(tree, (Word, Chain)):
-        return True
-    if isinstance(tree, Lent):
-        return may_be_flat(tree.part)
-    if isinstance(tree, Literal):
-        return len(fields_of(tree)) <= tree.width and all(may_be_flat(value) for _, value in tree.fields)
-    if isinstance(tree, Method):
-        return may_be_flat(tree.receiver)
-    return all(may_be_flat(it) for it in tree.parts) and len(commas(tree.parts)) <= tree.width
+    match tree:
+        case Word() | Chain():
+            return True
+        case Lent():
+            return may_be_flat(tree.part)
+        case Field():
+            return may_be_flat(tree.value)
+        case Method():
+            return may_be_flat(tree.receiver)
+    return all(map(may_be_flat, tree.parts)) and len(commas(tree.parts)) <= tree.width
 
 
 def lay(tree, column, indent, after=0):
     """The code from a column on, its further lines under an indent; `after` columns are wanted behind it."""
     if may_be_flat(tree) and column + len(flat(tree)) + after <= WIDTH:
         return flat(tree)
-    if isinstance(tree, Word):
-        return tree.text
-    if isinstance(tree, Chain):
-        return f"\n{' ' * (indent + 4)}{tree.mark} ".join(tree.parts)
-    if isinstance(tree, Lent):
-        return "&" + lay(tree.part, column + 1, indent, after)
-    if isinstance(tree, Method):
-        return lay_method(tree, column, indent, after)
-    if isinstance(tree, Literal):
-        lines = [lay_field(name, value, indent + 4) for name, value in tree.fields]
-        return block(f"{tree.head} {{", lines, "}", indent)
-    if isinstance(tree, Angles):
-        rows = ",\n".join(f"{' ' * (indent + 4)}{lay(it, indent + 4, indent + 4, 1)}" for it in tree.parts)
-        return f"{tree.head}<\n{rows},\n{' ' * indent}>"
-    if isinstance(tree, Rows):
-        return block("&[", [lay(it, indent + 4, indent + 4, 1) for it in tree.parts], "]", indent)
-    if len(tree.parts) == 1 and not isinstance(tree.parts[0], Word) and tree.head:
-        inside = lay(tree.parts[0], column + len(tree.head) + 1, indent, after + 1)
-        return f"{tree.head}({inside})"
-    lines = [lay(it, indent + 4, indent + 4, 1) for it in tree.parts]
-    return block(f"{tree.head}(", lines, ")", indent)
+    match tree:
+        case Word():
+            return tree.text
+        case Chain():
+            return f"\n{' ' * (indent + 4)}{tree.mark} ".join(tree.parts)
+        case Lent():
+            return "&" + lay(tree.part, column + 1, indent, after)
+        case Field():
+            name = tree.name
+            return name if tree.value == Word(name) else f"{name}: {lay(tree.value, column + len(name) + 2, indent, after)}"
+        case Method():
+            return lay_method(tree, column, indent)
+    opening, closing = tree.brackets
+    if opening == "(" and len(tree.parts) == 1 and tree.head and not isinstance(tree.parts[0], Word):
+        return f"{tree.head}({lay(tree.parts[0], column + len(tree.head) + 1, indent, after + 1)})"
+    inside = "".join(f"{' ' * (indent + 4)}{lay(it, indent + 4, indent + 4, 1)},\n" for it in tree.parts)
+    return f"{tree.head}{opening.rstrip()}\n{inside}{' ' * indent}{closing.lstrip()}"
 
 
-def lay_field(name, value, indent):
-    if value == Word(name):
-        return name
-    return f"{name}: {lay(value, indent + len(name) + 2, indent, 1)}"
-
-
-def block(opening, lines, closing, indent):
-    """Lines between brackets, each with a comma."""
-    inside = "".join(f"{' ' * (indent + 4)}{line},\n" for line in lines)
-    return f"{opening}\n{inside}{' ' * indent}{closing}"
-
-
-def lay_method(tree, column, indent, after):
+def lay_method(tree, column, indent):
     """A call of a method behind a receiver that does not leave room for it: behind one of one line the arguments go on."""
     receiver, tail = lay(tree.receiver, column, indent), f".{tree.name}({commas(tree.parts)})"
     if "\n" not in receiver:
         return f"{receiver}.{tree.name}(\n{' ' * (indent + 4)}{commas(tree.parts)},\n{' ' * indent})"
-    hangs = isinstance(tree.receiver, Call) and not tree.receiver.head
+    hangs = isinstance(tree.receiver, Parts) and tree.receiver.brackets[0] == "(" and not tree.receiver.head
     return f"{receiver}\n{' ' * (indent + 4 * hangs)}{tail}"
 
 
@@ -196,3 +174,19 @@ def use_line(path, names):
             row = "   "
         row += f" {name},"
     return "\n".join([f"use {path}::{{", *lines, row, "};"])
+
+
+def lifetimes_of(kind):
+    """The lifetimes that a type's text names, as parameters."""
+    found = sorted(set(re.findall(r"'\w+", kind)) - {"'static"})
+    return f"<{', '.join(found)}>" if found else ""
+
+
+def holding(kind, held):
+    """The parts of a type that is asked of a value of another one, and that holds references to values: their names and types."""
+    both = " ".join(text for _, text in held)
+    return {
+        "bound": lifetimes_of(f"{kind} {both}"), "life": lifetimes_of(f"'c {both}") if held else "",
+        "lives": lifetimes_of(f"'_ {both}") if held else "", "holds": "(" + ", ".join(f"&'c {text}" for _, text in held) + ")" if held else "",
+        "taken": "".join(f"        let {name} = self.{number};\n" for number, (name, _) in enumerate(held)),
+    }

@@ -1,10 +1,11 @@
 """How values are made: what `Built` makes a value of a type of."""
+import functools
 from dataclasses import replace
 
 from .borrowed import below
 from .groups import filled, grouped
 from .in_order import names as names_in_code
-from .layout import WIDTH, Angles, Call, Literal, Word, arm, call, flat, may_be_flat, statement
+from .layout import WIDTH, Parts, Word, angles, arm, call, flat, literal, may_be_flat, statement, wide_call
 from .unions import SIDES, along, paths_of, tree_of
 
 NESTED = """/// A value of the type `{name}` is made of what its form reads, and of such values.
@@ -66,15 +67,12 @@ def tuple_text(parts):
 
 def side_pattern(path, inside):
     """What stands at the end of a path, as a pattern or a value of the code."""
-    tree = inside
-    for it in reversed(path):
-        tree = Call(f"Either::{SIDES[it]}", (tree,), WIDTH)
-    return tree
+    return functools.reduce(lambda tree, it: wide_call(f"Either::{SIDES[it]}", tree), reversed(path), inside)
 
 
 def wide(tree):
     """A pattern of nested tuples, which may fill a line."""
-    return Call(tree.head, tuple(map(wide, tree.parts)), WIDTH) if isinstance(tree, Call) else tree
+    return wide_call(tree.head, *map(wide, tree.parts)) if isinstance(tree, Parts) else tree
 
 
 def ghost(name, head, flat, rows):
@@ -170,12 +168,12 @@ class Makers:
             return "; ".join(f"{name} = {place}" for name, place in [*zip(names, places(self.tree(own, names), whole)), (held, rest)])
 
         taken = [statement(wide(tuple_of(self.tree(own, names))), 8, "let ", " = own;")]
-        made = tuple((it.name, Word("below" if it.name == held and held != "below" else it.name)) for it in variant.fields)
+        made = ((it.name, Word("below" if it.name == held and held != "below" else it.name)) for it in variant.fields)
         given = tuple_text(self.tree(own, [f"(out-{item.name} v).{it}" for it in names]))
         return NESTED.format(
             name=item.name, life=self.life(item), made=self.type_name(item), own=statement(self.types(own), 4, "type Own = ", ";"),
             rows=rows("own", "below"), parts=f"({given}, (out-{item.name} v).{held})", clauses=rows("own.entry", "below.entry"),
-            body="\n".join([*taken, statement(Literal(item.name, made), 8)]),
+            body="\n".join([*taken, statement(literal(item.name, made), 8)]),
         )
 
     def types(self, variant):
@@ -206,9 +204,9 @@ class Makers:
             names = names_in_code(variant.fields)
             return statement(wide(tuple_of(self.tree(variant, names))), 8, "let ", " = parts;") + "\n" + statement(call(item.name, *names), 8)
         if len(names) == 1:
-            return statement(Literal(item.name, ((names[0], Word("parts")),)), 8)
+            return statement(literal(item.name, [(names[0], Word("parts"))]), 8)
         taken = taking(wide(tuple_of(self.tree(variant, names))), 8)
-        return taken + "\n" + statement(Literal(item.name, tuple((it, Word(it)) for it in names)), 8)
+        return taken + "\n" + statement(literal(item.name, ((it, Word(it)) for it in names)), 8)
 
     def of_enum(self, item):
         """The same of an enum, by cases."""
@@ -244,13 +242,13 @@ class Makers:
         """The type of the parts of an enum."""
         if not isinstance(tree, tuple):
             return self.types(variants[tree.name])
-        return Angles("Either", tuple(self.of_tree(it, variants) for it in tree))
+        return angles("Either", (self.of_tree(it, variants) for it in tree))
 
     def made(self, item, variant, names):
         """A variant, made of the names of its parts."""
         path = f"{item.name}::{variant.name}"
         if variant.shape == "named":
-            return Literal(path, tuple((it, Word(it)) for it in names))
+            return literal(path, ((it, Word(it)) for it in names))
         return call(path, *names) if names else Word(path)
 
     def arm(self, item, variant, path, names):

@@ -21,15 +21,11 @@ def notes_of(crate, written):
     found = []
     for output, (text, begun) in sorted(written.items()):
         names = names_of(crate, output)
-        found += undeclared(crate, names, f"without it {shown_path(output)} is no part of the crate")
+        found += undeclared(crate, names, f"without it {shown(output)} is no part of the crate")
         found += unwritten(crate, output, SKIPPED.sub("", text), begun)
         found += left_out(crate, output, SKIPPED.sub("", text))
         found += unlisted(crate, output, SKIPPED.sub("", text))
     return list(dict.fromkeys(found))
-
-
-def shown_path(path):
-    return "".join(map(shown, str(path)))
 
 
 def names_of(crate, output):
@@ -53,7 +49,7 @@ def undeclared(crate, names, why):
     """That the line is missing which makes a module a part of its crate."""
     above = file_of(crate, names[:-1])
     if above and not re.search(rf"\bmod\s+{names[-1]}\b", code_of(above)):
-        yield f"{shown_path(above)}: write the line `mod {names[-1]};`: {why}"
+        yield f"{shown(above)}: write the line `mod {names[-1]};`: {why}"
 
 
 def lacking_of(crate, output, text):
@@ -71,8 +67,8 @@ def lacking_of(crate, output, text):
 def unwritten(crate, output, text, begun):
     """The items of the crate's own modules that a module imports and that are not there, each with how it begins."""
     for names, file, wanted in lacking_of(crate, output, text):
-        yield from undeclared(crate, names, f"{shown_path(output)} takes {', '.join(wanted) or 'items'} from it")
-        place = shown_path(file or crate / f"src/{'/'.join(names)}.rt")
+        yield from undeclared(crate, names, f"{shown(output)} takes {', '.join(wanted) or 'items'} from it")
+        place = shown(file or crate / f"src/{'/'.join(names)}.rt")
         for name in wanted:
             begins = f", beginning so:\n{begun[name]}" if name in begun else ""
             yield f"{place}: {'it has no' if file else 'it is not there, with'} `{name}`, which {output.name} takes from it: write it{begins}"
@@ -88,7 +84,7 @@ def left_out(crate, output, text):
         there = {size for folder in cut.values() for file in folder.glob("src/**/*.rt") for size in map(parts_of, OF_TUPLE.findall(code_of(file)))}
         found = [f"tuples of {it}" for it in sorted(sizes_in(text) - there) if 2 < it < 7]
     if found:
-        yield f"{shown_path(output)}: your copy of garde lacks {', '.join(dict.fromkeys(found))}: call `tools/vendor FOLDER` in the clone of garde again, which adds what your crates need now"
+        yield f"{shown(output)}: your copy of garde lacks {', '.join(dict.fromkeys(found))}: call `tools/vendor FOLDER` in the clone of garde again, which adds what your crates need now"
 
 
 def unlisted(crate, output, text):

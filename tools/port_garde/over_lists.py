@@ -4,7 +4,7 @@ import re
 from dataclasses import dataclass
 
 from .expressions import CONTEXT, ITEM, VALUE, Expression, places_in, with_item
-from .layout import WIDTH, Chain, Word, statement
+from .layout import WIDTH, Chain, Word, holding, lifetimes_of, statement
 from .tokens import Refusal
 
 QUESTION = """/// What is asked of items in the field `{spot}` of `{item}`.
@@ -54,14 +54,13 @@ def over_items(conditions, it):
         raise Refusal(it.line, f"`iter().{it.kind}` of what is no list: write it of a `Vec`")
     word = f"{it.kind}_of"
     uses.fields |= {word, "Question"}
-    uses.words |= {word} | ({"slice"} if kind.name == "Vec" else set())
+    uses.words.add(word)
     given = write_question(conditions, it, kind.args[0])
     variable = "it" if not scope.items else f"it{len(scope.items) + 1}"
     inner = scope.with_item(ITEM + it.value, Place(it.value, variable, kind.args[0]), writer.fields_within(kind.args[0]))
     _, stated = type(conditions)(inner, uses, writer).whole(condition)
     scope.bound |= inner.bound
-    listed = f"(slice {spec})" if kind.name == "Vec" else spec
-    return f"{word}({code.lstrip('*')}.as_slice(), {given})", f"({word} (λ {variable}. {stated}) {listed})"
+    return f"{word}({code.lstrip('*')}.as_slice(), {given})", f"({word} (λ {variable}. {stated}) {conditions.listed(kind, spec)})"
 
 
 def write_question(conditions, it, kind):
@@ -74,16 +73,11 @@ def write_question(conditions, it, kind):
     for key, place, _ in held:
         if key == CONTEXT:
             stated = re.sub(rf"(?<![\w.]){scope.context}(?!\w)", place.name, stated)
-    kinds = [place.type if isinstance(place.type, str) else writer.type_text(place.type) for _, place, _ in held]
-    both, text = " ".join(kinds), writer.type_text(kind)
-    from .writer import lifetimes_of
-
+    kinds = [(place.binding, place.type if isinstance(place.type, str) else writer.type_text(place.type)) for _, place, _ in held]
+    text = writer.type_text(kind)
     writer.write_once(name, it.line, QUESTION.format(
-        spot=writer.spot, item=writer.item.name, name=name, kind=text, binding=it.value,
-        bound=lifetimes_of(f"{text} {both}"), life=lifetimes_of(f"'c {both}") if held else "", lives=lifetimes_of(f"'_ {both}") if held else "",
-        holds=f"({', '.join(f'&{chr(39)}c {one}' for one in kinds)})" if held else "",
+        spot=writer.spot, item=writer.item.name, name=name, kind=text, binding=it.value, **holding(text, kinds),
         stated=f"    ghost holds = {{ λ {'question' if held else '_'} {it.value}. {stated} }};",
-        taken="".join(f"        let {place.binding} = self.{number};\n" for number, (_, place, _) in enumerate(held)),
         condition=statement(code if isinstance(code, Chain) else Word(code), 8),
     ))
     return f"&{name}({', '.join(given for _, _, given in held)})" if held else f"&{name}"
@@ -92,7 +86,6 @@ def write_question(conditions, it, kind):
 def same_by(checks, rule, kind):
     """Writes the type by which items with one key are the same. Returns it, and which items are, as it is stated."""
     from .scope import Conditions, Scope
-    from .writer import lifetimes_of
 
     writer, key, text = checks.writer, rule.place, checks.writer.type_text(kind)
     name = writer.numbered("Same", key)

@@ -37,7 +37,8 @@ def named(condition, names):
 
 def read_closure(tokens):
     """Reads a closure: its message and its condition."""
-    tokens = again(tokens)
+    at, tokens = tokens.at, tokens.again()
+    tokens.at = at
     tokens.takes("move")
     names = read_names(tokens, "|")
     if tokens.takes("->"):
@@ -56,13 +57,6 @@ def read_function(text):
     while not tokens.opens("{"):
         tokens.take()
     return read_body(tokens.group(), names)
-
-
-def again(tokens):
-    """The same tokens from the place on where they stand."""
-    found = Tokens(tokens.tokens, tokens.text, tokens.notes)
-    found.at = tokens.at
-    return found
 
 
 def only(tokens):
@@ -131,9 +125,7 @@ def read_result(tokens):
 
 def read_error(tokens):
     """Reads an error of a message in quotes."""
-    line, path = tokens.line, [tokens.name("an error")]
-    while tokens.takes("::"):
-        path.append(tokens.name("an error"))
+    line, path = tokens.line, tokens.path("an error")
     if path[-2:] != ["Error", "new"] or path[:-2] not in ([], ["garde"]):
         raise Refusal(line, f"`{'::'.join(path)}` in place of `garde::Error::new`")
     inside = only(tokens)
@@ -145,14 +137,13 @@ def read_error(tokens):
 
 def at_field(rules, name):
     """The rules of a field of this name, where one of one's own that names the field means the value that it is asked of."""
-    if not name:
-        return rules
-    own = {"custom": at_value, "if": lambda rule, name: replace(rule, rules=at_field(rule.rules, name))}
-    return tuple(own[it.name](it, name) if it.name in own else it for it in rules)
 
+    def at_value(place):
+        return (VALUE, *place[2:]) if place[:2] == ("self", name) else place
 
-def at_value(rule, name):
-    """A rule of one's own, of a field of this name."""
-    if rule.place is None:
-        return rule
-    return replace(rule, place=with_places(rule.place, lambda place: (VALUE, *place[2:]) if place[:2] == ("self", name) else place))
+    def changed(rule):
+        if rule.name == "if":
+            return replace(rule, rules=at_field(rule.rules, name))
+        return replace(rule, place=with_places(rule.place, at_value)) if rule.name == "custom" and rule.place is not None else rule
+
+    return tuple(map(changed, rules))

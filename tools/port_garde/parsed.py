@@ -143,7 +143,7 @@ def form(parser, schema):
 def stated(parser, uses):
     """The word that states what a parser reads, with the layout that it is given, where it has one."""
     module = "Parsed" if crate(parser) == "garde_form" else "Spelling"
-    uses.stated.add((f"Rattle.{crate(parser)}.specs.{module}", parser.word))
+    uses.state(f"{crate(parser)}.specs.{module}", parser.word)
     if not parser.layout:
         return (parser.word,)
     uses.paths.add("Rattle.garde_parsed.specs.declared.layout.Layout.TheVariants as layouts")

@@ -4,7 +4,7 @@ from dataclasses import replace
 
 from .derives import type_names
 from .expressions import Expression
-from .source import all_rules, is_ported
+from .source import all_rules, fields_of, is_ported, with_fields
 from .tokens import Tokens, tokens_of
 
 NAME = "patterns"
@@ -16,7 +16,7 @@ def is_quoted(rule):
 
 
 def rules_of(item):
-    return [rule for variant in item.variants for it in variant.fields for rule in all_rules(it.attributes.rules)]
+    return [rule for it in fields_of(item) for rule in all_rules(it.attributes.rules)]
 
 
 def turn(source, root):
@@ -39,8 +39,7 @@ def with_holders(source, names):
 
 def parts_of(item):
     """The names of the types of fields with `dive`."""
-    fields = [it for variant in item.variants for it in variant.fields]
-    return {name for it in fields if any(rule.name == "dive" for rule in all_rules(it.attributes.rules)) for name in type_names(it.type)}
+    return {name for it in fields_of(item) if any(rule.name == "dive" for rule in all_rules(it.attributes.rules)) for name in type_names(it.type)}
 
 
 class Quoted:
@@ -55,8 +54,7 @@ class Quoted:
         """A type in whose rules each pattern is a place of its context."""
         if item.name not in self.holders:
             return item
-        variants = tuple(replace(it, fields=tuple(map(self.field, it.fields))) for it in item.variants)
-        return replace(item, variants=variants, attributes=replace(item.attributes, context=(item.line, self.context)))
+        return replace(with_fields(item, self.field), attributes=replace(item.attributes, context=(item.line, self.context)))
 
     def field(self, it):
         is_handed_on = bool(type_names(it.type) & self.holders)

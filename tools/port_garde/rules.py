@@ -21,7 +21,6 @@ KNOWN = (*PLAIN, *TEXTS, "length", "range", "pattern", "matches", "inner", "if",
 OURS = ("unique", "unique_by", "keys", "multiple_of", "asks")
 # What is said of an item of a set that stands in it before.
 REPEATED = "repeated"
-ABOUT_TYPES = ("context", "allow_unvalidated", "transparent")
 
 
 @dataclass(frozen=True)
@@ -63,10 +62,6 @@ class Attributes:
     faulty: bool = False
 
 
-def no_attributes():
-    return Attributes()
-
-
 def read_attributes(groups):
     """Reads the attributes of a type or of a field. What cannot be read is noted, and the others are read."""
     found, rules = {"asked": True}, []
@@ -80,20 +75,16 @@ def read_attributes(groups):
 def read_attribute(tokens, found, rules):
     """Reads one attribute: a word about the whole type or field, or a rule."""
     line, word = tokens.line, tokens.first.text
-    if word in ("skip", "allow_unvalidated", "transparent"):
-        tokens.take()
-        found[word] = True
-    elif word == "rename":
-        tokens.take()
-        found["rename"] = read_text(tokens if tokens.takes("=") else argument(tokens, word), line)
-    elif word == "adapt":
-        tokens.take()
-        found["adapter"] = (line, *read_names(argument(tokens, word), word))
-    elif word == "context":
-        tokens.take()
-        found["context"] = (line, argument(tokens, word))
-    else:
+    if word not in ("skip", "allow_unvalidated", "transparent", "rename", "adapt", "context"):
         rules.append(read_rule(tokens))
+        return
+    tokens.take()
+    if word == "rename":
+        found[word] = read_text(tokens if tokens.takes("=") else argument(tokens, word), line)
+    elif word == "adapt":
+        found["adapter"] = (line, *read_names(argument(tokens, word), word))
+    else:
+        found[word] = (line, argument(tokens, word)) if word == "context" else True
 
 
 def argument(tokens, word):
@@ -114,8 +105,11 @@ def read_rule(tokens):
         return Rule(word, line, place=read_context(tokens.group()) if tokens.opens("(") else None)
     if word == "custom":
         return read_custom(argument(tokens, word), line)
-    readers = {"length": read_length, "range": read_range, "matches": read_matches, "inner": read_inner, "if": read_if}
-    readers.update({name: read_pattern for name in (*TEXTS, "pattern")})
+    readers = {
+        **dict.fromkeys(("length", "range"), read_bounded), **dict.fromkeys((*TEXTS, "pattern"), read_pattern), "if": read_if,
+        "matches": lambda tokens, word, line: Rule(word, line, text=tokens.name("the name of a field")),
+        "inner": lambda tokens, word, line: Rule(word, line, rules=present(tokens.items(read_rule))),
+    }
     if word not in readers:
         raise Refusal(line, f"the attribute `{word}` is not known{f': write `custom({word})`' if word in OURS else meant(word, KNOWN)}")
     inside = argument(tokens, word)
@@ -136,17 +130,13 @@ def read_context(tokens):
     return Expression("unit", line)
 
 
-def read_length(tokens, word, line):
-    """Reads a mode, which may be left out, and bounds."""
-    mode = "simple"
-    if tokens.first.text in MODES:
+def read_bounded(tokens, word, line):
+    """Reads bounds, before which a length may have a mode."""
+    mode = "simple" if word == "length" else ""
+    if mode and tokens.first.text in MODES:
         mode = tokens.take().text
         tokens.takes(",")
     return Rule(word, line, mode=mode, bounds=read_bounds(tokens, word, line))
-
-
-def read_range(tokens, word, line):
-    return Rule(word, line, bounds=read_bounds(tokens, word, line))
 
 
 def read_bounds(tokens, word, line):
@@ -167,14 +157,6 @@ def read_bounds(tokens, word, line):
     if low and high and {low.kind, high.kind} <= {"number", "decimal"} and Fraction(low.value) > Fraction(high.value):
         raise Refusal(line, f"the `min` of `{word}` is greater than its `max`")
     return bounds
-
-
-def read_matches(tokens, word, line):
-    return Rule(word, line, text=tokens.name("the name of a field"))
-
-
-def read_inner(tokens, word, line):
-    return Rule(word, line, rules=present(tokens.items(read_rule)))
 
 
 def present(found):
@@ -231,17 +213,18 @@ def read_ours(tokens, line):
     if word == "unique" and tokens.ended():
         return Rule(word, line, text="stands before")
     inside = argument(tokens, word)
-    if word == "unique":
-        found = Rule(word, line, text=read_text(inside, line))
-    elif word == "unique_by":
-        found = read_unique_by(inside, source, line)
-    elif word == "keys":
-        found = Rule(word, line, rules=present(inside.items(read_rule)))
-    elif word == "asks":
-        code, message, place = read_asks(inside, line)
-        found = Rule("custom", line, source=source, code=code, message=message, place=place)
-    else:
-        found = Rule(word, line, bounds={"equal": read_bound(inside)})
+    match word:
+        case "unique":
+            found = Rule(word, line, text=read_text(inside, line))
+        case "unique_by":
+            found = read_unique_by(inside, source, line)
+        case "keys":
+            found = Rule(word, line, rules=present(inside.items(read_rule)))
+        case "asks":
+            code, message, place = read_asks(inside, line)
+            found = Rule("custom", line, source=source, code=code, message=message, place=place)
+        case _:
+            found = Rule(word, line, bounds={"equal": read_bound(inside)})
     for it in (inside, tokens):
         if not it.ended():
             raise Refusal(line, f"`{word}` with more than the port reads, from `{it.first.text}` on")
@@ -258,9 +241,7 @@ def read_unique_by(tokens, source, line):
 
 def read_names(tokens, word):
     """Reads a path to its end."""
-    names = [tokens.name("a path")]
-    while tokens.takes("::"):
-        names.append(tokens.name("a path"))
+    names = tokens.path("a path")
     if not tokens.ended():
         closure = " or a closure" if word == "custom" else ""
         raise Refusal(tokens.line, f"`{word}` wants a path{closure}, and `{tokens.first.text}` stands there")

@@ -3,36 +3,22 @@ import re
 from collections import Counter
 from dataclasses import replace
 
-from .borrowed import below, fields_of, is_map, is_named, of_whole, within_option
-from .defaults import Making, is_skipped
-from .derives import all_type_names, options, type_names
-from .flattened import fields_among, held_part, is_closed, is_closed_as_one, own_part
-from . import in_order
-from .groups import Group, filled, grouped, groups_in, numbers_in, is_flat, is_rest, own_rules, shared_rules
-from .layout import WIDTH, Method, Rows, Word, call, flat, statement
+from .borrowed import below, fields_of, is_named
+from .defaults import Making
+from .derives import all_type_names, type_names
+from .flattened import fields_among, own_part, part_of
+from .forms import Forms
+from .groups import filled, grouped, groups_in, numbers_in, shared_rules
+from .layout import WIDTH, Method, Word, call, flat, rows as lent_rows, statement
 from .makers import Makers, places, side_pattern, tuple_of, wide
-from .parsed import form as parsed_form, parser_of
-from .names import of_field, of_variant, others_of_variant
+from .parsed import form as parsed_form
+from .names import of_field
 from .implementation import OWN
-from .inputs import may_be_missing
-from .scope import Place, Seen, is_option, is_path, is_text
-from .source import is_ported
+from .inputs import Reader
+from .scope import Place, Seen
 from .spelled import Spellings
-from .unborrowed import is_unborrowed, reader
-from .unions import TESTS, Shapes, beside_units, is_other, is_unit, nested, paths_of, units_of
-from .values import is_any, is_float
 from .words import Checks, camel, together
 
-READ = """{docs}
-{tactic}{vis}fn read_{name}<'a, H: I18n + FormI18n>(
-    alloc: Global,
-    bytes: &'a [u8],
-    scratch: &'a mut Scratch,
-{most}    h: &H,
-) -> Result<{kind}, {error}> {{
-{forms}
-{read}
-}}"""
 PARTS = """/// What rules of `{item}` are asked of together.
 {written}
 
@@ -55,10 +41,6 @@ impl{life} Rules<{kind}> for {name}{lives} {{
 {asked}
     }}
 }}"""
-VALID = """    match {call} {{
-        Ok(value) => Ok(Valid::known(value, &())),
-        Err(error) => Err(error),
-    }}"""
 
 
 def within_rule(stated, context):
@@ -66,21 +48,22 @@ def within_rule(stated, context):
     return re.sub(rf"(?<![\w.]){context}(?!\w)", "rule.0.now", stated)
 
 
-def items_rules(rules):
-    """The rules of each item of a list, or of each value of a map."""
-    return [found for it in rules if it.name in ("inner", "dive") for found in (it.rules if it.name == "inner" else [it])]
-
-
 def snake(name):
     return "".join(f"_{it.lower()}" if it.isupper() and at else it.lower() for at, it in enumerate(name))
 
 
-class Schema:
-    """The forms of a source, whose types are `items` as the source has them, and `turned` as they are declared."""
+# What is called otherwise in code than where forms are made, and what `garde_form` has.
+CODE = {"VariantMember": "Member", "ClosedVariants": "Closed", "CheckedMembers": "Checked", "EitherOf": "", "Both": ""}
+OF_FORMS = ("OrEmpty", "Parsed")
+
+
+class Schema(Forms):
+    """The forms of a source as code. Its types are `items` as the source has them, and `turned` as they are declared."""
+
+    unit, marker = "()", ("PhantomData",)
 
     def __init__(self, writer):
-        self.writer, self.borrowed, self.items = writer, writer.borrowed, writer.borrowed.items
-        self.turned = {it.name: it for it in writer.source.items}
+        super().__init__(writer)
         self.makers, self.making = Makers(self), Making(self)
         self.holding, self.lent = set(), set()
         self.spellings = Spellings(self, writer.checked) if writer.checked else None
@@ -101,35 +84,11 @@ class Schema:
         makers = [text for it in made for text in (self.makers.text(self.turned[it.name]), *self.shared_texts(it), *self.making.texts(it))]
         if self.spellings:
             return [*makers, *self.spellings.texts()]
-        return [*makers, *(self.reader(it) for it in made if not self.is_held(it))]
+        return [*makers, *(Reader(self, it).text() for it in made if not self.is_held(it))]
 
     def is_held(self, item):
         """Whether another type of the file holds values of this one."""
         return any(item.name in type_names(it.type) for other in self.items.values() if other is not item for it in fields_of(other))
-
-    def reader(self, item):
-        """The function that reads values of a type."""
-        call, error = ("read_json_first", "FirstReadError") if self.writer.first else ("read_json", "ReadError")
-        self.use(call, error, "FormI18n", "Scratch")
-        self.writer.uses.others |= {"std::alloc::Global", "garde::I18n"}
-        (name, made), forms = self.names_of(item), self.forms(item, 4)
-        is_valid = is_ported(item) and not self.writer.is_nested(item)
-        told = "so many faults at most" if self.writer.first else "every fault of its form" + (" and of its rules" if is_ported(item) else "")
-        docs = f"/// Reads a value of the type `{item.name}` in JSON, or reports {told}."
-        most = "    most: usize,\n" if self.writer.first else ""
-        said = {"docs": docs, "vis": item.vis, "name": name, "forms": forms, "error": error}
-        if is_unborrowed(item, self.writer):
-            kind, value = (f"Valid<{made}>", "Valid::known(value, &())") if is_valid else (made, "value")
-            self.writer.uses.others |= {"garde::Valid"} if is_valid else set()
-            call = f"{call}(alloc, bytes, scratch, &within_form, {'most, ' if most else ''}h)"
-            params = f"    alloc: Global,\n    bytes: &'a [u8],\n    scratch: &'a mut Scratch,\n{most}    h: &H,"
-            return reader(item, self, {**said, "made": kind, "value": value, "call": call, "params": params, "clauses": lambda place: " "})
-        call, said["most"] = f"{call}(alloc, bytes, scratch, &{name}_form, {'most, ' if most else ''}h)", most
-        if not is_valid:
-            return READ.format(**said, tactic="", kind=made, read=f"    {call}")
-        self.writer.uses.others.add("garde::Valid")
-        tactic = "#[tactic(auto, unfolding(garde::specs::Fields::Known))]\n"
-        return READ.format(**said, tactic=tactic, kind=f"Valid<{made}>", read=VALID.format(call=call))
 
     def names_of(self, item):
         """What a type is called in the names of others, and the type as what reads it has it."""
@@ -227,258 +186,97 @@ class Schema:
         if item.name in self.borrowed.holes:
             return Word(self.writer.hole(item.name))
         if is_named(item):
-            return self.under_tag(self.texts_of(item.variants, item, lambda it: f"{item.name}::{it.name}"), item)
+            return self.of_names(item)
         if below(item):
             return self.of_nested(item)
-        form = self.of_enum(item) if item.kind == "enum" else self.of_struct(item)
-        return call(self.use("Built"), form, self.makers.value(self.turned[item.name]))
+        return self.built(item, self.of_enum(item) if item.kind == "enum" else self.inside(item.variants[0], item))
 
     def members_of_type(self, item):
         """The members of a struct, which stand among those of another type."""
         self.writer.item = item
-        return call(self.use("Built"), self.members(item.variants[0], item), self.makers.value(self.turned[item.name]))
+        return self.built(item, self.members(item.variants[0], item))
+
+    def built(self, item, form):
+        return self.make("Built", form, self.makers.value(self.turned[item.name]))
 
     def of_nested(self, item):
         """An object that holds a list of objects of the same form."""
         held, variant = below(item), item.variants[0]
         own = replace(variant, fields=tuple(it for it in variant.fields if it is not held))
-        name = f'"{of_field(held, variant, item)}"'
-        return self.closed(call(self.use("Nested"), name, self.members(own, item), self.makers.value(self.turned[item.name])), item)
+        members, made = self.members(own, item), self.makers.value(self.turned[item.name])
+        return self.closed(self.make("Nested", f'"{of_field(held, variant, item)}"', members, made), item)
 
-    def names(self, variant, item):
-        return [of_variant(variant, item), *others_of_variant(variant)]
+    def make(self, name, *parts):
+        name = CODE.get(name, name)
+        word = self.use_form(name) if name in OF_FORMS else self.use(name) if name else ""
+        return call(word, *parts) if parts else Word(word)
 
-    def of_struct(self, item):
-        variant = item.variants[0]
-        if not variant.fields:
-            return in_order.without_parts(self, variant, item)
-        if in_order.is_list(variant):
-            return self.in_order(variant, item)
-        if variant.shape != "named" or "transparent" in options(item):
-            return self.value(variant.fields[0])
-        return self.object(variant, item)
+    def in_turn(self, parts):
+        """Forms that are asked one after the other."""
+        return parts[0] if len(parts) == 1 else call("", *parts) if parts else Word("()")
 
-    def in_order(self, variant, item):
-        """A list of the fields of a variant."""
-        group = grouped(variant.fields)
-        members = self.of_group(group, variant, item) if group else Word("()")
-        return call(self.use("InOrder"), str(len(variant.fields)), members)
+    def asked_of_all(self, members, group, variant, item):
+        asked = [(of_field(it, variant, item), self.rules_of(it, variant, item)) for it in (variant.fields[at] for at in group.asked)]
+        return self.make("Checked", members, together([self.make("Under", f'"{name}"', rules) for name, rules in asked]))
 
-    def object(self, variant, item):
-        """An object with the members of a variant."""
-        return call(self.use("Object"), self.closed(self.members(variant, item), item))
-
-    def closed(self, members, item):
-        return call(self.use("Closed"), members) if "deny_unknown_fields" in options(item) else members
-
-    def members(self, variant, item):
-        return self.of_group(grouped(variant.fields), variant, item)
-
-    def of_group(self, group, variant, item):
-        """Members, and then the rules that are asked of all of them, each under its own member."""
-        fields = variant.fields
-        parts = [self.of_group(it, variant, item) if isinstance(it, Group) else self.part(it, variant, item) for it in group]
-        whole = parts[0] if len(parts) == 1 else call(self.use("Rest") if group.is_rest else "", *parts) if parts else Word("()")
-        if not group.asked:
-            return whole
-        self.use("Checked", "Under")
-        asked = [(of_field(fields[it], variant, item), self.rules_of(fields[it], variant, item)) for it in group.asked]
-        return call("Checked", whole, together([call("Under", f'"{name}"', rules) for name, rules in asked]))
+    def asked_of_member(self, form, name, kind, rules):
+        return self.make("Checked", form, self.make("Under", name, self.asked(kind, rules)))
 
     def rules_of(self, it, variant, item):
         """What a field asks of a group, as a value."""
         name = self.shared_name(it, variant, item)
         return call(name, self.writer.context_of(item)[1]) if name in self.holding else Word(name)
 
-    def texts_of(self, variants, item, value):
-        """One of the names of some variants, each with its value. Every other name has that of the variant that stands for it."""
-        rows = [call("", f'"{name}"', value(it)) for it in variants if not is_other(it) for name in self.names(it, item)]
-        others = [value(it) for it in variants if is_other(it)]
-        return call(self.use("OneOfOr" if others else "OneOf"), Rows(tuple(rows)), *others)
+    def rows(self, rows):
+        return lent_rows(call("", f'"{name}"', value) for name, value in rows)
 
-    def under_tag(self, form, item):
-        """The name that says which value of an enum without fields it is, which may stand in an object under a tag."""
-        tag = options(item).get("tag")
-        return call(self.use("Object"), self.closed(call(self.use("Member"), f'"{tag.value}"', form), item)) if tag else form
+    def named(self, variant, item):
+        return f"{item.name}::{variant.name}"
 
-    def of_enum(self, item):
-        """A union: by its tag, by the name of its only member, or by what tells its variants apart."""
-        if "untagged" in options(item):
-            return self.of_untagged(item)
-        tag, units, as_one = options(item).get("tag"), units_of(item), is_closed_as_one(item, self.items)
-        variants = [self.variant(it, item, tag) for it in beside_units(item)]
-        if tag and not as_one:
-            variants = [call(self.use("Closed"), form) if is_closed(it, item, self.items) else form for form, it in zip(variants, item.variants)]
-        while len(variants) > 1:
-            variants = [*variants[:-2], call("", *variants[-2:])]
-        if tag:
-            is_whole = as_one and is_closed(item.variants[0], item, self.items)
-            return call(self.use("Tagged"), f'"{tag.value}"', call(self.use("Closed"), variants[0]) if is_whole else variants[0])
-        self.writer.uses.others.add("std::marker::PhantomData")
-        whole = call(self.use("OneMember"), variants[0], "PhantomData")
-        if not units:
-            return whole
-        sides = paths_of(nested(units))
-        return call(self.use("TextOr"), self.texts_of(units, item, lambda it: side_pattern(sides[it.name], Word("()"))), whole)
+    def side(self, path):
+        return side_pattern(path, Word("()"))
 
-    def of_untagged(self, item):
-        """A union whose variants are told apart by tests."""
-        *front, whole = [self.inside(it, item) for it in item.variants]
-        for form, test in reversed([*zip(front, Shapes(self.borrowed).tests(item))]):
-            whole = call(self.use("Choice"), self.test(test), form, whole)
-        return whole
+    def kind(self, name):
+        # by its path, since types of a source may be called so
+        return Word(f"garde_schema::Kind::{name}")
 
-    def test(self, test):
-        """A test by which a variant is chosen."""
-        word, *parts = test
-        if word == "kind":
-            # by its path, since types of a source may be called so
-            return Word(f"garde_schema::Kind::{parts[0]}")
-        if word == "among":
-            return call(self.use("OneOf"), Rows(tuple(call("", f'"{it}"', "()") for it in parts[0])))
-        name = TESTS[word][0]
-        return call(self.use(name) if name else "", *(f'"{it}"' if isinstance(it, str) else self.test(it) for it in parts)) if parts else Word(self.use(name))
+    def among(self, names):
+        return names
 
-    def inside(self, variant, item):
-        """The form of what a variant holds, which has no name there."""
-        if is_unit(variant):
-            return Word(self.use("Null"))
-        if in_order.is_list(variant):
-            return self.in_order(variant, item)
-        return self.object(variant, item) if variant.shape == "named" else self.value(variant.fields[0])
+    def given(self, default, it, variant, item):
+        return self.making.given(default, it, variant, item)
 
-    def variant(self, variant, item, tag):
-        """A variant of a union, under each of its names. One without members asks for the tag alone, which is there."""
-        content = options(item).get("content")
-        if not tag:
-            word, members = self.use("Member"), self.inside(variant, item)
-        elif content and is_unit(variant):
-            word, members = self.use("Variant"), call(self.use("WithDefault"), f'"{content.value}"', self.use("Null"), "()")
-        elif content:
-            word, members = self.use("Variant"), call(self.use("Member"), f'"{content.value}"', self.inside(variant, item))
-        elif held_part(variant, item, self.items):
-            word, members = self.use("Variant"), self.flattened(variant.fields[0])
-        else:
-            word, members = self.use("Variant"), self.members(variant, item) if variant.fields else call(self.use("Member", "Any"), f'"{tag.value}"', "Any")
-        if is_other(variant):
-            return call(self.use("Otherwise"), members)
-        named = [call(word, f'"{name}"', members) for name in self.names(variant, item)]
-        while len(named) > 1:
-            named = [*named[:-2], call(self.use("Same"), *named[-2:])]
-        return named[0]
+    def default(self, default, it, variant, item):
+        return self.making.maker(default, it, variant, item)
 
-    def value(self, it):
-        """The form of a field without a name, or of the only one."""
-        self.writer.spot = it.name or "value"
-        return self.form(it.type, it.attributes.rules)
-
-    # Members.
-
-    def part(self, at, variant, item):
-        """A member of an object, or an item of a list."""
-        it = variant.fields[at]
-        if not in_order.is_list(variant):
-            return self.member(it, variant, item)
-        self.writer.spot = f"value_{at}"
-        return in_order.nth(self, at, self.form(it.type, it.attributes.rules))
-
-    def member(self, it, variant, item):
-        """A member of an object."""
-        if is_flat(it):
-            return self.flattened(it)
-        self.writer.spot = it.name
-        name, kind, rules = f'"{of_field(it, variant, item)}"', it.type, own_rules(it)
-        default = self.borrowed.default(it, item)
-        if is_skipped(it):
-            return self.making.given(default, it, variant, item)
-        if default is None and is_option(kind) and may_be_missing(kind, self.writer.input):
-            form, asked = self.missing(it, name, self.form(kind.args[0], within_option(rules))), of_whole(rules)
-            return call(self.use("Checked", "Under"), form, call("Under", name, self.checks(kind, asked))) if asked else form
-        if default is None:
-            return call(self.use("Member"), name, self.form(kind, rules))
-        return call(self.use("WithDefault"), name, self.form(kind, rules), self.making.maker(default, it, variant, item))
-
-    def missing(self, it, name, form):
-        """A member that may be missing. One whose default is not known may not be `null`."""
-        if it.unmade:
-            return call(self.use("IfAny"), call(self.use("Member"), name, form))
-        return call(self.use("Nullish" if self.writer.input == "json" else "Optional"), name, form)
-
-    def flattened(self, it):
-        """The members that a field stands for, or the form of the values of all other members."""
-        self.writer.spot = it.name or "value"
-        kind, rules = it.type, own_rules(it)
-        if is_rest(it):
-            return self.form(kind.args[1], items_rules(rules))
-        if is_option(kind):
-            part = self.before(f"{snake(kind.args[0].name)}_members")
-            inside = self.ruled(part, kind.args[0], [one for one in within_option(rules) if one.name != "dive"])
-            return self.ruled(call(self.use("IfAny"), inside), kind, of_whole(rules))
-        own = own_part(it, self.items)
-        members = Word(self.writer.members_hole(own.name)) if own else self.before(f"{snake(kind.name)}_members")
-        return self.ruled(members, kind, [one for one in rules if one.name != "dive"])
-
-    # Values.
-
-    def form(self, kind, rules):
-        """The form of a value under rules."""
-        if is_option(kind):
-            word = self.use("Nullable") if self.writer.input == "json" else self.use_form("OrEmpty")
-            return self.ruled(call(word, self.form(kind.args[0], within_option(rules))), kind, of_whole(rules))
-        if in_order.is_tuple(kind):
-            return self.ruled(in_order.of_tuple(self, kind), kind, rules)
-        if is_path(kind, "Vec"):
-            return self.list(kind, rules)
-        if is_map(kind):
-            return self.map(kind, rules)
-        if kind.name in self.items:
-            return self.ruled(self.form_of_part(kind.name), kind, [it for it in rules if it.name != "dive"])
-        if is_text(kind):
-            return call(self.use("Text"), self.checks(kind, rules))
-        parser = parser_of(kind, self.writer.source)
-        if parser:
-            return self.ruled(parsed_form(parser, self), kind, rules)
-        if is_float(kind):
-            return call(self.use("DecimalNumber"), self.checks(kind, rules))
-        if is_any(kind):
-            return self.ruled(Word(self.use("Kept")), kind, rules)
-        if is_path(kind, "bool"):
-            flag = Word(self.use("Flag"))
-            return self.ruled(flag if self.writer.input == "json" else call(self.use_form("Parsed"), flag, "()"), kind, rules)
-        number = self.use(kind.name[:1].upper() + kind.name[1:])
-        word = self.use("Whole") if self.writer.input == "json" else self.use_form("Parsed")
-        return call(word, number, self.checks(kind, rules))
-
-    def form_of_part(self, name):
+    def of_item(self, kind):
         """The form of a type of the file, which stands before."""
-        return self.before(f"{snake(name)}_form", is_named(self.items[name]))
+        return self.before(f"{snake(kind.name)}_form", is_named(self.items[kind.name]))
+
+    def of_part(self, kind):
+        """The members of a struct, or of a type that is read elsewhere, among those of another type."""
+        return self.before(f"{snake(kind.name)}_members") if part_of(kind, self.items) else Word(self.writer.hole(kind.name, True))
 
     def before(self, name, is_copied=False):
         """What stands before under this name. It is lent where it is used at several places."""
         return Word(f"{'&' if name in self.lent and not is_copied else ''}{name}")
 
-    def list(self, kind, rules):
-        """A list: rules of how many items it has, those of each item, and then those of the whole."""
-        inside = self.form(kind.args[0], items_rules(rules))
-        return self.several(kind, rules, "List", inside)
+    def parsed(self, parser):
+        return parsed_form(parser, self)
 
-    def map(self, kind, rules):
-        """A map: rules of how many members it has, those of each value, those of the names, and then your own of the whole."""
-        inside = self.form(kind.args[1], items_rules(rules))
-        return self.several(kind, rules, "Map", inside)
+    def kept(self):
+        return self.make("Kept")
 
-    def several(self, kind, rules, name, inside):
-        counts = [it for it in rules if it.name == "length"]
-        names = [it for it in rules if it.name == "keys"]
-        form = call(self.use(f"{name}Under"), self.checks(kind, counts), inside) if counts or names else call(self.use(name), inside)
-        form = call(self.use("Keys"), form, self.checks(kind, names)) if names else form
-        return self.ruled(form, kind, [it for it in rules if it.name in ("unique", "custom")])
+    def written_flag(self):
+        return self.make("Parsed", self.make("Flag"), "()")
 
-    def ruled(self, form, kind, rules):
-        """A form that has no place for rules, under these."""
-        return call(self.use("Checked"), form, self.checks(kind, rules)) if rules else form
+    def number(self, kind, rules):
+        word = "Whole" if self.writer.input == "json" else "Parsed"
+        return self.make(word, self.use(kind.name[:1].upper() + kind.name[1:]), self.asked(kind, rules))
 
-    def checks(self, kind, rules):
+    def asked(self, kind, rules):
         """The rules of a value, as the code of the type has them."""
         code, _ = Checks(self.writer.form_scope(), self.writer.uses, self.writer).of(list(rules), Seen(self.borrowed.type_of(kind), "v"))
         return code
+
+    counted = asked

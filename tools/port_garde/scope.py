@@ -49,13 +49,12 @@ class Uses:
     sides: bool = False
     cited: set = field(default_factory=set)
     paths: set = field(default_factory=set)
-    spelled: set = field(default_factory=set)
-    unions: set = field(default_factory=set)
-    flattened: set = field(default_factory=set)
-    written: set = field(default_factory=set)
     stated: set = field(default_factory=set)
-    decimals: set = field(default_factory=set)
-    rules: dict = field(default_factory=dict)
+
+    def state(self, module, word):
+        """Imports a word of the statements of a module, and gives it."""
+        self.stated.add((module, word))
+        return word
 
 
 @dataclass(frozen=True)
@@ -259,14 +258,11 @@ class Conditions:
 
     def text(self, place, other):
         """Whether a text is this one."""
-        code, spec, kind = self.scope.place(place.value, place.line)
-        binding, borrowed = code.lstrip("*"), kind is not None and kind.kind == "ref" and is_text(kind)
-        given = f"*{binding}" if borrowed else {"String": f"{binding}.as_str()", "TextRef": f"{binding}.text()"}.get(kind.name if kind else "")
-        if given is None:
+        found = self.text_of(place)
+        if found is None:
             raise Refusal(place.line, f"a comparison of `{spoken(place.value)}` with a text, which is neither a `String` nor a `&str` nor read by a form")
-        self.uses.words |= {"text_is"} | ({"str"} if kind.name == "String" else set())
-        spec = f"{spec}.now" if borrowed else f"(str {spec})" if kind.name == "String" else spec
-        return f'{given} == "{other.value}"', f'(text_is "{other.value}" {spec})'
+        self.uses.words.add("text_is")
+        return f'{found[0]} == "{other.value}"', f'(text_is "{other.value}" {found[1]})'
 
     def variants(self, it):
         """Whether a value is one of some variants of an enum of the file."""
@@ -305,9 +301,9 @@ class Conditions:
             told = f"`contains` of `{spoken(place.value)}`"
             raise Refusal(it.line, f"{told}: it is written of texts and lists of texts that a form reads, and of lists of numbers without a sign")
         self.uses.fields |= {"includes", "Equal"}
-        self.uses.words |= {"includes"} | ({"text_eq", "codes"} if texts else {"nat_eq"} | ({"slice"} if kind.name == "Vec" else set()))
+        self.uses.words |= {"includes"} | ({"text_eq", "codes"} if texts else {"nat_eq"})
         self.uses.others |= {"garde_schema::TextRef"} if texts else set()
-        listed = f"(slice {spec})" if kind.name == "Vec" else spec
+        listed = self.listed(kind, spec)
         item, same, stated = (f'&TextRef::new("{asked.value}")', "text_eq", f'(codes "{asked.value}")') if texts else (f"&{asked.value}", "nat_eq", asked.value)
         return f"includes({code}.as_slice(), &Equal, {item})", f"(includes {same} {listed} {stated})"
 
@@ -319,28 +315,24 @@ class Conditions:
         if "PartialEq" not in item.derives:
             raise Refusal(it.line, f"`contains` of a list of `{item.name}`: write `PartialEq` among its derives")
         self.uses.fields |= {"includes", "Equal"}
-        self.uses.words |= {"includes"} | ({"slice"} if kind.name == "Vec" else set())
+        self.uses.words.add("includes")
         self.uses.cited.add(item.name)
-        listed = f"(slice {spec})" if kind.name == "Vec" else spec
-        return f"includes({code}.as_slice(), &Equal, &{'::'.join(path)})", f"(includes ⟦<{item.name} as PartialEq>⟧.eq {listed} {path[-1]})"
+        stated = f"(includes ⟦<{item.name} as PartialEq>⟧.eq {self.listed(kind, spec)} {path[-1]})"
+        return f"includes({code}.as_slice(), &Equal, &{'::'.join(path)})", stated
 
     def address(self, it):
         """Whether a text is an address."""
-        code, spec, kind = self.scope.place(it.parts[0].value, it.line)
-        code, names = code.lstrip("*"), ADDRESSES[it.value]
-        borrowed = kind is not None and kind.kind == "ref" and is_text(kind)
-        given = code if borrowed else {"String": f"{code}.as_str()", "TextRef": f"{code}.text()"}.get(kind.name if kind else "")
-        if given is None:
+        found, names = self.text_of(it.parts[0]), ADDRESSES[it.value]
+        if found is None:
             raise Refusal(it.line, f"`parse` of `{spoken(it.parts[0].value)}`, which is neither a `String` nor a `&str` nor read by a form")
-        self.uses.words |= {*names} | ({"str"} if kind.name == "String" else set())
-        self.uses.prelude |= {"◌||◌"} if names[1:] else set()
+        self.uses.words |= {*names}
         self.uses.others |= {f"garde::rules::ip::{name}" for name in names}
-        spec = f"{spec}.now" if borrowed else f"(str {spec})" if kind.name == "String" else spec
-        stated = " || ".join(f"{name} {spec}" for name in names)
-        if names[1:]:
-            self.uses.prelude.add("◌≡◌")
-            self.writer.copied["is_address"] = IS_ADDRESS
-        return f"{'is_address' if names[1:] else names[0]}({given})", f"({stated})"
+        code, stated = found[0].lstrip("*"), " || ".join(f"{name} {found[1]}" for name in names)
+        if not names[1:]:
+            return f"{names[0]}({code})", f"({stated})"
+        self.uses.prelude |= {"◌||◌", "◌≡◌"}
+        self.writer.copied["is_address"] = IS_ADDRESS
+        return f"is_address({code})", f"({stated})"
 
     def part_of_text(self, code, spec, asked):
         """Whether a text that a form reads has this part."""
@@ -354,9 +346,9 @@ class Conditions:
         if it.kind in ("==", "!=") and all(part.kind == "place" for part in it.parts):
             texts = [self.text_at(part) for part in it.parts]
             if None not in texts:
-                self.uses.words |= {"text_eq"} | ({"not"} if it.kind == "!=" else set())
-                spec = f"(text_eq {texts[0][1]} {texts[1][1]})"
-                return f"{texts[0][0]} {it.kind} {texts[1][0]}", spec if it.kind == "==" else f"(not {spec})"
+                self.uses.words.add("text_eq")
+                (one, like), (other, another) = texts
+                return self.equal(it, one, other, f"(text_eq {like} {another})")
             same = self.same_values(it)
             if same:
                 return same
@@ -375,8 +367,11 @@ class Conditions:
         item = self.writer.enum(kind.name) if kind is not None and another is not None and kind.name == another.name else None
         if item is None or "PartialEq" not in item.derives:
             return None
+        return self.equal(it, code, other, f"(⟦<{self.writer.type_text(kind)} as PartialEq>⟧.eq {spec} {like})")
+
+    def equal(self, it, code, other, stated):
+        """That two values are equal, or that they are not."""
         self.uses.words |= {"not"} if it.kind == "!=" else set()
-        stated = f"(⟦<{self.writer.type_text(kind)} as PartialEq>⟧.eq {spec} {like})"
         return f"{code} {it.kind} {other}", stated if it.kind == "==" else f"(not {stated})"
 
     def in_order(self, it):
@@ -388,11 +383,9 @@ class Conditions:
         (code, spec, kind), (other, like, _) = found
         name = self.writer.type_text(kind)
         if it.kind in ORDERS:
-            self.uses.stated.add(("Rattle.std.specs.Ordering", ORDERS[it.kind]))
+            self.uses.state("std.specs.Ordering", ORDERS[it.kind])
             return f"{code} {it.kind} {other}", f"({ORDERS[it.kind]} ⟦<{name} as PartialOrd>⟧.partial_cmp {spec} {like})"
-        self.uses.words |= {"not"} if it.kind == "!=" else set()
-        stated = f"(⟦<{name} as PartialEq>⟧.eq {spec} {like})"
-        return f"{code} {it.kind} {other}", stated if it.kind == "==" else f"(not {stated})"
+        return self.equal(it, code, other, f"(⟦<{name} as PartialEq>⟧.eq {spec} {like})")
 
     def is_signed(self, it):
         """Whether a number has a sign."""
@@ -451,18 +444,25 @@ class Conditions:
         code, spec = self.number(it)
         return (code if it.kind == "number" else f"({code} as u128)"), spec
 
-    def text_at(self, it):
+    def text_of(self, it):
         """A text at a place as code and as it is stated, or nothing where there is none."""
-        code, spec, kind = self.scope.place(it.value, it.line) if self.writer.resolved(it).kind == "place" else ("", "", None)
-        if kind is None or not is_text(kind):
-            return None
+        code, spec, kind = self.scope.place(it.value, it.line)
         binding = code.lstrip("*")
-        if kind.kind == "ref":
+        if kind is not None and kind.kind == "ref" and is_text(kind):
             return f"*{binding}", f"{spec}.now"
-        if kind.name not in ("String", "TextRef"):
-            return None
-        self.uses.words |= {"str"} if kind.name == "String" else set()
-        return (f"{binding}.as_str()", f"(str {spec})") if kind.name == "String" else (f"{binding}.text()", spec)
+        if kind is not None and kind.name == "String":
+            self.uses.words.add("str")
+            return f"{binding}.as_str()", f"(str {spec})"
+        return (f"{binding}.text()", spec) if kind is not None and kind.name == "TextRef" else None
+
+    def text_at(self, it):
+        """The same of what may be no place."""
+        return self.text_of(it) if self.writer.resolved(it).kind == "place" else None
+
+    def listed(self, kind, spec):
+        """A list as it is stated."""
+        self.uses.words |= {"slice"} if kind.name == "Vec" else set()
+        return f"(slice {spec})" if kind.name == "Vec" else spec
 
     def length(self, it):
         """How many bytes a text has, or how many items a list or a map."""
@@ -475,8 +475,8 @@ class Conditions:
         code = code.lstrip("*")
         if kind is None or not is_path(kind, "Vec", "Items", "Entries"):
             raise Refusal(it.line, f"`len` of `{spoken(place.value)}`, which is neither a text nor a list nor a map that a form reads")
-        self.uses.words |= {"length"} | ({"slice"} if kind.name == "Vec" else set())
-        return (f"{code}.len()", f"(length (slice {spec}))") if kind.name == "Vec" else (f"{code}.as_slice().len()", f"(length {spec})")
+        self.uses.words.add("length")
+        return f"{code}{'' if kind.name == 'Vec' else '.as_slice()'}.len()", f"(length {self.listed(kind, spec)})"
 
     def division(self, it):
         """What a division by a number gives, or leaves over."""

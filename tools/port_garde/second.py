@@ -5,6 +5,8 @@ from collections import Counter
 from fractions import Fraction
 
 from .derives import options
+from .source import fields_of
+from .tokens import end_of_block_comment
 
 QUOTED = re.compile(r'''//[^\n]*|b?r(#*)".*?"\1|b?"(?:\\.|[^"\\])*"|b?'(?:\\[^\n]+?|[^\\'\n])'|/\*''', re.S)
 NUMBER = r"(-\s*)?(?<![\w.])(0x[\da-fA-F_]+?|0o[0-7_]+|0b[01_]+|\d[\d_]*(?:\.\d[\d_]*)?(?:[eE][+-]?\d+)?)(?:[iu](?:8|16|32|64|128|size)|_?f(?:32|64))?(?![\w])"
@@ -20,21 +22,11 @@ def blank(text, keep=False):
     while found := QUOTED.search(text, at):
         end = found.end()
         if found.group() == "/*":
-            end = comment_end(text, found.start())
+            end = end_of_block_comment(text, found.start()) or len(text)
         kept = keep and found.group()[:2] not in ("//", "/*")
         out += [text[at : found.start()], text[found.start() : end] if kept else re.sub(r"[^\n]", " ", text[found.start() : end])]
         at = end
     return "".join([*out, text[at:]])
-
-
-def comment_end(text, at):
-    """Where a comment ends that begins here."""
-    depth = 0
-    for mark in re.finditer(r"/\*|\*/", text[at:]):
-        depth += 1 if mark.group() == "/*" else -1
-        if not depth:
-            return at + mark.end()
-    return len(text)
 
 
 def passed_by(text, notes):
@@ -109,8 +101,7 @@ def unnamed(item):
     """The names at what has none in JSON, or whose form you write: the variants of an `untagged` enum, the field of a `transparent` type, fields
     that are not read, and fields of several names."""
     parts = [it for it in item.variants if "untagged" in options(item)]
-    fields = [it for variant in item.variants for it in variant.fields]
-    parts += [it for it in fields if {"skip", "skip_deserializing"} & set(options(it)) or {"alias", "flatten"} <= set(options(it)) or "transparent" in options(item)]
+    parts += [it for it in fields_of(item) if {"skip", "skip_deserializing"} & set(options(it)) or {"alias", "flatten"} <= set(options(it)) or "transparent" in options(item)]
     return {name for part in parts for group in part.serde for said in group for name in re.findall(r'"([^"]*)"', said.text)}
 
 

@@ -3,7 +3,8 @@ import re
 
 from .kept import WRITTEN, put
 from .layout import use_line
-from .missing import SKIPPED, file_of, lacking_of, shown_path
+from .missing import SKIPPED, lacking_of
+from .tokens import shown
 
 HEAD = "//! What is read elsewhere: its types, and how JSON has them.\n"
 DOCS = re.compile(r"(?:(?://!|#!\[)[^\n]*\n|\n)*")
@@ -36,9 +37,9 @@ def add(crate, written):
                 if new:
                     file.parent.mkdir(parents=True, exist_ok=True)
                     put(file, with_skeletons(file.read_text(encoding="utf-8") if file.exists() else "", new).encode())
-                    print(f"{shown_path(file)}: written: {', '.join(name for it in new for name in MADE.findall(it))}")
+                    print(f"{shown(file)}: written: {', '.join(name for it in new for name in MADE.findall(it))}")
             except OSError as error:
-                yield f"{shown_path(file)}: {error.strerror or error}"
+                yield f"{shown(file)}: {error.strerror or error}"
 
 
 def with_skeletons(file, texts):

@@ -2,11 +2,11 @@
 from dataclasses import dataclass, field, replace
 
 from .build import Build
-from .derives import read_serde, type_names
+from .derives import fields_of, read_serde, type_names
 from .expressions import number_of
 from .own import at_field
-from .rules import Attributes, no_attributes, present, read_attributes
-from .tokens import Notes, Refusal, Token, Tokens, tokens_of
+from .rules import Attributes, present, read_attributes
+from .tokens import OPEN, Notes, Refusal, Tokens, tokens_of
 
 
 UNKNOWN_BUILD = "an attribute `cfg` or `cfg_attr`, which the port cannot judge"
@@ -164,18 +164,14 @@ def read_source(text, features=None):
         if tokens.first.kind == "head":
             source.head.append(tokens.take().text)
         elif tokens.sees("#", "!", "["):
-            read_of_the_file(tokens)
+            # an attribute of the whole file
+            mark, _, inside = tokens.take(), tokens.take(), tokens.group()
+            if inside.sees("cfg") or inside.sees("cfg_attr"):
+                source.notes.refuse(mark.line, UNKNOWN_BUILD)
         else:
             read_item(tokens, source, text)
     read_sums(tokens, source)
     return source
-
-
-def read_of_the_file(tokens):
-    """Passes over an attribute of the whole file."""
-    mark, _, inside = tokens.take(), tokens.take(), tokens.group()
-    if inside.sees("cfg") or inside.sees("cfg_attr"):
-        tokens.notes.refuse(mark.line, UNKNOWN_BUILD)
 
 
 def read_item(tokens, source, text):
@@ -201,7 +197,7 @@ def read_known_item(tokens, source, text, outer, begin):
     start, line, first = tokens.first.at, tokens.line, tokens.at
     vis = read_vis(tokens)
     before = tokens.at
-    while any(map(tokens.sees, ("unsafe", "async"))) or any(tokens.sees("const", it) for it in ("fn", "unsafe", "async", "extern")):
+    while any(map(tokens.sees, ("unsafe", "async"))) or is_function(tokens):
         tokens.take()
     if tokens.sees("extern") and tokens.tokens[tokens.at + 1].kind in ("text", "name") and not tokens.sees("extern", "crate"):
         tokens.take()
@@ -234,7 +230,7 @@ def read_alias(tokens, source, conditional):
     alias = Alias(tokens.name("the name of a type"), line, fault="which stands under a condition of the build" if conditional else "")
     at = tokens.at
     try:
-        params = read_params(tokens)
+        params = read_angles(tokens, read_param)
         tokens.expect("=")
         alias = replace(alias, params=params, type=read_type(tokens))
     except Refusal as refusal:
@@ -253,8 +249,9 @@ def read_type_item(tokens, source, outer, head):
     name, params, variants = (read_struct if word == "struct" else read_enum)(tokens)
     lost = None in variants or any(None in it.fields for it in variants if it is not None)
     variants = tuple(replace(it, fields=tuple(present(it.fields))) for it in present(variants))
+    others = [found for it in (*variants, *(field for it in variants for field in it.fields)) for found in it.others]
     item = Item(word, name, params, variants, line, outer.attributes, outer.derives, outer.docs, vis, begin, tokens.first.at, known=name)
-    item = replace(item, said=outer.said, serde=outer.serde, others=outer.others + others_within(variants))
+    item = replace(item, said=outer.said, serde=outer.serde, others=outer.others + tuple(others))
     notes.told += outer.conditions
     asked = [outer.attributes.asked, *(it.attributes.asked for variant in variants for it in variant.fields)]
     if not is_ported(item) and any(asked):
@@ -264,12 +261,6 @@ def read_type_item(tokens, source, outer, head):
     del notes.faults[faults:], notes.later[later:]
     notes.read |= outer.read
     source.items.append(item)
-
-
-def others_within(variants):
-    """The attributes of variants and fields that are neither of garde nor of serde."""
-    read = [it for it in variants if it is not None]
-    return tuple(found for it in (*read, *(field for it in read for field in it.fields)) if it is not None for found in it.others)
 
 
 def read_use(tokens, source):
@@ -287,7 +278,7 @@ def read_constant(tokens, source, conditional):
     """Reads a constant, which is kept where it is a number, and is not one of several under conditions of the build."""
     name = tokens.take().text
     while not tokens.ended() and not tokens.sees("="):
-        tokens.group() if any(map(tokens.opens, "([{")) else tokens.take()
+        tokens.group() if any(map(tokens.opens, OPEN)) else tokens.take()
     tokens.takes("=")
     if not conditional and name not in source.numbers:
         source.sums[name] = tokens.at
@@ -326,10 +317,7 @@ def read_product(tokens, known):
 
 def read_factor(tokens, known):
     minus, token = tokens.takes("-"), tokens.take()
-    if token.kind == "number":
-        value = number_of(token)
-    else:
-        value = known.get(token.text) if token.kind == "name" else None
+    value = number_of(token) if token.kind == "number" else known.get(token.text) if token.kind == "name" else None
     return -value if minus and value is not None else value
 
 
@@ -353,21 +341,21 @@ def read_outer(tokens):
             faulty = True
         if outer.conditions and outer.conditions[-1][1] is None:
             outer.conditions[-1] = (mark.at, tokens.first.at)
-    outer.docs, outer.attributes = tuple(docs), read_attributes(asked) if asked else no_attributes()
+    outer.docs, outer.attributes = tuple(docs), read_attributes(asked) if asked else Attributes()
     outer.attributes = replace(outer.attributes, faulty=outer.attributes.faulty or faulty)
     return outer
 
 
 def read_attribute_of(inside, outer, asked, mark, of_the_file):
     """Reads what stands within an attribute."""
-    at, path = inside.first.at, read_path(inside)
+    at, path = inside.first.at, inside.path("a path")
     word = path[-1] if path[:-1] in ([], ["core"], ["std"], ["core", "prelude", "v1"], ["std", "prelude", "v1"]) else ""
     if path[-1] == "garde" and (len(path) > 1 or of_the_file or not inside.opens("(")):
         raise Refusal(mark.line, f"the attribute `{'::'.join(path)}`: at a type or a field write `#[garde(..)]`")
     if word == "derive" and not inside.opens("("):
         raise Refusal(mark.line, "`derive` with no list behind it")
     if word == "derive":
-        outer.said += present(inside.group().items(lambda it: (it.line, tuple(read_path(it)))))
+        outer.said += present(inside.group().items(lambda it: (it.line, tuple(it.path("a path")))))
         outer.derives = tuple(path[-1] for _, path in outer.said)
         outer.read.add(at)
     elif word == "garde":
@@ -395,8 +383,7 @@ def read_condition(word, tokens, outer, asked, mark):
         start = tokens.at
         tokens.skip_to(",")
         if tokens.at > start:
-            end = tokens.tokens[tokens.at - 1]
-            found.append(Tokens([*tokens.tokens[start : tokens.at], Token("end", end.text, end.line, end.at)], tokens.text, tokens.notes))
+            found.append(tokens.taken(start))
     for it in found if held else ():
         read_attribute_of(it, outer, asked, mark, False)
     words = {token.text for it in found for token in it.tokens}
@@ -413,14 +400,6 @@ def unconditional(tokens, outer):
     return outer
 
 
-def read_path(tokens):
-    """Reads the names of a path."""
-    names = [tokens.name("a path")]
-    while tokens.takes("::"):
-        names.append(tokens.name("a path"))
-    return names
-
-
 def read_vis(tokens):
     """Reads `pub`, with what stands in brackets after it."""
     if not tokens.takes("pub"):
@@ -432,11 +411,14 @@ def read_vis(tokens):
     return f"pub({path}{''.join(it.text for it in inside.tokens[inside.at:-1])}) "
 
 
-def pass_to_end(tokens):
-    """Passes over the rest of an item that ends with `;`."""
+def pass_to_end(tokens, *opening):
+    """Passes over the rest of an item: to the end of a group of these brackets, or to `;`."""
     while not tokens.ended():
-        if any(map(tokens.opens, "([{")):
+        if any(map(tokens.opens, OPEN)):
+            is_last = tokens.first.text in opening
             tokens.group()
+            if is_last:
+                return
         elif tokens.take().text == ";":
             return
 
@@ -444,16 +426,8 @@ def pass_to_end(tokens):
 def pass_over(tokens):
     """Passes over an item: up to its body or, of one that has none, to `;`."""
     read_vis(tokens)
-    if any(map(tokens.sees, ("static", "type", "use"))) or (tokens.sees("const") and not is_function(tokens)):
-        return pass_to_end(tokens)
-    while not tokens.ended():
-        if tokens.opens("{"):
-            tokens.group()
-            return
-        if tokens.opens("(") or tokens.opens("["):
-            tokens.group()
-        elif tokens.take().text == ";":
-            return
+    has_body = not any(map(tokens.sees, ("static", "type", "use"))) and (not tokens.sees("const") or is_function(tokens))
+    pass_to_end(tokens, *("{" if has_body else ""))
 
 
 def is_function(tokens):
@@ -484,7 +458,7 @@ def read_imports(tokens, before):
 def read_struct(tokens):
     """Reads a struct after its keyword: its name, its parameters and its one variant."""
     line, name = tokens.line, tokens.name("the name of a struct")
-    params = read_params(tokens)
+    params = read_angles(tokens, read_param)
     variant = read_variant_body(tokens, name, line, ())
     if variant.shape != "named":
         tokens.expect(";")
@@ -494,10 +468,10 @@ def read_struct(tokens):
 def read_enum(tokens):
     """Reads an enum after its keyword."""
     name = tokens.name("the name of an enum")
-    params = read_params(tokens)
+    params = read_angles(tokens, read_param)
     no_where(tokens)
     variants = read_parts(tokens, read_variant)
-    read = [it for it in variants if it is not None]
+    read = present(variants)
     for it in (it for it in read if it.number and any(one.shape != "unit" for one in read)):
         tokens.notes.refuse(it.line, f"the variant `{it.name}` with a number, beside variants with fields: take the number out")
     return name, params, variants
@@ -540,13 +514,11 @@ def read_discriminant(tokens, name):
 def read_variant_body(tokens, name, line, docs):
     """Reads the fields of a struct or of a variant."""
     no_where(tokens)
-    if tokens.opens("{"):
-        return Variant(name, "named", read_parts(tokens, read_named_field), line, docs)
-    if tokens.opens("("):
-        fields = read_parts(tokens, read_tuple_field)
+    shape = "named" if tokens.opens("{") else "tuple" if tokens.opens("(") else "unit"
+    fields = read_parts(tokens, lambda it, outer: read_field(it, outer, shape == "named")) if shape != "unit" else ()
+    if shape == "tuple":
         no_where(tokens)
-        return Variant(name, "tuple", fields, line, docs)
-    return Variant(name, "unit", (), line, docs)
+    return Variant(name, shape, fields, line, docs)
 
 
 def no_where(tokens):
@@ -555,16 +527,14 @@ def no_where(tokens):
         tokens.skip_to("{", ";")
 
 
-def read_named_field(tokens, outer):
-    vis, line, name = read_vis(tokens), tokens.line, tokens.name("the name of a field")
-    tokens.expect(":")
-    attributes = replace(outer.attributes, rules=at_field(outer.attributes.rules, name))
+def read_field(tokens, outer, is_named):
+    """Reads a field behind its attributes."""
+    vis, line, name, attributes = read_vis(tokens), tokens.line, "", outer.attributes
+    if is_named:
+        name = tokens.name("the name of a field")
+        tokens.expect(":")
+        attributes = replace(attributes, rules=at_field(attributes.rules, name))
     return Field(name, read_field_type(tokens), line, attributes, outer.docs, vis, outer.serde, outer.others)
-
-
-def read_tuple_field(tokens, outer):
-    vis, line = read_vis(tokens), tokens.line
-    return Field("", read_field_type(tokens), line, outer.attributes, outer.docs, vis, outer.serde, outer.others)
 
 
 def read_field_type(tokens):
@@ -578,22 +548,20 @@ def read_field_type(tokens):
     except Refusal as refusal:
         tokens.notes.faults.append(refusal)
         tokens.at = start
-        tokens.skip_item()
-        if not tokens.ended():
-            tokens.at -= 1
+        tokens.skip_to(",")
         return Type("unread", "", line)
 
 
-def read_params(tokens):
-    """Reads the parameters of a type."""
-    params = []
+def read_angles(tokens, read):
+    """Reads what stands in angles, if such come next, each item by `read`."""
+    found = []
     if not tokens.takes("<"):
         return ()
     while not tokens.takes(">"):
-        params.append(read_param(tokens))
+        found.append(read(tokens))
         if not tokens.sees(">"):
             tokens.expect(",")
-    return tuple(params)
+    return tuple(found)
 
 
 def read_param(tokens):
@@ -676,15 +644,8 @@ def read_slice(tokens, line):
 
 def read_path_type(tokens, line):
     """Reads a type by its path, with its arguments."""
-    path, args = [tokens.name("a type")], []
-    while tokens.takes("::"):
-        path.append(tokens.name("a type"))
-    if tokens.takes("<"):
-        while not tokens.takes(">"):
-            args.append(read_argument(tokens))
-            if not tokens.sees(">"):
-                tokens.expect(",")
-    return Type("path", path[-1], line, path=tuple(path), args=tuple(args))
+    path = tokens.path("a type")
+    return Type("path", path[-1], line, path=tuple(path), args=read_angles(tokens, read_argument))
 
 
 def read_argument(tokens):
@@ -699,6 +660,21 @@ def read_argument(tokens):
 
 def is_ported(item):
     return "Validate" in item.derives
+
+
+def named_type(name, line, *args):
+    """A type by its name alone."""
+    return Type("path", name, line, path=(name,), args=args)
+
+
+def with_variants(item, fields):
+    """A type whose variants have other fields."""
+    return replace(item, variants=tuple(replace(it, fields=tuple(fields(it))) for it in item.variants))
+
+
+def with_fields(item, change):
+    """A type each of whose fields is changed."""
+    return with_variants(item, lambda variant: map(change, variant.fields))
 
 
 def all_rules(rules):

@@ -18,13 +18,13 @@ class Refusals(Exception):
 
     def __init__(self, faults):
         super().__init__()
-        told = dict.fromkeys((it.line, "".join(map(shown, it.reason))) for it in faults)
+        told = dict.fromkeys((it.line, shown(it.reason)) for it in faults)
         self.lines = sorted(told, key=lambda it: it[0])
 
 
-def shown(character):
-    """A character as a line of a terminal may hold it."""
-    return character if character.isprintable() else repr(character)[1:-1]
+def shown(text):
+    """A text, or a path, as a line of a terminal may hold it."""
+    return "".join(it if it.isprintable() else repr(it)[1:-1] for it in str(text))
 
 
 def meant(word, known):
@@ -93,14 +93,14 @@ DEPTHS = {**dict.fromkeys(OPEN, 1), **dict.fromkeys(OPEN.values(), -1)}
 DEEPEST = 100
 
 
-def end_of_block_comment(source, at, line):
-    """The place after a comment that begins here; such comments nest."""
+def end_of_block_comment(source, at):
+    """The place after a comment that begins here, or nothing where it does not end; such comments nest."""
     depth = 0
     for mark in re.finditer(r"/\*|\*/", source[at:]):
         depth += 1 if mark.group() == "/*" else -1
         if depth == 0:
             return at + mark.end()
-    raise Refusal(line, "a comment that does not end")
+    return None
 
 
 def tokens_of(source):
@@ -108,14 +108,17 @@ def tokens_of(source):
     found, at, line = [], 0, 1
     while at < len(source):
         if source.startswith("/*", at):
-            end = end_of_block_comment(source, at, line)
+            end = end_of_block_comment(source, at)
+            if end is None:
+                raise Refusal(line, "a comment that does not end")
         else:
             match = PATTERN.match(source, at)
             if match is None:
                 raise Refusal(line, f"a character that cannot be read: {source[at]}")
             end = match.end()
             if match.lastgroup not in ("space", "comment"):
-                found.append(Token(kind_of(match), match.group(), line, at))
+                # the group of `hashes` is a part of a raw text
+                found.append(Token("raw" if match.group("raw") else match.lastgroup, match.group(), line, at))
         line += source.count("\n", at, end)
         at = end
     refuse_brackets(found)
@@ -135,11 +138,6 @@ def refuse_brackets(tokens):
                 raise Refusal(token.line, f"`{token.text}` closes no bracket")
     if ends:
         raise Refusal(ends[-1][1].line, f"`{ends[-1][1].text}` is not closed")
-
-
-def kind_of(match):
-    """The kind of a match: the group of `hashes` is a part of a raw text."""
-    return "raw" if match.group("raw") else match.lastgroup
 
 
 class Tokens:
@@ -189,6 +187,13 @@ class Tokens:
             raise Refusal(token.line, f"{what} is expected in place of `{token.text}`")
         return token.text.removeprefix("r#")
 
+    def path(self, what):
+        """Takes a path: its names."""
+        names = [self.name(what)]
+        while self.takes("::"):
+            names.append(self.name(what))
+        return names
+
     def group(self):
         """Takes a group of brackets, and answers the tokens within."""
         opening = self.take()
@@ -200,20 +205,19 @@ class Tokens:
             depth += DEPTHS.get(token.text, 0) if token.kind == "mark" else 0
             at += 1
         self.at = at
-        inside = [*self.tokens[start : at - 1], Token("end", token.text, token.line, token.at)]
-        return Tokens(inside, self.text, self.notes)
+        return self.within(start, at - 1, token)
+
+    def within(self, start, stop, last):
+        """The tokens between two places as tokens of their own, which end where this one stands."""
+        return Tokens([*self.tokens[start:stop], Token("end", last.text, last.line, last.at)], self.text, self.notes)
+
+    def again(self):
+        """The same tokens, none of which is taken."""
+        return Tokens(self.tokens, self.text, self.notes)
 
     def taken(self, start):
         """The tokens that were taken since this place, as tokens of their own."""
-        end = self.tokens[self.at - 1]
-        return Tokens([*self.tokens[start : self.at], Token("end", end.text, end.line, end.at)], self.text, self.notes)
-
-    def taken_to_end(self):
-        """The tokens that are left, all taken, but for a `;` at their end."""
-        start = self.at
-        while not self.ended() and not self.sees(";"):
-            self.take()
-        return self.taken(start)
+        return self.within(start, self.at, self.tokens[self.at - 1])
 
     def source(self):
         """The text of all tokens, its lines without what stands before each of them but the first."""
@@ -237,7 +241,8 @@ class Tokens:
                 self.notes.faults.append(refusal)
                 item = None
                 self.at = start
-                self.skip_item()
+                self.skip_to(",")
+                self.takes(",")
             found.append(item)
         return found
 
@@ -250,15 +255,3 @@ class Tokens:
                 continue
             text = self.take().text
             angles = max(0, angles + (text == "<") - (text == ">"))
-
-    def skip_item(self):
-        """Passes over the rest of an item of a list, with its comma."""
-        angles = 0
-        while not self.ended():
-            if any(map(self.opens, OPEN)):
-                self.group()
-                continue
-            text = self.take().text
-            angles = max(0, angles + (text == "<") - (text == ">"))
-            if text == "," and not angles:
-                return

@@ -55,8 +55,8 @@ def is_unborrowed(item, writer):
     return writer.input == "json" and item.name not in writer.borrowed.borrowing
 
 
-def reader(item, schema, said):
-    """The function that reads values of such a type. `said` has its docs, parameters, clauses and the call; each clause is given the value."""
+def reader(item, schema, said, clauses, within_clauses):
+    """The function that reads values of such a type. `said` has its docs, its parameters and the call."""
     writer, within = schema.writer, f"{item.name}Within"
     if within in schema.turned:
         writer.notes.refuse(schema.turned[within].line, f"the name `{within}`, which the port writes: give the type another name")
@@ -67,6 +67,6 @@ def reader(item, schema, said):
     params = said["params"]
     args = ", ".join(it.strip().partition(":")[0] for it in params.splitlines())
     return TEXT.format(
-        **{**said, "clauses": said["clauses"]("v"), "within_clauses": said["clauses"]("v.0")}, item=item.name, form=form, args=args,
+        **said, clauses=clauses, within_clauses=within_clauses, item=item.name, form=form, args=args,
         free_params=params.replace("&'a ", "&"),
     )

@@ -10,13 +10,9 @@ WHOLE = ("unsigned", "negative", "big")
 NUMBERS = (*WHOLE, "fraction")
 KINDS = ("null", "boolean", *NUMBERS, "text", "list", "object")
 WORDS = {"null": "Null", "boolean": "Boolean", "text": "Text", "list": "List", "object": "Object"}
-# Each test as code and as it is stated.
+# The forms by which tests are made.
 TESTS = {
-    "has": ("Has", "has_member"), "has_with": ("HasWith", "has_member_with"), "any": ("AnyOf", "any_holds"), "both": ("", "both_hold"),
-    "not": ("Not", "fails"), "unsigned": ("IsUnsigned", "is_unsigned"), "whole": ("IsWhole", "is_whole"),
-}
-KIND_TESTS = {
-    "Text": "is_text", "Number": "is_number", "Boolean": "is_boolean", "Null": "is_nothing", "List": "is_list", "Object": "is_object",
+    "has": "Has", "has_with": "HasWith", "any": "AnyOf", "both": "Both", "not": "Not", "unsigned": "IsUnsigned", "whole": "IsWhole",
 }
 LISTS = ("Vec", "VecDeque", "LinkedList", "HashSet", "BTreeSet", "IndexSet")
 MAPS = ("HashMap", "BTreeMap", "IndexMap", "Map")

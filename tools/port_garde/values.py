@@ -4,7 +4,7 @@ from fractions import Fraction
 
 from .layout import Word, call
 from .scope import is_path, is_text
-from .source import Type
+from .source import Type, named_type
 from .tokens import Refusal
 
 # What each of them is where a form reads it.
@@ -37,7 +37,7 @@ def is_decimal(kind):
 def as_read(kind, life):
     """The type of the value that a form makes of one of these."""
     name = DECIMAL if is_float(kind) else KEPT
-    return Type("path", name, kind.line, path=(name,), args=(life,))
+    return named_type(name, kind.line, life)
 
 
 def canonical(kind, imports):
@@ -54,10 +54,10 @@ def canonical(kind, imports):
     if name in ("Value", "RawValue") and (crate == "serde_json" or name == "Value" and crate == "toml"):
         return known
     if crate == "serde_json" and name == "Number":
-        return Type("path", "f64", kind.line, path=("f64",))
+        return named_type("f64", kind.line)
     if crate == "toml" and name == "Table" or crate in ANY and name == "Map" and (not kind.args or len(kind.args) == 2 and is_text(kind.args[0])):
         held = canonical(kind.args[1], imports) if kind.args else known
-        return Type("path", "HashMap", kind.line, path=("HashMap",), args=(Type("path", "String", kind.line, path=("String",)), held))
+        return named_type("HashMap", kind.line, named_type("String", kind.line), held)
     return replace(kind, args=tuple(canonical(it, imports) for it in kind.args))
 
 
@@ -87,7 +87,7 @@ def range_of(checks, rule, seen):
     texts = {it: text_of(checks.writer.resolved(rule.bounds[it])) for it in ("min", "max", "equal") if it in rule.bounds}
     end = "between" if len(texts) == 2 else ENDS[next(iter(texts))]
     given, stated = ", ".join(f'{name} = "{text}"' for name, text in texts.items()), " ".join(f'"{text}"' for text in texts.values())
-    checks.uses.decimals.add("decimal_range")
+    checks.uses.state("garde_schema.specs.Decimals", "decimal_range")
     return Word(f"decimal_range!({given})"), f"decimal_range ({checks.word(end)} {stated}) {seen.name}"
 
 
@@ -98,5 +98,5 @@ def multiple_of(checks, rule, seen):
     if Fraction(text) <= 0 or int(text.lower().partition("e")[0].replace(".", "")) >= 2**64:
         raise Refusal(rule.line, f"`multiple_of({text})`: write a number above 0 whose digits fit 64 bits")
     checks.uses.others.add("garde_schema::DecimalMultiple")
-    checks.uses.decimals.add("decimal_multiple_of")
+    checks.uses.state("garde_schema.specs.Decimals", "decimal_multiple_of")
     return call("DecimalMultiple", f'"{text}"'), f'decimal_multiple_of "{text}" {seen.name}'

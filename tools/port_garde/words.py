@@ -2,11 +2,11 @@
 from dataclasses import replace
 
 from .expressions import CONTEXT, places_in
-from .layout import Lent, Literal, Word, call
+from .layout import Lent, Word, call, literal
 from .over_lists import same_by
 from .rules import OURS, PLAIN, REPEATED, TEXTS
-from .scope import SIGNED, UNSIGNED, Conditions, Place, Scope, Seen, is_option, is_path, is_text
-from .source import Type, type_names
+from .scope import SIGNED, UNSIGNED, Conditions, Place, Scope, Seen, is_option, is_path, is_text, range_of as whole_range
+from .source import Type, named_type, type_names
 from .tokens import Refusal
 from .values import DECIMAL, KEPT, is_decimal, is_made, multiple_of, range_of
 
@@ -28,7 +28,7 @@ IPS = {"ip": "Any", "ipv4": "V4", "ipv6": "V6"}
 # How two items of a list are compared.
 SAME = {"String": "text_eq (str x) (str y)", "TextRef": "text_eq", **dict.fromkeys(UNSIGNED, "nat_eq")}
 # A text that a form reads.
-TEXT = Type("path", "TextRef", 0, path=("TextRef",), args=("'t",))
+TEXT = named_type("TextRef", 0, "'t")
 # The rules that are asked of what an option holds.
 INSIDE = (*PLAIN[1:], *TEXTS, "length", "range", "pattern", *OURS)
 # Types of one value, which do not validate themselves.
@@ -202,7 +202,7 @@ class Checks:
         rule = self.writer.read_own(rule)
         if rule.place is not None:
             return self.own(rule, seen)
-        name = camel(rule.text) if rule.text else self.writer.closure_name(rule)
+        name = self.name_of(rule)
         kind = self.writer.type_text(seen.type)
         self.writer.own_rule(name, rule, kind, self.scope.unit)
         rule_value, life, record = Word(name), "", "{}"
@@ -211,9 +211,13 @@ class Checks:
             record = f"{{ 0 = {self.word('reference_to')} {self.scope.context} }}"
         return self.asked(rule_value, f"⟦<{name}{life} as garde::fields::Rule<{kind}>>⟧.finds (record {record}) {seen.name}", False)
 
+    def name_of(self, rule):
+        """The type of a rule of one's own: after its function, or of a closure after the type and the field."""
+        return camel(rule.text) if rule.text else self.writer.numbered("Rule", rule.source)
+
     def own(self, rule, seen):
         """A rule of one's own that the port reads: it is a type of its own, which holds what it asks beside the value."""
-        name = camel(rule.text) if rule.text else self.writer.closure_name(rule)
+        name = self.name_of(rule)
         fields, outer = self.writer.fields_within(seen.type), self.scope
         places = [it.value for it in places_in(rule.place)]
         held = [outer.the_context()] if not outer.unit and any(it[0] in (CONTEXT, outer.context) for it in places) else []
@@ -239,28 +243,21 @@ class Checks:
         """A rule of a text that a view shows of the value."""
         _, *path = adapter
         name, kind = camel(path[-1]), self.writer.type_text(seen.type)
-        self.writer.own_view(name, path, kind)
-        text = Type("path", "String", rule.line, path=("String",))
+        self.writer.own_view(name, "::".join(path), kind)
+        text = named_type("String", rule.line)
         shown = Seen(text, f"(⟦<{name} as garde::fields::View<{kind}>>⟧.seen (record {{}}) {seen.name})", seen.depth)
         value, fault, taking = self.value(rule, shown)
         return self.asked(call(self.field("Adapt"), name, value), fault, taking)
 
     def value(self, rule, seen):
         """A rule as a value, what it finds, and whether it may take memory for its answer."""
-        if rule.name == "length":
-            return (*self.length(rule, seen), False)
-        if rule.name == "range":
-            return (*self.range(rule, seen), False)
-        if rule.name == "multiple_of":
-            return (*self.multiple(rule, seen), False)
-        if rule.name == "whole_key":
-            return (*self.whole_key(rule, seen), False)
+        own = {"length": self.length, "range": self.range, "multiple_of": self.multiple, "whole_key": self.whole_key, "matches": self.matches}
+        if rule.name in own:
+            return (*own[rule.name](rule, seen), False)
         if rule.name == "required":
             if not is_option(seen.type):
                 raise Refusal(rule.line, "`required` of a value that is no `Option`")
             return Word(self.field("Required")), f"{self.word('required')} {seen.name}", False
-        if rule.name == "matches":
-            return (*self.matches(rule, seen), False)
         if not is_text(seen.type):
             way = f"write `inner({rule.name})` for its items" if is_path(seen.type, *EACH, "Items") else "write a rule of your own, by `custom`"
             raise Refusal(rule.line, f"`{rule.name}` of the type `{self.writer.type_text(seen.type, True)}`, which is no text: {way}")
@@ -298,7 +295,7 @@ class Checks:
         self.scope.bound.add(rule.text)
         rule = replace(rule, text=next((known for known, name in self.writer.item.renames if name == rule.text), rule.text))
         fields = (("field", Word(f'"{rule.text}"')), ("other", Word(other.binding)))
-        return Literal(self.field("Matches"), fields), self.equal(rule, seen, other)
+        return literal(self.field("Matches"), fields), self.equal(rule, seen, other)
 
     def equal(self, rule, seen, other):
         """How it is stated that a value equals that of another field: two texts, two options of texts, or two numbers."""
@@ -319,8 +316,8 @@ class Checks:
         """The rule that a name of a map is a whole number."""
         number = rule.mode[:1].upper() + rule.mode[1:]
         self.uses.others |= {"garde_form::WholeKey", f"garde_schema::{number}"}
-        self.uses.stated.add(("Rattle.garde_form.specs.Keys", "whole_key"))
-        self.uses.written.add(f"{rule.mode}_texts")
+        self.uses.state("garde_form.specs.Keys", "whole_key")
+        self.uses.state("garde_form.specs.Spelling", f"{rule.mode}_texts")
         return call("WholeKey", f'"{rule.text}"', number), f'whole_key "{rule.text}" {rule.mode}_texts {seen.name}'
 
     def pattern(self, rule, seen):
@@ -388,10 +385,9 @@ class Checks:
 
     def refuse_bounds(self, rule, kind, signed):
         """Refuses bounds that no number of the type reaches."""
-        bits = 64 if kind.endswith("size") else int(kind[1:])
-        most = 2 ** (bits - signed) - 1
+        least, most = whole_range(kind)
         for it in map(self.writer.resolved, rule.bounds.values()):
-            if it.kind == "number" and (it.value > most or (signed and it.value < -most - 1)):
+            if it.kind == "number" and (it.value > most or signed and it.value < least):
                 raise Refusal(it.line, f"the bound {it.value}, which is no `{kind}`")
 
     def bound(self, it, signed):

@@ -7,15 +7,15 @@ from .derives import SERDE, Derives, kept_derives, literal_function, named_funct
 from .front import Front, place_named
 from .holes import HOLE, MEMBERS
 from .implementation import Implementation
-from .layout import CALL, VARIANT, WIDTH, Literal, Method, Word, call, statement, use_line
+from .layout import CALL, VARIANT, WIDTH, Method, Word, call, holding, lifetimes_of, literal, statement, use_line
 from .own import read_function
 from .parsed import KNOWN
 from .quoted import BESIDE_CONTEXT, turn as quoted_of
 from .schema import Schema, snake, within_rule
 from .scope import SIGNED, Scope, Uses, resolved
 from .second import faults_of_values, lost_of_names, lost_of_serde, passed_by
-from .source import all_rules, is_ported, read_source, read_type
-from .tokens import Refusal, Refusals, Tokens
+from .source import all_rules, fields_of, is_ported, read_source, read_type
+from .tokens import Refusal, Refusals
 from .words import camel
 
 COLLECTIONS = ("BTreeMap", "BTreeSet", "BinaryHeap", "HashMap", "HashSet", "LinkedList", "VecDeque")
@@ -25,6 +25,10 @@ IMPORTS.update({"Rc": "std::rc::Rc", **{name: f"std::net::{name}" for name in ("
 # The crates whose names are imported as the output has them.
 WRITTEN = ("std", "core", "alloc", "garde", "regex", "serde", "serde_derive")
 GARDE = {"I18n", "Report", "Stated", "Trail", "Validate", "AllocError", "Global", "Rule", "View", "RuleError"}
+# The modules whose words statements import last.
+LAST = (
+    *(f"garde_schema.specs.{it}" for it in ("Spelling", "Unions", "Decimals", "Flattened")), "garde_form.specs.Spelling",
+)
 RULE = """{docs}
 #[derive(Clone, Copy)]
 {vis}struct {name}{life}{holds};
@@ -126,12 +130,15 @@ class Writer:
         for line, reason in passed_by(rust, self.notes):
             self.notes.refuse(line, reason)
         if self.module is None and not self.notes.faults:
-            self.refuse_declared()
+            # a statement names what the toolchain declares of these types
+            for it in (it for it in self.source.items if self.stated_variants(it) or self.is_nested(it)):
+                self.notes.refuse(it.line, f"`{it.name}`, whose statement names its module: say it by `--module CRATE::MODULE`")
         if self.notes.faults:
             raise Refusals(self.notes.faults)
         if self.clashes - self.taken:
             return ""
-        parts = [self.ghost_uses(), self.use_lines(), *items, *self.skeleton_texts()]
+        skeletons = [] if self.own else [text for _, text in self.skeletons.values()]
+        parts = [self.ghost_uses(), self.use_lines(), *items, *self.copied.values(), *skeletons]
         return "\n\n".join(part for part in parts if part) + "\n"
 
     def tried(self, item, rust):
@@ -171,7 +178,9 @@ class Writer:
         self.item = item
         for line, reason in self.derives.faults(item):
             self.notes.refuse(line, reason)
-        self.renamed = {"'a": free_lifetime(item.params)}
+        taken = {it.name for it in item.params}
+        # the method has an `'a` of its own
+        self.renamed = {"'a": next(it for it in ("'t", "'u", "'s", "'r") if it not in taken)}
         if not is_ported(item) or self.is_nested(item):
             return [self.declaration(item)]
         implementation = self.implementation(item)
@@ -242,8 +251,7 @@ class Writer:
     def serde_functions(self, item):
         """The functions that attributes of serde name: those that give a number as they are, and others as beginnings."""
         named = [(said, item.name) for said in options(item).values()]
-        fields = [it for variant in item.variants for it in variant.fields]
-        named += [(said, self.type_text(it.type)) for it in fields for said in options(it).values()]
+        named += [(said, self.type_text(it.type)) for it in fields_of(item) for said in options(it).values()]
         for said, kind in named:
             name = named_function(said)
             source = self.source.functions.get(name, f"fn {name}")
@@ -372,13 +380,14 @@ class Writer:
         self.uses.others |= {IMPORTS["Regex"], "garde::rules::pattern::regex::PatternRefused", "std::alloc::Global"}
         self.uses.prelude |= {"◌≡◌", "IfOk"} if clauses else set()
         self.uses.words |= {"codes"} if clauses else set()
-        made = statement(Literal(name, tuple((it, Word(local(it))) for it in patterns)), 8, "Ok(", ")")
+        made = statement(literal(name, ((it, Word(local(it))) for it in patterns)), 8, "Ok(", ")")
         return PATTERNS.format(of=item.name, vis=item.vis, name=name, fields=fields, clauses=clauses, lets=lets, made=made)
 
     def asks_patterns(self, name):
         """Whether the port makes a context of compiled patterns for a type of this file."""
         found = [it for it in self.source.items if it.name == name and is_ported(it) and not it.attributes.context]
-        return any(has_pattern(field.attributes.rules) for it in found for variant in it.variants for field in variant.fields)
+        rules = [rule for it in found for field in fields_of(it) for rule in all_rules(field.attributes.rules)]
+        return any(rule.name == "pattern" and rule.text is not None for rule in rules)
 
     def dives_into(self, name, rule):
         """Refuses a part whose context this port makes, where the whole has no such context."""
@@ -400,7 +409,7 @@ class Writer:
             return None if any(it.kind == "type" for it in item.params) or self.asks_patterns(item.name) else "()"
         _, tokens = item.attributes.context
         try:
-            return read_type(Tokens(tokens.tokens, tokens.text, tokens.notes)).name
+            return read_type(tokens.again()).name
         except Refusal:
             return None
 
@@ -416,10 +425,6 @@ class Writer:
             return None
         return next((it.type.name for it in whole.variants[0].fields if it.name == rule.place.value[1] and it.type.kind == "path"), None)
 
-    def closure_name(self, rule):
-        """A name for a closure, after the type and the field, with a number for each further one of the field."""
-        return self.numbered("Rule", rule.source)
-
     def numbered(self, word, source):
         """A name after the type and the field that ends with this word, with a number for each further source of the field."""
         name = f"{self.item.name}{camel(self.spot)}{word}"
@@ -432,11 +437,9 @@ class Writer:
     def own_rule(self, name, rule, kind, unit):
         """A rule of one's own: its type is imported or, with no module for it, written as a beginning."""
         source = rule.source or self.source.functions.get(rule.text, f"fn {rule.text}")
-        context = "" if unit else self.context
+        life, lives, holds = ("", "", "") if unit else ("<'c>", "<'_>", f"({self.item.vis}&'c {self.context})")
         self.skeletons[name] = ("Rule", RULE.format(
-            docs=begun("rule", source), vis=self.item.vis, name=name, kind=kind, bound=lifetimes_of(kind),
-            life="<'c>" if context else "", lives="<'_>" if context else "",
-            holds=f"({self.item.vis}&'c {context})" if context else "",
+            docs=begun("rule", source), vis=self.item.vis, name=name, kind=kind, bound=lifetimes_of(kind), life=life, lives=lives, holds=holds,
         ))
 
     def read_own(self, rule):
@@ -462,19 +465,15 @@ class Writer:
         held += [(it.binding, self.type_text(it.type)) for it in scope.places.values()]
         stated = within_rule(stated, scope.context) if scope.asks_context else stated
         head = f"    ghost finds = {{ λ {'rule' if held else '_'} value."
-        parts = [f"&'c {text}" for _, text in held]
         word, given = rule.asks()
-        said, both = " ".join(["asks_as" if rule.code else "asks", *given, stated, "};"]), " ".join(text for _, text in held)
+        said = " ".join(["asks_as" if rule.code else "asks", *given, stated, "};"])
         told = f"What the function `{rule.text}` asks of a value." if rule.text else f"What a rule of the field `{self.spot}` of `{self.item.name}` asks of its value."
         asked = Method(call(word, *given, condition), "find", tuple(map(Word, ("alloc", "value", "h"))))
         find = f"    fn find<H: I18n>(&self, alloc: Global, value: &{kind}, h: &H) -> Result<(), RuleError> {{"
         text = OWN.format(
-            docs=told, name=name, kind=kind, bound=lifetimes_of(f"{kind} {both}"), asked=statement(asked, 8),
-            life=lifetimes_of(f"'c {both}") if held else "", lives=lifetimes_of(f"'_ {both}") if held else "",
-            holds=f"({', '.join(parts)})" if held else "",
+            docs=told, name=name, kind=kind, asked=statement(asked, 8), **holding(kind, held),
             finds=f"{head} {said}" if len(head) + 1 + len(said) <= WIDTH else f"{head}\n        {said}",
             head=find if len(find) <= WIDTH else FIND.format(kind=kind),
-            taken="".join(f"        let {it} = self.{number};\n" for number, (it, _) in enumerate(held)),
         )
         self.write_once(name, rule.line, text, rule.text)
 
@@ -486,66 +485,43 @@ class Writer:
             raise Refusal(line, f"`{function or name}` of values of two types: write a function for each")
 
     def own_view(self, name, path, kind):
-        docs = f"/// A view to be written, in place of the module `{'::'.join(path)}`: the text of which the rules are asked."
+        docs = f"/// A view to be written, in place of the module `{path}`: the text of which the rules are asked."
         self.skeletons[name] = ("View", VIEW.format(docs=docs, vis=self.item.vis, name=name, kind=kind, bound=lifetimes_of(kind)))
 
-    def hole(self, name):
-        """The form of a type whose reading stands in the module of one's own, with the type itself."""
-        self.skeletons[name] = ("", HOLE.format(name=name, why=self.borrowed.holes[name]))
-        self.skeletons[f"{name}Form"] = ("", "")
-        return f"{name}Form"
-
-    def members_hole(self, name):
-        """The form of the members of a hole among those of another type, which stands in the module of one's own, with the type itself."""
-        self.skeletons[name] = ("", MEMBERS.format(name=name, why=self.borrowed.holes[name]))
-        self.skeletons[f"{name}Members"] = ("", "")
-        return f"{name}Members"
-
-    def skeleton_texts(self):
-        """The functions that are copied, and the beginnings of rules, views and functions."""
-        return [*self.copied.values(), *([] if self.own else [text for _, text in self.skeletons.values()])]
+    def hole(self, name, is_among=False):
+        """The form of a type whose reading stands in the module of one's own, with the type itself; or that of its members, where they stand
+        among those of another type."""
+        form = name + ("Members" if is_among else "Form")
+        self.skeletons[name] = ("", (MEMBERS if is_among else HOLE).format(name=name, why=self.borrowed.holes[name]))
+        self.skeletons[form] = ("", "")
+        return form
 
     # Imports.
 
     def ghost_uses(self):
         """What the statements import."""
         lines, uses = [*self.source.head], self.uses
-        prelude = {f"Rattle.std.specs.Prelude.{{{', '.join(sorted(uses.prelude))}}}"} if uses.prelude else set()
-        cow = {"Rattle.std.specs.Cow.{cow_str_bytes}"} if uses.cow else set()
-        lines += [f"ghost use {it};" for it in (*prelude, *cow, *sorted(uses.paths))]
-        modules = sorted({module for module, _ in uses.stated})
-        lines += [f"ghost use {it}.{{{', '.join(sorted(word for module, word in uses.stated if module == it))}}};" for it in modules]
-        if uses.words:
-            lines.append(f"ghost use Rattle.garde.specs.Fields.{{{', '.join(sorted(uses.words, key=word_order))}}};")
-        lines += [f"ghost use Rattle.garde_schema.specs.Spelling.{{{', '.join(sorted(uses.spelled))}}};"] if uses.spelled else []
-        lines += [f"ghost use Rattle.garde_schema.specs.Unions.{{{', '.join(sorted(uses.unions))}}};"] if uses.unions else []
-        lines += [f"ghost use Rattle.garde_schema.specs.Decimals.{{{', '.join(sorted(uses.decimals))}}};"] if uses.decimals else []
-        lines += [f"ghost use Rattle.garde_schema.specs.Flattened.{{{', '.join(sorted(uses.flattened))}}};"] if uses.flattened else []
-        lines += [f"ghost use Rattle.garde_form.specs.Spelling.{{{', '.join(sorted(uses.written))}}};"] if uses.written else []
+        lines += [ghost_use("std.specs.Prelude", sorted(uses.prelude))] if uses.prelude else []
+        lines += ["ghost use Rattle.std.specs.Cow.{cow_str_bytes};"] if uses.cow else []
+        lines += [f"ghost use {it};" for it in sorted(uses.paths)]
+        stated = {module: {word for it, word in uses.stated if it == module} for module, _ in sorted(uses.stated)}
+        lines += [ghost_use(it, sorted(words)) for it, words in stated.items() if it not in LAST]
+        words = sorted(uses.words, key=lambda it: (not it.startswith("◌"), it.lower(), it))
+        lines += [ghost_use("garde.specs.Fields", words)] if words else []
+        lines += [ghost_use(it, sorted(stated[it])) for it in LAST if it in stated]
         lines += ["ghost use Rattle.garde_schema.specs.declared.either.Either.TheVariants.{Left, Right};"] if uses.sides else []
-        lines += [self.variants_use(it) for it in self.source.items if self.stated_variants(it)]
-        lines += [self.nested_use(it) for it in self.source.items if self.is_nested(it)]
+        for it in filter(self.stated_variants, self.source.items):
+            names = ", ".join(one.name + (f" as {one.word}" if one.stated else "") for one in it.variants)
+            lines.append(f"ghost use {self.declared(it)}.TheVariants.{{{names}}};")
+        # how a value of a type that holds itself is made of its fields
+        nested = filter(self.is_nested, self.source.items)
+        lines += [f"ghost use {self.declared(it)}.{{out-{it.name}, roll-{it.name}, the_lemmas}};" for it in nested]
         return "\n".join(lines)
-
-    def refuse_declared(self):
-        """Refuses the types of which a statement names what the toolchain declares of them."""
-        for item in self.source.items:
-            if self.stated_variants(item) or self.is_nested(item):
-                self.notes.refuse(item.line, f"`{item.name}`, whose statement names its module: say it by `--module CRATE::MODULE`")
 
     def declared(self, item):
         """The path of what the toolchain declares of a type."""
         crate, *modules = self.module.split("::")
         return ".".join(["Rattle", crate, "specs", "declared", *modules, item.name])
-
-    def variants_use(self, item):
-        """What imports the variants of an enum."""
-        names = ", ".join(it.name + (f" as {it.word}" if it.stated else "") for it in item.variants)
-        return f"ghost use {self.declared(item)}.TheVariants.{{{names}}};"
-
-    def nested_use(self, item):
-        """What imports how a value of a type that holds itself is made of its fields."""
-        return f"ghost use {self.declared(item)}.{{out-{item.name}, roll-{item.name}, the_lemmas}};"
 
     def use_lines(self):
         """What the code imports."""
@@ -573,6 +549,10 @@ class Writer:
         return kept
 
 
+def ghost_use(module, words):
+    return f"ghost use Rattle.{module}.{{{', '.join(words)}}};"
+
+
 def begun(what, source):
     """The doc of what is to be written, with how it stands in the Rust source."""
     quoted = ["```text", *source.splitlines(), "```"]
@@ -585,13 +565,9 @@ def local(name):
     return "the_alloc" if name == "alloc" else name
 
 
-def has_pattern(rules):
-    return any(rule.name == "pattern" and rule.text is not None for rule in all_rules(rules))
-
-
 def names_of(item):
     """The names that a type's declaration and its attributes speak of, as the source imports them."""
-    names = {name for variant in item.variants for it in variant.fields for name in first_names(it.type)}
+    names = {name for it in fields_of(item) for name in first_names(it.type)}
     names |= {token.text for token in item.attributes.context[1].tokens} if item.attributes.context else set()
     return names
 
@@ -599,19 +575,3 @@ def names_of(item):
 def first_names(kind):
     """The names that the paths in a type begin with."""
     return set() if isinstance(kind, str) else set(kind.path[:1]).union(*map(first_names, kind.args))
-
-
-def lifetimes_of(kind):
-    """The lifetimes that a type's text names, as parameters."""
-    found = sorted(set(re.findall(r"'\w+", kind)) - {"'static"})
-    return f"<{', '.join(found)}>" if found else ""
-
-
-def free_lifetime(params):
-    """A lifetime for `'a` in the implementation, whose method has an `'a` of its own."""
-    taken = {it.name for it in params}
-    return next(it for it in ("'t", "'u", "'s", "'r") if it not in taken)
-
-
-def word_order(word):
-    return (not word.startswith("◌"), word.lower(), word)
