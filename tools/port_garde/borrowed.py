@@ -9,14 +9,13 @@ from .flattened import always_there, faults as faults_of_flattened, flat_part, h
 from .groups import is_flat, is_rest, others_of, own_rules, shared_rules
 from .holes import BY_IMPL, Hole, Holes, nothing, optional
 from .in_order import faults as faults_of_tuple, is_tuple
-from .parsed import parser_of, value_type, way_out
-from .names import of_variant, others_of_variant
+from .parsed import WAYS, parser_of, place_of
 from .scope import SIGNED, UNSIGNED, is_option, is_path, is_text
 from .quoted import BESIDE_CONTEXT
 from .rules import Attributes
 from .source import Item, Param, Type, all_rules, fields_of, is_ported, named_type, with_fields
 from .tokens import Refusal, meant
-from .unions import Shapes, is_other, is_unit
+from .unions import Shapes, is_other, is_unit, names_of as names_of_variant
 from .values import DECIMAL, KEPT, as_read, canonical, is_any, is_float
 
 LIFE = "'t"
@@ -268,7 +267,7 @@ class Borrowed:
             return named_type("TextRef", kind.line, LIFE)
         parser = parser_of(kind, self.source)
         if parser:
-            return value_type(parser, kind.line)
+            return Type("path", parser.path[-1], kind.line, path=parser.path)
         if is_float(kind) or is_any(kind):
             return as_read(kind, LIFE)
         args = tuple(self.type_of(it) for it in kind.args)
@@ -334,7 +333,7 @@ class Borrowed:
         """The members and the variants whose name is that of one before."""
         rows = [[(it.line, names_of(it, variant, item, self.items)) for it in variant.fields if it.name] for variant in item.variants]
         if item.kind == "enum":
-            rows.append([(it.line, [of_variant(it, item), *others_of_variant(it)]) for it in item.variants])
+            rows.append([(it.line, names_of_variant(it, item)) for it in item.variants])
         for row in rows:
             known = set()
             for line, names in row:
@@ -440,7 +439,7 @@ class Borrowed:
                 if it.name in self.items and asks(self.items[it.name]):
                     yield f"the type `{it.name}` within a tuple, whose rules its form asks: give the tuple a name, as `struct Row(..);`, with `dive` at its fields"
         elif not is_path(kind, *UNSIGNED, *SIGNED, "bool", *self.items) and not is_float(kind) and not is_any(kind) and not parser_of(kind, self.source):
-            way = way_out(kind, self.source)
+            way = WAYS.get(place_of(kind, self.source))
             told = f"the type `{kind.name}`" if kind.kind == "path" else "a tuple, an array or a reference"
             yield f"{told}, which no form of `--schema` reads: {way or READ_BY_HAND}"
 

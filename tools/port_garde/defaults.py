@@ -152,16 +152,12 @@ class Constants:
     def of_type(self, kind):
         """The default of a type."""
         kind = stripped(kind)
-        if is_option(kind):
-            return Value("none", kind)
-        if is_text(kind):
-            return Value("text", kind, "")
-        if is_path(kind, "bool"):
-            return Value("bool", kind, False)
-        if is_path(kind, *UNSIGNED, *SIGNED):
-            return Value("number", kind, 0)
-        if is_path(kind, *COLLECTIONS):
-            return Value("empty", kind)
+        known = (
+            (is_option(kind), "none", None), (is_text(kind), "text", ""), (is_path(kind, "bool"), "bool", False),
+            (is_path(kind, *UNSIGNED, *SIGNED), "number", 0), (is_path(kind, *COLLECTIONS), "empty", None),
+        )
+        for form, value in ((form, value) for is_one, form, value in known if is_one):
+            return Value(form, kind, value)
         if kind.kind == "tuple" and kind.args[1:]:
             return Value("tuple", kind, parts=tuple(map(self.of_type, kind.args)))
         item = self.items.get(kind.name) if kind.kind == "path" else None
@@ -411,18 +407,15 @@ class Reader:
         else:
             found = self.number_of_name(kind)
         while tokens.sees("as") or tokens.sees("."):
-            found = self.cast(found) if tokens.takes("as") else found
-            if tokens.takes("."):
+            if tokens.take().text == ".":
                 self.same()
+                continue
+            name = tokens.name("a type")
+            if name not in (*UNSIGNED, *SIGNED):
+                raise NoConstant(f"`as {name}` is not read")
+            least, most = range_of(name)
+            found = (found - least) % (most - least + 1) + least
         return found
-
-    def cast(self, value):
-        """A number as one of another type."""
-        name = self.tokens.name("a type")
-        if name not in (*UNSIGNED, *SIGNED):
-            raise NoConstant(f"`as {name}` is not read")
-        least, most = range_of(name)
-        return (value - least) % (most - least + 1) + least
 
     def number_of_name(self, kind):
         token = self.tokens.first
@@ -494,10 +487,8 @@ class Defaults:
         """What breaks which rule; or nothing where the value keeps the rule, or only the prover can tell."""
         if rule.name == "custom" and rule.place is not None:
             return f'{self.told(found)} breaks "{rule.message}"' if holds(rule.place, found, self.source.numbers) is False else None
-        if found.form == "some" and rule.name not in ("required", "custom", "inner"):
-            return self.breaks(found.parts[0], rule)
-        if found.form == "some" and rule.name == "inner":
-            return self.broken(found.parts[0], rule.rules)
+        if found.form == "some" and rule.name not in ("required", "custom"):
+            return self.broken(found.parts[0], rule.rules if rule.name == "inner" else [rule])
         if found.form == "none":
             return f"{self.told(found)} breaks `required`" if rule.name == "required" else None
         if rule.name == "dive" and found.form == "made":
@@ -630,11 +621,10 @@ class Making:
     def texts(self, item):
         """The types that make the defaults of a type's members."""
         self.writer.item = item
-        for variant in item.variants:
-            for it in variant.fields:
-                found = self.borrowed.default(it, item)
-                if found is not None and found.form not in ("text", "empty") and not self.is_copied(found.kind):
-                    yield self.text(found, it, variant, item)
+        for it, variant in ((it, variant) for variant in item.variants for it in variant.fields):
+            found = self.borrowed.default(it, item)
+            if found is not None and found.form not in ("text", "empty") and not self.is_copied(found.kind):
+                yield self.text(found, it, variant, item)
 
     def text(self, found, it, variant, item):
         """What makes a value, as a type."""
@@ -653,16 +643,15 @@ class Making:
 
     def code(self, found):
         """A value as code."""
-        if found.form == "number":
-            return Word(str(found.value))
-        if found.form == "bool":
-            return Word(str(found.value).lower())
-        if found.form == "text":
-            return call(f"{self.schema.use('TextRef')}::new", f'"{found.value}"')
-        if found.form == "none":
-            return Word("None")
-        if found.form == "empty":
-            return Method(Word(self.schema.use("Empty", "Makes")), "make", (Word("alloc"),))
+        match found.form:
+            case "number" | "bool":
+                return Word(str(found.value).lower())
+            case "text":
+                return call(f"{self.schema.use('TextRef')}::new", f'"{found.value}"')
+            case "none":
+                return Word("None")
+            case "empty":
+                return Method(Word(self.schema.use("Empty", "Makes")), "make", (Word("alloc"),))
         parts = [self.code(it) for it in found.parts]
         if found.form in ("some", "tuple"):
             return call("Some" if found.form == "some" else "", *parts)
@@ -675,28 +664,27 @@ class Making:
     def stated(self, found):
         """A value as it is stated."""
         uses = self.writer.uses
-        if found.form == "number" and found.kind.name in SIGNED:
-            uses.words.add("minus" if found.value < 0 else "plus")
-            return f"{'minus' if found.value < 0 else 'plus'} {abs(found.value)}"
-        if found.form == "bool":
-            uses.words.add(str(found.value).lower())
-            return str(found.value).lower()
-        if found.form == "text":
-            uses.words.add("codes")
-            return f'codes "{found.value}"'
-        if found.form in ("none", "some", "empty"):
-            word = {"none": "None", "some": "Some", "empty": "[]"}[found.form]
-            uses.prelude.add(word)
-            return " ".join([word, *map(self.bracketed, found.parts)])
-        if found.form == "number":
-            return str(found.value)
-        if found.form == "tuple":
-            return f"({', '.join(map(self.stated, found.parts))})" if found.parts else "tt"
-        return self.of_made(found)
-
-    def of_made(self, found):
+        match found.form:
+            case "number" if found.kind.name in SIGNED:
+                word = "minus" if found.value < 0 else "plus"
+                uses.words.add(word)
+                return f"{word} {abs(found.value)}"
+            case "number":
+                return str(found.value)
+            case "bool":
+                uses.words.add(str(found.value).lower())
+                return str(found.value).lower()
+            case "text":
+                uses.words.add("codes")
+                return f'codes "{found.value}"'
+            case "none" | "some" | "empty":
+                word = {"none": "None", "some": "Some", "empty": "[]"}[found.form]
+                uses.prelude.add(word)
+                return " ".join([word, *map(self.bracketed, found.parts)])
+            case "tuple":
+                return f"({', '.join(map(self.stated, found.parts))})" if found.parts else "tt"
         if found.item.kind == "enum":
-            self.writer.uses.cited.add(found.item.name)
+            uses.cited.add(found.item.name)
             return " ".join([self.variant(found).word, *map(self.bracketed, found.parts)])
         return f"record {{ {'; '.join(f'{name} = {self.stated(part)}' for name, part in self.rows(found))} }}"
 

@@ -59,20 +59,14 @@ def read_serde(tokens):
 def read_option(tokens):
     line, word = tokens.line, tokens.name("an option of serde")
     if tokens.takes("="):
-        text, value = read_quoted(tokens, word)
-        return Said(word, line, f"{word} = {text}", value)
+        token = tokens.take()
+        if token.kind not in ("text", "raw"):
+            raise Refusal(token.line, f"`{word}` of serde with `{token.text}`, where a text in quotes is read")
+        return Said(word, line, f"{word} = {token.text}", re.sub(r'^r?#*"|"#*$', "", token.text))
     if tokens.opens("("):
         inside = tokens.group().items(read_option)
         return Said(word, line, f"{word}({', '.join(it.text for it in inside if it is not None)})")
     return Said(word, line, word)
-
-
-def read_quoted(tokens, word):
-    """Reads a text in quotes: as it is written, and what stands between its quotes."""
-    token = tokens.take()
-    if token.kind not in ("text", "raw"):
-        raise Refusal(token.line, f"`{word}` of serde with `{token.text}`, where a text in quotes is read")
-    return token.text, re.sub(r'^r?#*"|"#*$', "", token.text)
 
 
 def kept_derives(item):
@@ -83,10 +77,6 @@ def kept_derives(item):
 def fields_of(item):
     """The fields of all variants of a type."""
     return [it for variant in item.variants for it in variant.fields]
-
-
-def has_serde(item):
-    return any(name in SERDE for name in item.derives)
 
 
 def serde_lines(groups):
@@ -125,9 +115,14 @@ def reading_case(said):
     return said.value if said.value is not None else split[1] if split else None
 
 
+def all_options(it):
+    """The options of a type, a variant or a field, in their order."""
+    return [said for group in it.serde for said in group]
+
+
 def options(it):
-    """The options of a type, a variant or a field, by their words."""
-    return {said.word: said for group in it.serde for said in group}
+    """The same by their words."""
+    return {said.word: said for said in all_options(it)}
 
 
 class Derives:
@@ -141,8 +136,12 @@ class Derives:
     def faults(self, item):
         """All of a type."""
         yield from self.of_derives(item)
-        yield from self.of_attributes(item)
-        if not has_serde(item):
+        known = (*SILENT, *self.left_out, *(["default"] if any(path[-1] == "Default" for _, path in item.said) else []))
+        for line, name in item.others:
+            if name.split("::")[0] not in known:
+                told = f"the attribute `{name}`, which the port does not know"
+                yield line, f"{told}: take it out, or leave it out by `--leave-out {name.split('::')[0]}`"
+        if not any(name in SERDE for name in item.derives):
             told = f"an attribute of serde at `{item.name}`, which has neither `Serialize` nor `Deserialize` among its derives"
             parts = (item, *item.variants, *fields_of(item))
             yield from ((said.line, told) for part in parts for group in part.serde for said in group[:1])
@@ -157,7 +156,9 @@ class Derives:
     def of_derives(self, item):
         """The derives that are not here, or not of such a type."""
         for line, path in item.said:
-            name, home = path[-1], path[0] if len(path) > 1 else self.home(path[-1])
+            name = path[-1]
+            # the crate of a path, or that from which a name is imported
+            home = path[0] if len(path) > 1 else next((whole[0] for whole, known in self.source.imports if known == name), "")
             known = ("serde", "serde_derive", "crate", "self", "super", "") if name in SERDE else ("std", "core", "")
             if name == "Validate" or (name in (*OWN, *SERDE) and home in known):
                 continue
@@ -166,27 +167,10 @@ class Derives:
         lines = {path[-1]: line for line, path in item.said}
         if "Hash" in lines and "Eq" not in lines:
             yield lines["Hash"], "the derive `Hash` without `Eq`, which it asks for here"
-        if "Default" in lines and item.kind == "struct":
-            yield from self.of_default(item)
-
-    def of_default(self, item):
-        """The fields that have no default value here."""
-        for it in item.variants[0].fields:
+        for it in item.variants[0].fields if "Default" in lines and item.kind == "struct" else ():
             if it.type.kind == "path" and it.type.name in MADE:
                 told = f"`Default` of a field of the type `{it.type.name}`, which is made with an allocator here"
                 yield it.line, f"{told}: take the derive out, and write a function that makes the value"
-
-    def home(self, name):
-        """The crate that a name is imported from, or nothing."""
-        return next((path[0] for path, known in self.source.imports if known == name), "")
-
-    def of_attributes(self, item):
-        """The attributes that the port does not know."""
-        known = (*SILENT, *self.left_out, *(["default"] if any(path[-1] == "Default" for _, path in item.said) else []))
-        for line, name in item.others:
-            if name.split("::")[0] not in known:
-                told = f"the attribute `{name}`, which the port does not know"
-                yield line, f"{told}: take it out, or leave it out by `--leave-out {name.split('::')[0]}`"
 
     def of_options(self, it, place, item):
         """The options that are not read at a place."""
@@ -216,17 +200,12 @@ class Derives:
             yield said["default"].line, "`default` of serde at a type that is no struct with named fields"
         elif "default" in said and said["default"].value is None and "Default" not in item.derives:
             yield said["default"].line, f"`default` of serde at `{item.name}`, which has no `Default` among its derives"
-        if "tag" in said and "content" not in said and item.kind == "enum":
-            yield from self.of_tagged(item)
-        if any(len(it.fields) > 12 for it in variants if it.shape == "tuple"):
-            yield item.line, "serde of a tuple of more than 12 fields"
-
-    def of_tagged(self, item):
-        """The variants of an enum with an inner tag whose values hold no members beside it."""
-        for variant in item.variants:
+        for variant in item.variants if "tag" in said and "content" not in said and item.kind == "enum" else ():
             if variant.shape == "tuple" and len(variant.fields) == 1 and not self.shares(variant.fields[0].type):
                 told = f"the variant `{variant.name}` under `tag` of serde, whose value"
                 yield variant.line, f"{told} is no struct with named fields, or one that refuses unknown members: add `content`"
+        if any(len(it.fields) > 12 for it in variants if it.shape == "tuple"):
+            yield item.line, "serde of a tuple of more than 12 fields"
 
     def shares(self, kind):
         """Whether the members of a value may stand among others: those of a struct, or of an enum with an inner tag."""

@@ -15,15 +15,11 @@ class Group(list):
         self.asked, self.is_rest = tuple(asked), is_rest
 
 
-def places_of(rule):
-    """The places that a rule speaks of."""
-    return [found for it in (rule.place, *rule.bounds.values()) if it is not None for found in places_in(it)]
-
-
 def others_of(rule):
     """The names of the fields that a rule and those within it speak of, beside its own."""
-    found = [it.value[1] for one in all_rules([rule]) for it in places_of(one) if it.value[0] == "self" and len(it.value) > 1]
-    return found + [one.text for one in all_rules([rule]) if one.name == "matches"]
+    rules = all_rules([rule])
+    spoken = [place.value for one in rules for it in (one.place, *one.bounds.values()) if it is not None for place in places_in(it)]
+    return [it[1] for it in spoken if it[0] == "self" and len(it) > 1] + [one.text for one in rules if one.name == "matches"]
 
 
 def own_rules(it):

@@ -5,7 +5,7 @@ import re
 from dataclasses import dataclass, replace
 
 from .defaults import is_skipped
-from .derives import options
+from .derives import all_options, options
 from .rules import Rule
 from .scope import is_option, is_path, is_text
 from .source import Type, named_type, with_variants
@@ -144,11 +144,6 @@ def without(it, *words):
     return replace(it, serde=tuple(tuple(one for one in group if one.word not in words) for group in it.serde))
 
 
-def is_holder(kind):
-    """Whether a form reads values of a type by the form of another one."""
-    return is_option(kind) or is_path(kind, "Vec", "BTreeMap", "HashMap")
-
-
 def name_of(kind):
     """What the hole of a type is called: by the type, and by its arguments."""
     held = [it for it in kind.args if not isinstance(it, str)]
@@ -172,7 +167,7 @@ class Holes:
         if is_skipped(it) and self.has_hole(it):
             self.notes.holes.append(Hole(it.line, f"{it.name}: it is not read, and its type is not known: it is `()`; fill it in by your code"))
             return [nothing(it)]
-        names = [one for group in it.serde for one in group if one.word == "alias"]
+        names = [one for one in all_options(it) if one.word == "alias"]
         if not names or not it.name or "flatten" in options(it):
             return [self.of_field(it, item)]
         others = [f"{it.name}_{at}" for at in range(2, len(names) + 2)]
@@ -215,7 +210,9 @@ class Holes:
         """A type with holes for what in it no form reads, at a field of this name."""
         if isinstance(kind, str) or is_text(kind) or kind.kind not in ("path", "slice", "array", "tuple", "ref"):
             return kind
-        if kind.kind == "path" and self.reads(kind) and not is_holder(kind):
+        # a form reads values of these by the form of another type
+        is_holder = is_option(kind) or is_path(kind, "Vec", "BTreeMap", "HashMap")
+        if kind.kind == "path" and self.reads(kind) and not is_holder:
             return kind
         if kind.kind != "path" or self.reads(kind) or PRIMITIVE.fullmatch(kind.name.rpartition("::")[2]):
             return replace(kind, args=tuple(self.of_type(it, place) for it in kind.args))

@@ -58,12 +58,9 @@ class Implementation:
 
     def is_dived(self, param):
         """Whether a field dives into a parameter whose context its bounds leave open."""
-        return param.kind == "type" and param.bounds in ("", "Validate") and self.dives(param.name)
-
-    def dives(self, name):
-        """Whether a field dives into a parameter."""
-        fields = [it for it in fields_of(self.item) if name in type_names(it.type)]
-        return any(rule.name == "dive" for it in fields for rule in all_rules(it.attributes.rules))
+        fields = [it for it in fields_of(self.item) if param.name in type_names(it.type)]
+        is_open = param.kind == "type" and param.bounds in ("", "Validate")
+        return is_open and any(rule.name == "dive" for it in fields for rule in all_rules(it.attributes.rules))
 
     def text(self, is_walked=True):
         """The whole implementations."""

@@ -1,4 +1,5 @@
 """The JSON Schema (draft 2020-12) of a source's type: it accepts what the form of `--schema` reads, but for what a `$comment` names."""
+import operator
 import re
 from fractions import Fraction
 
@@ -7,6 +8,7 @@ from .defaults import in_json, is_skipped
 from .derives import options, type_names
 from . import in_order
 from .everyday import UNKNOWN
+from .forms import beside_dive, items_rules
 from .front import OF_CODE
 from .flattened import fields_among, flat_part, held_part, is_closed, own_part
 from .groups import is_flat, is_rest, own_rules, shared_rules
@@ -24,7 +26,10 @@ COUNTED = {"bytes": "bytes in UTF-8", "simple": "bytes in UTF-8", "graphemes": "
 # The end of a text, in every dialect of patterns.
 END = r"(?![\s\S])"
 TURNED = {"<": ">", "<=": ">=", ">": "<", ">=": "<=", "==": "==", "!=": "!="}
-COMPARED = {"<": "exclusiveMaximum", "<=": "maximum", ">": "exclusiveMinimum", ">=": "minimum"}
+COMPARED = {
+    "<": ("exclusiveMaximum", operator.lt), "<=": ("maximum", operator.le), ">": ("exclusiveMinimum", operator.gt),
+    ">=": ("minimum", operator.ge),
+}
 KINDS = {"Text": "string", "Number": "number", "Boolean": "boolean", "Null": "null", "List": "array", "Object": "object"}
 NEVER = {"not": {}}
 NO_NULL = {"not": {"type": "null"}}
@@ -64,6 +69,12 @@ def kept_docs(docs):
     return {"description": text} if text else {}
 
 
+def bounds_of(low, high, word=""):
+    """The least and the greatest number, or length, where they are known."""
+    ends = (("min", low), ("max", high))
+    return {f"{end}{word or 'imum'}": it for end, it in ends if it is not None}
+
+
 class JsonSchema:
     """The schemas of the types of a source that a form reads."""
 
@@ -100,15 +111,10 @@ class JsonSchema:
 
     def of_type(self, item):
         if is_named(item):
-            return {**kept_docs(item.docs), **self.under_tag(self.names_in(item.variants, item), item)}
-        if item.kind == "enum":
-            return {**kept_docs(item.docs), **self.of_enum(item)}
-        variant = item.variants[0]
-        if in_order.is_list(variant) or variant.shape == "unit":
-            return {**kept_docs(item.docs), **self.listed(variant)}
-        if variant.shape != "named" or "transparent" in options(item):
-            return {**kept_docs(item.docs), **self.value(variant.fields[0].type, variant.fields[0].attributes.rules)}
-        return {**kept_docs(item.docs), **self.object(variant, item)}
+            schema = self.under_tag(self.names_in(item.variants, item), item)
+        else:
+            schema = self.of_enum(item) if item.kind == "enum" else self.inside(item.variants[0], item)
+        return {**kept_docs(item.docs), **schema}
 
     def names_in(self, variants, item):
         """A text that is a name of some variants, or any, where one of them stands for every other name."""
@@ -141,12 +147,14 @@ class JsonSchema:
         return {"oneOf": variants}
 
     def inside(self, variant, item):
-        """What a variant holds, which has no name there."""
+        """What a struct or a variant holds, which has no name there."""
         if is_unit(variant):
             return {"type": "null"}
         if in_order.is_list(variant):
-            return self.listed(variant)
-        return self.object(variant, item) if variant.shape == "named" else self.value(variant.fields[0].type, own_rules(variant.fields[0]))
+            return in_order.schema_of([self.value(it.type, it.attributes.rules) for it in variant.fields])
+        if variant.shape == "named" and not (item.kind == "struct" and "transparent" in options(item)):
+            return self.object(variant, item)
+        return self.value(variant.fields[0].type, variant.fields[0].attributes.rules)
 
     def by_name(self, variant, item):
         """A tag that chooses a variant."""
@@ -180,12 +188,6 @@ class JsonSchema:
             return {"not": self.test(parts[0])}
         return {"anyOf" if word == "any" else "allOf": [self.test(it) for it in parts]}
 
-    def listed(self, variant):
-        """A list of the fields of a variant, or `null`."""
-        if variant.shape == "unit":
-            return {"type": "null"}
-        return in_order.schema_of([self.value(it.type, it.attributes.rules) for it in variant.fields])
-
     def closed(self, schema, is_closed):
         return {**schema, "additionalProperties": False} if is_closed else schema
 
@@ -210,8 +212,7 @@ class JsonSchema:
         """The schema of the members that a field stands for, or of all other members."""
         rules = own_rules(it)
         if is_rest(it):
-            inside = [found for one in rules for found in (one.rules if one.name == "inner" else [one])]
-            return {"additionalProperties": self.value(it.type.args[1], inside)}
+            return {"additionalProperties": self.value(it.type.args[1], items_rules(rules))}
         part = flat_part(it, self.items)
         if part is None:
             return {"$comment": f"the members of the type `{own_part(it, self.items).name}` are among them"}
@@ -251,26 +252,21 @@ class JsonSchema:
             return joined([whole, *asked])
         if in_order.is_tuple(kind):
             whole = in_order.schema_of([self.value(it, ()) for it in kind.args]) if kind.args else {"type": "null"}
-            return joined([whole, *self.said(kind, rules)])
-        if is_path(kind, "Vec") or is_map(kind):
-            inside = [found for it in rules if it.name in ("inner", "dive") for found in (it.rules if it.name == "inner" else [it])]
-            whole = {"type": "array", "items": self.value(kind.args[0], inside)} if kind.name == "Vec" else {"type": "object", "additionalProperties": self.value(kind.args[1], inside)}
-            return joined([whole, *self.said(kind, [it for it in rules if it.name not in ("inner", "dive")])])
-        if kind.name in self.items:
-            place = "#" if kind.name == self.root else f"#/$defs/{kind.name}"
-            return joined([{"$ref": place}, *self.said(kind, [it for it in rules if it.name != "dive"])])
-        if is_text(kind):
-            return joined([{"type": "string"}, *self.said(kind, rules)])
-        parser = parser_of(kind, self.source)
-        if parser:
-            return joined([parser.schema, *self.said(kind, rules)])
-        if is_float(kind):
-            return joined([{"type": "number"}, *self.said(kind, rules)])
-        if is_any(kind):
-            return joined([{}, *self.said(kind, rules)])
-        if is_path(kind, "bool"):
-            return joined([{"type": "boolean"}, *self.said(kind, rules)])
-        return joined([{"type": "integer", **self.bounds(kind, rules)}, *self.said(kind, [it for it in rules if it.name != "range"])])
+        elif is_path(kind, "Vec") or is_map(kind):
+            inside, rules = items_rules(rules), [it for it in rules if it.name not in ("inner", "dive")]
+            is_list, held = kind.name == "Vec", self.value(kind.args[-1], inside)
+            whole = {"type": "array", "items": held} if is_list else {"type": "object", "additionalProperties": held}
+        elif kind.name in self.items:
+            whole, rules = {"$ref": "#" if kind.name == self.root else f"#/$defs/{kind.name}"}, beside_dive(rules)
+        elif is_text(kind):
+            whole = {"type": "string"}
+        elif parser := parser_of(kind, self.source):
+            whole = parser.schema
+        elif is_float(kind) or is_any(kind) or is_path(kind, "bool"):
+            whole = {} if is_any(kind) else {"type": "number" if is_float(kind) else "boolean"}
+        else:
+            whole, rules = {"type": "integer", **self.bounds(kind, rules)}, [it for it in rules if it.name != "range"]
+        return joined([whole, *self.said(kind, rules)])
 
     def bounds(self, kind, rules):
         """The least and the greatest number that a type and its rules allow, and what is not said of them."""
@@ -298,11 +294,11 @@ class JsonSchema:
     def said(self, kind, rules):
         """What rules ask of a value, a schema each; what none says is a comment."""
         is_ascii = any(it.name == "ascii" for it in rules)
-        return [self.tried(lambda it=it: self.rule(kind, it, is_ascii)) for it in rules]
+        return [self.tried(kind, it, is_ascii) for it in rules]
 
-    def tried(self, make):
+    def tried(self, kind, rule, is_ascii):
         try:
-            return make()
+            return self.rule(kind, rule, is_ascii)
         except Unsaid as unsaid:
             return {"$comment": str(unsaid)}
 
@@ -318,8 +314,7 @@ class JsonSchema:
         if rule.name == "length":
             return self.length(kind, rule, is_ascii)
         if rule.name == "range":
-            low, high = self.ends(rule)
-            return {**({} if low is None else {"minimum": low}), **({} if high is None else {"maximum": high})}
+            return bounds_of(*self.ends(rule))
         if rule.name == "multiple_of":
             return {"multipleOf": self.number(rule.bounds["equal"])}
         if rule.name == "unique":
@@ -358,7 +353,7 @@ class JsonSchema:
             ends = [f"{word} {end}" for word, end in (("at least", low), ("at most", high)) if end is not None]
             raise Unsaid(f"{' and '.join(ends)} {COUNTED[rule.mode]}")
         word = "Length" if is_text(kind) else "Items" if kind.name == "Vec" else "Properties"
-        return {**({} if low is None else {f"min{word}": low}), **({} if high is None else {f"max{word}": high})}
+        return bounds_of(low, high, word)
 
     # Rules that speak of other fields.
 
@@ -398,7 +393,8 @@ class JsonSchema:
         if it.kind == "call" and is_skipped(self.field(it.parts[0], variant)):
             raise Unsaid(f"a condition on `{it.parts[0].value[-1]}`, which is not read")
         if it.kind == "call":
-            some = {"properties": {self.name(it.parts[0], variant, item): NO_NULL}, "required": [self.name(it.parts[0], variant, item)]}
+            name = of_field(self.field(it.parts[0], variant), variant, item)
+            some = {"properties": {name: NO_NULL}, "required": [name]}
             return some if it.value == "is_some" else {"not": some}
         if it.kind == "matches":
             names = self.variants(it.parts[0], it.value, variant)
@@ -434,11 +430,9 @@ class JsonSchema:
         if known.kind == "path":
             names = self.variants(place, [known.value], variant)
             found = self.where(place, {"enum": names}, lambda default: default in names, variant, item)
-        elif mark in COMPARED:
-            compare = {"<": int.__lt__, "<=": int.__le__, ">": int.__gt__, ">=": int.__ge__}[mark]
-            found = self.where(place, {COMPARED[mark]: known.value}, lambda default: compare(default, known.value), variant, item)
         else:
-            found = self.where(place, {"const": known.value}, lambda default: default == known.value, variant, item)
+            word, compare = COMPARED.get(mark, ("const", operator.eq))
+            found = self.where(place, {word: known.value}, lambda default: compare(default, known.value), variant, item)
         return {"not": found} if mark == "!=" else found
 
     def where(self, place, schema, holds, variant, item):
@@ -455,6 +449,3 @@ class JsonSchema:
         if found is None:
             raise Unsaid(f"a condition on `{'.'.join(place.value)}`")
         return found
-
-    def name(self, place, variant, item):
-        return of_field(self.field(place, variant), variant, item)

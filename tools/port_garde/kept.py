@@ -24,12 +24,6 @@ def headed(text, source, crate, mark="//"):
     return HEAD.format(mark=mark, name=source.name, sum=sum_of(body, name_of(crate))).encode("utf-8") + b"\n" + body
 
 
-def is_as_written(file, crate):
-    """Whether a file is as the command wrote it, by the sum in its first line."""
-    head = WRITTEN.match(file)
-    return bool(head) and sum_of(file[head.end() :], name_of(crate)).encode() == head[2]
-
-
 def name_of(crate):
     return crate.resolve().name
 
@@ -57,10 +51,6 @@ def names_of(crate, source):
     """The names of the module that a source gives, from the root of its crate on. `shop/mod.garde.rs` gives `shop`, as `shop.garde.rs`."""
     names = (source.parent / source.name[: -len(END)]).relative_to(crate / "src").parts
     return names[:-1] if names[-1] == "mod" and names[1:] else names
-
-
-def module_of(crate, source):
-    return "::".join([name_of(crate), *names_of(crate, source)])
 
 
 def output_of(source):
@@ -91,8 +81,7 @@ def first_difference(file, given):
 
 
 def quoted(lines, at):
-    text = lines[at].decode("utf-8", "backslashreplace") if at < len(lines) else ""
-    return f"`{shown(text)}`" if at < len(lines) else "the end of the file"
+    return f"`{shown(lines[at].decode('utf-8', 'backslashreplace'))}`" if at < len(lines) else "the end of the file"
 
 
 def fault_of_check(output, source, given, crate):
@@ -109,10 +98,12 @@ def fault_of_check(output, source, given, crate):
 def fault_of_write(output, source, given, crate):
     """Why an output may not be written, or nothing: what was written or edited by hand is kept."""
     file = old(output)
-    if file in (None, given) or is_as_written(file, crate):
+    head = WRITTEN.match(file or b"")
+    is_as_written = head and sum_of(file[head.end() :], name_of(crate)).encode() == head[2]
+    if file in (None, given) or is_as_written:
         return None
     line, here, there = first_difference(file, given)
-    how = "edited" if WRITTEN.match(file) else "written"
+    how = "edited" if head else "written"
     told = f"this file was {how} by hand: here stands {here}, and {source.name} gives {there}"
     return f"{shown(output)}:{line}: {told}. Move the edit to {source.name} or another module, or drop it by `--force`"
 

@@ -27,6 +27,7 @@ impl{life} FromNested for {made} {{
 
     ghost kept = {{ λ _ _. Prim.search (rules, the_lemmas) }};
 }}"""
+KEPT = "    ghost kept = { λ _. refl };"
 MAKER = """/// A value of the type `{name}` is made of what its form reads.
 impl{life} FromParts for {made} {{
 {parts}
@@ -98,12 +99,6 @@ def ghost_tuple(name, head, parts):
     return f"{first}\n        {rest}" if 8 + len(rest) <= WIDTH else "\n".join([f"{first} (", *rows, "    ) };"])
 
 
-def lined(name, text):
-    """A ghost member, whose text stands on the next line where it does not fit."""
-    line = f"    ghost {name} = {{ {text} }};"
-    return line if len(line) <= WIDTH else f"    ghost {name} = {{\n        {text} }};"
-
-
 def tuple_rows(parts, indent):
     """The lines of the parts of a tuple."""
     rows = []
@@ -129,10 +124,7 @@ class Makers:
         self.schema, self.writer = schema, schema.writer
 
     def type_name(self, item):
-        return item.name + self.life(item)
-
-    def life(self, item):
-        return "<'t>" if item.params else ""
+        return f"{item.name}<'t>" if item.params else item.name
 
     def value(self, item):
         """What names the type for `Built`."""
@@ -147,13 +139,9 @@ class Makers:
             return self.nested(item)
         self.schema.use("FromParts")
         self.writer.uses.prelude.add("refl")
-        halves = self.of_enum(item) if item.kind == "enum" else self.of_struct(item)
-        parts, builds, parts_of, kept, body = halves
-        written = statement(parts, 4, "type Parts = ", ";")
-        return MAKER.format(
-            name=item.name, life=self.life(item), parts=written, made=self.type_name(item), builds=builds, parts_of=parts_of,
-            kept=kept, body=body,
-        )
+        types, made = self.of_enum(item) if item.kind == "enum" else self.of_struct(item)
+        head = {"name": item.name, "life": "<'t>" if item.params else "", "made": self.type_name(item)}
+        return MAKER.format(**{"kept": KEPT, **made}, **head, parts=statement(types, 4, "type Parts = ", ";"))
 
     def nested(self, item):
         """How a value of a type that holds itself is made."""
@@ -171,7 +159,7 @@ class Makers:
         made = ((it.name, Word("below" if it.name == held and held != "below" else it.name)) for it in variant.fields)
         given = tuple_text(self.tree(own, [f"(out-{item.name} v).{it}" for it in names]))
         return NESTED.format(
-            name=item.name, life=self.life(item), made=self.type_name(item), own=statement(self.types(own), 4, "type Own = ", ";"),
+            name=item.name, life="<'t>" if item.params else "", made=self.type_name(item), own=statement(self.types(own), 4, "type Own = ", ";"),
             rows=rows("own", "below"), parts=f"({given}, (out-{item.name} v).{held})", clauses=rows("own.entry", "below.entry"),
             body="\n".join([*taken, statement(literal(item.name, made), 8)]),
         )
@@ -188,25 +176,22 @@ class Makers:
         variant = item.variants[0]
         if not variant.fields:
             made = {"unit": item.name, "named": f"{item.name} {{}}", "tuple": f"{item.name}()"}[variant.shape]
-            return Word("()"), "    ghost builds = { λ _. record {} };", "    ghost parts_of = { λ _. tt };", "    ghost kept = { λ _. refl };", f"        {made}"
+            builds, parts_of = "    ghost builds = { λ _. record {} };", "    ghost parts_of = { λ _. tt };"
+            return Word("()"), {"builds": builds, "parts_of": parts_of, "body": f"        {made}"}
         names = [it.name or str(at) for at, it in enumerate(variant.fields)]
         rows = [f"{name} = {place}" for name, place in zip(names, places(self.tree(variant, names), "parts"))]
         builds = ghost("builds", "λ parts. record", "{ " + "; ".join(rows) + " }", [f"{it};" for it in rows])
         parts_of = ghost_tuple("parts_of", "λ v.", self.tree(variant, [f"v.{it}" for it in names]))
-        return self.types(variant), builds, parts_of, "    ghost kept = { λ _. refl };", self.body(item, variant)
+        return self.types(variant), {"builds": builds, "parts_of": parts_of, "body": self.body(item, variant)}
 
     def body(self, item, variant):
         """What a struct is made by."""
-        names = [it.name for it in variant.fields]
-        if variant.shape != "named" and len(names) == 1:
-            return f"        {item.name}(parts)"
-        if variant.shape != "named":
-            names = names_in_code(variant.fields)
-            return statement(wide(tuple_of(self.tree(variant, names))), 8, "let ", " = parts;") + "\n" + statement(call(item.name, *names), 8)
+        names, is_named = names_in_code(variant.fields), variant.shape == "named"
         if len(names) == 1:
-            return statement(literal(item.name, [(names[0], Word("parts"))]), 8)
-        taken = taking(wide(tuple_of(self.tree(variant, names))), 8)
-        return taken + "\n" + statement(literal(item.name, ((it, Word(it)) for it in names)), 8)
+            return statement(literal(item.name, [(names[0], Word("parts"))]), 8) if is_named else f"        {item.name}(parts)"
+        pattern = wide(tuple_of(self.tree(variant, names)))
+        taken = taking(pattern, 8) if is_named else statement(pattern, 8, "let ", " = parts;")
+        return taken + "\n" + statement(self.made(item.name, variant, names), 8)
 
     def of_enum(self, item):
         """The same of an enum, by cases."""
@@ -215,9 +200,9 @@ class Makers:
         if len(item.variants) > 1:
             self.schema.use("Either")
             self.writer.uses.sides = True
-        types, variants = self.of_tree(tree, {it.name: it for it in item.variants}), item.variants
+        types = self.of_tree(tree, {it.name: it for it in item.variants})
         builds, parts_of, kept, arms = [], [], [], []
-        for it in variants:
+        for it in item.variants:
             path, names = sides[it.name], names_in_code(it.fields)
             values = places(self.tree(it, names), "parts") if names else []
             builds.append(f"{along(path, 'parts' if names else '_')} ↦ {' '.join([it.word, *values])}")
@@ -225,18 +210,20 @@ class Makers:
             parts_of.append(f"{' '.join([it.word, *names])} ↦ {along(path, given)}")
             kept.append(f"{along(path, '_')} ↦ refl")
             arms.append(self.arm(item, it, path, names))
-        if len(variants) == 1:
-            return self.of_one(item, types, builds[0], ghost_cases("parts_of", parts_of))
-        cases = [ghost_cases("builds", builds), ghost_cases("parts_of", parts_of), ghost_cases("kept", kept)]
-        return (types, *cases, "\n".join(["        match parts {", *arms, "        }"]))
+        made = {"builds": ghost_cases("builds", builds), "parts_of": ghost_cases("parts_of", parts_of)}
+        if len(item.variants) == 1:
+            return types, {**made, **self.of_one(item, builds[0])}
+        return types, {**made, "kept": ghost_cases("kept", kept), "body": "\n".join(["        match parts {", *arms, "        }"])}
 
-    def of_one(self, item, types, builds, parts_of):
-        """The same of an enum of one variant, whose value the form has as it is."""
+    def of_one(self, item, builds):
+        """What is other of an enum of one variant, whose value the form has as it is."""
         variant, made = item.variants[0], builds.replace(" ↦ ", ". ", 1)
         names = names_in_code(variant.fields)
-        taken = [statement(wide(tuple_of(self.tree(variant, names))), 8, "let ", " = parts;")] if names else ["        let () = parts;"]
-        body = "\n".join([*taken, statement(self.made(item, variant, names), 8)])
-        return types, lined("builds", f"λ {made}"), parts_of, "    ghost kept = { λ _. refl };", body
+        pattern = wide(tuple_of(self.tree(variant, names))) if names else Word("()")
+        value = self.made(f"{item.name}::{variant.name}", variant, names)
+        body = statement(pattern, 8, "let ", " = parts;") + "\n" + statement(value, 8)
+        line = f"    ghost builds = {{ λ {made} }};"
+        return {"builds": line if len(line) <= WIDTH else f"    ghost builds = {{\n        λ {made} }};", "body": body}
 
     def of_tree(self, tree, variants):
         """The type of the parts of an enum."""
@@ -244,18 +231,17 @@ class Makers:
             return self.types(variants[tree.name])
         return angles("Either", (self.of_tree(it, variants) for it in tree))
 
-    def made(self, item, variant, names):
-        """A variant, made of the names of its parts."""
-        path = f"{item.name}::{variant.name}"
+    def made(self, head, variant, names):
+        """A struct or a variant, made of the names of its parts."""
         if variant.shape == "named":
-            return literal(path, ((it, Word(it)) for it in names))
-        return call(path, *names) if names else Word(path)
+            return literal(head, ((it, Word(it)) for it in names))
+        return call(head, *names) if names else Word(head)
 
     def arm(self, item, variant, path, names):
         """The arm that makes a variant. The borrow checker takes no parts of parts out of a variant, so such are bound in the arm."""
         tree = self.tree(variant, names) if names else []
         taken = wide(tuple_of(tree)) if names else Word("()")
-        made = self.made(item, variant, names)
+        made = self.made(f"{item.name}::{variant.name}", variant, names)
         if any(isinstance(it, list) for it in tree):
             head = statement(side_pattern(path, Word("parts")), 12, "", " => {")
             return "\n".join([head, taking(taken, 16), statement(made, 16), "            }"])

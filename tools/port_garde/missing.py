@@ -82,7 +82,8 @@ def left_out(crate, output, text):
     found += [f"{name}.specs.{file}" for name, file in STATED.findall(text) if name in cut and not (cut[name] / f"specs/{file}.antt").is_file()]
     if cut and not found:
         there = {size for folder in cut.values() for file in folder.glob("src/**/*.rt") for size in map(parts_of, OF_TUPLE.findall(code_of(file)))}
-        found = [f"tuples of {it}" for it in sorted(sizes_in(text) - there) if 2 < it < 7]
+        named = {parts_of(text[slice(*closed(text, it.end() - 1))]) for it in OPENING.finditer(text)}
+        found = [f"tuples of {it}" for it in sorted(named - there) if 2 < it < 7]
     if found:
         yield f"{shown(output)}: your copy of garde lacks {', '.join(dict.fromkeys(found))}: call `tools/vendor FOLDER` in the clone of garde again, which adds what your crates need now"
 
@@ -110,12 +111,6 @@ def lacking(cut, path, names):
         return []
     every = "".join(map(code_of, folder.glob("src/**/*.rt")))
     return [it for it in names if not re.search(rf"\b{it}\b", code) and f"macro_rules! {it} " not in every]
-
-
-def sizes_in(text):
-    """How many parts the tuples of a module's code have."""
-    ends = (closed(text, it.end() - 1) for it in OPENING.finditer(text))
-    return {parts_of(text[start:end]) for start, end in ends}
 
 
 def closed(text, start):

@@ -1,7 +1,7 @@
 """The names that serde gives to fields and variants in JSON."""
 import re
 
-from .derives import options, reading_case
+from .derives import all_options, options, reading_case
 
 
 def words_joined(name, mark):
@@ -55,4 +55,4 @@ def of_variant(variant, item):
 
 def others_of_variant(variant):
     """The further names under which a variant is read."""
-    return [said.value for group in variant.serde for said in group if said.word == "alias"]
+    return [said.value for said in all_options(variant) if said.word == "alias"]

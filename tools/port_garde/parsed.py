@@ -91,27 +91,14 @@ def place_of(kind, source):
     """The crate and the name of a type that no item of the file declares."""
     if not isinstance(kind, Type) or kind.kind != "path" or any(it.name == kind.name for it in source.items):
         return None
-    return crate_of(kind, source), original(kind, source)
-
-
-def original(kind, source):
-    """The name of a type in its crate: an import may give it another one."""
-    return next((path[-1] for path, name in source.imports if len(kind.path) == 1 and name == kind.name and name != "*"), kind.name)
+    # an import may give it another name than it has in its crate
+    names = (path[-1] for path, name in source.imports if len(kind.path) == 1 and name == kind.name and name != "*")
+    return crate_of(kind, source), next(names, kind.name)
 
 
 def parser_of(kind, source):
     """The parser that reads a type, or nothing."""
     return KNOWN.get(place_of(kind, source))
-
-
-def way_out(kind, source):
-    """What to write in place of a type that no parser reads, or nothing."""
-    return WAYS.get(place_of(kind, source))
-
-
-def value_type(parser, line):
-    """The type of a parser's values."""
-    return Type("path", parser.path[-1], line, path=parser.path)
 
 
 def with_moments(it):

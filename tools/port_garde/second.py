@@ -4,7 +4,7 @@ import re
 from collections import Counter
 from fractions import Fraction
 
-from .derives import options
+from .derives import all_options, options
 from .source import fields_of
 from .tokens import end_of_block_comment
 
@@ -102,7 +102,7 @@ def unnamed(item):
     that are not read, and fields of several names."""
     parts = [it for it in item.variants if "untagged" in options(item)]
     parts += [it for it in fields_of(item) if {"skip", "skip_deserializing"} & set(options(it)) or {"alias", "flatten"} <= set(options(it)) or "transparent" in options(item)]
-    return {name for part in parts for group in part.serde for said in group for name in re.findall(r'"([^"]*)"', said.text)}
+    return {name for part in parts for said in all_options(part) for name in re.findall(r'"([^"]*)"', said.text)}
 
 
 def attributes_of(text, item):

@@ -68,10 +68,9 @@ def paths_of(tree, path=""):
 
 def along(path, inside):
     """What stands at the end of a path, as it is stated."""
-    text = inside
     for it in reversed(path):
-        text = f"{SIDES[it]} {f'({text})' if ' ' in text and text[0] != '(' else text}"
-    return text
+        inside = f"{SIDES[it]} {f'({inside})' if ' ' in inside and inside[0] != '(' else inside}"
+    return inside
 
 
 # What values a type has.
@@ -235,7 +234,7 @@ def told_apart(shape, others, is_strict=False):
     tests, total = [], set() if is_strict else shape.total
     numbers = [it for it in NUMBERS if it in shape.kinds]
     if numbers:
-        tests.append(number_test(numbers))
+        tests.append(("unsigned",) if numbers == ["unsigned"] else ("whole",) if "fraction" not in numbers else ("kind", "Number"))
         covered = set({"unsigned": ("unsigned",), "whole": WHOLE}.get(tests[0][0], NUMBERS))
         if any(covered & it.kinds and not covered & it.kinds <= total and set(NUMBERS) & it.kinds <= covered for it in others):
             return None
@@ -246,12 +245,6 @@ def told_apart(shape, others, is_strict=False):
             return None
         tests.append(test)
     return chained("any", tests)
-
-
-def number_test(numbers):
-    if numbers == ["unsigned"]:
-        return ("unsigned",)
-    return ("whole",) if "fraction" not in numbers else ("kind", "Number")
 
 
 def chained(word, tests):

@@ -1,11 +1,11 @@
 """What a rule becomes: a value of `garde::fields` in the code, and a word of `garde.specs.Fields` in `visits`."""
 from dataclasses import replace
 
+from .conditions import Conditions, same_by
 from .expressions import CONTEXT, places_in
 from .layout import Lent, Word, call, literal
-from .over_lists import same_by
 from .rules import OURS, PLAIN, REPEATED, TEXTS
-from .scope import SIGNED, UNSIGNED, Conditions, Place, Scope, Seen, is_option, is_path, is_text, range_of as whole_range
+from .scope import SIGNED, UNSIGNED, Place, Scope, Seen, is_option, is_path, is_text, range_of as whole_range
 from .source import Type, named_type, type_names
 from .tokens import Refusal
 from .values import DECIMAL, KEPT, is_decimal, is_made, multiple_of, range_of

@@ -1,0 +1,478 @@
+"""The conditions of `if` and of rules of one's own, as code and as they are stated. What a closure asks of the items of a list is written as
+a type, and so is the key by which `unique_by` compares them."""
+import re
+
+from .expressions import ADDRESSES, CONTEXT, ITEM, VALUE, Expression, places_in, with_item
+from .layout import WIDTH, Chain, Word, holding, lifetimes_of, statement
+from .scope import SIGNED, UNSIGNED, Place, Scope, is_option, is_path, is_text, spoken
+from .tokens import Refusal
+
+IS_ADDRESS = """/// Whether a text is an address.
+fn is_address(text: &str) -> bool
+    ensures { result ≡ is_ipv4 text.now || is_ipv6 text.now }
+{
+    is_ipv4(text) || is_ipv6(text)
+}"""
+# What stands behind the name of a variant in a pattern that looks at nothing in it.
+SHAPES = {"unit": "", "tuple": "(..)", "named": " { .. }"}
+COMPARISONS = {
+    "==": "nat_eq {0} {1}", "!=": "not (nat_eq {0} {1})", "<": "nat_lt {0} {1}", "<=": "nat_le {0} {1}",
+    ">": "nat_lt {1} {0}", ">=": "nat_le {1} {0}",
+}
+SIGNED_COMPARISONS = {
+    "==": "int_eq {0} {1}", "!=": "not (int_eq {0} {1})", "<": "int_lt {0} {1}", "<=": "not (int_lt {1} {0})",
+    ">": "int_lt {1} {0}", ">=": "not (int_lt {0} {1})",
+}
+
+# The types of the toolchain that are compared by their order, and the word that states each comparison.
+ORDERED = (("jiff", "civil", "Date"), ("jiff", "civil", "Time"), ("jiff", "civil", "DateTime"), ("jiff", "Timestamp"))
+ORDERS = {"<": "partial_lt", "<=": "partial_le", ">": "partial_gt", ">=": "partial_ge"}
+QUESTION = """/// What is asked of items in the field `{spot}` of `{item}`.
+#[derive(Clone, Copy)]
+struct {name}{life}{holds};
+
+impl{bound} Question<{kind}> for {name}{lives} {{
+{stated}
+
+    fn holds(&self, {binding}: &{kind}) -> bool {{
+{taken}{condition}
+    }}
+}}"""
+
+SAME = """/// Which items in the field `{spot}` of `{item}` are the same.
+#[derive(Clone, Copy)]
+struct {name};
+
+impl{bound} Same<{kind}> for {name} {{
+{stated}
+
+{head}
+{condition}
+    }}
+}}"""
+SAME_HEADS = (
+    "    fn are_same(&self, one: &{kind}, other: &{kind}) -> bool {{",
+    "    fn are_same(\n        &self,\n        one: &{kind},\n        other: &{kind},\n    ) -> bool {{",
+)
+
+
+class Conditions:
+    """The conditions of `if`, as code and as they are stated."""
+
+    def __init__(self, scope, uses, writer):
+        self.scope, self.uses, self.writer = scope, uses, writer
+
+    def of(self, it):
+        """A condition that stands in a place where it needs brackets if it has parts."""
+        readers = {
+            "bool": self.truth, "place": self.flag, "not": self.negation, "call": self.method, "and": self.both, "or": self.both,
+            "matches": self.variants, "contains": self.contains, "address": self.address, "all": self.over_items, "any": self.over_items,
+        }
+        if it.kind in readers:
+            return readers[it.kind](it)
+        if it.kind in ("==", "!=") and it.parts[1].kind in ("path", "text") and it.parts[0].kind == "place":
+            return self.equality(it)
+        if it.kind == "number":
+            raise Refusal(it.line, "a condition that is a number")
+        return self.comparison(it)
+
+    def whole(self, it):
+        """A condition that stands alone, whose parts may fill several lines."""
+        return (self.chain if it.kind in ("and", "or") else self.of)(it)
+
+    def truth(self, it):
+        self.uses.words.add(it.value)
+        return it.value, it.value
+
+    def flag(self, it):
+        code, spec, kind = self.scope.place(it.value, it.line)
+        if kind is not None and not is_path(kind, "bool"):
+            raise Refusal(it.line, f"the condition `{spoken(it.value)}` is no `bool`")
+        return code, spec
+
+    def negation(self, it):
+        code, spec = self.of(it.parts[0])
+        self.uses.words.add("not")
+        return f"!{self.grouped(it.parts[0], code)}", f"(not {spec})"
+
+    def both(self, it):
+        """A condition of two parts; a part of another kind than the whole stands in brackets."""
+        tree, spec = self.chain(it)
+        return f" {tree.mark} ".join(tree.parts), spec
+
+    def chain(self, it):
+        """The same as the parts of its code."""
+        mark = "&&" if it.kind == "and" else "||"
+        self.uses.prelude.add(f"◌{mark}◌")
+        other, codes, specs = "or" if it.kind == "and" else "and", [], []
+        for part in it.parts:
+            if part.kind == it.kind:
+                tree, spec = self.chain(part)
+                codes += tree.parts
+            else:
+                code, spec = self.of(part)
+                codes.append(f"({code})" if part.kind == other else code)
+            specs.append(spec)
+        return Chain(mark, tuple(codes)), f"({f' {mark} '.join(specs)})"
+
+    def grouped(self, it, code):
+        return code if it.kind in ("place", "call", "bool", "not", "matches", "contains", "address", "all", "any") else f"({code})"
+
+    def method(self, it):
+        """`is_some` and `is_none` of an option."""
+        code, spec, kind = self.scope.place(it.parts[0].value, it.line)
+        if it.value not in ("is_some", "is_none") or (kind is not None and not is_option(kind)):
+            raise Refusal(it.line, f"a condition with the method `{it.value}`, which the port cannot read there")
+        self.uses.prelude.add("is_some")
+        if it.value == "is_some":
+            return f"{code.lstrip('*')}.is_some()", f"(is_some {spec})"
+        self.uses.words.add("not")
+        return f"{code.lstrip('*')}.is_none()", f"(not (is_some {spec}))"
+
+    def equality(self, it):
+        """Whether a value is a variant, or a text."""
+        place, other = it.parts
+        if other.kind == "path" and self.constant(other) is not None:
+            return self.comparison(it)
+        code, spec = self.variants(Expression("matches", it.line, (other.value,), (place,))) if other.kind == "path" else self.text(place, other)
+        if it.kind == "==":
+            return code, spec
+        self.uses.words.add("not")
+        return (f"!{code}" if other.kind == "path" else code.replace(" == ", " != ")), f"(not {spec})"
+
+    def text(self, place, other):
+        """Whether a text is this one."""
+        found = self.text_of(place)
+        if found is None:
+            raise Refusal(place.line, f"a comparison of `{spoken(place.value)}` with a text, which is neither a `String` nor a `&str` nor read by a form")
+        self.uses.words.add("text_is")
+        return f'{found[0]} == "{other.value}"', f'(text_is "{other.value}" {found[1]})'
+
+    def variants(self, it):
+        """Whether a value is one of some variants of an enum of the file."""
+        place = it.parts[0]
+        code, spec, kind = self.scope.place(place.value, it.line)
+        item = self.writer.enum(kind.name if kind is not None and kind.kind == "path" else it.value[0][0])
+        if item is None:
+            raise Refusal(it.line, f"a condition on `{spoken(place.value)}`, which is no enum of this file")
+        if self.writer.module is None:
+            raise Refusal(it.line, "a condition on an enum, whose statement names its module: say it by `--module CRATE::MODULE`")
+        known = {one.name: one for one in item.variants}
+        for path in it.value:
+            if path[:-1] not in ((item.name,), (item.known,)) or path[-1] not in known:
+                raise Refusal(it.line, f"`{'::'.join(path)}`, which is no variant of `{item.name}`")
+        self.uses.words |= {"Bool", "true"}
+        self.uses.cited.add(item.name)
+        names = list(dict.fromkeys(path[-1] for path in it.value))
+        rest = [] if len(names) == len(known) else ["_ ↦ false"]
+        self.uses.words |= {"false"} if rest else set()
+        cases = [f"{' '.join([known[name].word, *'_' * len(known[name].fields)])} ↦ true" for name in names]
+        patterns = " | ".join(f"{item.name}::{name}{SHAPES[known[name].shape]}" for name in names)
+        return f"matches!({code.lstrip('*')}, {patterns})", f"(elim {spec} as (λ _. Bool) [ {' | '.join([*cases, *rest])} ])"
+
+    def contains(self, it):
+        """Whether a text has this part, or a list this item."""
+        place, asked = it.parts[0], it.value
+        code, spec, kind = self.scope.place(place.value, it.line)
+        code = code.lstrip("*")
+        if kind is not None and is_path(kind, "TextRef") and asked.kind == "text":
+            return self.part_of_text(code, spec, asked)
+        held = kind.args[0] if kind is not None and is_path(kind, "Vec", "Items") and kind.args else None
+        if asked.kind == "path":
+            return self.contains_variant(it, code, spec, kind, held)
+        texts = held is not None and is_path(held, "TextRef") and asked.kind == "text"
+        if not texts and not (held is not None and is_path(held, *UNSIGNED) and asked.kind == "number" and asked.value >= 0):
+            told = f"`contains` of `{spoken(place.value)}`"
+            raise Refusal(it.line, f"{told}: it is written of texts and lists of texts that a form reads, and of lists of numbers without a sign")
+        self.uses.fields |= {"includes", "Equal"}
+        self.uses.words |= {"includes"} | ({"text_eq", "codes"} if texts else {"nat_eq"})
+        self.uses.others |= {"garde_schema::TextRef"} if texts else set()
+        listed = self.listed(kind, spec)
+        item, same, stated = (f'&TextRef::new("{asked.value}")', "text_eq", f'(codes "{asked.value}")') if texts else (f"&{asked.value}", "nat_eq", asked.value)
+        return f"includes({code}.as_slice(), &Equal, {item})", f"(includes {same} {listed} {stated})"
+
+    def contains_variant(self, it, code, spec, kind, held):
+        """Whether a list has this variant of an enum of the file, which derives `PartialEq`."""
+        item, path = self.writer.enum(held.name) if held is not None else None, it.value.value
+        if item is None or path[:-1] != (item.name,) or path[-1] not in [one.name for one in item.variants if one.shape == "unit"]:
+            raise Refusal(it.line, f"`contains(&{'::'.join(path)})`, which is no variant without fields of what `{spoken(it.parts[0].value)}` lists")
+        if "PartialEq" not in item.derives:
+            raise Refusal(it.line, f"`contains` of a list of `{item.name}`: write `PartialEq` among its derives")
+        self.uses.fields |= {"includes", "Equal"}
+        self.uses.words.add("includes")
+        self.uses.cited.add(item.name)
+        stated = f"(includes ⟦<{item.name} as PartialEq>⟧.eq {self.listed(kind, spec)} {path[-1]})"
+        return f"includes({code}.as_slice(), &Equal, &{'::'.join(path)})", stated
+
+    def address(self, it):
+        """Whether a text is an address."""
+        found, names = self.text_of(it.parts[0]), ADDRESSES[it.value]
+        if found is None:
+            raise Refusal(it.line, f"`parse` of `{spoken(it.parts[0].value)}`, which is neither a `String` nor a `&str` nor read by a form")
+        self.uses.words |= {*names}
+        self.uses.others |= {f"garde::rules::ip::{name}" for name in names}
+        code, stated = found[0].lstrip("*"), " || ".join(f"{name} {found[1]}" for name in names)
+        if not names[1:]:
+            return f"{names[0]}({code})", f"({stated})"
+        self.uses.prelude |= {"◌||◌", "◌≡◌"}
+        self.writer.copied["is_address"] = IS_ADDRESS
+        return f"is_address({code})", f"({stated})"
+
+    def part_of_text(self, code, spec, asked):
+        """Whether a text that a form reads has this part."""
+        self.uses.paths.add("Rattle.garde.specs.Words.{has_part}")
+        self.uses.words.add("codes")
+        self.uses.others.add("garde::rules::contains")
+        return f'contains::Contains::validate_contains({code}, "{asked.value}")', f'(has_part (codes "{asked.value}") {spec})'
+
+    def comparison(self, it):
+        """A comparison of numbers, of two texts, or of two values of an enum."""
+        if it.kind in ("==", "!=") and all(part.kind == "place" for part in it.parts):
+            texts = [self.text_at(part) for part in it.parts]
+            if None not in texts:
+                self.uses.words.add("text_eq")
+                (one, like), (other, another) = texts
+                return self.equal(it, one, other, f"(text_eq {like} {another})")
+            same = self.same_values(it)
+            if same:
+                return same
+        ordered = self.in_order(it)
+        if ordered:
+            return ordered
+        signed = any(map(self.is_signed, it.parts))
+        (left, low), (right, high) = map(self.signed if signed else self.number, self.widened(it.parts))
+        spec = (SIGNED_COMPARISONS if signed else COMPARISONS)[it.kind].format(low, high)
+        self.uses.words |= set(re.findall(r"\b(?:nat_eq|nat_lt|nat_le|int_eq|int_lt|not)\b", spec))
+        return f"{left} {it.kind} {right}", f"({spec})"
+
+    def same_values(self, it):
+        """Whether two places have the same value of an enum of the file, or nothing where they have none."""
+        (code, spec, kind), (other, like, another) = (self.scope.place(part.value, it.line) if self.writer.resolved(part).kind == "place" else (None,) * 3 for part in it.parts)
+        item = self.writer.enum(kind.name) if kind is not None and another is not None and kind.name == another.name else None
+        if item is None or "PartialEq" not in item.derives:
+            return None
+        return self.equal(it, code, other, f"(⟦<{self.writer.type_text(kind)} as PartialEq>⟧.eq {spec} {like})")
+
+    def equal(self, it, code, other, stated):
+        """That two values are equal, or that they are not."""
+        self.uses.words |= {"not"} if it.kind == "!=" else set()
+        return f"{code} {it.kind} {other}", stated if it.kind == "==" else f"(not {stated})"
+
+    def in_order(self, it):
+        """A comparison of two dates, two times or two moments, or nothing where a part is none."""
+        found = [self.scope.place(part.value, it.line) for part in it.parts if self.writer.resolved(part).kind == "place"]
+        kinds = {kind.path for _, _, kind in found if kind is not None}
+        if len(found) < 2 or len(kinds) > 1 or not kinds & set(ORDERED):
+            return None
+        (code, spec, kind), (other, like, _) = found
+        name = self.writer.type_text(kind)
+        if it.kind in ORDERS:
+            self.uses.state("std.specs.Ordering", ORDERS[it.kind])
+            return f"{code} {it.kind} {other}", f"({ORDERS[it.kind]} ⟦<{name} as PartialOrd>⟧.partial_cmp {spec} {like})"
+        return self.equal(it, code, other, f"(⟦<{name} as PartialEq>⟧.eq {spec} {like})")
+
+    def is_signed(self, it):
+        """Whether a number has a sign."""
+        it = self.writer.resolved(it)
+        if it.kind != "place":
+            return it.kind == "number" and it.value < 0
+        kind = self.scope.place(it.value, it.line)[2]
+        return kind is not None and is_path(kind, *SIGNED)
+
+    def signed(self, it):
+        """A number that is compared with one that has a sign."""
+        it = self.writer.resolved(it)
+        if it.kind == "number":
+            word = "minus" if it.value < 0 else "plus"
+            self.uses.words.add(word)
+            return str(it.value), f"({word} {abs(it.value)})"
+        if it.kind != "place" or not self.is_signed(it):
+            raise Refusal(it.line, "a comparison of a number with a sign and one without, or of a sum of such: compare numbers of one type")
+        return self.scope.place(it.value, it.line)[:2]
+
+    def widened(self, parts):
+        """The parts of a comparison; where numbers are added or multiplied, all as numbers of 128 bits, which hold what comes of it."""
+        if not any(it.kind in ("+", "*", "-") for it in map(self.writer.resolved, parts)):
+            return parts
+        for it in parts:
+            if self.bits(it) > 128:
+                raise Refusal(it.line, "a sum or a product that 128 bits may not hold: bound the fields, and write a rule of your own")
+        return tuple(Expression("wide", it.line, parts=(it,)) for it in parts)
+
+    def bits(self, it):
+        """How many bits a number takes at most."""
+        it = self.writer.resolved(it)
+        if it.kind == "number" and it.value >= 0:
+            return it.value.bit_length()
+        if it.kind == "call":
+            return 64
+        if it.kind in ("+", "*"):
+            one, other = map(self.bits, it.parts)
+            return max(one, other) + 1 if it.kind == "+" else one + other
+        if it.kind in ("%", "/"):
+            return self.bits(it.parts[0])
+        kind = self.scope.place(it.value, it.line)[2] if it.kind == "place" else None
+        if kind is None or not is_path(kind, *UNSIGNED):
+            told = "write what is added on the other side" if it.kind == "-" else "the port adds and multiplies fields that are numbers without a sign"
+            raise Refusal(it.line, f"a sum or a product that the port cannot read: {told}")
+        return 64 if kind.name == "usize" else int(kind.name[1:])
+
+    def wide(self, it):
+        """A number, a sum or a product, as one of 128 bits."""
+        it = self.writer.resolved(it)
+        if it.kind in ("+", "*"):
+            self.uses.prelude.add(f"◌{it.kind}◌")
+            (one, low), (other, high) = map(self.wide, it.parts)
+            grouped = [f"({code})" if it.kind == "*" and part.kind == "+" else code for code, part in zip((one, other), it.parts)]
+            return f" {it.kind} ".join(grouped), f"({low} {it.kind} {high})"
+        code, spec = self.number(it)
+        return (code if it.kind == "number" else f"({code} as u128)"), spec
+
+    def text_of(self, it):
+        """A text at a place as code and as it is stated, or nothing where there is none."""
+        code, spec, kind = self.scope.place(it.value, it.line)
+        binding = code.lstrip("*")
+        if kind is not None and kind.kind == "ref" and is_text(kind):
+            return f"*{binding}", f"{spec}.now"
+        if kind is not None and kind.name == "String":
+            self.uses.words.add("str")
+            return f"{binding}.as_str()", f"(str {spec})"
+        return (f"{binding}.text()", spec) if kind is not None and kind.name == "TextRef" else None
+
+    def text_at(self, it):
+        """The same of what may be no place."""
+        return self.text_of(it) if self.writer.resolved(it).kind == "place" else None
+
+    def listed(self, kind, spec):
+        """A list as it is stated."""
+        self.uses.words |= {"slice"} if kind.name == "Vec" else set()
+        return f"(slice {spec})" if kind.name == "Vec" else spec
+
+    def length(self, it):
+        """How many bytes a text has, or how many items a list or a map."""
+        place = it.parts[0]
+        text = self.text_at(place)
+        if text is not None:
+            self.uses.words.add("byte_count")
+            return f"{text[0].lstrip('*')}.len()", f"(byte_count {text[1]})"
+        code, spec, kind = self.scope.place(place.value, place.line)
+        code = code.lstrip("*")
+        if kind is None or not is_path(kind, "Vec", "Items", "Entries"):
+            raise Refusal(it.line, f"`len` of `{spoken(place.value)}`, which is neither a text nor a list nor a map that a form reads")
+        self.uses.words.add("length")
+        return f"{code}{'' if kind.name == 'Vec' else '.as_slice()'}.len()", f"(length {self.listed(kind, spec)})"
+
+    def division(self, it):
+        """What a division by a number gives, or leaves over."""
+        by = self.writer.resolved(it.parts[1])
+        if by.kind != "number" or by.value < 1:
+            raise Refusal(it.line, f"`{it.kind}` by what is no number from 1 on")
+        code, spec = self.number(it.parts[0])
+        word = "remainder" if it.kind == "%" else "quotient"
+        self.uses.words.add(word)
+        return f"{code} {it.kind} {by.value}", f"({word} {spec} {by.value})"
+
+    def constant(self, it):
+        found = self.writer.resolved(it)
+        return found.value if found.kind == "number" else None
+
+    def number(self, it):
+        it = self.writer.resolved(it)
+        if it.kind == "wide":
+            return self.wide(it.parts[0])
+        if it.kind == "number" and it.value >= 0:
+            return str(it.value), str(it.value)
+        if it.kind in ("%", "/"):
+            return self.division(it)
+        if it.kind == "call" and it.value == "len":
+            return self.length(it)
+        if it.kind != "place":
+            raise Refusal(it.line, "a comparison that the port cannot read")
+        code, spec, kind = self.scope.place(it.value, it.line)
+        if kind is not None and not is_path(kind, *UNSIGNED):
+            raise Refusal(it.line, f"a comparison of `{spoken(it.value)}`, which is no number without a sign")
+        return code, spec
+
+    # Conditions of the items of a list.
+
+    def over_items(self, it):
+        """Whether the items of a list have what a closure asks."""
+        scope, uses, (place, condition) = self.scope, self.uses, it.parts
+        code, spec, kind = scope.place(place.value, it.line)
+        if kind is None or not is_path(kind, "Vec", "Items") or not kind.args:
+            raise Refusal(it.line, f"`iter().{it.kind}` of what is no list: write it of a `Vec`")
+        word = f"{it.kind}_of"
+        uses.fields |= {word, "Question"}
+        uses.words.add(word)
+        given = self.question(it, kind.args[0])
+        variable = "it" if not scope.items else f"it{len(scope.items) + 1}"
+        inner = scope.with_item(ITEM + it.value, Place(it.value, variable, kind.args[0]), self.writer.fields_within(kind.args[0]))
+        _, stated = Conditions(inner, uses, self.writer).whole(condition)
+        scope.bound |= inner.bound
+        return f"{word}({code.lstrip('*')}.as_slice(), {given})", f"({word} (λ {variable}. {stated}) {self.listed(kind, spec)})"
+
+    def question(self, it, kind):
+        """Writes the type of what is asked of an item. Returns the value of it, which holds what the closure speaks of beside the item."""
+        scope, writer = self.scope, self.writer
+        name, held = writer.numbered("Question", it), self.held_by(it)
+        inner = scope.of_question({key: place for key, place, _ in held})
+        inner.add_item(ITEM + it.value, Place(it.value, it.value, kind), writer.fields_within(kind))
+        code, stated = Conditions(inner, self.uses, writer).whole(it.parts[1])
+        for place in (place for key, place, _ in held if key == CONTEXT):
+            stated = re.sub(rf"(?<![\w.]){scope.context}(?!\w)", place.name, stated)
+        kinds = [(it.binding, it.type if isinstance(it.type, str) else writer.type_text(it.type)) for _, it, _ in held]
+        text = writer.type_text(kind)
+        writer.write_once(name, it.line, QUESTION.format(
+            spot=writer.spot, item=writer.item.name, name=name, kind=text, binding=it.value, **holding(text, kinds),
+            stated=f"    ghost holds = {{ λ {'question' if held else '_'} {it.value}. {stated} }};",
+            condition=statement(code if isinstance(code, Chain) else Word(code), 8),
+        ))
+        return f"&{name}({', '.join(given for _, _, given in held)})" if held else f"&{name}"
+
+    def held_by(self, it):
+        """What a closure speaks of beside its items: the key, the place within the question, and what is given for it."""
+        scope, found, bound = self.scope, {}, bound_in(it)
+        spoken_of = [one.value for one in places_in(it.parts[1]) if self.writer.resolved(one).kind == "place"]
+        for names in (one for one in spoken_of if one[0] not in bound):
+            at = f"question.{len(found)}.now"
+            if names[0] in (CONTEXT, scope.context) and not scope.unit:
+                found.setdefault(CONTEXT, (Place(scope.context, at, self.writer.context), scope.the_context()))
+            elif names[0] == VALUE and scope.value is not None:
+                found.setdefault(VALUE, (Place("value", at, scope.value.type), scope.value.binding))
+            elif names[0] == "self" and names[1:2] and names[1] in scope.places:
+                place, binding = scope.places[names[1]], f"the_{names[1]}" if ITEM + names[1] in bound else names[1]
+                scope.bound.add(names[1])
+                found.setdefault(names[1], (Place(binding, at, place.type), place.binding))
+            else:
+                told = f"a closure that speaks of `{'.'.join(names).removeprefix(ITEM)}`"
+                raise Refusal(it.line, f"{told}: it may speak of its item, of fields of `self` and of the context")
+        return [(key, place, given) for key, (place, given) in found.items()]
+
+
+def bound_in(it):
+    """The names of the items of which conditions within an expression speak."""
+    own = {ITEM + it.value} if it.kind in ("all", "any") else set()
+    return own.union(*map(bound_in, it.parts))
+
+
+def same_by(checks, rule, kind):
+    """Writes the type by which items with one key are the same. Returns it, and which items are, as it is stated."""
+    writer, key, text = checks.writer, rule.place, checks.writer.type_text(kind)
+    name = writer.numbered("Same", key)
+    both = tuple(with_item(key.parts[0], ITEM + key.value, ITEM + it) for it in ("one", "other"))
+
+    def compared(*names):
+        scope = Scope(checks.scope.context, {}, checks.scope.params, True)
+        for item, called in zip(("one", "other"), names):
+            scope.add_item(ITEM + item, Place(item, called, kind), writer.fields_within(kind))
+        return Conditions(scope, checks.uses, writer).of(Expression("==", rule.line, parts=both))
+
+    code, stated = compared("one", "other")
+    head = SAME_HEADS[0].format(kind=text)
+    writer.write_once(name, rule.line, SAME.format(
+        spot=writer.spot, item=writer.item.name, name=name, bound=lifetimes_of(text), kind=text,
+        stated=f"    ghost same = {{ λ _ one other. {stated} }};", condition=f"        {code}",
+        head=head if len(head) <= WIDTH else SAME_HEADS[1].format(kind=text),
+    ))
+    checks.uses.fields.add("Same")
+    return Word(name), f"(λ x y. {compared('x', 'y')[1]})"
