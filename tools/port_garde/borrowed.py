@@ -8,14 +8,13 @@ from .everyday import plain
 from .flattened import always_there, faults as faults_of_flattened, flat_part, held_part, names_of
 from .groups import is_flat, is_rest, others_of, own_rules, shared_rules
 from .holes import BY_IMPL, Hole, Holes, nothing, optional
-from .in_order import faults as faults_of_tuple, is_tuple
 from .parsed import WAYS, parser_of, place_of
 from .scope import SIGNED, UNSIGNED, is_option, is_path, is_text
 from .quoted import BESIDE_CONTEXT
 from .rules import Attributes
-from .source import Item, Param, Type, all_rules, fields_of, is_ported, named_type, with_fields
+from .source import Item, Param, Type, all_rules, fields_of, is_ported, named_type, with_doc, with_fields
 from .tokens import Refusal, meant
-from .unions import Shapes, is_other, is_unit, names_of as names_of_variant
+from .unions import Shapes, faults_of_tuple, is_other, is_tuple, is_unit, names_of as names_of_variant
 from .values import DECIMAL, KEPT, as_read, canonical, is_any, is_float
 
 LIFE = "'t"
@@ -74,6 +73,11 @@ def below(item):
     return held[0] if is_list and item.kind == "struct" and item.variants[0].shape == "named" and fields_of(item)[1:] else None
 
 
+def is_held(item, items):
+    """Whether another type of the file holds values of this one."""
+    return any(item.name in type_names(it.type) for other in items.values() if other is not item for it in fields_of(other))
+
+
 def without_dive(rules):
     """Rules without `dive`."""
     kept = [replace(it, rules=without_dive(it.rules)) for it in rules if it.name != "dive"]
@@ -87,7 +91,9 @@ class Borrowed:
     def __init__(self, source, left_out, is_stated=False, is_walked=False, has_context=False, input="json", own=None, root=None):
         self.source, self.left_out, self.is_stated, self.is_walked = source, left_out, is_stated, is_walked
         self.has_context, self.input, self.own, self.root, self.context = has_context, input, own, root, None
-        source.items[:] = [self.canonical(it) if is_read(it) else it for it in source.items]
+        # a type of values of any kind is known by one name
+        known = lambda it: replace(it, type=canonical(it.type, source.imports))
+        source.items[:] = [with_fields(it, known) if is_read(it) else it for it in source.items]
         plain(source, bool(own))
         self.items = {it.name: it for it in source.items if is_read(it)}
         self.holes = self.found_holes(root) if own else {}
@@ -132,12 +138,8 @@ class Borrowed:
         """Such a field: an option of what is there, or nothing at all of a member that is not read."""
         value = "not read, and `()` here" if is_skipped(it) else "`None` where it is missing"
         self.source.notes.holes.append(Hole(it.line, f"{it.name}: {told}: it is {value}; fill it in by your code"))
-        docs = (*it.docs, *(["///"] if it.docs else []), f"/// It is {value}: its default is not known.")
+        docs = with_doc(it.docs, f"It is {value}: its default is not known.")
         return replace(nothing(it) if is_skipped(it) else optional(it), docs=docs)
-
-    def canonical(self, item):
-        """A type whose fields of any kind are known by one name."""
-        return with_fields(item, lambda it: replace(it, type=canonical(it.type, self.source.imports)))
 
     def found_holes(self, root):
         """The types whose reading stands elsewhere, by their names, each with why that is so. They are types of the source from here on, and
@@ -189,8 +191,6 @@ class Borrowed:
         return found
 
     def borrows(self, kind, known):
-        if isinstance(kind, str):
-            return False
         own = is_text(kind) or is_float(kind) or is_any(kind) or is_path(kind, "BTreeMap", "HashMap", "TextRef", "Entries", DECIMAL, KEPT) or (kind.kind == "path" and kind.name in known)
         return own or any(self.borrows(it, known) for it in kind.args)
 
@@ -208,8 +208,7 @@ class Borrowed:
         """Puts the types of the source in their new form, and notes what no form reads."""
         for at, item in enumerate(self.source.items):
             if is_read(item):
-                for line, reason in self.faults(item):
-                    self.source.notes.refuse(line, reason)
+                self.source.notes.refuse_all(self.faults(item))
                 self.source.items[at] = self.turned(item)
 
     def turned(self, item):
@@ -240,7 +239,7 @@ class Borrowed:
 
     def is_derived(self, kind, derive, seen):
         """Whether values of a type, as a form gives them, have a derive."""
-        if isinstance(kind, str) or kind.name in seen:
+        if kind.name in seen:
             return True
         turned, held = self.type_of(kind), self.items.get(kind.name)
         if held is not None and not self.has(held, derive, seen) or turned.name in HAS and turned.name not in self.items and derive not in HAS[turned.name]:
@@ -261,10 +260,8 @@ class Borrowed:
 
     def type_of(self, kind):
         """A type as a form gives its values."""
-        if isinstance(kind, str):
-            return kind
         if is_text(kind):
-            return named_type("TextRef", kind.line, LIFE)
+            return named_type("TextRef", kind.line, lives=(LIFE,))
         parser = parser_of(kind, self.source)
         if parser:
             return Type("path", parser.path[-1], kind.line, path=parser.path)
@@ -274,9 +271,9 @@ class Borrowed:
         if is_path(kind, "Vec") and len(args) == 1:
             return named_type("Items", kind.line, *args)
         if is_map(kind):
-            return named_type("Entries", kind.line, LIFE, args[1])
+            return named_type("Entries", kind.line, args[1], lives=(LIFE,))
         if kind.kind == "path" and kind.name in self.borrowing:
-            return replace(kind, args=(LIFE,))
+            return replace(kind, args=(), lives=(LIFE,))
         return replace(kind, args=args)
 
     def faults(self, item):
@@ -426,7 +423,7 @@ class Borrowed:
 
     def unread(self, kind, item):
         """The types within a type that no form reads."""
-        if isinstance(kind, str) or is_text(kind) or kind.kind == "unread":
+        if is_text(kind) or kind.kind == "unread":
             return
         if is_option(kind) or is_path(kind, "Vec"):
             yield from self.unread(kind.args[0], item)
@@ -445,7 +442,7 @@ class Borrowed:
 
     def unwritten(self, kind, within=()):
         """The types within a type that no field of a web form and no cell of a table writes."""
-        if self.input == "json" or isinstance(kind, str) or is_text(kind) or kind.kind == "unread":
+        if self.input == "json" or is_text(kind) or kind.kind == "unread":
             return
         is_list = is_path(kind, "Vec")
         if is_option(kind) and within in ((), ("Option",))[: 1 + (self.input == "web-form")] or is_list and self.input == "web-form" and "Vec" not in within:

@@ -65,11 +65,14 @@ class Conditions:
     def of(self, it):
         """A condition that stands in a place where it needs brackets if it has parts."""
         readers = {
-            "bool": self.truth, "place": self.flag, "not": self.negation, "call": self.method, "and": self.both, "or": self.both,
+            "place": self.flag, "not": self.negation, "call": self.method, "and": self.both, "or": self.both,
             "matches": self.variants, "contains": self.contains, "address": self.address, "all": self.over_items, "any": self.over_items,
         }
         if it.kind in readers:
             return readers[it.kind](it)
+        if it.kind == "bool":
+            self.uses.words.add(it.value)
+            return it.value, it.value
         if it.kind in ("==", "!=") and it.parts[1].kind in ("path", "text") and it.parts[0].kind == "place":
             return self.equality(it)
         if it.kind == "number":
@@ -79,10 +82,6 @@ class Conditions:
     def whole(self, it):
         """A condition that stands alone, whose parts may fill several lines."""
         return (self.chain if it.kind in ("and", "or") else self.of)(it)
-
-    def truth(self, it):
-        self.uses.words.add(it.value)
-        return it.value, it.value
 
     def flag(self, it):
         code, spec, kind = self.scope.place(it.value, it.line)
@@ -176,7 +175,10 @@ class Conditions:
         code, spec, kind = self.scope.place(place.value, it.line)
         code = code.lstrip("*")
         if kind is not None and is_path(kind, "TextRef") and asked.kind == "text":
-            return self.part_of_text(code, spec, asked)
+            self.uses.paths.add("Rattle.garde.specs.Words.{has_part}")
+            self.uses.words.add("codes")
+            self.uses.others.add("garde::rules::contains")
+            return f'contains::Contains::validate_contains({code}, "{asked.value}")', f'(has_part (codes "{asked.value}") {spec})'
         held = kind.args[0] if kind is not None and is_path(kind, "Vec", "Items") and kind.args else None
         if asked.kind == "path":
             return self.contains_variant(it, code, spec, kind, held)
@@ -218,17 +220,10 @@ class Conditions:
         self.writer.copied["is_address"] = IS_ADDRESS
         return f"is_address({code})", f"({stated})"
 
-    def part_of_text(self, code, spec, asked):
-        """Whether a text that a form reads has this part."""
-        self.uses.paths.add("Rattle.garde.specs.Words.{has_part}")
-        self.uses.words.add("codes")
-        self.uses.others.add("garde::rules::contains")
-        return f'contains::Contains::validate_contains({code}, "{asked.value}")', f'(has_part (codes "{asked.value}") {spec})'
-
     def comparison(self, it):
         """A comparison of numbers, of two texts, or of two values of an enum."""
         if it.kind in ("==", "!=") and all(part.kind == "place" for part in it.parts):
-            texts = [self.text_at(part) for part in it.parts]
+            texts = [self.text_of(part) if self.writer.resolved(part).kind == "place" else None for part in it.parts]
             if None not in texts:
                 self.uses.words.add("text_eq")
                 (one, like), (other, another) = texts
@@ -272,7 +267,6 @@ class Conditions:
         return self.equal(it, code, other, f"(⟦<{name} as PartialEq>⟧.eq {spec} {like})")
 
     def is_signed(self, it):
-        """Whether a number has a sign."""
         it = self.writer.resolved(it)
         if it.kind != "place":
             return it.kind == "number" and it.value < 0
@@ -339,19 +333,14 @@ class Conditions:
             return f"{binding}.as_str()", f"(str {spec})"
         return (f"{binding}.text()", spec) if kind is not None and kind.name == "TextRef" else None
 
-    def text_at(self, it):
-        """The same of what may be no place."""
-        return self.text_of(it) if self.writer.resolved(it).kind == "place" else None
-
     def listed(self, kind, spec):
-        """A list as it is stated."""
         self.uses.words |= {"slice"} if kind.name == "Vec" else set()
         return f"(slice {spec})" if kind.name == "Vec" else spec
 
     def length(self, it):
         """How many bytes a text has, or how many items a list or a map."""
         place = it.parts[0]
-        text = self.text_at(place)
+        text = self.text_of(place) if self.writer.resolved(place).kind == "place" else None
         if text is not None:
             self.uses.words.add("byte_count")
             return f"{text[0].lstrip('*')}.len()", f"(byte_count {text[1]})"

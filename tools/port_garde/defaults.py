@@ -150,7 +150,6 @@ class Constants:
         return Reader(self, Tokens(tokens_of(text), text, self.source.notes)).whole(kind)
 
     def of_type(self, kind):
-        """The default of a type."""
         kind = stripped(kind)
         known = (
             (is_option(kind), "none", None), (is_text(kind), "text", ""), (is_path(kind, "bool"), "bool", False),
@@ -575,7 +574,6 @@ def in_json(found, is_map):
 
 
 def of_made(found, parts):
-    """A value of a type of the file in JSON."""
     item, variant, said = found.item, found.variant(), options(found.item)
     names = [of_field(it, variant, item) if it.name else None for it in variant.fields]
     members = {name: part for name, it, part in zip(names, variant.fields, parts) if not is_skipped(it) and not (it.unmade and part is None)}
@@ -603,7 +601,6 @@ class Making:
         return self.code(found) if self.is_copied(found.kind) else Word(self.name(it, variant, item))
 
     def is_copied(self, kind):
-        """Whether values of a type are copied."""
         if is_option(kind) or kind.kind == "tuple":
             return all(map(self.is_copied, kind.args))
         item = self.borrowed.items.get(kind.name)
@@ -642,7 +639,6 @@ class Making:
         )
 
     def code(self, found):
-        """A value as code."""
         match found.form:
             case "number" | "bool":
                 return Word(str(found.value).lower())
@@ -662,7 +658,6 @@ class Making:
         return call(head, *parts) if parts else Word(head)
 
     def stated(self, found):
-        """A value as it is stated."""
         uses = self.writer.uses
         match found.form:
             case "number" if found.kind.name in SIGNED:
@@ -693,7 +688,6 @@ class Making:
         return next(it for it, one in zip(self.schema.turned[found.item.name].variants, found.item.variants) if one.name == found.value)
 
     def rows(self, found):
-        """The fields of a struct with their values."""
         return [(it.name or str(at), part) for at, (it, part) in enumerate(zip(self.variant(found).fields, found.parts))]
 
     def bracketed(self, found):

@@ -52,7 +52,6 @@ class Said:
 
 
 def read_serde(tokens):
-    """Reads the options of one attribute of serde."""
     return tuple(it for it in tokens.items(read_option) if it is not None)
 
 
@@ -70,7 +69,6 @@ def read_option(tokens):
 
 
 def kept_derives(item):
-    """The derives that the type has here too."""
     return [name for name in item.derives if name in (*OWN, *SERDE)]
 
 
@@ -95,12 +93,12 @@ def named_function(said):
 
 def type_names(kind):
     """The names that a type consists of."""
-    return set() if isinstance(kind, str) else {kind.name}.union(*map(type_names, kind.args))
+    return {kind.name}.union(*map(type_names, kind.args))
 
 
 def all_type_names(kind):
     """The same, each as often as it stands there."""
-    return [] if isinstance(kind, str) else [kind.name, *(name for it in kind.args for name in all_type_names(it))]
+    return [kind.name, *(name for it in kind.args for name in all_type_names(it))]
 
 
 def literal_function(text):
@@ -134,7 +132,6 @@ class Derives:
         self.items = {it.name: it for it in source.items}
 
     def faults(self, item):
-        """All of a type."""
         yield from self.of_derives(item)
         known = (*SILENT, *self.left_out, *(["default"] if any(path[-1] == "Default" for _, path in item.said) else []))
         for line, name in item.others:
@@ -222,7 +219,6 @@ class Derives:
         return found.variants[0].shape == "named" and "deny_unknown_fields" not in said
 
     def of_field(self, it, item):
-        """What stands at a field, and its type."""
         yield from self.of_options(it, "field" if it.name else "field without a name", item)
         said = options(it)
         if "flatten" in said:
@@ -252,8 +248,6 @@ class Derives:
 
     def unread(self, kind, item):
         """The types within a type that serde does not read or write here."""
-        if isinstance(kind, str):
-            return
         if kind.kind == "path" and kind.name in UNREAD:
             yield f"the type `{kind.name}`"
         if kind.kind == "tuple" and len(kind.args) > 4:
@@ -265,7 +259,7 @@ class Derives:
 
     def leads_back(self, kind, name, seen):
         """Whether values of a type hold values of the type of this name."""
-        if isinstance(kind, str) or kind.name in seen:
+        if kind.name in seen:
             return False
         if kind.kind == "path" and kind.name == name:
             return True

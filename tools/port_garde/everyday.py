@@ -15,9 +15,8 @@ from .tokens import Refusal
 from .unions import is_other, names_of
 
 PATHS = ("PathBuf", "Utf8PathBuf", "Path", "Utf8Path")
-SETS = ("BTreeSet", "HashSet", "IndexSet")
-LISTS = ("LinkedList", "VecDeque")
-MAPS = ("BTreeMap", "HashMap", "IndexMap")
+SETS = ("BTreeSet", "HashSet")
+MAPS = ("BTreeMap", "HashMap")
 # The rules that a text is an address.
 ADDRESSES = {("std", "IpAddr"): "ip", ("std", "Ipv4Addr"): "ipv4", ("std", "Ipv6Addr"): "ipv6"}
 UNKNOWN = "not one of the known values"
@@ -61,9 +60,7 @@ def of_names(rules):
 
 def plain_type(kind, source):
     """A type as a form reads it, and what is asked of its values besides."""
-    if isinstance(kind, str):
-        return kind, ()
-    if is_path(kind, *PATHS) or kind.kind == "ref" and is_path(kind.args[0], *PATHS):
+    if is_path(kind, *PATHS):
         return named_type("String", kind.line), ()
     if place_of(kind, source) in NUMBERS or is_path(kind, "NonZero"):
         return of_number(kind, source)
@@ -77,8 +74,6 @@ def plain_type(kind, source):
         return of_list(kind, source, Rule("length", kind.line, mode="simple", bounds={"equal": size_of(kind, source)}))
     if is_path(kind, *SETS) and kind.args:
         return of_list(kind, source, Rule("unique", kind.line, text=REPEATED))
-    if is_path(kind, *LISTS) and kind.args:
-        return of_list(kind, source)
     if is_path(kind, *MAPS) and len(kind.args) >= 2:
         return of_map(kind, source)
     if kind.kind == "tuple":
@@ -100,7 +95,6 @@ def of_tuple(kind, source):
 
 
 def within(rules):
-    """Rules of each item, as one rule."""
     return Rule("inner", rules[0].line, rules=tuple(rules))
 
 
@@ -141,10 +135,9 @@ def of_map(kind, source):
     """A map, whose names are texts under rules."""
     asked, (held, rules) = of_key(kind.args[0], source), plain_type(kind.args[1], source)
     rules = (*([Rule("keys", kind.line, rules=asked)] if asked else []), *([within(rules)] if rules else []))
-    name = kind.name if kind.name != "IndexMap" else "BTreeMap"
-    if is_text(kind.args[0]) and held is kind.args[1] and name == kind.name and len(kind.args) == 2:
+    if is_text(kind.args[0]) and held is kind.args[1] and len(kind.args) == 2:
         return kind, ()
-    return named_type(name, kind.line, named_type("String", kind.line), held), rules
+    return named_type(kind.name, kind.line, named_type("String", kind.line), held), rules
 
 
 def of_key(kind, source):

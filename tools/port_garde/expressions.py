@@ -81,7 +81,6 @@ def denied(part, line):
 
 
 def read_sum(tokens):
-    """Reads numbers that are added or taken away."""
     return read_chain(tokens, {it: it for it in "+-"}, read_product)
 
 
@@ -130,7 +129,6 @@ def read_bound(tokens):
 
 
 def read_number(tokens):
-    """Reads a whole number."""
     token = tokens.take()
     if token.kind == "float":
         raise Refusal(token.line, f"the floating-point number `{token.text}`")
@@ -259,7 +257,6 @@ def read_variant(tokens):
 
 
 def places_in(expression):
-    """The places that an expression speaks of."""
     found = [expression] if expression.kind == "place" else []
     within = [it for it in (*expression.parts, expression.value) if isinstance(it, Expression)]
     return found + [it for part in within for it in places_in(part)]

@@ -6,6 +6,7 @@ from .derives import options
 from .groups import is_flat, is_rest, shared_rules
 from .names import of_field
 from .scope import is_option
+from .source import with_doc
 
 
 def part_of(kind, items):
@@ -75,7 +76,7 @@ def always_there(it, borrowed):
     if not is_always_there(it, borrowed) or any(rule.name == "custom" for rule in it.attributes.rules):
         return it
     rules = [one for rule in it.attributes.rules if rule.name != "required" for one in (rule.rules if rule.name == "inner" else [rule])]
-    docs = (*it.docs, *(["///"] if it.docs else []), "/// Each of its members may be missing, so there is always one.")
+    docs = with_doc(it.docs, "Each of its members may be missing, so there is always one.")
     return replace(it, type=it.type.args[0], attributes=replace(it.attributes, rules=tuple(rules)), docs=docs)
 
 

@@ -1,5 +1,4 @@
 """The walk of the types of a source by which their forms are written: as code, and as they are stated."""
-from . import in_order
 from .borrowed import is_map, of_whole, within_option
 from .defaults import is_skipped
 from .derives import options
@@ -9,7 +8,7 @@ from .inputs import may_be_missing
 from .names import of_field
 from .parsed import parser_of
 from .scope import is_option, is_path, is_text
-from .unions import TESTS, Shapes, beside_units, is_other, is_unit, names_of, nested, paths_of, units_of
+from .unions import TESTS, Shapes, beside_units, is_list, is_other, is_tuple, is_unit, names_of, nested, paths_of, units_of
 from .values import is_any, is_float
 
 
@@ -39,7 +38,7 @@ class Forms:
         """What a struct or a variant holds, which has no name there."""
         if is_unit(variant):
             return self.make("Null")
-        if in_order.is_list(variant):
+        if is_list(variant):
             return self.make("InOrder", str(len(variant.fields)), self.members(variant, item))
         if variant.shape == "named" and not (item.kind == "struct" and "transparent" in options(item)):
             return self.make("Object", self.closed(self.members(variant, item), item))
@@ -136,13 +135,12 @@ class Forms:
     def part(self, at, variant, item):
         """A member of an object, or an item of a list."""
         it = variant.fields[at]
-        if not in_order.is_list(variant):
+        if not is_list(variant):
             return self.member(it, variant, item)
         self.writer.spot = f"value_{at}"
         return self.make("Nth", str(at), self.form(it.type, it.attributes.rules))
 
     def member(self, it, variant, item):
-        """A member of an object."""
         if is_flat(it):
             return self.flattened(it)
         self.writer.spot = it.name
@@ -178,12 +176,11 @@ class Forms:
     # Values.
 
     def form(self, kind, rules):
-        """The form of a value under rules."""
         is_json = self.writer.input == "json"
         if is_option(kind):
             form = self.make("Nullable" if is_json else "OrEmpty", self.form(kind.args[0], within_option(rules)))
             return self.ruled(form, kind, of_whole(rules))
-        if in_order.is_tuple(kind):
+        if is_tuple(kind):
             return self.ruled(self.tuple(kind), kind, rules)
         if is_path(kind, "Vec") or is_map(kind):
             return self.several(kind, rules)

@@ -10,7 +10,7 @@ from .holes import BY_FUNCTION
 from .names import of_field, renamed
 from .prelude import declared
 from .scope import is_path
-from .source import Type, fields_of, is_ported, named_type, with_fields, with_variants
+from .source import Type, fields_of, is_ported, named_type, with_doc, with_fields, with_variants
 from .tokens import Tokens
 
 STD = ("std", "core", "alloc")
@@ -139,7 +139,7 @@ class Front:
 
     def type_of(self, kind, item, params, is_form, seen=()):
         """What a type in an item stands for; `seen` are the other names of types through which it is reached."""
-        if isinstance(kind, str) or kind.kind in ("unread", "const"):
+        if kind.kind in ("unread", "const"):
             return kind
         if kind.kind == "path" and kind.path == ("Self",):
             kind = replace(kind, name=item.name, path=(item.name,))
@@ -158,13 +158,13 @@ class Front:
             self.notes.refuse(kind.line, f"the type `{alias.name}`, {alias.fault or 'another name of a type, which stands for itself'}: write the type itself")
             return Type("unread", "", kind.line)
         wanted = [it for it in alias.params if it.kind != "lifetime"]
-        given = [it for it in kind.args if not isinstance(it, str)]
+        given = [*kind.args]
         given += [it.default for it in wanted[len(given) :] if it.default is not None]
         if len(given) != len(wanted):
             self.notes.refuse(kind.line, f"the type `{alias.name}` with {len(given)} arguments, which has {len(wanted)}")
             return Type("unread", "", kind.line)
-        lives = [it for it in kind.args if isinstance(it, str)]
-        values = {**dict(zip((it.name for it in wanted), given)), **dict(zip((it.name for it in alias.params if it.kind == "lifetime"), lives))}
+        lives = zip((it.name for it in alias.params if it.kind == "lifetime"), kind.lives)
+        values = {**dict(zip((it.name for it in wanted), given)), **dict(lives)}
         return self.type_of(substituted(alias.type, values), item, params, is_form, (*seen, alias.name))
 
     def of_path(self, kind, item, is_form):
@@ -218,7 +218,7 @@ class Front:
         item = self.items.get(kind.name) if kind.kind == "path" else None
         if item is None or not self.is_generic(item):
             return kind
-        wanted, given = [it for it in item.params if it.kind != "lifetime"], [it for it in kind.args if not isinstance(it, str)]
+        wanted, given = [it for it in item.params if it.kind != "lifetime"], [*kind.args]
         given += [self.type_of(it.default, item, set(), True) for it in wanted[len(given) :] if it.default is not None]
         if len(given) != len(wanted) or self.depth > DEEPEST:
             told = f"with {len(given)} arguments, which has {len(wanted)} parameters" if self.depth <= DEEPEST else "in itself with ever other arguments"
@@ -231,8 +231,7 @@ class Front:
             itself = named_type(self.made[key], kind.line)
             self.write_instance(item, {"Self": itself, **dict(zip((it.name for it in wanted), given))}, key)
             self.depth -= 1
-        lives = tuple(it for it in kind.args if isinstance(it, str))
-        return replace(kind, name=self.made[key], path=(self.made[key],), args=lives)
+        return replace(kind, name=self.made[key], path=(self.made[key],), args=())
 
     def free_name(self, name, item):
         while name in self.items and name != item.name or name in self.made.values():
@@ -241,7 +240,7 @@ class Front:
 
     def write_instance(self, item, values, key):
         """The type that a use of one with parameters is."""
-        docs = item.docs + told_docs(item.docs, f"{key[0]}<{key[1]}>")
+        docs = told_docs(item.docs, f"{key[0]}<{key[1]}>")
         made = with_fields(item, lambda it: replace(it, type=substituted(it.type, values)))
         made = replace(made, params=tuple(it for it in item.params if it.kind == "lifetime"), docs=docs)
         self.read[self.made[key]] = replace(self.resolved(made, True), name=self.made[key])
@@ -261,7 +260,7 @@ class Front:
         item = with_fields(item, lambda it: replace(it, type=self.type_named(it.type)))
         stated = [f"{it.name}_of_{item.name}" if (item.known, it.name) in self.taken else "" for it in item.variants]
         variants = [replace(it, stated=word) for it, word in zip(item.variants, stated)]
-        docs = item.docs + (told_docs(item.docs, item.name) if item.name in self.taken else ())
+        docs = told_docs(item.docs, item.name) if item.name in self.taken else item.docs
         context = item.attributes.context and (item.attributes.context[0], self.tokens_named(item.attributes.context[1]))
         return replace(
             item, name=self.other_name(item.name), variants=tuple(variants), docs=docs, renames=tuple(fields.items()),
@@ -269,8 +268,6 @@ class Front:
         )
 
     def type_named(self, kind):
-        if isinstance(kind, str):
-            return kind
         args = tuple(map(self.type_named, kind.args))
         if kind.kind == "path" and kind.name in self.taken and kind.path == (kind.name,):
             return replace(kind, name=self.other_name(kind.name), path=(self.other_name(kind.name),), args=args)
@@ -302,12 +299,12 @@ class Front:
         told = Said("rename", it.line, f'rename = "{of_field(it, variant, item)}"', of_field(it, variant, item))
         serde = it.serde if renamed(it) is not None or {"flatten", "skip"} & set(options(it)) else (*it.serde, (told,))
         attributes = replace(attributes, rename=attributes.rename if attributes.rename is not None else it.name)
-        return replace(it, name=found[it.name], attributes=attributes, serde=serde, docs=it.docs + told_docs(it.docs, it.name))
+        return replace(it, name=found[it.name], attributes=attributes, serde=serde, docs=told_docs(it.docs, it.name))
 
 
 def told_docs(docs, name):
-    """The docs that say what something is called in the source."""
-    return (*(["///"] if docs else []), f"/// It is `{name}` {OF_CODE}")
+    """Docs that say what something is called in the source."""
+    return with_doc(docs, f"It is `{name}` {OF_CODE}")
 
 
 def rule_named(rule, found):
@@ -354,28 +351,23 @@ def mentioned(item):
 
 def names_alone(kind):
     """The names in a type that are written without a path."""
-    if isinstance(kind, str):
-        return set()
     return ({kind.name} if len(kind.path) == 1 else set()).union(*map(names_alone, kind.args))
 
 
 def substituted(kind, values):
     """A type with these types and lifetimes in place of parameters."""
-    if isinstance(kind, str):
-        return values.get(kind, kind) if isinstance(values.get(kind, kind), str) else kind
-    if kind.kind == "path" and len(kind.path) == 1 and not kind.args and isinstance(values.get(kind.name), Type):
+    if kind.kind == "path" and len(kind.path) == 1 and not (kind.args or kind.lives) and isinstance(values.get(kind.name), Type):
         return values[kind.name]
-    size = values.get(kind.size)
-    lifetime = values.get(kind.lifetime)
+    size, lives = values.get(kind.size), [values.get(it) for it in kind.lives]
     return replace(
         kind, args=tuple(substituted(it, values) for it in kind.args), size=size.name if isinstance(size, Type) else kind.size,
-        lifetime=lifetime if isinstance(lifetime, str) else kind.lifetime,
+        lives=tuple(one if isinstance(one, str) else it for one, it in zip(lives, kind.lives)),
     )
 
 
 def read_as(kind):
     """The type whose values a form reads of a type: that within a holder, and one of the library for those that are alike in JSON."""
-    types = [it for it in kind.args if not isinstance(it, str)]
+    types = kind.args
     if kind.kind == "ref" or is_path(kind, *HOLDERS) and len(types) == 1:
         return held(kind, types[0])
     if is_path(kind, "SmallVec") and len(types) == 1 and types[0].kind == "array":
@@ -384,7 +376,7 @@ def read_as(kind):
         return of_std("HashMap", kind, kind.args)
     if kind.kind == "path" and kind.name in ALIKE and len(types) >= ALIKE[kind.name][1]:
         name, count = ALIKE[kind.name]
-        return kind if name == kind.name and count == len(types) else of_std(name, kind, tuple(types[:count]))
+        return kind if name == kind.name and count == len(types) else of_std(name, kind, types[:count])
     return kind
 
 
@@ -406,8 +398,6 @@ def held(kind, one):
 
 def shown(kind):
     """A type as a source has it."""
-    if isinstance(kind, str):
-        return kind
     inside = ", ".join(map(shown, kind.args))
     if kind.kind == "ref":
         return f"&{inside}"
@@ -415,6 +405,7 @@ def shown(kind):
         return f"[{inside}; {kind.size}]" if kind.kind == "array" else f"[{inside}]"
     if kind.kind == "tuple":
         return f"({inside})"
+    inside = ", ".join([*kind.lives, *map(shown, kind.args)])
     return f"{kind.name}<{inside}>" if inside else kind.name
 
 
@@ -422,8 +413,7 @@ def camel_name(kind):
     """A type as a part of a name."""
     if kind.kind == "path":
         name = kind.name.split("::")[-1]
-        types = [it for it in kind.args if not isinstance(it, str)]
-        return f"{name[:1].upper()}{name[1:]}" + (f"Of{'And'.join(map(camel_name, types))}" if types else "")
+        return f"{name[:1].upper()}{name[1:]}" + (f"Of{'And'.join(map(camel_name, kind.args))}" if kind.args else "")
     if kind.kind == "const":
         return kind.name
     word = {"ref": "", "slice": "Slice", "array": f"Array{kind.size}", "tuple": "Tuple"}.get(kind.kind, "Unread")

@@ -99,7 +99,6 @@ def filled(group, values):
 
 
 def groups_in(group):
-    """The group and those within it."""
     return [group, *(found for it in group if isinstance(it, Group) for found in groups_in(it))]
 
 

@@ -146,8 +146,7 @@ def without(it, *words):
 
 def name_of(kind):
     """What the hole of a type is called: by the type, and by its arguments."""
-    held = [it for it in kind.args if not isinstance(it, str)]
-    return camel(kind.name) + (f"Of{''.join(map(name_of, held))}" if held else "")
+    return camel(kind.name) + (f"Of{''.join(map(name_of, kind.args))}" if kind.args else "")
 
 
 class Holes:
@@ -192,7 +191,7 @@ class Holes:
         kept = "any members pass, a map beside it has them too, and the whole object is kept" if is_among else "any value passes and is kept"
         self.tell(it.line, f"{place}: a field that {why}: {kept}", name)
         it = without(it, *BY_FUNCTION, "serialize_with", *["default"] * is_among)
-        return replace(it, type=replace(it.type, kind="path", name=name, path=(name,), args=()))
+        return replace(it, type=replace(it.type, kind="path", name=name, path=(name,), args=(), lives=()))
 
     def whole(self, it):
         """Why a field is a hole as a whole, or nothing; and whether it is read of members that stand among others."""
@@ -208,7 +207,7 @@ class Holes:
 
     def of_type(self, kind, place):
         """A type with holes for what in it no form reads, at a field of this name."""
-        if isinstance(kind, str) or is_text(kind) or kind.kind not in ("path", "slice", "array", "tuple", "ref"):
+        if is_text(kind) or kind.kind not in ("path", "slice", "array", "tuple", "ref"):
             return kind
         # a form reads values of these by the form of another type
         is_holder = is_option(kind) or is_path(kind, "Vec", "BTreeMap", "HashMap")
@@ -219,7 +218,7 @@ class Holes:
         name = self.free_name(kind)
         self.why.setdefault(name, self.reason(kind))
         self.tell(kind.line, f"{place}: the type `{kind.name}`{self.why[name]}: any value passes and is kept", name)
-        return replace(kind, name=name, path=(name,), args=())
+        return replace(kind, name=name, path=(name,), args=(), lives=())
 
     def free_name(self, kind):
         """What the hole of a type is called: by its last name, or by its whole path where another type has that name, or where it is imported."""

@@ -63,7 +63,6 @@ class Implementation:
         return is_open and any(rule.name == "dive" for it in fields for rule in all_rules(it.attributes.rules))
 
     def text(self, is_walked=True):
-        """The whole implementations."""
         item, writer = self.item, self.writer
         if item.attributes.skip or item.attributes.rules or item.attributes.adapter or item.attributes.rename:
             writer.notes.refuse(item.line, f"`{item.name}` has an attribute that stands at fields alone")
@@ -105,12 +104,9 @@ class Implementation:
     def of_struct(self):
         """The body and the statements of a struct."""
         variant = self.item.variants[0]
-        names = self.bindings(variant)
-        places = {it.name: Place(name, f"v.{it.name}", it.type) for it, name in zip(variant.fields, names) if it.name}
         stated_names = [f"v.{it.name or at}" for at, it in enumerate(variant.fields)]
-        scope = self.scope(places)
-        code, stated = self.fields(variant, names, stated_names, scope)
-        lines = [statement(self.pattern("Self", variant, names, scope), 8, "let ", " = self;")] if variant.fields else []
+        pattern, code, stated, _ = self.of_variant(variant, "Self", self.bindings(variant), stated_names)
+        lines = [statement(pattern, 8, "let ", " = self;")] if variant.fields else []
         return "\n".join([*lines, statement(self.visit(code), 8)]), stated
 
     def of_enum(self):
@@ -124,17 +120,19 @@ class Implementation:
         for variant in self.item.variants:
             names = self.bindings(variant)
             stated_names = [f"the_{it}" if it in STATED else it for it in names]
-            places = {it.name: Place(*name, it.type) for it, name in zip(variant.fields, zip(names, stated_names)) if it.name}
-            scope = self.scope(places)
-            code, stated = self.fields(variant, names, stated_names, scope)
-            arms.append(arm(self.pattern(f"{self.item.name}::{variant.name}", variant, names, scope), self.visit(code), 12))
+            pattern, code, stated, scope = self.of_variant(variant, f"{self.item.name}::{variant.name}", names, stated_names)
+            arms.append(arm(pattern, self.visit(code), 12))
             held = [name if self.is_bound(it, scope) else "_" for it, name in zip(variant.fields, stated_names)]
             cases.append(f"      | {' '.join([variant.word, *held])} ↦ {' and '.join(stated)}")
         return "\n".join(["        match self {", *arms, "        }"]), cases
 
-    def scope(self, places):
+    def of_variant(self, variant, head, names, stated_names):
+        """The pattern of a variant, the checks of its fields as code and as they are stated, and what they may speak of."""
+        places = {it.name: Place(*name, it.type) for it, name in zip(variant.fields, zip(names, stated_names)) if it.name}
         _, name, unit = self.context
-        return Scope(name, places, {it.name for it in self.item.params if it.kind == "type"}, unit)
+        scope = Scope(name, places, {it.name for it in self.item.params if it.kind == "type"}, unit)
+        code, stated = self.fields(variant, names, stated_names, scope)
+        return self.pattern(head, variant, names, scope), code, stated, scope
 
     def bindings(self, variant):
         """The name of each field in the code, which hides no name of the method's own."""
@@ -189,13 +187,10 @@ class Implementation:
             uses.fields.add("Transparent")
             return call("Transparent", name, check), said
         key = it.attributes.rename if it.attributes.rename is not None else it.name or None
-        if key is not None:
-            uses.fields.add("Field")
-            uses.words.add("field")
-            return call("Field", f'"{key}"', name, check), f'field "{key}" ({said})'
-        uses.fields.add("Item")
-        uses.words.add("item")
-        return call("Item", str(at), name, check), f"item {at} ({said})"
+        word, place = ("item", str(at)) if key is None else ("field", f'"{key}"')
+        uses.fields.add(word.capitalize())
+        uses.words.add(word)
+        return call(word.capitalize(), place, name, check), f"{word} {place} ({said})"
 
     def pattern(self, head, variant, names, scope):
         """The pattern that takes a value apart."""
@@ -205,7 +200,6 @@ class Implementation:
         return wide_call(head, *map(Word, bound)) if variant.fields else Word(head)
 
     def visit(self, fields):
-        """The call that visits the fields."""
         self.writer.uses.fields.add("Fields")
         whole = together(fields, 6) if fields else Word("()")
         words = tuple(map(Word, ("trail", "report", "h")))

@@ -3,12 +3,11 @@ import textwrap
 from dataclasses import dataclass
 
 from .defaults import is_skipped
-from .layout import WIDTH
+from .layout import WIDTH, Word, call, statement
 from .names import of_field
 from .parsed import KNOWN
 from .scope import SIGNED, UNSIGNED, is_option, is_path, is_text
 from .source import is_ported
-from .unborrowed import is_unborrowed, reader
 
 READ = """{constant}{docs}
 {tactic}{vis}fn read_{name}<{lives}, H: I18n + FormI18n>(
@@ -16,6 +15,54 @@ READ = """{constant}{docs}
 ) -> Result<{made}, {error}>{clauses}{{
 {forms}
 {read}
+}}"""
+# What reads a type that holds no text and no map. The borrow checker wants the lifetime of the input in what a form makes, so the value
+# is read beside it, by a function of its own.
+UNBORROWED = """// A value of the type `{item}` beside the lifetime of its input.
+#[derive(Drop)]
+struct {item}Within<'t> {{
+    value: {item},
+    input: Option<TextRef<'t>>,
+}}
+
+impl<'t> FromParts for {item}Within<'t> {{
+    type Parts = {item};
+
+    ghost builds = {{ λ parts. record {{ value = parts; input = None }} }};
+
+    ghost parts_of = {{ λ v. v.value }};
+
+    ghost kept = {{ λ _. refl }};
+
+    fn from_parts(parts: Self::Parts) -> Self {{
+        {item}Within {{
+            value: parts,
+            input: None,
+        }}
+    }}
+}}
+
+// Reads such a value.
+#[tactic(auto, unfolding(garde::specs::Fields::Known))]
+fn read_{name}_within<'a, H: I18n + FormI18n>(
+{params}
+) -> Result<({made}, Option<TextRef<'a>>), {error}>{within_clauses}{{
+{forms}
+{form}
+    match {call} {{
+        Ok({item}Within {{ value, input }}) => Ok(({value}, input)),
+        Err(error) => Err(error),
+    }}
+}}
+
+{docs}
+{vis}fn read_{name}<H: I18n + FormI18n>(
+{free_params}
+) -> Result<{made}, {error}>{clauses}{{
+    match read_{name}_within({args}) {{
+        Ok((value, _)) => Ok(value),
+        Err(error) => Err(error),
+    }}
 }}"""
 TACTIC = "#[tactic(auto, unfolding(garde::specs::Fields::Known))]\n"
 VALID = """    match {call} {{
@@ -152,18 +199,30 @@ class Reader:
             "params": "\n".join(f"    {it}," for it in params), "forms": self.lists_text(spelling, name) + self.schema.forms(item, 4),
         }
         clauses = self.clauses(spelling) if spelling else " "
-        if is_unborrowed(item, writer):
-            # what is read beside the lifetime is the first part of a result
-            within = clauses.replace("Some v)", "Some v.0)")
-            return reader(item, self.schema, {**said, "value": value, "call": given.call.format(form="within_form")}, clauses, within)
-        call = given.call.format(form=f"{name}_form")
+        if self.kind == "json" and item.name not in writer.borrowed.borrowing:
+            return self.unborrowed(clauses, {**said, "value": value, "call": given.call.format(form="within_form")})
+        reads = given.call.format(form=f"{name}_form")
         return READ.format(
             **said, constant=self.constant() if spelling else "", tactic=TACTIC if is_valid else "", lives=given.lives, clauses=clauses,
-            read=VALID.format(call=call, value=value) if is_valid else f"    {call}",
+            read=VALID.format(call=reads, value=value) if is_valid else f"    {reads}",
+        )
+
+    def unborrowed(self, clauses, said):
+        """The same of a type that holds nothing that borrows from the bytes."""
+        uses, within, name, params = self.writer.uses, f"{self.item.name}Within", said["name"], said["params"]
+        if within in self.schema.turned:
+            self.writer.notes.refuse(self.schema.turned[within].line, f"the name `{within}`, which the port writes: give the type another name")
+        self.schema.use("Built", "FromParts", "TextRef")
+        uses.others.add("std::marker::PhantomData")
+        uses.prelude |= {"None", "refl"}
+        return UNBORROWED.format(
+            **said, item=self.item.name, clauses=clauses, free_params=params.replace("&'a ", "&"),
+            # what is read beside the lifetime is the first part of a result
+            within_clauses=clauses.replace("Some v)", "Some v.0)"), args=", ".join(it.strip().partition(":")[0] for it in params.splitlines()),
+            form=statement(call("Built", f"{name}_form", Word(f"PhantomData::<&{within}<'_>>")), 4, "let within_form = ", ";"),
         )
 
     def docs(self, spelling):
-        """What is said of the function."""
         told = f"Reads a value of the type `{self.item.name}` {self.input.told}, or reports"
         if spelling:
             told = f"{told} {'at most so many faults' if self.writer.first else 'every fault of its form and of its rules'}."
@@ -172,7 +231,6 @@ class Reader:
         return f"/// {told} {'so many faults at most' if self.writer.first else f'every fault of its form{rules}'}."
 
     def clauses(self, spelling):
-        """What the function promises."""
         uses, given = self.writer.uses, self.input
         uses.prelude |= {"◌≡◌", "Some", "IfOk"}
         uses.paths |= set(given.ghosts)

@@ -3,10 +3,9 @@ import operator
 import re
 from fractions import Fraction
 
-from .borrowed import fields_of, is_map, is_named, of_whole, within_option
+from .borrowed import fields_of, is_held, is_map, is_named, of_whole, within_option
 from .defaults import in_json, is_skipped
 from .derives import options, type_names
-from . import in_order
 from .everyday import UNKNOWN
 from .forms import beside_dive, items_rules
 from .front import OF_CODE
@@ -16,7 +15,7 @@ from .names import of_field
 from .parsed import parser_of
 from .scope import SIGNED, is_option, is_path, is_text, range_of
 from .tokens import Refusal
-from .unions import Shapes, beside_units, is_other, is_unit, names_of, units_of
+from .unions import Shapes, beside_units, is_list, is_other, is_tuple, is_unit, names_of, units_of
 from .values import is_any, is_float
 from .words import camel
 
@@ -69,6 +68,10 @@ def kept_docs(docs):
     return {"description": text} if text else {}
 
 
+def schema_of_list(items):
+    return {"type": "array", **({"prefixItems": items} if items else {}), "minItems": len(items), "maxItems": len(items)}
+
+
 def bounds_of(low, high, word=""):
     """The least and the greatest number, or length, where they are known."""
     ends = (("min", low), ("max", high))
@@ -84,7 +87,7 @@ class JsonSchema:
 
     def of(self, name):
         """The schema of the type of this name; without one of the only type that no other one holds."""
-        tops = [it.name for it in self.items.values() if not is_named(it) and not self.is_held(it)]
+        tops = [it.name for it in self.items.values() if not is_named(it) and not is_held(it, self.items)]
         if name is None and len(tops) != 1:
             told = f"the types {', '.join(f'`{it}`' for it in tops)}" if tops else "no type that a form reads"
             raise Refusal(1, f"{told}, of which `--json-schema` writes one: name it by `--of TYPE`")
@@ -97,9 +100,6 @@ class JsonSchema:
         told = "; ".join([COMMENT, *([whole.pop("$comment")] if "$comment" in whole else [])])
         defs = {"$defs": {it.name: self.of_type(it) for it in held}} if held else {}
         return {"$schema": DRAFT, "title": item.name, "$comment": told, **whole, **defs}
-
-    def is_held(self, item):
-        return any(item.name in type_names(it.type) for other in self.items.values() if other is not item for it in fields_of(other))
 
     def names_within(self, item, seen=()):
         among = [it for it, _ in fields_among(item, self.items)]
@@ -150,8 +150,8 @@ class JsonSchema:
         """What a struct or a variant holds, which has no name there."""
         if is_unit(variant):
             return {"type": "null"}
-        if in_order.is_list(variant):
-            return in_order.schema_of([self.value(it.type, it.attributes.rules) for it in variant.fields])
+        if is_list(variant):
+            return schema_of_list([self.value(it.type, it.attributes.rules) for it in variant.fields])
         if variant.shape == "named" and not (item.kind == "struct" and "transparent" in options(item)):
             return self.object(variant, item)
         return self.value(variant.fields[0].type, variant.fields[0].attributes.rules)
@@ -245,17 +245,16 @@ class JsonSchema:
     # Values.
 
     def value(self, kind, rules):
-        """The schema of a value under rules."""
         if is_option(kind):
             whole = or_null(self.value(kind.args[0], within_option(rules)))
             asked = [NO_NULL if it.name == "required" else {"$comment": self.own(it)} for it in of_whole(rules)]
             return joined([whole, *asked])
-        if in_order.is_tuple(kind):
-            whole = in_order.schema_of([self.value(it, ()) for it in kind.args]) if kind.args else {"type": "null"}
+        if is_tuple(kind):
+            whole = schema_of_list([self.value(it, ()) for it in kind.args]) if kind.args else {"type": "null"}
         elif is_path(kind, "Vec") or is_map(kind):
             inside, rules = items_rules(rules), [it for it in rules if it.name not in ("inner", "dive")]
-            is_list, held = kind.name == "Vec", self.value(kind.args[-1], inside)
-            whole = {"type": "array", "items": held} if is_list else {"type": "object", "additionalProperties": held}
+            held = self.value(kind.args[-1], inside)
+            whole = {"type": "array", "items": held} if kind.name == "Vec" else {"type": "object", "additionalProperties": held}
         elif kind.name in self.items:
             whole, rules = {"$ref": "#" if kind.name == self.root else f"#/$defs/{kind.name}"}, beside_dive(rules)
         elif is_text(kind):
@@ -381,7 +380,6 @@ class JsonSchema:
         return {"properties": {name: schema}, **({"required": [name]} if is_needed else {})}
 
     def condition(self, it, variant, item):
-        """A condition as a schema of the object."""
         if it.kind == "bool":
             return {} if it.value == "true" else NEVER
         if it.kind == "not":
@@ -420,7 +418,6 @@ class JsonSchema:
         return self.where(place, {"contains": {"const": asked}}, lambda default: False, variant, item)
 
     def comparison(self, it, variant, item):
-        """A comparison of a field with what stands there."""
         (place, other), mark = it.parts, it.kind
         if self.writer.resolved(place).kind == "number":
             place, other, mark = other, place, TURNED[mark]

@@ -47,9 +47,9 @@ def sources_of(crate):
     return sources, found
 
 
-def names_of(crate, source):
+def names_of(crate, file, end=END):
     """The names of the module that a source gives, from the root of its crate on. `shop/mod.garde.rs` gives `shop`, as `shop.garde.rs`."""
-    names = (source.parent / source.name[: -len(END)]).relative_to(crate / "src").parts
+    names = (file.parent / file.name[: -len(end)]).relative_to(crate / "src").parts
     return names[:-1] if names[-1] == "mod" and names[1:] else names
 
 

@@ -4,7 +4,6 @@ from dataclasses import replace
 
 from .borrowed import below
 from .groups import filled, grouped
-from .in_order import names as names_in_code
 from .layout import WIDTH, Parts, Word, angles, arm, call, flat, literal, may_be_flat, statement, wide_call
 from .unions import SIDES, along, paths_of, tree_of
 
@@ -117,6 +116,11 @@ def ghost_cases(name, cases):
     return "\n".join([f"    ghost {name} = {{ elim [", *(f"      | {it}" for it in cases), "    ] };"])
 
 
+def names_in_code(fields):
+    """What the fields of a variant are called in code."""
+    return [it.name or ("value" if len(fields) == 1 else f"value_{at}") for at, it in enumerate(fields)]
+
+
 class Makers:
     """The makers of the types of a file."""
 
@@ -165,7 +169,6 @@ class Makers:
         )
 
     def types(self, variant):
-        """The types of the parts of a variant."""
         return tuple_of(self.tree(variant, [self.writer.type_text(it.type) for it in variant.fields])) if variant.fields else Word("()")
 
     def tree(self, variant, values):

@@ -2,6 +2,7 @@
 of `garde` in which what was not needed is left out."""
 import re
 
+from .kept import names_of
 from .tokens import shown
 
 SKIPPED = re.compile(r'//[^\n]*|"(?:\\.|[^"\\])*"|\'(?:\\[^\'\n]*|[^\\\'\n])\'', re.S)
@@ -20,18 +21,12 @@ def notes_of(crate, written):
     """What a crate lacks of what modules name: their outputs, each with its text, and the beginnings of what is written by hand for it."""
     found = []
     for output, (text, begun) in sorted(written.items()):
-        names = names_of(crate, output)
+        names = names_of(crate, output, ".rt")
         found += undeclared(crate, names, f"without it {shown(output)} is no part of the crate")
         found += unwritten(crate, output, SKIPPED.sub("", text), begun)
         found += left_out(crate, output, SKIPPED.sub("", text))
         found += unlisted(crate, output, SKIPPED.sub("", text))
     return list(dict.fromkeys(found))
-
-
-def names_of(crate, output):
-    """The names of the module that stands in a file, from the root of its crate on."""
-    names = output.relative_to(crate / "src").with_suffix("").parts
-    return names[:-1] if names[-1] == "mod" else names
 
 
 def file_of(crate, names):

@@ -41,14 +41,12 @@ def case_of(it, word):
 
 
 def of_field(field, variant, item):
-    """The name of a field's member."""
     case = case_of(item, "rename_all") if item.kind == "struct" else case_of(variant, "rename_all") or case_of(item, "rename_all_fields")
     found = renamed(field)
     return found if found is not None else OF_FIELDS.get(case, str)(field.name)
 
 
 def of_variant(variant, item):
-    """The name of a variant."""
     found = renamed(variant)
     return found if found is not None else OF_VARIANTS.get(case_of(item, "rename_all"), str)(variant.name)
 

@@ -89,7 +89,7 @@ def crate_of(kind, source):
 
 def place_of(kind, source):
     """The crate and the name of a type that no item of the file declares."""
-    if not isinstance(kind, Type) or kind.kind != "path" or any(it.name == kind.name for it in source.items):
+    if kind.kind != "path" or any(it.name == kind.name for it in source.items):
         return None
     # an import may give it another name than it has in its crate
     names = (path[-1] for path, name in source.imports if len(kind.path) == 1 and name == kind.name and name != "*")

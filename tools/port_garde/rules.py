@@ -95,7 +95,6 @@ def argument(tokens, word):
 
 
 def read_rule(tokens):
-    """Reads a rule."""
     line, word = tokens.line, tokens.name("a rule")
     if word in NO_PORT:
         raise Refusal(line, NO_PORT[word])
@@ -140,7 +139,6 @@ def read_bounded(tokens, word, line):
 
 
 def read_bounds(tokens, word, line):
-    """Reads `min`, `max` and `equal`."""
     bounds = {}
     while not tokens.ended():
         name = tokens.name("a bound")

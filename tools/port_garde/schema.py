@@ -3,7 +3,7 @@ import re
 from collections import Counter
 from dataclasses import replace
 
-from .borrowed import below, fields_of, is_named
+from .borrowed import below, fields_of, is_held, is_named
 from .defaults import Making
 from .derives import all_type_names, type_names
 from .flattened import fields_among, own_part, part_of
@@ -84,11 +84,7 @@ class Schema(Forms):
         makers = [text for it in made for text in (self.makers.text(self.turned[it.name]), *self.shared_texts(it), *self.making.texts(it))]
         if self.spellings:
             return [*makers, *self.spellings.texts()]
-        return [*makers, *(Reader(self, it).text() for it in made if not self.is_held(it))]
-
-    def is_held(self, item):
-        """Whether another type of the file holds values of this one."""
-        return any(item.name in type_names(it.type) for other in self.items.values() if other is not item for it in fields_of(other))
+        return [*makers, *(Reader(self, it).text() for it in made if not is_held(it, self.items))]
 
     def names_of(self, item):
         """What a type is called in the names of others, and the type as what reads it has it."""

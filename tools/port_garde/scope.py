@@ -67,7 +67,7 @@ def is_option(kind):
 def is_text(kind):
     """Whether a type is a text: `String`, `&str`, `Cow<str>`, or a text that a form reads."""
     borrowed = kind.kind == "ref" and is_path(kind.args[0], "str")
-    return is_path(kind, "String", "TextRef") or borrowed or (is_path(kind, "Cow") and any(is_path(it, "str") for it in kind.args[1:]))
+    return is_path(kind, "String", "TextRef") or borrowed or (is_path(kind, "Cow") and bool(kind.lives) and any(is_path(it, "str") for it in kind.args))
 
 
 def range_of(name):

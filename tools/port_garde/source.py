@@ -15,14 +15,15 @@ UNKNOWN_BUILD = "an attribute `cfg` or `cfg_attr`, which the port cannot judge"
 @dataclass(frozen=True)
 class Type:
     """A type: its kind is `path`, `ref`, `slice`, `array`, `tuple`, `const` for a number among the arguments, or `unread` where the port
-    cannot read it. Its name is the last one of its path; `front` gives a type of another crate its whole path as its name."""
+    cannot read it. Its name is the last one of its path; `front` gives a type of another crate its whole path as its name. Its arguments are
+    types, beside its lifetimes."""
 
     kind: str
     name: str
     line: int
     path: tuple = ()
     args: tuple = ()
-    lifetime: str = ""
+    lives: tuple = ()
     size: str = ""
 
 
@@ -180,20 +181,17 @@ def read_item(tokens, source, text):
     try:
         outer = read_outer(tokens)
         at = tokens.at
-        if outer.absent:
-            pass_over(tokens)
-            source.notes.told.append((begin, tokens.first.at))
-        else:
+        if not outer.absent:
             read_known_item(tokens, source, text, outer, begin)
+            return
     except Refusal as refusal:
         source.notes.faults.append(refusal)
         tokens.at = max(at, 1)
-        pass_over(tokens)
-        source.notes.told.append((begin, tokens.first.at))
+    pass_over(tokens)
+    source.notes.told.append((begin, tokens.first.at))
 
 
 def read_known_item(tokens, source, text, outer, begin):
-    """Reads an item behind its attributes."""
     start, line, first = tokens.first.at, tokens.line, tokens.at
     vis = read_vis(tokens)
     before = tokens.at
@@ -201,8 +199,7 @@ def read_known_item(tokens, source, text, outer, begin):
         tokens.take()
     if tokens.sees("extern") and tokens.tokens[tokens.at + 1].kind in ("text", "name") and not tokens.sees("extern", "crate"):
         tokens.take()
-        if tokens.first.kind == "text":
-            tokens.take()
+        tokens.at += tokens.first.kind == "text"
     word = tokens.take().text
     if word in ("struct", "enum"):
         read_type_item(tokens, source, outer, (word, vis, line, begin))
@@ -226,7 +223,8 @@ def read_known_item(tokens, source, text, outer, begin):
 
 def read_alias(tokens, source, conditional):
     """Reads another name of a type. What cannot be read of it is told where a field has the type."""
-    line, faults, later = tokens.line, len(source.notes.faults), len(source.notes.later)
+    line, notes = tokens.line, source.notes
+    faults, later = len(notes.faults), len(notes.later)
     alias = Alias(tokens.name("the name of a type"), line, fault="which stands under a condition of the build" if conditional else "")
     at = tokens.at
     try:
@@ -236,7 +234,7 @@ def read_alias(tokens, source, conditional):
     except Refusal as refusal:
         alias = replace(alias, fault=f"which cannot be read: {refusal.reason}")
         tokens.at = at
-    del source.notes.faults[faults:], source.notes.later[later:]
+    del notes.faults[faults:], notes.later[later:]
     source.aliases[alias.name] = alias if alias.name not in source.aliases else replace(alias, fault="which stands in the file twice")
     pass_to_end(tokens)
 
@@ -322,8 +320,7 @@ def read_factor(tokens, known):
 
 
 def read_outer(tokens):
-    """Reads docs and attributes."""
-    docs, asked, outer, faulty = [], [], Outer(), False
+    docs, asked, outer, notes, faulty = [], [], Outer(), tokens.notes, False
     while tokens.first.kind in ("doc", "head") or tokens.opens("#"):
         mark = tokens.take()
         if mark.kind != "mark":
@@ -332,22 +329,20 @@ def read_outer(tokens):
         of_the_file = tokens.takes("!")
         if not tokens.opens("["):
             raise Refusal(mark.line, "`#` with no attribute behind it")
-        inside = tokens.group()
+        inside, place = tokens.group(), (mark.at, tokens.first.at)
         try:
             read_attribute_of(inside, outer, asked, mark, of_the_file)
         except Refusal as refusal:
-            tokens.notes.faults.append(refusal)
-            tokens.notes.told.append((mark.at, tokens.first.at))
+            notes.faults.append(refusal)
+            notes.told.append(place)
             faulty = True
-        if outer.conditions and outer.conditions[-1][1] is None:
-            outer.conditions[-1] = (mark.at, tokens.first.at)
+        outer.conditions = [it or place for it in outer.conditions]
     outer.docs, outer.attributes = tuple(docs), read_attributes(asked) if asked else Attributes()
     outer.attributes = replace(outer.attributes, faulty=outer.attributes.faulty or faulty)
     return outer
 
 
 def read_attribute_of(inside, outer, asked, mark, of_the_file):
-    """Reads what stands within an attribute."""
     at, path = inside.first.at, inside.path("a path")
     word = path[-1] if path[:-1] in ([], ["core"], ["std"], ["core", "prelude", "v1"], ["std", "prelude", "v1"]) else ""
     if path[-1] == "garde" and (len(path) > 1 or of_the_file or not inside.opens("(")):
@@ -366,7 +361,7 @@ def read_attribute_of(inside, outer, asked, mark, of_the_file):
         held = None if of_the_file or not inside.opens("(") else read_condition(word, inside.group(), outer, asked, mark)
         outer.absent |= word == "cfg" and held is False
         outer.condition = mark.line if held is None else outer.condition
-        outer.conditions += [(mark.at, None)] if held is None else []
+        outer.conditions += [None] if held is None else []
     elif word == "serde" and inside.opens("("):
         outer.serde += (read_serde(inside.group()),)
     else:
@@ -466,9 +461,7 @@ def read_struct(tokens):
 
 
 def read_enum(tokens):
-    """Reads an enum after its keyword."""
-    name = tokens.name("the name of an enum")
-    params = read_angles(tokens, read_param)
+    name, params = tokens.name("the name of an enum"), read_angles(tokens, read_param)
     no_where(tokens)
     variants = read_parts(tokens, read_variant)
     read = present(variants)
@@ -482,17 +475,16 @@ def read_parts(tokens, read):
 
     def read_part(tokens):
         begin, outer = tokens.first.at, read_outer(tokens)
-        if not outer.absent:
-            return read(tokens, unconditional(tokens, outer))
-        tokens.skip_to(",")
-        tokens.notes.absent.append((begin, tokens.first.at))
-        return outer
+        if outer.absent:
+            tokens.skip_to(",")
+            tokens.notes.absent.append((begin, tokens.first.at))
+            return outer
+        return read(tokens, unconditional(tokens, outer))
 
     return tuple(it for it in tokens.group().items(read_part) if not isinstance(it, Outer))
 
 
 def read_variant(tokens, outer):
-    """Reads a variant of an enum behind its attributes."""
     line, name = tokens.line, tokens.name("a variant")
     if outer.attributes.asked:
         tokens.notes.refuse(line, f"an attribute at the variant `{name}`: attributes stand at types and at fields")
@@ -512,7 +504,6 @@ def read_discriminant(tokens, name):
 
 
 def read_variant_body(tokens, name, line, docs):
-    """Reads the fields of a struct or of a variant."""
     no_where(tokens)
     shape = "named" if tokens.opens("{") else "tuple" if tokens.opens("(") else "unit"
     fields = read_parts(tokens, lambda it, outer: read_field(it, outer, shape == "named")) if shape != "unit" else ()
@@ -528,7 +519,6 @@ def no_where(tokens):
 
 
 def read_field(tokens, outer, is_named):
-    """Reads a field behind its attributes."""
     vis, line, name, attributes = read_vis(tokens), tokens.line, "", outer.attributes
     if is_named:
         name = tokens.name("the name of a field")
@@ -565,33 +555,28 @@ def read_angles(tokens, read):
 
 
 def read_param(tokens):
-    """Reads one parameter, with its bounds."""
+    line, notes = tokens.line, tokens.notes
     if tokens.first.kind == "lifetime":
-        line, name = tokens.line, tokens.take().text
+        name = tokens.take().text
         if tokens.sees(":"):
-            tokens.notes.refuse_walk(line, f"the lifetime `{name}` has bounds")
+            notes.refuse_walk(line, f"the lifetime `{name}` has bounds")
             tokens.skip_to(",", ">")
         return Param("lifetime", name)
     kind = "const" if tokens.takes("const") else "type"
     line, name = tokens.line, tokens.name("a parameter")
     if name == "H":
-        tokens.notes.refuse_walk(line, "a parameter of the name `H`, which the method has for the handler")
+        notes.refuse_walk(line, "a parameter of the name `H`, which the method has for the handler")
     bounds = read_bounds(tokens) if tokens.takes(":") else ""
-    default = read_default(tokens, name) if tokens.sees("=") else None
-    return Param(kind, name, bounds, default)
-
-
-def read_default(tokens, name):
-    """Reads the default of a parameter, or passes over one that cannot be read."""
-    tokens.notes.refuse_walk(tokens.line, f"the parameter `{name}` has a default")
+    if not tokens.takes("="):
+        return Param(kind, name, bounds)
+    notes.refuse_walk(tokens.tokens[tokens.at - 1].line, f"the parameter `{name}` has a default")
     at = tokens.at
     try:
-        tokens.expect("=")
-        return read_argument(tokens)
+        return Param(kind, name, bounds, read_argument(tokens))
     except Refusal:
         tokens.at = at
         tokens.skip_to(",", ">")
-    return None
+        return Param(kind, name, bounds)
 
 
 def read_bounds(tokens):
@@ -607,28 +592,25 @@ def read_bounds(tokens):
 
 
 def read_type(tokens):
-    """Reads a type."""
     line = tokens.line
     tokens.takes("::")
     if tokens.takes("&"):
-        lifetime = tokens.take().text if tokens.first.kind == "lifetime" else ""
+        lives = (tokens.take().text,) if tokens.first.kind == "lifetime" else ()
         if tokens.sees("mut"):
             raise Refusal(line, "a type with `&mut`")
-        return Type("ref", "&", line, args=(read_type(tokens),), lifetime=lifetime)
+        return Type("ref", "&", line, args=(read_type(tokens),), lives=lives)
     if tokens.opens("("):
-        return Type("tuple", "()", line, args=all_of(tokens.group().items(read_type), line))
+        args = tokens.group().items(read_type)
+        if None in args:
+            raise Refusal(line, "a tuple with a type that the port cannot read")
+        return Type("tuple", "()", line, args=tuple(args))
     if tokens.opens("["):
         return read_slice(tokens.group(), line)
     if tokens.first.kind != "name" or tokens.first.text in ("dyn", "impl", "fn", "for"):
         raise Refusal(line, f"a type that begins with `{tokens.first.text}`")
-    return read_path_type(tokens, line)
-
-
-def all_of(types, line):
-    """Types that were all read."""
-    if None in types:
-        raise Refusal(line, "a tuple with a type that the port cannot read")
-    return tuple(types)
+    path, found = tokens.path("a type"), read_angles(tokens, read_argument)
+    lives = tuple(it for it in found if isinstance(it, str))
+    return Type("path", path[-1], line, path=tuple(path), args=tuple(it for it in found if not isinstance(it, str)), lives=lives)
 
 
 def read_slice(tokens, line):
@@ -640,12 +622,6 @@ def read_slice(tokens, line):
     start = tokens.at
     tokens.skip_to(",")
     return Type("array", "[;]", line, args=(item,), size=" ".join(it.text for it in tokens.tokens[start : tokens.at]))
-
-
-def read_path_type(tokens, line):
-    """Reads a type by its path, with its arguments."""
-    path = tokens.path("a type")
-    return Type("path", path[-1], line, path=tuple(path), args=read_angles(tokens, read_argument))
 
 
 def read_argument(tokens):
@@ -662,9 +638,14 @@ def is_ported(item):
     return "Validate" in item.derives
 
 
-def named_type(name, line, *args):
+def named_type(name, line, *args, lives=()):
     """A type by its name alone."""
-    return Type("path", name, line, path=(name,), args=args)
+    return Type("path", name, line, path=(name,), args=args, lives=lives)
+
+
+def with_doc(docs, text):
+    """Docs, and a line behind them."""
+    return (*docs, *(["///"] if docs else []), f"/// {text}")
 
 
 def with_variants(item, fields):

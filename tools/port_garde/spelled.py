@@ -160,7 +160,6 @@ class Spellings(Forms):
             return []
 
     def reader(self, item):
-        """The implementation by which bodies are read."""
         self.writer.item = item
         borrows = bool(self.turned[item.name].params)
         if self.writer.is_library and not borrows:
@@ -175,7 +174,6 @@ class Spellings(Forms):
         return head + BODY.format(made=made, name=name, forms=self.schema.forms(item, 8))
 
     def statement(self, item):
-        """What JSON spells of a type."""
         self.writer.item = item
         turned = self.turned[item.name]
         life, context = "<'t>" if turned.params else "", self.writer.context_of(item)
@@ -225,7 +223,6 @@ class Spellings(Forms):
         return said(self.writer.uses.state(*STATED[name]), *parts)
 
     def in_turn(self, parts):
-        """Members in turn."""
         if len(parts) < 2:
             return parts[0] if parts else self.make("Nothing")
         return said(self.writer.uses.state("garde_schema.specs.Spelling", SEVERAL[len(parts)]), *parts)
@@ -309,7 +306,6 @@ class Spellings(Forms):
         return text.replace("is (items ", "is (count ")
 
     def asked(self, kind, rules):
-        """What rules ask of a value."""
         text = self.checks(kind, rules)
         if not rules:
             self.writer.uses.words.add("none")

@@ -57,6 +57,10 @@ class Notes:
     def refuse(self, line, reason):
         self.faults.append(Refusal(line, reason))
 
+    def refuse_all(self, told):
+        for line, reason in told:
+            self.refuse(line, reason)
+
     def refuse_walk(self, line, reason):
         """Notes what cannot be ported of a type that no form reads."""
         self.later.append(Refusal(line, reason))
@@ -181,7 +185,6 @@ class Tokens:
             raise Refusal(self.line, f"`{text}` is expected in place of `{self.first.text}`")
 
     def name(self, what):
-        """Takes a name."""
         token = self.take()
         if token.kind != "name":
             raise Refusal(token.line, f"{what} is expected in place of `{token.text}`")

@@ -18,10 +18,29 @@ LISTS = ("Vec", "VecDeque", "LinkedList", "HashSet", "BTreeSet", "IndexSet")
 MAPS = ("HashMap", "BTreeMap", "IndexMap", "Map")
 HOLDERS = ("Box", "Rc", "Arc", "Cow")
 SIDES = {"l": "Left", "r": "Right"}
+# A tuple of more items is a tuple in a tuple, whose value is another one.
+MOST_ITEMS = 6
 
 
 def is_unit(variant):
     return variant.shape == "unit"
+
+
+def is_tuple(kind):
+    return kind.kind == "tuple"
+
+
+def is_list(variant):
+    """Whether the fields of a variant, or of a struct, are a list in JSON."""
+    return variant.shape == "tuple" and len(variant.fields) != 1
+
+
+def faults_of_tuple(kind):
+    """Why no form reads a tuple."""
+    if len(kind.args) == 1:
+        yield "a tuple of one value, which no form of `--schema` reads: write the value, or a list"
+    if len(kind.args) > MOST_ITEMS:
+        yield f"a tuple of more than {MOST_ITEMS} values, which no form of `--schema` reads: write a struct with fields without names, as `struct Row(..);`"
 
 
 def is_other(variant):
@@ -106,8 +125,8 @@ class Shapes:
         self.borrowed, self.items = borrowed, borrowed.items
 
     def of_type(self, kind, seen=()):
-        if isinstance(kind, str) or kind.kind == "unread" or kind.name in self.borrowed.holes:
-            return Shape(set(KINDS), is_open=True, is_own=not isinstance(kind, str) and kind.name in self.borrowed.holes)
+        if kind.kind == "unread" or kind.name in self.borrowed.holes:
+            return Shape(set(KINDS), is_open=True, is_own=kind.name in self.borrowed.holes)
         if is_text(kind):
             return Shape({"text"}, {"text"})
         if is_path(kind, *HOLDERS) and kind.args:
@@ -248,7 +267,6 @@ def told_apart(shape, others, is_strict=False):
 
 
 def chained(word, tests):
-    """Tests in pairs."""
     *front, whole = tests
     for it in reversed(front):
         whole = (word, it, whole)

@@ -26,7 +26,7 @@ def is_any(kind):
 
 def is_made(kind, *names):
     """Whether a type is one of these, which a form makes."""
-    return is_path(kind, *names) and kind.path == (kind.name,) and len(kind.args) == 1 and isinstance(kind.args[0], str)
+    return is_path(kind, *names) and kind.path == (kind.name,) and not kind.args and len(kind.lives) == 1
 
 
 def is_decimal(kind):
@@ -37,13 +37,13 @@ def is_decimal(kind):
 def as_read(kind, life):
     """The type of the value that a form makes of one of these."""
     name = DECIMAL if is_float(kind) else KEPT
-    return named_type(name, kind.line, life)
+    return named_type(name, kind.line, lives=(life,))
 
 
 def canonical(kind, imports):
     """A type of the source in which each value of any kind is `serde_json::Value`, each object of such a map, and each number of serde_json an
     `f64`. `imports` are those of the source, each a path with the name that it gets."""
-    if isinstance(kind, str) or kind.kind == "unread":
+    if kind.kind == "unread":
         return kind
     if kind.kind == "ref" and kind.args and crate_and_name(kind.args[0], imports)[1:] == ("RawValue",):
         kind = kind.args[0]
@@ -63,7 +63,7 @@ def canonical(kind, imports):
 
 def crate_and_name(kind, imports):
     """The crate that a type is of, where an import or its path says that, and its name there."""
-    if isinstance(kind, str) or kind.kind != "path":
+    if kind.kind != "path":
         return None, None
     path = kind.path
     found = next((whole for whole, name in imports if name == path[0] and whole[0] != path[0]), None)

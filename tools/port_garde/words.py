@@ -6,7 +6,7 @@ from .expressions import CONTEXT, places_in
 from .layout import Lent, Word, call, literal
 from .rules import OURS, PLAIN, REPEATED, TEXTS
 from .scope import SIGNED, UNSIGNED, Place, Scope, Seen, is_option, is_path, is_text, range_of as whole_range
-from .source import Type, named_type, type_names
+from .source import named_type, type_names
 from .tokens import Refusal
 from .values import DECIMAL, KEPT, is_decimal, is_made, multiple_of, range_of
 
@@ -28,7 +28,7 @@ IPS = {"ip": "Any", "ipv4": "V4", "ipv6": "V6"}
 # How two items of a list are compared.
 SAME = {"String": "text_eq (str x) (str y)", "TextRef": "text_eq", **dict.fromkeys(UNSIGNED, "nat_eq")}
 # A text that a form reads.
-TEXT = named_type("TextRef", 0, "'t")
+TEXT = named_type("TextRef", 0, lives=("'t",))
 # The rules that are asked of what an option holds.
 INSIDE = (*PLAIN[1:], *TEXTS, "length", "range", "pattern", *OURS)
 # Types of one value, which do not validate themselves.
@@ -92,13 +92,11 @@ class Checks:
         return name
 
     def under(self, rule, seen, adapter):
-        """Rules under a condition."""
         condition, stated = Conditions(self.scope, self.uses, self.writer).whole(rule.place)
         code, spec = self.of(rule.rules, seen, adapter)
         return call(self.field("When"), condition, code), f"{self.word('when')} {stated} ({spec})"
 
     def inner(self, rule, seen, adapter):
-        """Rules of each item."""
         held, word, name = self.items_of(rule, seen)
         code, spec = self.of(rule.rules, held, adapter)
         return call(self.field("Each"), code), f"{word} (λ {held.name}. {spec}) {name}"
@@ -110,11 +108,11 @@ class Checks:
             return seen.part(kind.args[0].args[0]), self.word("each"), f"{seen.name}.now"
         if kind.name in EACH and kind.args:
             return seen.part(kind.args[0]), self.word(EACH[kind.name]), self.held(kind, seen)
-        key = kind.args[0].name if len(kind.args) == 2 and isinstance(kind.args[0], Type) else ""
+        key = kind.args[0].name if len(kind.args) == 2 else ""
         if kind.name in EACH_VALUE and key in KEYS:
             return seen.part(kind.args[1]), f"{self.word(EACH_VALUE[kind.name])} {self.word(KEYS[key])}", self.held(kind, seen)
         if kind.name == "Entries":
-            return seen.part(kind.args[1]), f"{self.word('each_value')} {self.word('key_part')}", seen.name
+            return seen.part(kind.args[0]), f"{self.word('each_value')} {self.word('key_part')}", seen.name
         raise Refusal(rule.line, f"`{rule.name}` of the type `{self.writer.type_text(kind, True)}`, whose items the port does not know")
 
     def unique(self, rule, seen, adapter):
@@ -148,7 +146,7 @@ class Checks:
             told = f"`keys` of the type `{self.writer.type_text(seen.type, True)}`"
             raise Refusal(rule.line, f"{told}: it is asked of maps that are read by `--schema --no-walk` or `--spelled`")
         self.refuse_walk(rule)
-        name = seen.part(seen.type.args[0]) if not isinstance(seen.type.args[0], str) else seen.part(TEXT)
+        name = seen.part(TEXT if seen.type.lives else seen.type.args[0])
         code, spec = self.of(rule.rules, name)
         self.uses.paths.add("Rattle.garde_schema.specs.Maps.{each_key, names_of}")
         return code, f"each_key (λ {name.name}. {spec}) (names_of {seen.name})"
@@ -273,7 +271,6 @@ class Checks:
         return call(name, f'"{rule.text}"'), self.text(rule.name, seen, f'"{rule.text}"'), False
 
     def text(self, word, seen, *before):
-        """A word about a text."""
         return " ".join([self.word(word), *before, self.text_of(seen)])
 
     def text_of(self, seen):
@@ -335,7 +332,6 @@ class Checks:
         return call(self.field("Pattern"), lent), self.text("pattern", seen, source)
 
     def length(self, rule, seen):
-        """The rule about a length, in its mode."""
         code = self.bounds_code(rule)
         kind, bounds = seen.type, self.stated_bounds(rule, False)
         if is_text(kind):
@@ -350,7 +346,6 @@ class Checks:
         return code, f"{self.word('items')} {bounds} {listed}"
 
     def range(self, rule, seen):
-        """The rule about a number, by its type."""
         kind = seen.type.name
         if is_decimal(seen.type):
             return range_of(self, rule, seen)
@@ -384,7 +379,6 @@ class Checks:
         return f"({' '.join([self.word(BOUNDS[end]), *stated])})"
 
     def refuse_bounds(self, rule, kind, signed):
-        """Refuses bounds that no number of the type reaches."""
         least, most = whole_range(kind)
         for it in map(self.writer.resolved, rule.bounds.values()):
             if it.kind == "number" and (it.value > most or signed and it.value < least):

@@ -2,7 +2,7 @@
 import re
 from dataclasses import replace
 
-from .borrowed import Borrowed, below, is_named
+from .borrowed import Borrowed, below, is_held, is_named
 from .derives import SERDE, Derives, kept_derives, literal_function, named_function, options, serde_lines
 from .front import Front, place_named
 from .holes import HOLE, MEMBERS
@@ -127,8 +127,7 @@ class Writer:
         items = [text for item in self.source.items for text in self.tried(item, rust)]
         items += self.schema_texts(rust) if self.borrowed and not self.notes.faults else []
         self.find_clashes()
-        for line, reason in passed_by(rust, self.notes):
-            self.notes.refuse(line, reason)
+        self.notes.refuse_all(passed_by(rust, self.notes))
         if self.module is None and not self.notes.faults:
             # a statement names what the toolchain declares of these types
             for it in (it for it in self.source.items if self.stated_variants(it) or self.is_nested(it)):
@@ -146,11 +145,9 @@ class Writer:
         try:
             texts = self.item_texts(item)
             if not self.notes.faults and not self.borrowed:
-                for line, reason in lost_of_serde(rust, item, texts[0]):
-                    self.notes.refuse(line, reason)
+                self.notes.refuse_all(lost_of_serde(rust, item, texts[0]))
             if is_ported(item) and not self.notes.faults and not self.is_nested(item):
-                for line, reason in faults_of_values(rust, item, texts):
-                    self.notes.refuse(line, reason)
+                self.notes.refuse_all(faults_of_values(rust, item, texts))
             return texts
         except Refusal as refusal:
             self.notes.faults.append(refusal)
@@ -166,18 +163,16 @@ class Writer:
         texts = [] if self.notes.faults else schema.texts()
         if self.notes.faults:
             return []
-        read = [it for it in self.borrowed.items.values() if it.name not in self.borrowed.holes and (not is_named(it) or schema.is_held(it))]
+        read = [it for it in self.borrowed.items.values() if it.name not in self.borrowed.holes and (not is_named(it) or is_held(it, self.borrowed.items))]
         # a type that a form by hand alone reads has no form here
         read = [it for it in read if re.search(rf"\b{snake(it.name)}_(?:form|members)\b", "\n".join(texts))]
-        for line, reason in lost_of_names(rust, read, texts):
-            self.notes.refuse(line, reason)
+        self.notes.refuse_all(lost_of_names(rust, read, texts))
         return texts
 
     def item_texts(self, item):
         """The type, the patterns that it asks for, and its implementation."""
         self.item = item
-        for line, reason in self.derives.faults(item):
-            self.notes.refuse(line, reason)
+        self.notes.refuse_all(self.derives.faults(item))
         taken = {it.name for it in item.params}
         # the method has an `'a` of its own
         self.renamed = {"'a": next(it for it in ("'t", "'u", "'s", "'r") if it not in taken)}
@@ -292,21 +287,19 @@ class Writer:
 
     def type_text(self, kind, declared=False):
         """A type as it is written here; in a declaration its lifetimes stay as they are."""
-        if isinstance(kind, str):
-            return kind if declared else self.renamed.get(kind, kind)
+        lives = [it if declared else self.renamed.get(it, it) for it in kind.lives]
         inside = [self.type_text(it, declared) for it in kind.args]
         if kind.kind in ("unread", "const"):
             return kind.name or "_"
         if kind.kind == "ref":
-            life = self.type_text(kind.lifetime, declared) + " " if kind.lifetime else ""
-            return f"&{life}{inside[0]}"
+            return " ".join([f"&{lives[0]}", inside[0]]) if lives else f"&{inside[0]}"
         if kind.kind == "slice":
             return f"[{inside[0]}]"
         if kind.kind == "array":
             return f"[{inside[0]}; {kind.size}]"
         if kind.kind == "tuple":
             return f"({', '.join(inside)}{',' * (len(inside) == 1)})"
-        return self.path_text(kind, inside)
+        return self.path_text(kind, [*lives, *inside])
 
     def path_text(self, kind, inside):
         """A type by its path: those of std by their last name, which is imported."""
@@ -524,7 +517,6 @@ class Writer:
         return ".".join(["Rattle", crate, "specs", "declared", *modules, item.name])
 
     def use_lines(self):
-        """What the code imports."""
         paths = {f"garde::fields::{name}" for name in self.uses.fields | self.uses.kept_fields} | self.uses.others | self.uses.kept_others | self.crate_imports()
         paths |= {"garde::Stated"} if any(is_ported(it) and not self.is_nested(it) for it in self.source.items) else set()
         if self.own:
@@ -574,4 +566,4 @@ def names_of(item):
 
 def first_names(kind):
     """The names that the paths in a type begin with."""
-    return set() if isinstance(kind, str) else set(kind.path[:1]).union(*map(first_names, kind.args))
+    return set(kind.path[:1]).union(*map(first_names, kind.args))
