@@ -3,7 +3,7 @@ borrow from the input; and what of them no form reads."""
 from dataclasses import replace
 
 from .defaults import WAY, Defaults, Value, fitted, is_skipped
-from .derives import CASES, OPTIONS, OWN, options, reading_case, type_names
+from .derives import CASES, OPTIONS, OWN, all_types, fields_of, options, reading_case, type_names
 from .everyday import plain
 from .flattened import always_there, faults as faults_of_flattened, flat_part, held_part, names_of
 from .groups import is_flat, is_rest, others_of, own_rules, shared_rules
@@ -12,7 +12,7 @@ from .parsed import WAYS, parser_of, place_of
 from .scope import SIGNED, UNSIGNED, is_option, is_path, is_text
 from .quoted import BESIDE_CONTEXT
 from .rules import Attributes
-from .source import Item, Param, Type, all_rules, fields_of, is_ported, named_type, with_doc, with_fields
+from .source import Item, Param, Type, all_rules, is_ported, named_type, with_doc, with_fields
 from .tokens import Refusal, meant
 from .unions import Shapes, faults_of_tuple, is_other, is_tuple, is_unit, names_of as names_of_variant
 from .values import DECIMAL, KEPT, as_read, canonical, is_any, is_float
@@ -79,7 +79,6 @@ def is_held(item, items):
 
 
 def without_dive(rules):
-    """Rules without `dive`."""
     kept = [replace(it, rules=without_dive(it.rules)) for it in rules if it.name != "dive"]
     return tuple(it for it in kept if it.rules or it.name not in ("inner", "if"))
 
@@ -118,7 +117,6 @@ class Borrowed:
         self.source.items[:] = [self.items[it.name] if it.name in self.items and it.name not in self.holes else it for it in self.source.items]
 
     def each_field(self, change):
-        """Changes each field of the types."""
         for at, item in enumerate(self.source.items):
             if item.name in self.items and item.name not in self.holes:
                 self.source.items[at] = self.items[item.name] = with_fields(item, change)
@@ -178,7 +176,6 @@ class Borrowed:
                 yield it
 
     def is_compared(self, kind):
-        """Whether items of a list are compared."""
         held = self.items.get(kind.name)
         return is_text(kind) or is_path(kind, *UNSIGNED, *SIGNED) or held is not None and kind.name not in self.holes and self.has(held, "PartialEq", ())
 
@@ -191,8 +188,8 @@ class Borrowed:
         return found
 
     def borrows(self, kind, known):
-        own = is_text(kind) or is_float(kind) or is_any(kind) or is_path(kind, "BTreeMap", "HashMap", "TextRef", "Entries", DECIMAL, KEPT) or (kind.kind == "path" and kind.name in known)
-        return own or any(self.borrows(it, known) for it in kind.args)
+        names = ("BTreeMap", "HashMap", "TextRef", "Entries", DECIMAL, KEPT, *known)
+        return any(is_text(it) or is_float(it) or is_any(it) or is_path(it, *names) for it in all_types(kind))
 
     def unwalked(self):
         """The names of the types that a form reads, but for those that stand in a type with a walk."""
@@ -214,7 +211,7 @@ class Borrowed:
     def turned(self, item):
         """A type with other texts, lists and maps, without what is serde's. A variant with brackets that hold no field is one without."""
         params = (Param("lifetime", LIFE),) if item.name in self.borrowing else ()
-        changed = with_fields(item, lambda it: self.turned_field(self.stated_field(it, item)))
+        changed = with_fields(item, lambda it: self.turned_field(it, item))
         variants = tuple(replace(it, serde=()) for it in changed.variants)
         if item.kind == "enum":
             variants = tuple(it if it.fields else replace(it, shape="unit") for it in variants)
@@ -246,15 +243,12 @@ class Borrowed:
             return False
         return is_text(kind) or all(self.is_derived(it, derive, seen) for it in kind.args)
 
-    def stated_field(self, it, item):
-        """A field without what no statement says: that the rules of a type hold which holds itself."""
+    def turned_field(self, it, item):
+        """A field with the type that a form makes. It is without what no statement says: that the rules of a type hold which holds itself."""
         nested = any(name in self.items and below(self.items[name]) for name in type_names(it.type))
-        if not nested or below(item):
-            return it
-        rules = without_dive(it.attributes.rules)
-        return replace(it, attributes=replace(it.attributes, rules=rules, skip=not rules))
-
-    def turned_field(self, it):
+        if nested and not below(item):
+            rules = without_dive(it.attributes.rules)
+            it = replace(it, attributes=replace(it.attributes, rules=rules, skip=not rules))
         is_told = any(self.unread(it.type, None)) or any(self.of_lists(it.type, own_rules(it)))
         return replace(it, type=Type("unread", "", it.line) if is_told else self.type_of(it.type), serde=(), flat=is_flat(it))
 
@@ -338,7 +332,6 @@ class Borrowed:
                 known.update(names)
 
     def of_enum(self, item):
-        """What a form of an enum wants."""
         said = options(item)
         for variant in item.variants:
             if is_other(variant) and ("untagged" in said or variant is not item.variants[-1] or not is_unit(variant)):
@@ -476,7 +469,6 @@ def within_options(kind):
 
 
 def within_option(rules):
-    """The rules of what an option holds."""
     whole = of_whole(rules)
     return [found for it in rules if it not in whole for found in (it.rules if it.name == "inner" else [it])]
 

@@ -140,7 +140,6 @@ class Conditions:
         return (f"!{code}" if other.kind == "path" else code.replace(" == ", " != ")), f"(not {spec})"
 
     def text(self, place, other):
-        """Whether a text is this one."""
         found = self.text_of(place)
         if found is None:
             raise Refusal(place.line, f"a comparison of `{spoken(place.value)}` with a text, which is neither a `String` nor a `&str` nor read by a form")
@@ -207,7 +206,6 @@ class Conditions:
         return f"includes({code}.as_slice(), &Equal, &{'::'.join(path)})", stated
 
     def address(self, it):
-        """Whether a text is an address."""
         found, names = self.text_of(it.parts[0]), ADDRESSES[it.value]
         if found is None:
             raise Refusal(it.line, f"`parse` of `{spoken(it.parts[0].value)}`, which is neither a `String` nor a `&str` nor read by a form")
@@ -404,7 +402,9 @@ class Conditions:
         """Writes the type of what is asked of an item. Returns the value of it, which holds what the closure speaks of beside the item."""
         scope, writer = self.scope, self.writer
         name, held = writer.numbered("Question", it), self.held_by(it)
-        inner = scope.of_question({key: place for key, place, _ in held})
+        places = {key: place for key, place, _ in held}
+        fields = {key: place for key, place in places.items() if key not in (CONTEXT, VALUE)}
+        inner = Scope(scope.context, fields, scope.params, scope.unit or CONTEXT not in places, places.get(VALUE), scope.fields)
         inner.add_item(ITEM + it.value, Place(it.value, it.value, kind), writer.fields_within(kind))
         code, stated = Conditions(inner, self.uses, writer).whole(it.parts[1])
         for place in (place for key, place, _ in held if key == CONTEXT):

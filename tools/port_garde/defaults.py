@@ -6,7 +6,7 @@ from dataclasses import dataclass, replace
 from .derives import options
 from .expressions import inside_of, number_of
 from .groups import own_rules
-from .layout import WIDTH, Method, Word, call, literal, statement
+from .layout import Method, Word, call, ghost, literal, statement
 from .names import of_field, of_variant
 from .prelude import is_declared
 from .scope import SIGNED, UNSIGNED, is_option, is_path, is_text, range_of, resolved
@@ -616,7 +616,6 @@ class Making:
         return call(self.schema.use("Given"), self.maker(found, it, variant, item), f"PhantomData::<&{kind}>")
 
     def texts(self, item):
-        """The types that make the defaults of a type's members."""
         self.writer.item = item
         for it, variant in ((it, variant) for variant in item.variants for it in variant.fields):
             found = self.borrowed.default(it, item)
@@ -631,8 +630,7 @@ class Making:
         self.schema.use("Makes")
         self.writer.uses.others.add("std::alloc::Global")
         kind, body = self.writer.type_text(self.borrowed.type_of(found.kind)), statement(self.code(found), 8)
-        line = f"    ghost made = {{ λ _. {self.stated(found)} }};"
-        made = line if len(line) <= WIDTH else f"    ghost made = {{ λ _. {self.laid(found, 4)} }};"
+        made = ghost("made", f"λ _. {self.stated(found)}", f" λ _. {self.laid(found, 4)}")
         return MAKER.format(
             told="value" if is_skipped(it) else "default", field=it.name, item=item.name, name=name, life="<'t>" if "'t" in kind else "",
             kind=kind, made=made, alloc="alloc" if "make(alloc)" in body else "_alloc", body=body,

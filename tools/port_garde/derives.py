@@ -22,9 +22,7 @@ OPTIONS = {
 }
 BY_HAND = ("with", "serialize_with", "deserialize_with")
 BY_IMPL = ("from", "try_from", "into")
-CASES = (
-    "lowercase", "UPPERCASE", "PascalCase", "camelCase", "snake_case", "SCREAMING_SNAKE_CASE", "kebab-case", "SCREAMING-KEBAB-CASE",
-)
+CASES = ("lowercase", "UPPERCASE", "PascalCase", "camelCase", "snake_case", "SCREAMING_SNAKE_CASE", "kebab-case", "SCREAMING-KEBAB-CASE")
 # The types that serde does not read and write here, and those that no `default()` makes, since they allocate.
 UNREAD = ("Rc", "PhantomData", "Duration", "Result", "LinkedList", "BinaryHeap", "Regex")
 MADE = ("String", "Vec", "BTreeMap", "BTreeSet", "HashMap", "HashSet", "VecDeque", "LinkedList", "BinaryHeap", "Box", "Rc")
@@ -73,12 +71,10 @@ def kept_derives(item):
 
 
 def fields_of(item):
-    """The fields of all variants of a type."""
     return [it for variant in item.variants for it in variant.fields]
 
 
 def serde_lines(groups):
-    """The attributes of serde, each as it is written."""
     return [f"#[serde({', '.join(it.written() for it in group)})]" for group in groups if group]
 
 
@@ -91,14 +87,13 @@ def named_function(said):
     return None if empty or (said.word != "default" and head in STD) else last
 
 
+def all_types(kind):
+    """A type and those within it."""
+    return [kind, *(found for it in kind.args for found in all_types(it))]
+
+
 def type_names(kind):
-    """The names that a type consists of."""
-    return {kind.name}.union(*map(type_names, kind.args))
-
-
-def all_type_names(kind):
-    """The same, each as often as it stands there."""
-    return [kind.name, *(name for it in kind.args for name in all_type_names(it))]
+    return {it.name for it in all_types(kind)}
 
 
 def literal_function(text):
@@ -188,7 +183,6 @@ class Derives:
                 yield said.line, f"`{word}` of serde without one case of names, as \"camelCase\", for reading and writing"
 
     def of_the_type(self, item):
-        """What stands at the type itself."""
         yield from self.of_options(item, "type", item)
         said, variants = options(item), item.variants
         if "tag" in said and item.kind == "struct":
@@ -248,14 +242,13 @@ class Derives:
 
     def unread(self, kind, item):
         """The types within a type that serde does not read or write here."""
-        if kind.kind == "path" and kind.name in UNREAD:
-            yield f"the type `{kind.name}`"
-        if kind.kind == "tuple" and len(kind.args) > 4:
-            yield "a tuple of more than 4 parts"
-        if kind.kind == "ref" and kind.args[0].name != "str" and "Deserialize" in item.derives:
-            yield "a reference that is no `&str`"
-        for it in kind.args:
-            yield from self.unread(it, item)
+        for it in all_types(kind):
+            if it.kind == "path" and it.name in UNREAD:
+                yield f"the type `{it.name}`"
+            if it.kind == "tuple" and len(it.args) > 4:
+                yield "a tuple of more than 4 parts"
+            if it.kind == "ref" and it.args[0].name != "str" and "Deserialize" in item.derives:
+                yield "a reference that is no `&str`"
 
     def leads_back(self, kind, name, seen):
         """Whether values of a type hold values of the type of this name."""

@@ -174,7 +174,6 @@ def whole_key(kind):
 
 
 def one_of(names, line):
-    """The rule that a text is one of some names."""
     value = Expression("place", line, (VALUE,))
     parts = tuple(Expression("==", line, parts=(value, Expression("text", line, it))) for it in names)
     place = parts[0] if len(parts) == 1 else Expression("or", line, parts=parts)

@@ -195,7 +195,6 @@ def read_of_item(tokens):
 
 
 def with_item(expression, name, other):
-    """An expression in which an item has another name."""
     return with_places(expression, lambda place: (other, *place[1:]) if place[0] == name else place)
 
 
@@ -263,7 +262,6 @@ def places_in(expression):
 
 
 def with_places(expression, change):
-    """An expression in which the names of each place are changed."""
     if expression.kind == "place":
         return replace(expression, value=change(expression.value))
     return replace(expression, parts=tuple(with_places(it, change) for it in expression.parts))

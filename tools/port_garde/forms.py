@@ -103,7 +103,6 @@ class Forms:
         return whole
 
     def test(self, test):
-        """A test by which a variant is chosen."""
         word, *parts = test
         if word == "kind":
             return self.kind(parts[0])

@@ -4,13 +4,13 @@ a name that is a keyword or a word of the statements."""
 from dataclasses import replace
 
 from .borrowed import RESERVED, is_read
-from .derives import Said, options, type_names
+from .derives import Said, all_types, fields_of, options, type_names
 from .expressions import VALUE, with_places
 from .holes import BY_FUNCTION
 from .names import of_field, renamed
 from .prelude import declared
 from .scope import is_path
-from .source import Type, fields_of, is_ported, named_type, with_doc, with_fields, with_variants
+from .source import Type, is_ported, named_type, with_doc, with_fields, with_variants
 from .tokens import Tokens
 
 STD = ("std", "core", "alloc")
@@ -69,12 +69,16 @@ class Front:
         self.imports, self.made, self.chosen, self.read, self.declared, self.depth = {}, {}, {}, {}, [], 0
         for path, name in source.imports:
             self.imports.setdefault(name, []).append(path)
-        self.plain = {name for item in source.items for it in fields_of(item) for name in names_alone(it.type)}
+        self.plain = {one.name for item in source.items for it in fields_of(item) for one in all_types(it.type) if len(one.path) == 1}
 
     def turn(self):
         """Puts the types of the source in their new form."""
         if self.is_form:
-            self.refuse_globs()
+            # imports of all names of a module of another crate, but for a prelude, among which may be those of std
+            known = (*LIBRARY, *OWN_CRATE, *self.items, *self.source.modules)
+            globs = [it for it in self.source.globs if self.full(it[1])[0] not in known and "prelude" not in it[1]]
+            told = "which may bring types of any name: import each type by its name"
+            self.notes.refuse_all((line, f"the import `{'::'.join(path)}`, {told}") for line, path in globs)
             self.name_instances()
         for it in self.source.items:
             if not self.is_generic(it):
@@ -113,13 +117,6 @@ class Front:
         found = [made for (of, _), made in self.made.items() if of == name]
         name = found[0] if name not in self.read and len(found) == 1 else name
         return self.other_name(name) if name in self.read else name
-
-    def refuse_globs(self):
-        """Refuses imports of all names of a module of another crate, but for a prelude, among which may be those of std."""
-        known = (*LIBRARY, *OWN_CRATE, *self.items, *self.source.modules)
-        for line, path in self.source.globs:
-            if self.full(path)[0] not in known and "prelude" not in path:
-                self.notes.refuse(line, f"the import `{'::'.join(path)}`, which may bring types of any name: import each type by its name")
 
     # What names stand for.
 
@@ -175,7 +172,10 @@ class Front:
             self.declare(declared(full))
         if last in self.declared and declared(full):
             return replace(kind, name=last, path=(last,))
-        if full[0] in OWN_CRATE and last in self.items and not self.is_another(kind.path, last, item):
+        # one of this name in another module: it came under another name, or the file names both
+        is_of_both = len(kind.path) > 1 and (last in self.plain or last == item.name)
+        is_another = kind.path[0] != "self" and (kind.path[-1] != last or is_of_both)
+        if full[0] in OWN_CRATE and last in self.items and not is_another:
             return replace(kind, name=last, path=(last,))
         if len(full) == 1 or full[0] in LIBRARY:
             return replace(kind, name=last, path=full if kind.path[-1] != last else kind.path)
@@ -190,11 +190,6 @@ class Front:
             self.items[item.name] = item
             if not self.is_generic(item):
                 self.read[item.name] = item
-
-    def is_another(self, path, last, item):
-        """Whether a path of the own crate is that of another type than the one of this name in the file: it came under another name, or the
-        file names both."""
-        return path[0] != "self" and (path[-1] != last or len(path) > 1 and (last in self.plain or last == item.name))
 
     # Types with parameters.
 
@@ -261,7 +256,11 @@ class Front:
         stated = [f"{it.name}_of_{item.name}" if (item.known, it.name) in self.taken else "" for it in item.variants]
         variants = [replace(it, stated=word) for it, word in zip(item.variants, stated)]
         docs = told_docs(item.docs, item.name) if item.name in self.taken else item.docs
-        context = item.attributes.context and (item.attributes.context[0], self.tokens_named(item.attributes.context[1]))
+        context = item.attributes.context
+        if context:
+            line, tokens = context
+            names = [replace(it, text=self.other_name(it.text)) if it.kind == "name" else it for it in tokens.tokens]
+            context = (line, Tokens(names, tokens.text, tokens.notes))
         return replace(
             item, name=self.other_name(item.name), variants=tuple(variants), docs=docs, renames=tuple(fields.items()),
             attributes=replace(item.attributes, context=context),
@@ -272,11 +271,6 @@ class Front:
         if kind.kind == "path" and kind.name in self.taken and kind.path == (kind.name,):
             return replace(kind, name=self.other_name(kind.name), path=(self.other_name(kind.name),), args=args)
         return replace(kind, args=args)
-
-    def tokens_named(self, tokens):
-        """Tokens of a context with the names of types as they are here."""
-        found = [replace(it, text=self.other_name(it.text)) if it.kind == "name" else it for it in tokens.tokens]
-        return tokens if found == tokens.tokens else Tokens(found, tokens.text, tokens.notes)
 
     def fields_named(self, item):
         """A type whose fields have names that may stand in code and in statements, and which of them have other ones than in the source."""
@@ -337,21 +331,10 @@ def reached(items):
     found, more = set(), [it for it in items if is_read(it) or is_ported(it)]
     while more:
         found |= {it.name for it in more}
-        named = {name for it in more for name in mentioned(it)}
+        named = {token.text for it in more if it.attributes.context for token in it.attributes.context[1].tokens}
+        named |= {name for it in more if not is_read(it) for field in fields_of(it) for name in type_names(field.type)}
         more = [it for it in items if it.name in named - found]
     return found
-
-
-def mentioned(item):
-    """The names that a type's fields and its context speak of, or of one that a form reads its context alone."""
-    context = item.attributes.context
-    names = {token.text for token in context[1].tokens} if context else set()
-    return names if is_read(item) else names.union(*(type_names(it.type) for it in fields_of(item)))
-
-
-def names_alone(kind):
-    """The names in a type that are written without a path."""
-    return ({kind.name} if len(kind.path) == 1 else set()).union(*map(names_alone, kind.args))
 
 
 def substituted(kind, values):

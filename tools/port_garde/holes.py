@@ -140,7 +140,6 @@ def nothing(it):
 
 
 def without(it, *words):
-    """A field without these options of serde."""
     return replace(it, serde=tuple(tuple(one for one in group if one.word not in words) for group in it.serde))
 
 
@@ -202,7 +201,6 @@ class Holes:
         return f"`{by.value}` reads" if by else None, is_flat
 
     def tell(self, line, told, name):
-        """Says that any value passes."""
         self.notes.holes.append(Hole(line, f"{told} as it was; narrow `{name}` in {self.own}", name))
 
     def of_type(self, kind, place):

@@ -1,9 +1,10 @@
 """The implementations of `Stated` and of `Validate` for a type."""
 import re
 
-from .layout import WIDTH, Method, Word, arm, call, literal, statement, wide_call
+from .derives import fields_of, type_names
+from .layout import Method, Word, arm, call, ghost, literal, statement, wide_call
 from .scope import Place, Scope, Seen
-from .source import Param, all_rules, fields_of, read_type, type_names
+from .source import Param, all_rules, read_type
 from .tokens import Refusal
 from .words import Checks, together
 
@@ -77,7 +78,6 @@ class Implementation:
         return f"{first}\n\n{self.head('Validate')}\n" + HEAD.format(context=f"{name}: &{context}") + body + "\n    }\n}"
 
     def head(self, trait):
-        """The first line of the implementation of a trait."""
         params, names = self.writer.params_text(self.params(trait), True), self.writer.params_text(self.item.params, False, True)
         return f"impl{params} {trait} for {self.item.name}{names} {{"
 
@@ -96,10 +96,8 @@ class Implementation:
         ctx = self.context[1] if self.asks_context else "_"
         if self.item.kind == "enum":
             return "\n".join([f"    ghost visits = {{ λ v {ctx}. elim v as (λ _. Visits) [", *stated, "    ] };"])
-        line = f"    ghost visits = {{ λ v {ctx}. {' and '.join(stated)} }};"
-        if len(line) <= WIDTH:
-            return line
-        return f"    ghost visits = {{ λ v {ctx}.\n        " + "\n        and ".join(stated) + " };"
+        laid = f" λ v {ctx}.\n        " + "\n        and ".join(stated)
+        return ghost("visits", f"λ v {ctx}. {' and '.join(stated)}", laid)
 
     def of_struct(self):
         """The body and the statements of a struct."""
@@ -193,7 +191,6 @@ class Implementation:
         return call(word.capitalize(), place, name, check), f"{word} {place} ({said})"
 
     def pattern(self, head, variant, names, scope):
-        """The pattern that takes a value apart."""
         bound = [name if self.is_bound(it, scope) else "_" for it, name in zip(variant.fields, names)]
         if variant.shape == "named":
             return literal(head, ((it.name, Word(name)) for it, name in zip(variant.fields, bound)))

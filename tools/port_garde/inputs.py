@@ -122,9 +122,7 @@ class Input:
 
 
 BYTES = ("bytes: &'a [u8]", "scratch: &'a mut Scratch")
-OF_BYTES = (
-    "Rattle.garde_schema.specs.Forms.{forget}", "Rattle.garde_tape.specs.Input.{without_mark}",
-)
+OF_BYTES = ("Rattle.garde_schema.specs.Forms.{forget}", "Rattle.garde_tape.specs.Input.{without_mark}")
 INPUTS = {
     "json": Input(
         "in JSON", "'a", BYTES, "read_json(alloc, bytes, scratch, &{form}, h)", "ReadError",

@@ -56,7 +56,6 @@ def joined(schemas):
 
 
 def or_null(schema):
-    """A schema that takes `null` too."""
     kind = schema.get("type")
     if isinstance(kind, str) and not {"const", "enum", "oneOf", "anyOf"} & set(schema):
         return {**schema, "type": [kind, "null"]}
@@ -76,6 +75,11 @@ def bounds_of(low, high, word=""):
     """The least and the greatest number, or length, where they are known."""
     ends = (("min", low), ("max", high))
     return {f"{end}{word or 'imum'}": it for end, it in ends if it is not None}
+
+
+def with_member(name, schema, is_needed=True):
+    """An object whose member of this name has this schema, where it is there or has to be."""
+    return {"properties": {name: schema}, **({"required": [name]} if is_needed else {})}
 
 
 class JsonSchema:
@@ -111,7 +115,10 @@ class JsonSchema:
 
     def of_type(self, item):
         if is_named(item):
-            schema = self.under_tag(self.names_in(item.variants, item), item)
+            # the name of a variant without fields may stand in an object under a tag
+            schema, tag = self.names_in(item.variants, item), options(item).get("tag")
+            whole = {"type": "object", **with_member(tag.value, schema)} if tag else {}
+            schema = self.closed(whole, "deny_unknown_fields" in options(item)) if tag else schema
         else:
             schema = self.of_enum(item) if item.kind == "enum" else self.inside(item.variants[0], item)
         return {**kept_docs(item.docs), **schema}
@@ -119,11 +126,6 @@ class JsonSchema:
     def names_in(self, variants, item):
         """A text that is a name of some variants, or any, where one of them stands for every other name."""
         return {"type": "string"} if any(map(is_other, variants)) else {"enum": [name for it in variants for name in names_of(it, item)]}
-
-    def under_tag(self, schema, item):
-        """The name of a variant without fields, which may stand in an object under a tag."""
-        tag = options(item).get("tag")
-        return self.closed({"type": "object", "properties": {tag.value: schema}, "required": [tag.value]}, "deny_unknown_fields" in options(item)) if tag else schema
 
     def of_enum(self, item):
         """A union: by its tag, by the name of its only member, or by what tells its variants apart."""
@@ -138,7 +140,7 @@ class JsonSchema:
                 continue
             inside = self.inside(it, item)
             if not tag:
-                variants += [{"type": "object", "properties": {name: inside}, "required": [name], "maxProperties": 1} for name in names_of(it, item)]
+                variants += [{"type": "object", **with_member(name, inside), "maxProperties": 1} for name in names_of(it, item)]
             elif content:
                 needed = [tag.value, *([] if is_unit(it) else [content.value])]
                 variants.append(self.closed({"type": "object", "properties": {tag.value: by_name, content.value: inside}, "required": needed}, "deny_unknown_fields" in options(item)))
@@ -157,7 +159,6 @@ class JsonSchema:
         return self.value(variant.fields[0].type, variant.fields[0].attributes.rules)
 
     def by_name(self, variant, item):
-        """A tag that chooses a variant."""
         if is_other(variant):
             return {"type": "string", "not": {"enum": [name for it in item.variants if it is not variant for name in names_of(it, item)]}}
         names = names_of(variant, item)
@@ -174,7 +175,6 @@ class JsonSchema:
         return whole
 
     def test(self, test):
-        """A test by which a variant is chosen."""
         word, *parts = test
         if word == "kind":
             return {"type": KINDS[parts[0]]}
@@ -276,7 +276,6 @@ class JsonSchema:
         return {"minimum": least, "maximum": most}
 
     def ends(self, rule):
-        """The least and the greatest number of a rule with bounds."""
         found = {word: self.number(it) for word, it in rule.bounds.items()}
         return found.get("min", found.get("equal")), found.get("max", found.get("equal"))
 
@@ -374,10 +373,9 @@ class JsonSchema:
         if is_skipped(it):
             raise Unsaid("a rule of what is not read")
         if rule.name == "required":
-            return {"properties": {name: NO_NULL}, "required": [name]}
+            return with_member(name, NO_NULL)
         default, schema = self.writer.borrowed.default(it, item), self.rule(kind, rule, False)
-        is_needed = default is not None and self.writer.borrowed.defaults.broken(default, [rule])
-        return {"properties": {name: schema}, **({"required": [name]} if is_needed else {})}
+        return with_member(name, schema, default is not None and self.writer.borrowed.defaults.broken(default, [rule]))
 
     def condition(self, it, variant, item):
         if it.kind == "bool":
@@ -392,7 +390,7 @@ class JsonSchema:
             raise Unsaid(f"a condition on `{it.parts[0].value[-1]}`, which is not read")
         if it.kind == "call":
             name = of_field(self.field(it.parts[0], variant), variant, item)
-            some = {"properties": {name: NO_NULL}, "required": [name]}
+            some = with_member(name, NO_NULL)
             return some if it.value == "is_some" else {"not": some}
         if it.kind == "matches":
             names = self.variants(it.parts[0], it.value, variant)
@@ -438,8 +436,7 @@ class JsonSchema:
         name, default = of_field(it, variant, item), self.default(it, item)
         if is_skipped(it):
             return {} if holds(default[0]) else NEVER
-        is_needed = not (default and holds(default[0]))
-        return {"properties": {name: schema}, **({"required": [name]} if is_needed else {})}
+        return with_member(name, schema, not (default and holds(default[0])))
 
     def field(self, place, variant):
         found = next((it for it in variant.fields if place.value[0] == "self" and it.name == place.value[-1]), None)

@@ -70,14 +70,14 @@ def old(output):
         return None
 
 
-def first_difference(file, given):
-    """The number of the first line that differs, with that line here and there. Sums in the first lines differ where others do."""
+def first_difference(file, given, source):
+    """The number of the first line that differs, and what it is here and there. Sums in the first lines differ where others do."""
     lines, others = file.split(b"\n"), given.split(b"\n")
     heads = list(map(WRITTEN.match, (file, given)))
     start = int(all(heads) and heads[0][1] == heads[1][1] and lines[1:] != others[1:])
     differing = (at for at, (it, other) in enumerate(zip(lines, others)) if it != other and at >= start)
     at = next(differing, min(len(lines), len(others)))
-    return at + 1, quoted(lines, at), quoted(others, at)
+    return at + 1, f"here stands {quoted(lines, at)}, and {source.name} gives {quoted(others, at)}"
 
 
 def quoted(lines, at):
@@ -91,8 +91,8 @@ def fault_of_check(output, source, given, crate):
         return f"{shown(output)}: it is not there: write it by `tools/port-garde --write`"
     if file == given:
         return None
-    line, here, there = first_difference(file, given)
-    return f"{shown(output)}:{line}: here stands {here}, and {source.name} gives {there}"
+    line, told = first_difference(file, given, source)
+    return f"{shown(output)}:{line}: {told}"
 
 
 def fault_of_write(output, source, given, crate):
@@ -102,10 +102,9 @@ def fault_of_write(output, source, given, crate):
     is_as_written = head and sum_of(file[head.end() :], name_of(crate)).encode() == head[2]
     if file in (None, given) or is_as_written:
         return None
-    line, here, there = first_difference(file, given)
+    line, told = first_difference(file, given, source)
     how = "edited" if head else "written"
-    told = f"this file was {how} by hand: here stands {here}, and {source.name} gives {there}"
-    return f"{shown(output)}:{line}: {told}. Move the edit to {source.name} or another module, or drop it by `--force`"
+    return f"{shown(output)}:{line}: this file was {how} by hand: {told}. Move the edit to {source.name} or another module, or drop it by `--force`"
 
 
 def strays(crate, outputs):

@@ -159,6 +159,12 @@ def arm(pattern, tree, indent):
     return f"{head} => {{\n{statement(tree, indent + 4)}\n{' ' * indent}}}"
 
 
+def ghost(name, text, laid):
+    """A ghost member: on one line where it fits, or as it is laid out behind its brace."""
+    line = f"    ghost {name} = {{ {text} }};"
+    return line if len(line) <= WIDTH else f"    ghost {name} = {{{laid} }};"
+
+
 def use_line(path, names):
     """A `use` line, or lines."""
     names = sorted(names, key=lambda it: [int(part) if part.isdigit() else part for part in re.split(r"(\d+)", it)])

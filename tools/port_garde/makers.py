@@ -4,7 +4,7 @@ from dataclasses import replace
 
 from .borrowed import below
 from .groups import filled, grouped
-from .layout import WIDTH, Parts, Word, angles, arm, call, flat, literal, may_be_flat, statement, wide_call
+from .layout import WIDTH, Parts, Word, angles, arm, call, flat, ghost, literal, may_be_flat, statement, wide_call
 from .unions import SIDES, along, paths_of, tree_of
 
 NESTED = """/// A value of the type `{name}` is made of what its form reads, and of such values.
@@ -54,7 +54,6 @@ def places(parts, name):
 
 
 def tuple_of(parts):
-    """A tree of nested tuples."""
     trees = [tuple_of(it) if isinstance(it, list) else Word(it) for it in parts]
     return trees[0] if len(trees) == 1 else call("", *trees)
 
@@ -73,14 +72,6 @@ def side_pattern(path, inside):
 def wide(tree):
     """A pattern of nested tuples, which may fill a line."""
     return wide_call(tree.head, *map(wide, tree.parts)) if isinstance(tree, Parts) else tree
-
-
-def ghost(name, head, flat, rows):
-    """A ghost member that is a record, on one line where it fits."""
-    line = f"    ghost {name} = {{ {head} {flat} }};"
-    if len(line) <= WIDTH:
-        return line
-    return "\n".join([f"    ghost {name} = {{ {head} {{", *(f"      {it}" for it in rows), "    } };"])
 
 
 def taking(pattern, indent):
@@ -109,11 +100,7 @@ def tuple_rows(parts, indent):
 
 
 def ghost_cases(name, cases):
-    """A ghost member by cases."""
-    line = f"    ghost {name} = {{ elim [ {' | '.join(cases)} ] }};"
-    if len(line) <= WIDTH:
-        return line
-    return "\n".join([f"    ghost {name} = {{ elim [", *(f"      | {it}" for it in cases), "    ] };"])
+    return ghost(name, f"elim [ {' | '.join(cases)} ]", " elim [\n" + "".join(f"      | {it}\n" for it in cases) + "    ]")
 
 
 def names_in_code(fields):
@@ -137,7 +124,6 @@ class Makers:
         return Word(f"PhantomData::<&{item.name}{life}>")
 
     def text(self, item):
-        """How a value of a type is made."""
         self.writer.item = item
         if self.writer.is_nested(item):
             return self.nested(item)
@@ -183,12 +169,12 @@ class Makers:
             return Word("()"), {"builds": builds, "parts_of": parts_of, "body": f"        {made}"}
         names = [it.name or str(at) for at, it in enumerate(variant.fields)]
         rows = [f"{name} = {place}" for name, place in zip(names, places(self.tree(variant, names), "parts"))]
-        builds = ghost("builds", "λ parts. record", "{ " + "; ".join(rows) + " }", [f"{it};" for it in rows])
+        laid = " λ parts. record {\n" + "".join(f"      {it};\n" for it in rows) + "    }"
+        builds = ghost("builds", f"λ parts. record {{ {'; '.join(rows)} }}", laid)
         parts_of = ghost_tuple("parts_of", "λ v.", self.tree(variant, [f"v.{it}" for it in names]))
         return self.types(variant), {"builds": builds, "parts_of": parts_of, "body": self.body(item, variant)}
 
     def body(self, item, variant):
-        """What a struct is made by."""
         names, is_named = names_in_code(variant.fields), variant.shape == "named"
         if len(names) == 1:
             return statement(literal(item.name, [(names[0], Word("parts"))]), 8) if is_named else f"        {item.name}(parts)"
@@ -225,11 +211,9 @@ class Makers:
         pattern = wide(tuple_of(self.tree(variant, names))) if names else Word("()")
         value = self.made(f"{item.name}::{variant.name}", variant, names)
         body = statement(pattern, 8, "let ", " = parts;") + "\n" + statement(value, 8)
-        line = f"    ghost builds = {{ λ {made} }};"
-        return {"builds": line if len(line) <= WIDTH else f"    ghost builds = {{\n        λ {made} }};", "body": body}
+        return {"builds": ghost("builds", f"λ {made}", f"\n        λ {made}"), "body": body}
 
     def of_tree(self, tree, variants):
-        """The type of the parts of an enum."""
         if not isinstance(tree, tuple):
             return self.types(variants[tree.name])
         return angles("Either", (self.of_tree(it, variants) for it in tree))

@@ -3,6 +3,7 @@ of `garde` in which what was not needed is left out."""
 import re
 
 from .kept import names_of
+from .second import group_end
 from .tokens import shown
 
 SKIPPED = re.compile(r'//[^\n]*|"(?:\\.|[^"\\])*"|\'(?:\\[^\'\n]*|[^\\\'\n])\'', re.S)
@@ -77,7 +78,7 @@ def left_out(crate, output, text):
     found += [f"{name}.specs.{file}" for name, file in STATED.findall(text) if name in cut and not (cut[name] / f"specs/{file}.antt").is_file()]
     if cut and not found:
         there = {size for folder in cut.values() for file in folder.glob("src/**/*.rt") for size in map(parts_of, OF_TUPLE.findall(code_of(file)))}
-        named = {parts_of(text[slice(*closed(text, it.end() - 1))]) for it in OPENING.finditer(text)}
+        named = {parts_of(text[it.end() - 1 : group_end(text, it.end()) + 1]) for it in OPENING.finditer(text)}
         found = [f"tuples of {it}" for it in sorted(named - there) if 2 < it < 7]
     if found:
         yield f"{shown(output)}: your copy of garde lacks {', '.join(dict.fromkeys(found))}: call `tools/vendor FOLDER` in the clone of garde again, which adds what your crates need now"
@@ -106,16 +107,6 @@ def lacking(cut, path, names):
         return []
     every = "".join(map(code_of, folder.glob("src/**/*.rt")))
     return [it for it in names if not re.search(rf"\b{it}\b", code) and f"macro_rules! {it} " not in every]
-
-
-def closed(text, start):
-    """Where a bracket stands, and what is behind the one that closes it."""
-    depth = 0
-    for at in range(start, len(text)):
-        depth += (text[at] in "([{") - (text[at] in ")]}")
-        if depth == 0:
-            return start, at + 1
-    return start, len(text)
 
 
 def parts_of(text):

@@ -52,5 +52,4 @@ def of_variant(variant, item):
 
 
 def others_of_variant(variant):
-    """The further names under which a variant is read."""
     return [said.value for said in all_options(variant) if said.word == "alias"]

@@ -124,7 +124,6 @@ def read_result(tokens):
 
 
 def read_error(tokens):
-    """Reads an error of a message in quotes."""
     line, path = tokens.line, tokens.path("an error")
     if path[-2:] != ["Error", "new"] or path[:-2] not in ([], ["garde"]):
         raise Refusal(line, f"`{'::'.join(path)}` in place of `garde::Error::new`")

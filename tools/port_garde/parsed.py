@@ -116,13 +116,13 @@ def with_moments(it):
 
 def form(parser, schema):
     """The form of a text that a parser reads."""
-    schema.writer.uses.others.add(f"{crate(parser)}::{parser.name}")
+    others, read = schema.writer.uses.others, Word(parser.name)
+    others.add(f"{crate(parser)}::{parser.name}")
     if parser.takes:
-        schema.writer.uses.others.add("garde_parsed::ParsedInMemory")
+        others.add("garde_parsed::ParsedInMemory")
         return call("ParsedInMemory", parser.name, "()")
-    read = Word(parser.name)
     if parser.layout:
-        schema.writer.uses.others |= {"garde_parsed::InText", "garde_parsed::Layout"}
+        others |= {"garde_parsed::InText", "garde_parsed::Layout"}
         read = call("InText", read, f"Layout::{parser.layout}")
     return call(schema.use_form("Parsed"), read, "()")
 

@@ -2,9 +2,9 @@
 that asks for one, or that holds such a type."""
 from dataclasses import replace
 
-from .derives import type_names
+from .derives import fields_of, type_names
 from .expressions import Expression
-from .source import all_rules, fields_of, is_ported, with_fields
+from .source import all_rules, is_ported, with_fields
 from .tokens import Tokens, tokens_of
 
 NAME = "patterns"

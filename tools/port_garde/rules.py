@@ -238,7 +238,6 @@ def read_unique_by(tokens, source, line):
 
 
 def read_names(tokens, word):
-    """Reads a path to its end."""
     names = tokens.path("a path")
     if not tokens.ended():
         closure = " or a closure" if word == "custom" else ""

@@ -5,11 +5,11 @@ from dataclasses import replace
 
 from .borrowed import below, fields_of, is_held, is_named
 from .defaults import Making
-from .derives import all_type_names, type_names
+from .derives import all_types, type_names
 from .flattened import fields_among, own_part, part_of
 from .forms import Forms
 from .groups import filled, grouped, groups_in, numbers_in, shared_rules
-from .layout import WIDTH, Method, Word, call, flat, rows as lent_rows, statement
+from .layout import WIDTH, Method, Word, call, flat, ghost, rows as lent_rows, statement
 from .makers import Makers, places, side_pattern, tuple_of, wide
 from .parsed import form as parsed_form
 from .names import of_field
@@ -28,7 +28,7 @@ SHARED = """{parts}/// What the field `{field}` of `{item}` asks beside others.
 struct {name}{holds};
 
 impl{life} Rules<{kind}> for {name}{lives} {{
-    ghost asks = {{ λ {rule} v.{stated} }};
+{asks}
 
     fn ask<'a, H: I18n>(
         &self,
@@ -74,7 +74,6 @@ class Schema(Forms):
         return names[0]
 
     def use_form(self, name):
-        """Imports a name of `garde_form`, and gives it."""
         self.writer.uses.others.add(f"garde_form::{name}")
         return name
 
@@ -95,14 +94,16 @@ class Schema(Forms):
         order, lines = self.order(item), []
         among = Counter(part.name for it in order for _, part in fields_among(it, self.items))
         own = Counter(part.name for it in order for field in fields_of(it) for part in [own_part(field, self.items)] if part)
-        used = Counter(name for it in order for field in fields_of(it) for name in all_type_names(field.type) if name != it.name) - among - own
+        used = Counter(one.name for it in order for field in fields_of(it) for one in all_types(field.type) if one.name != it.name) - among - own
         self.lent = {f"{snake(name)}_form" for name, count in used.items() if count > 1}
         self.lent |= {f"{snake(name)}_members" for name, count in among.items() if count > 1}
         for it in order:
             if it is item or used[it.name]:
                 lines.append(statement(self.form_of_type(it), indent, f"let {snake(it.name)}_form = ", ";"))
             if among[it.name]:
-                lines.append(statement(self.members_of_type(it), indent, f"let {snake(it.name)}_members = ", ";"))
+                self.writer.item = it
+                members = self.built(it, self.members(it.variants[0], it))
+                lines.append(statement(members, indent, f"let {snake(it.name)}_members = ", ";"))
         return "\n".join(lines)
 
     def order(self, item):
@@ -124,21 +125,16 @@ class Schema(Forms):
             variant = replace(variant, fields=fields)
             for group in groups_in(grouped(fields)):
                 for number in group.asked:
-                    self.refuse_name(variant.fields[number], variant, item)
                     yield self.shared(variant.fields[number], group, variant, item)
-
-    def refuse_name(self, it, variant, item):
-        """Refuses a type of the file that has the name of the rules of a field, or of what they are asked of."""
-        name = self.shared_name(it, variant, item)
-        for taken in {name, f"{name.removesuffix('Rules')}Parts"} & set(self.turned):
-            self.writer.notes.refuse(it.line, f"the field `{it.name}`, whose rules are a type `{taken}`: give that of the file another name")
 
     def shared_name(self, it, variant, item):
         return f"{item.name}{variant.name if item.kind == 'enum' else ''}{camel(it.name)}Rules"
 
     def shared(self, it, group, variant, item):
         """What a field asks of a group of members, which are given as the form has them."""
-        uses, numbers = self.writer.uses, numbers_in(group)
+        uses, numbers, name = self.writer.uses, numbers_in(group), self.shared_name(it, variant, item)
+        for taken in {name, f"{name.removesuffix('Rules')}Parts"} & set(self.turned):
+            self.writer.notes.refuse(it.line, f"the field `{it.name}`, whose rules are a type `{taken}`: give that of the file another name")
         uses.others |= {"garde::fields::Rules", "garde::I18n", "garde::Report", "garde::Trail", "std::alloc::AllocError"}
         names = {at: f"the_{variant.fields[at].name}" if variant.fields[at].name in OWN else variant.fields[at].name for at in numbers}
         stated = dict(zip(numbers, places(filled(group, names), "v")))
@@ -149,11 +145,11 @@ class Schema(Forms):
         bound = {at: name if variant.fields[at].name in scope.bound | {it.name} else "_" for at, name in names.items()}
         held = self.held_context(it, scope, variant, item)
         said = within_rule(said, scope.context) if scope.asks_context else said
-        line = f"    ghost asks = {{ λ {held['rule']} v. {said} }};"
+        head = f"λ {held.pop('rule')} v."
         words = tuple(map(Word, (place.binding, "trail", "report", "h")))
         taken = statement(wide(tuple_of(filled(group, bound))), 8, held.pop("let"), " = value;")
         return SHARED.format(
-            **self.shared_type(it, group, variant, item), stated=f" {said}" if len(line) <= WIDTH else f"\n        {said}", **held,
+            **self.shared_type(it, group, variant, item), asks=ghost("asks", f"{head} {said}", f" {head}\n        {said}"), **held,
             taken=taken, asked=statement(Method(code, "ask", words), 8),
         )
 
@@ -186,11 +182,6 @@ class Schema(Forms):
         if below(item):
             return self.of_nested(item)
         return self.built(item, self.of_enum(item) if item.kind == "enum" else self.inside(item.variants[0], item))
-
-    def members_of_type(self, item):
-        """The members of a struct, which stand among those of another type."""
-        self.writer.item = item
-        return self.built(item, self.members(item.variants[0], item))
 
     def built(self, item, form):
         return self.make("Built", form, self.makers.value(self.turned[item.name]))

@@ -71,7 +71,6 @@ def is_text(kind):
 
 
 def range_of(name):
-    """The least and the greatest number of a type of whole numbers."""
     bits, signed = 64 if name.endswith("size") else int(name[1:]), name in SIGNED
     return -(2 ** (bits - 1)) * signed, 2 ** (bits - signed) - 1
 
@@ -107,11 +106,6 @@ class Scope:
         found.items = dict(self.items)
         found.add_item(name, place, fields)
         return found
-
-    def of_question(self, held):
-        """What a question of an item may speak of, which holds these places."""
-        places = {name: place for name, place in held.items() if name not in (CONTEXT, VALUE)}
-        return Scope(self.context, places, self.params, self.unit or CONTEXT not in held, held.get(VALUE), self.fields)
 
     def add_item(self, name, place, fields):
         self.items[name] = (place, dict(fields))

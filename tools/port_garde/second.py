@@ -4,8 +4,7 @@ import re
 from collections import Counter
 from fractions import Fraction
 
-from .derives import all_options, options
-from .source import fields_of
+from .derives import all_options, fields_of, options
 from .tokens import end_of_block_comment
 
 QUOTED = re.compile(r'''//[^\n]*|b?r(#*)".*?"\1|b?"(?:\\.|[^"\\])*"|b?'(?:\\[^\n]+?|[^\\'\n])'|/\*''', re.S)
@@ -66,7 +65,6 @@ def faults_of_values(text, item, written):
 
 
 def number_of(text):
-    """The number that a text of a source says."""
     return int(text, 0) if text.lstrip("-")[:2] in ("0x", "0o", "0b") else Fraction(text)
 
 

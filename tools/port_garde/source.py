@@ -2,7 +2,7 @@
 from dataclasses import dataclass, field, replace
 
 from .build import Build
-from .derives import fields_of, read_serde, type_names
+from .derives import read_serde
 from .expressions import number_of
 from .own import at_field
 from .rules import Attributes, present, read_attributes
@@ -396,7 +396,6 @@ def unconditional(tokens, outer):
 
 
 def read_vis(tokens):
-    """Reads `pub`, with what stands in brackets after it."""
     if not tokens.takes("pub"):
         return ""
     if not tokens.opens("("):
@@ -625,7 +624,6 @@ def read_slice(tokens, line):
 
 
 def read_argument(tokens):
-    """Reads an argument of a type: a lifetime, a number or a type."""
     if tokens.first.kind == "lifetime":
         return tokens.take().text
     if tokens.first.kind == "number":
@@ -654,7 +652,6 @@ def with_variants(item, fields):
 
 
 def with_fields(item, change):
-    """A type each of whose fields is changed."""
     return with_variants(item, lambda variant: map(change, variant.fields))
 
 

@@ -50,18 +50,11 @@ impl<'a> ReadBody<'a> for {made} {{
 
 @dataclass(frozen=True)
 class Said:
-    """A word of the statement with what it is given."""
+    """A word of the statement with what it is given. One that makes a value of its parts has the `rows` by which it does."""
 
     head: str
     parts: tuple = ()
-
-
-class Record(Said):
-    """What makes a value of its parts, by these rows."""
-
-    def __init__(self, rows):
-        super().__init__(f"(λ parts. record {{ {'; '.join(rows)} }})")
-        object.__setattr__(self, "rows", rows)
+    rows: tuple = ()
 
 
 def said(head, *parts):
@@ -82,7 +75,7 @@ def lay(tree, column, after):
     if column + len(flat(tree)) + after <= WIDTH or not tree.parts:
         return flat(tree)
     *front, last = tree.parts
-    if front and isinstance(front[0], Record):
+    if front and front[0].rows:
         return lay_made(tree.head, front[0], last, column, after)
     head = " ".join([tree.head, *map(flat, front)])
     if not any(it.parts for it in front) and (column + len(head) <= WIDTH or not front):
@@ -125,9 +118,7 @@ STATED = {name: (f"garde_schema.specs.{module}", word) for module, words in WORD
 # Those of what a text writes.
 WRITTEN = {"Optional": "optional", "OrEmpty": "or_empty", "WrittenFlag": "a_written_flag", "Written": "a_written"}
 STATED.update({name: ("garde_form.specs.Spelling", word) for name, word in WRITTEN.items()})
-KINDS = {
-    "Text": "is_text", "Number": "is_number", "Boolean": "is_boolean", "Null": "is_nothing", "List": "is_list", "Object": "is_object",
-}
+KINDS = {"Text": "is_text", "Number": "is_number", "Boolean": "is_boolean", "Null": "is_nothing", "List": "is_list", "Object": "is_object"}
 
 
 class Spellings(Forms):
@@ -183,7 +174,6 @@ class Spellings(Forms):
         return f"impl{life} {trait} for {item.name}{life} {{\n    {whole}\n}}"
 
     def trait(self, item):
-        """The trait by which what JSON spells of a type is stated."""
         return "SpelledUnder" if self.writer.context_of(item) else "Spelled"
 
     def spelling_of(self, item, name, end=""):
@@ -200,9 +190,12 @@ class Spellings(Forms):
         if item.kind == "enum":
             return self.make("Made", self.builds(item), self.of_enum(item))
         variant = item.variants[0]
+        if not variant.fields:
+            return self.make("Made", "(λ _. record {})", self.inside(variant, item))
         names = [it.name or str(at) for at, it in enumerate(variant.fields)]
-        rows = [f"{name} = {place}" for name, place in zip(names, places(self.schema.makers.tree(variant, names), "parts"))] if names else []
-        return self.make("Made", Record(rows) if rows else "(λ _. record {})", self.inside(variant, item))
+        rows = [f"{name} = {place}" for name, place in zip(names, places(self.schema.makers.tree(variant, names), "parts"))]
+        maker = Said(f"(λ parts. record {{ {'; '.join(rows)} }})", rows=tuple(rows))
+        return self.make("Made", maker, self.inside(variant, item))
 
     def builds(self, item):
         """What makes a value of a type of its parts."""

@@ -191,7 +191,6 @@ class Tokens:
         return token.text.removeprefix("r#")
 
     def path(self, what):
-        """Takes a path: its names."""
         names = [self.name(what)]
         while self.takes("::"):
             names.append(self.name(what))

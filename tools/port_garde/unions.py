@@ -11,9 +11,7 @@ NUMBERS = (*WHOLE, "fraction")
 KINDS = ("null", "boolean", *NUMBERS, "text", "list", "object")
 WORDS = {"null": "Null", "boolean": "Boolean", "text": "Text", "list": "List", "object": "Object"}
 # The forms by which tests are made.
-TESTS = {
-    "has": "Has", "has_with": "HasWith", "any": "AnyOf", "both": "Both", "not": "Not", "unsigned": "IsUnsigned", "whole": "IsWhole",
-}
+TESTS = {"has": "Has", "has_with": "HasWith", "any": "AnyOf", "both": "Both", "not": "Not", "unsigned": "IsUnsigned", "whole": "IsWhole"}
 LISTS = ("Vec", "VecDeque", "LinkedList", "HashSet", "BTreeSet", "IndexSet")
 MAPS = ("HashMap", "BTreeMap", "IndexMap", "Map")
 HOLDERS = ("Box", "Rc", "Arc", "Cow")
@@ -204,7 +202,6 @@ class Shapes:
         return whole
 
     def joined(self, shapes):
-        """The shape of values that have one of some shapes."""
         objects = [it for it in shapes if "object" in it.kinds]
         names = {name for it in objects for name in it.members}
         members = {}

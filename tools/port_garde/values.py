@@ -30,7 +30,6 @@ def is_made(kind, *names):
 
 
 def is_decimal(kind):
-    """Whether a type is that of the decimals that a form reads."""
     return is_made(kind, DECIMAL)
 
 

@@ -2,11 +2,12 @@
 from dataclasses import replace
 
 from .conditions import Conditions, same_by
+from .derives import type_names
 from .expressions import CONTEXT, places_in
 from .layout import Lent, Word, call, literal
 from .rules import OURS, PLAIN, REPEATED, TEXTS
 from .scope import SIGNED, UNSIGNED, Place, Scope, Seen, is_option, is_path, is_text, range_of as whole_range
-from .source import named_type, type_names
+from .source import named_type
 from .tokens import Refusal
 from .values import DECIMAL, KEPT, is_decimal, is_made, multiple_of, range_of
 
@@ -130,7 +131,6 @@ class Checks:
         return code, f'unique "{rule.text}" {stated} {self.held(kind, seen)}'
 
     def equality(self, rule, kind, item):
-        """How two items of a list are compared, as it is stated."""
         same = SAME.get(item.name) if item is not None and item.kind == "path" else None
         if same is None and item is not None and self.writer.is_compared(item):
             return f"⟦<{self.writer.type_text(item)} as PartialEq>⟧.eq"
@@ -285,7 +285,6 @@ class Checks:
         return f"(cow_str_bytes {seen.name})"
 
     def matches(self, rule, seen):
-        """The rule that a text equals that of another field."""
         other = self.scope.places.get(rule.text)
         if other is None:
             raise Refusal(rule.line, f"`matches` of the field `{rule.text}`, which is not there")
@@ -310,7 +309,6 @@ class Checks:
         return f'matches "{rule.text}" ({same} {seen.name} {other.name})'
 
     def whole_key(self, rule, seen):
-        """The rule that a name of a map is a whole number."""
         number = rule.mode[:1].upper() + rule.mode[1:]
         self.uses.others |= {"garde_form::WholeKey", f"garde_schema::{number}"}
         self.uses.state("garde_form.specs.Keys", "whole_key")
@@ -318,7 +316,6 @@ class Checks:
         return call("WholeKey", f'"{rule.text}"', number), f'whole_key "{rule.text}" {rule.mode}_texts {seen.name}'
 
     def pattern(self, rule, seen):
-        """The rule that a compiled pattern of the context matches."""
         if rule.place is None:
             place = (self.scope.the_context(), self.writer.new_pattern(rule))
         else:
@@ -385,7 +382,6 @@ class Checks:
                 raise Refusal(it.line, f"the bound {it.value}, which is no `{kind}`")
 
     def bound(self, it, signed):
-        """A bound as code and as it is stated."""
         it = self.writer.resolved(it)
         if it.kind == "decimal":
             raise Refusal(it.line, f"the floating-point number `{it.value}`")

@@ -3,18 +3,18 @@ import re
 from dataclasses import replace
 
 from .borrowed import Borrowed, below, is_held, is_named
-from .derives import SERDE, Derives, kept_derives, literal_function, named_function, options, serde_lines
+from .derives import SERDE, Derives, all_types, fields_of, kept_derives, literal_function, named_function, options, serde_lines
 from .front import Front, place_named
 from .holes import HOLE, MEMBERS
 from .implementation import Implementation
-from .layout import CALL, VARIANT, WIDTH, Method, Word, call, holding, lifetimes_of, literal, statement, use_line
+from .layout import CALL, VARIANT, WIDTH, Method, Word, call, ghost, holding, lifetimes_of, literal, statement, use_line
 from .own import read_function
 from .parsed import KNOWN
 from .quoted import BESIDE_CONTEXT, turn as quoted_of
 from .schema import Schema, snake, within_rule
 from .scope import SIGNED, Scope, Uses, resolved
 from .second import faults_of_values, lost_of_names, lost_of_serde, passed_by
-from .source import all_rules, fields_of, is_ported, read_source, read_type
+from .source import all_rules, is_ported, read_source, read_type
 from .tokens import Refusal, Refusals
 from .words import camel
 
@@ -26,9 +26,7 @@ IMPORTS.update({"Rc": "std::rc::Rc", **{name: f"std::net::{name}" for name in ("
 WRITTEN = ("std", "core", "alloc", "garde", "regex", "serde", "serde_derive")
 GARDE = {"I18n", "Report", "Stated", "Trail", "Validate", "AllocError", "Global", "Rule", "View", "RuleError"}
 # The modules whose words statements import last.
-LAST = (
-    *(f"garde_schema.specs.{it}" for it in ("Spelling", "Unions", "Decimals", "Flattened")), "garde_form.specs.Spelling",
-)
+LAST = (*(f"garde_schema.specs.{it}" for it in ("Spelling", "Unions", "Decimals", "Flattened")), "garde_form.specs.Spelling")
 RULE = """{docs}
 #[derive(Clone, Copy)]
 {vis}struct {name}{life}{holds};
@@ -257,7 +255,6 @@ class Writer:
                 self.skeletons[name] = ("", f"{begun('function', source)}\n{head} {{\n    todo\n}}")
 
     def heads(self, variant):
-        """What stands above a variant."""
         default = ["#[default]"] if "Default" in self.item.derives and any(name == "default" for _, name in variant.others) else []
         return [*variant.docs, *default, *serde_lines(variant.serde)]
 
@@ -338,7 +335,6 @@ class Writer:
         return Scope(context[1] if context else "ctx", places or {}, set(), context is None)
 
     def resolved(self, it):
-        """An expression, and of a constant its number."""
         return resolved(it, self.source.numbers)
 
     def enum(self, name):
@@ -457,15 +453,14 @@ class Writer:
         held = [(scope.context, self.context)] if scope.asks_context else []
         held += [(it.binding, self.type_text(it.type)) for it in scope.places.values()]
         stated = within_rule(stated, scope.context) if scope.asks_context else stated
-        head = f"    ghost finds = {{ λ {'rule' if held else '_'} value."
-        word, given = rule.asks()
-        said = " ".join(["asks_as" if rule.code else "asks", *given, stated, "};"])
+        head, (word, given) = f"λ {'rule' if held else '_'} value.", rule.asks()
+        said = " ".join(["asks_as" if rule.code else "asks", *given, stated])
         told = f"What the function `{rule.text}` asks of a value." if rule.text else f"What a rule of the field `{self.spot}` of `{self.item.name}` asks of its value."
         asked = Method(call(word, *given, condition), "find", tuple(map(Word, ("alloc", "value", "h"))))
         find = f"    fn find<H: I18n>(&self, alloc: Global, value: &{kind}, h: &H) -> Result<(), RuleError> {{"
         text = OWN.format(
             docs=told, name=name, kind=kind, asked=statement(asked, 8), **holding(kind, held),
-            finds=f"{head} {said}" if len(head) + 1 + len(said) <= WIDTH else f"{head}\n        {said}",
+            finds=ghost("finds", f"{head} {said}", f" {head}\n        {said}"),
             head=find if len(find) <= WIDTH else FIND.format(kind=kind),
         )
         self.write_once(name, rule.line, text, rule.text)
@@ -492,7 +487,6 @@ class Writer:
     # Imports.
 
     def ghost_uses(self):
-        """What the statements import."""
         lines, uses = [*self.source.head], self.uses
         lines += [ghost_use("std.specs.Prelude", sorted(uses.prelude))] if uses.prelude else []
         lines += ["ghost use Rattle.std.specs.Cow.{cow_str_bytes};"] if uses.cow else []
@@ -559,11 +553,6 @@ def local(name):
 
 def names_of(item):
     """The names that a type's declaration and its attributes speak of, as the source imports them."""
-    names = {name for it in fields_of(item) for name in first_names(it.type)}
+    names = {one.path[0] for it in fields_of(item) for one in all_types(it.type) if one.path}
     names |= {token.text for token in item.attributes.context[1].tokens} if item.attributes.context else set()
     return names
-
-
-def first_names(kind):
-    """The names that the paths in a type begin with."""
-    return set(kind.path[:1]).union(*map(first_names, kind.args))
