@@ -52,11 +52,6 @@ def is_named(item):
     return item.kind == "enum" and all(map(is_unit, item.variants)) and not {"content", "untagged"} & set(options(item))
 
 
-def hole(name):
-    """The type of a hole, which has no form here."""
-    return Item("hole", name, (), (), 0, Attributes(), derives=("Deserialize",))
-
-
 def seen_in(vis):
     """How far a visibility goes."""
     return 0 if not vis else 2 if vis == "pub " else 1
@@ -157,7 +152,8 @@ class Borrowed:
         self.items = {name: turned[name] for name in self.items if name in turned}
         self.source.items = [self.items.get(it.name, it) for it in self.source.items]
         self.source.items = [it for it in self.source.items if it.name in self.items or it.name == root or not is_read(it) and it.name not in holes.why]
-        self.items.update({name: hole(name) for name in holes.why})
+        # a hole has no form here
+        self.items.update({name: Item("hole", name, (), (), 0, Attributes(), derives=("Deserialize",)) for name in holes.why})
         return holes.why
 
     def with_rules_of_sets(self, it):

@@ -59,8 +59,8 @@ SAME_HEADS = (
 class Conditions:
     """The conditions of `if`, as code and as they are stated."""
 
-    def __init__(self, scope, uses, writer):
-        self.scope, self.uses, self.writer = scope, uses, writer
+    def __init__(self, scope, writer):
+        self.scope, self.uses, self.writer = scope, writer.uses, writer
 
     def of(self, it):
         """A condition that stands in a place where it needs brackets if it has parts."""
@@ -131,7 +131,7 @@ class Conditions:
     def equality(self, it):
         """Whether a value is a variant, or a text."""
         place, other = it.parts
-        if other.kind == "path" and self.constant(other) is not None:
+        if other.kind == "path" and self.writer.resolved(other).kind == "number":
             return self.comparison(it)
         code, spec = self.variants(Expression("matches", it.line, (other.value,), (place,))) if other.kind == "path" else self.text(place, other)
         if it.kind == "==":
@@ -359,10 +359,6 @@ class Conditions:
         self.uses.words.add(word)
         return f"{code} {it.kind} {by.value}", f"({word} {spec} {by.value})"
 
-    def constant(self, it):
-        found = self.writer.resolved(it)
-        return found.value if found.kind == "number" else None
-
     def number(self, it):
         it = self.writer.resolved(it)
         if it.kind == "wide":
@@ -394,7 +390,7 @@ class Conditions:
         given = self.question(it, kind.args[0])
         variable = "it" if not scope.items else f"it{len(scope.items) + 1}"
         inner = scope.with_item(ITEM + it.value, Place(it.value, variable, kind.args[0]), self.writer.fields_within(kind.args[0]))
-        _, stated = Conditions(inner, uses, self.writer).whole(condition)
+        _, stated = Conditions(inner, self.writer).whole(condition)
         scope.bound |= inner.bound
         return f"{word}({code.lstrip('*')}.as_slice(), {given})", f"({word} (λ {variable}. {stated}) {self.listed(kind, spec)})"
 
@@ -406,7 +402,7 @@ class Conditions:
         fields = {key: place for key, place in places.items() if key not in (CONTEXT, VALUE)}
         inner = Scope(scope.context, fields, scope.params, scope.unit or CONTEXT not in places, places.get(VALUE), scope.fields)
         inner.add_item(ITEM + it.value, Place(it.value, it.value, kind), writer.fields_within(kind))
-        code, stated = Conditions(inner, self.uses, writer).whole(it.parts[1])
+        code, stated = Conditions(inner, writer).whole(it.parts[1])
         for place in (place for key, place, _ in held if key == CONTEXT):
             stated = re.sub(rf"(?<![\w.]){scope.context}(?!\w)", place.name, stated)
         kinds = [(it.binding, it.type if isinstance(it.type, str) else writer.type_text(it.type)) for _, it, _ in held]
@@ -454,7 +450,7 @@ def same_by(checks, rule, kind):
         scope = Scope(checks.scope.context, {}, checks.scope.params, True)
         for item, called in zip(("one", "other"), names):
             scope.add_item(ITEM + item, Place(item, called, kind), writer.fields_within(kind))
-        return Conditions(scope, checks.uses, writer).of(Expression("==", rule.line, parts=both))
+        return Conditions(scope, writer).of(Expression("==", rule.line, parts=both))
 
     code, stated = compared("one", "other")
     head = SAME_HEADS[0].format(kind=text)

@@ -13,7 +13,6 @@ from .scope import SIGNED, UNSIGNED, is_option, is_path, is_text, range_of, reso
 from .source import named_type, read_type
 from .tokens import Refusal, Refusals, Tokens, tokens_of
 from .tried import holds
-from .words import camel
 
 COLLECTIONS = ("Vec", "BTreeMap", "HashMap", "IndexMap", "BTreeSet", "HashSet", "IndexSet", "VecDeque", "LinkedList")
 WRAPPERS = ("Box", "Rc", "Arc", "Cow")
@@ -438,13 +437,6 @@ def known_or_not(read, kind):
         return Value("unknown", kind, why.reason if isinstance(why, Refusal) else str(why))
 
 
-def known(found):
-    """A value each of whose parts is known."""
-    if found is not None and found.lacks():
-        raise NoConstant(found.lacks())
-    return found
-
-
 class Defaults:
     """The defaults of the members of a source, and which of their rules they break."""
 
@@ -460,8 +452,12 @@ class Defaults:
         try:
             if own is None and whole is not None:
                 made = self.said(whole, named_type(item.name, item.line))
-                return known(dict(zip((field.name for field in item.variants[0].fields), made.parts)).get(it.name))
-            return known(self.said(own, it.type))
+                found = dict(zip((field.name for field in item.variants[0].fields), made.parts)).get(it.name)
+            else:
+                found = self.said(own, it.type)
+            if found is not None and found.lacks():
+                raise NoConstant(found.lacks())
+            return found
         except NoConstant as why:
             told = f"`default` of `{item.name}`" if own is None and whole is not None else f"the default of the field `{it.name}`"
             raise Refusal(said.line if said else it.line, f"{told}: {why}: {WAY}") from why
@@ -598,16 +594,13 @@ class Making:
             return Word(f'"{found.value}"')
         if found.form == "empty":
             return Word(self.schema.use("Empty"))
-        return self.code(found) if self.is_copied(found.kind) else Word(self.name(it, variant, item))
+        return self.code(found) if self.is_copied(found.kind) else Word(self.schema.name_at(it, variant, item, "Default"))
 
     def is_copied(self, kind):
         if is_option(kind) or kind.kind == "tuple":
             return all(map(self.is_copied, kind.args))
         item = self.borrowed.items.get(kind.name)
         return is_path(kind, *UNSIGNED, *SIGNED, "bool") or item is not None and all(one.shape == "unit" for one in item.variants)
-
-    def name(self, it, variant, item):
-        return f"{item.name}{variant.name if item.kind == 'enum' else ''}{camel(it.name)}Default"
 
     def given(self, found, it, variant, item):
         """The form of a member that is not read."""
@@ -624,7 +617,7 @@ class Making:
 
     def text(self, found, it, variant, item):
         """What makes a value, as a type."""
-        name = self.name(it, variant, item)
+        name = self.schema.name_at(it, variant, item, "Default")
         if name in self.schema.turned:
             self.writer.notes.refuse(it.line, f"the field `{it.name}`, whose default is made by a type `{name}`: give that of the file another name")
         self.schema.use("Makes")

@@ -49,10 +49,6 @@ class Said:
         return f'{self.word} = "{name}"' if name else self.text
 
 
-def read_serde(tokens):
-    return tuple(it for it in tokens.items(read_option) if it is not None)
-
-
 def read_option(tokens):
     line, word = tokens.line, tokens.name("an option of serde")
     if tokens.takes("="):
@@ -64,10 +60,6 @@ def read_option(tokens):
         inside = tokens.group().items(read_option)
         return Said(word, line, f"{word}({', '.join(it.text for it in inside if it is not None)})")
     return Said(word, line, word)
-
-
-def kept_derives(item):
-    return [name for name in item.derives if name in (*OWN, *SERDE)]
 
 
 def fields_of(item):

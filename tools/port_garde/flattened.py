@@ -44,11 +44,6 @@ def is_closed(variant, item, items):
     return "deny_unknown_fields" in options(held_part(variant, item, items) or item)
 
 
-def is_closed_as_one(item, items):
-    """Whether all variants under `tag` or none of them know no further member."""
-    return len({is_closed(it, item, items) for it in item.variants}) == 1
-
-
 def names_of(it, variant, item, items):
     """The names in JSON of the members that a field stands for."""
     part = flat_part(it, items)

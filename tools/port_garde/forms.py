@@ -2,14 +2,15 @@
 from .borrowed import is_map, of_whole, within_option
 from .defaults import is_skipped
 from .derives import options
-from .flattened import held_part, is_closed, is_closed_as_one
+from .flattened import held_part, is_closed
 from .groups import Group, grouped, is_flat, is_rest, own_rules
 from .inputs import may_be_missing
 from .names import of_field
 from .parsed import parser_of
-from .scope import is_option, is_path, is_text
+from .scope import Seen, is_option, is_path, is_text
 from .unions import TESTS, Shapes, beside_units, is_list, is_other, is_tuple, is_unit, names_of, nested, paths_of, units_of
 from .values import is_any, is_float
+from .words import Checks
 
 
 def items_rules(rules):
@@ -73,15 +74,13 @@ class Forms:
         """A union: by its tag, by the name of its only member, or by what tells its variants apart."""
         if "untagged" in options(item):
             return self.of_untagged(item)
-        tag, units, as_one = options(item).get("tag"), units_of(item), is_closed_as_one(item, self.items)
+        tag, units, closed = options(item).get("tag"), units_of(item), [is_closed(it, item, self.items) for it in item.variants]
         variants = [self.variant(it, item, tag) for it in beside_units(item)]
-        if tag and not as_one:
-            closed = [is_closed(it, item, self.items) for it in item.variants]
+        if tag and len(set(closed)) > 1:
             variants = [self.make("ClosedVariants", form) if is_one else form for form, is_one in zip(variants, closed)]
         whole = self.paired("EitherOf", variants)
         if tag:
-            is_whole = as_one and is_closed(item.variants[0], item, self.items)
-            return self.make("Tagged", f'"{tag.value}"', self.make("ClosedVariants", whole) if is_whole else whole)
+            return self.make("Tagged", f'"{tag.value}"', self.make("ClosedVariants", whole) if all(closed) else whole)
         whole = self.make("OneMember", whole, *self.marker)
         if not units:
             return whole
@@ -213,3 +212,7 @@ class Forms:
     def ruled(self, form, kind, rules, name="Checked"):
         """A form that has no place for rules, under these."""
         return self.make(name, form, self.asked(kind, rules)) if rules else form
+
+    def checks(self, kind, rules):
+        """What rules ask of a value, as code and as it is stated."""
+        return Checks(self.writer.form_scope(), self.writer).of(list(rules), Seen(self.borrowed.type_of(kind), "v"))

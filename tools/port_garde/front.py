@@ -7,7 +7,7 @@ from .borrowed import RESERVED, is_read
 from .derives import Said, all_types, fields_of, options, type_names
 from .expressions import VALUE, with_places
 from .holes import BY_FUNCTION
-from .names import of_field, renamed
+from .names import of_field, reading
 from .prelude import declared
 from .scope import is_path
 from .source import Type, is_ported, named_type, with_doc, with_fields, with_variants
@@ -291,7 +291,7 @@ class Front:
         if it.name not in found:
             return replace(it, attributes=attributes)
         told = Said("rename", it.line, f'rename = "{of_field(it, variant, item)}"', of_field(it, variant, item))
-        serde = it.serde if renamed(it) is not None or {"flatten", "skip"} & set(options(it)) else (*it.serde, (told,))
+        serde = it.serde if reading(it, "rename") is not None or {"flatten", "skip"} & set(options(it)) else (*it.serde, (told,))
         attributes = replace(attributes, rename=attributes.rename if attributes.rename is not None else it.name)
         return replace(it, name=found[it.name], attributes=attributes, serde=serde, docs=told_docs(it.docs, it.name))
 
@@ -310,19 +310,15 @@ def rule_named(rule, found):
 
 
 def place_named(expression, found):
-    """An expression that speaks of fields by their names here."""
+    """An expression that speaks of fields by their names here, and so of those of parts."""
 
     def change(place):
+        names = [f"{it}_" if it in WORDS else it for it in place]
         if place[0] == "self":
-            return ("self", *(found.get(it, it) for it in place[1:2]), *map(free, place[2:]))
-        return (VALUE, *map(free, place[1:])) if place[0] == VALUE else place
+            return ("self", *(found.get(it, it) for it in place[1:2]), *names[2:])
+        return (VALUE, *names[1:]) if place[0] == VALUE else place
 
     return with_places(expression, change)
-
-
-def free(name):
-    """The name of a field of a part."""
-    return f"{name}_" if name in WORDS else name
 
 
 def reached(items):

@@ -169,7 +169,7 @@ class Implementation:
         for at, it in enumerate(variant.fields):
             if self.has_rules(it):
                 self.writer.spot = it.name or names[at]
-                checks = Checks(scope, self.writer.uses, self.writer)
+                checks = Checks(scope, self.writer)
                 check, said = checks.of(it.attributes.rules, Seen(it.type, stated_names[at]), it.attributes.adapter)
                 entry, text = self.field(it, at, names[at], check, said)
                 code.append(entry)

@@ -168,12 +168,9 @@ INPUTS = {
 def may_be_missing(kind, input):
     """Whether the member of an option may be missing. A browser sends a choice, and a list of them, only where something is chosen."""
     held = kind.args[0]
-    return input == "json" or input == "web-form" and (is_option(held) or is_path(held, "Vec") or not is_plain(held))
-
-
-def is_plain(kind):
-    """Whether a type is one that a text field writes: a text, also one that is parsed, a number or a `bool`."""
-    return is_text(kind) or is_path(kind, *UNSIGNED, *SIGNED, "bool", *(name for _, name in KNOWN))
+    # a text field writes a text, also one that is parsed, a number or a `bool`
+    is_plain = is_text(held) or is_path(held, *UNSIGNED, *SIGNED, "bool", *(name for _, name in KNOWN))
+    return input == "json" or input == "web-form" and not is_plain
 
 
 class Reader:

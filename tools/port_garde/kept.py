@@ -123,7 +123,9 @@ def strays(crate, outputs):
 
 def put(output, given):
     """Writes a file as a whole: one that is cut off leaves what stood there."""
-    mode = output.stat().st_mode & 0o777 if output.exists() else 0o666 & ~umask()
+    mask = os.umask(0)
+    os.umask(mask)
+    mode = output.stat().st_mode & 0o777 if output.exists() else 0o666 & ~mask
     place, name = tempfile.mkstemp(prefix=f".{output.name}.", dir=output.parent)
     try:
         with open(place, "wb") as file:
@@ -135,12 +137,6 @@ def put(output, given):
     except BaseException:
         pathlib.Path(name).unlink(missing_ok=True)
         raise
-
-
-def umask():
-    mask = os.umask(0)
-    os.umask(mask)
-    return mask
 
 
 def faults_of(given, judge):

@@ -1,7 +1,7 @@
 """The names that serde gives to fields and variants in JSON."""
 import re
 
-from .derives import all_options, options, reading_case
+from .derives import options, reading_case
 
 
 def words_joined(name, mark):
@@ -29,27 +29,18 @@ OF_VARIANTS = {
 }
 
 
-def renamed(it):
-    """The name for reading that an option `rename` gives, or nothing."""
-    said = options(it).get("rename")
+def reading(it, word):
+    """The name, or the case of names, for reading that an option gives, or nothing."""
+    said = options(it).get(word)
     return reading_case(said) if said else None
 
 
-def case_of(it, word):
-    said = options(it).get(word)
-    return reading_case(said) if said else ""
-
-
 def of_field(field, variant, item):
-    case = case_of(item, "rename_all") if item.kind == "struct" else case_of(variant, "rename_all") or case_of(item, "rename_all_fields")
-    found = renamed(field)
+    case = reading(item, "rename_all") if item.kind == "struct" else reading(variant, "rename_all") or reading(item, "rename_all_fields")
+    found = reading(field, "rename")
     return found if found is not None else OF_FIELDS.get(case, str)(field.name)
 
 
 def of_variant(variant, item):
-    found = renamed(variant)
-    return found if found is not None else OF_VARIANTS.get(case_of(item, "rename_all"), str)(variant.name)
-
-
-def others_of_variant(variant):
-    return [said.value for said in all_options(variant) if said.word == "alias"]
+    found = reading(variant, "rename")
+    return found if found is not None else OF_VARIANTS.get(reading(item, "rename_all"), str)(variant.name)

@@ -16,18 +16,13 @@ def read_asks(tokens, line):
     code, message = None, read_text(tokens, line)
     tokens.expect(",")
     if tokens.first.kind in ("text", "raw") and tokens.tokens[tokens.at + 1].text == ",":
-        code, message = code_of(message, line), read_text(tokens, line)
+        if not re.fullmatch(r"[a-z][a-z0-9_]*", message):
+            raise Refusal(line, f"the code `{message}`: a code is made of small letters, digits and `_`, as `given_twice`")
+        code, message = message, read_text(tokens, line)
         tokens.expect(",")
     condition = read_expression(tokens)
     tokens.takes(",")
     return code, message, named(condition, {"value": VALUE})
-
-
-def code_of(text, line):
-    """A code, which is a name as those of the rules of the library."""
-    if not re.fullmatch(r"[a-z][a-z0-9_]*", text):
-        raise Refusal(line, f"the code `{text}`: a code is made of small letters, digits and `_`, as `given_twice`")
-    return text
 
 
 def named(condition, names):

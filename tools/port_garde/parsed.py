@@ -13,7 +13,7 @@ RFC3339 = ("time::serde::rfc3339", "time::serde::iso8601")
 @dataclass(frozen=True)
 class Parser:
     """A parser: its name, the type of its values, the word that states what it reads, and what a JSON Schema says. The texts of a `layout`
-    alone are read, where it has one; `takes` says that it may allocate."""
+    alone are read, where it has one; `takes` says that it may allocate, and `crate` has it."""
 
     name: str
     path: tuple
@@ -21,6 +21,7 @@ class Parser:
     schema: dict
     layout: str = ""
     takes: bool = False
+    crate: str = "garde_parsed"
 
 
 def text(told, **more):
@@ -43,7 +44,7 @@ FORMATS = {"date": {"format": "date"}, "moment": {"format": "date-time"}}
 DATE3339, TIME3339, BOTH3339, MOMENT3339 = times(("Date", "Time", "DateTime", "Timestamp"), "of RFC 3339, and no second is 60", **FORMATS)
 # By the crate and the name of a type.
 KNOWN = {
-    ("", "char"): Parser("Character", ("char",), "a_character", {"type": "string", "minLength": 1, "maxLength": 1}),
+    ("", "char"): Parser("Character", ("char",), "a_character", {"type": "string", "minLength": 1, "maxLength": 1}, crate="garde_form"),
     ("std", "Ipv4Addr"): Parser("Ipv4", ("std", "net", "Ipv4Addr"), "an_ipv4", {"type": "string", "format": "ipv4"}),
     ("std", "Ipv6Addr"): Parser("Ipv6", ("std", "net", "Ipv6Addr"), "an_ipv6", {"type": "string", "format": "ipv6"}),
     ("std", "IpAddr"): Parser("Ip", ("std", "net", "IpAddr"), "an_ip", {"type": "string", "anyOf": [{"format": "ipv4"}, {"format": "ipv6"}]}),
@@ -117,25 +118,21 @@ def with_moments(it):
 def form(parser, schema):
     """The form of a text that a parser reads."""
     others, read = schema.writer.uses.others, Word(parser.name)
-    others.add(f"{crate(parser)}::{parser.name}")
+    others.add(f"{parser.crate}::{parser.name}")
     if parser.takes:
         others.add("garde_parsed::ParsedInMemory")
         return call("ParsedInMemory", parser.name, "()")
     if parser.layout:
         others |= {"garde_parsed::InText", "garde_parsed::Layout"}
         read = call("InText", read, f"Layout::{parser.layout}")
-    return call(schema.use_form("Parsed"), read, "()")
+    return call(schema.use("Parsed", crate="garde_form"), read, "()")
 
 
 def stated(parser, uses):
     """The word that states what a parser reads, with the layout that it is given, where it has one."""
-    module = "Parsed" if crate(parser) == "garde_form" else "Spelling"
-    uses.state(f"{crate(parser)}.specs.{module}", parser.word)
+    module = "Parsed" if parser.crate == "garde_form" else "Spelling"
+    uses.state(f"{parser.crate}.specs.{module}", parser.word)
     if not parser.layout:
         return (parser.word,)
     uses.paths.add("Rattle.garde_parsed.specs.declared.layout.Layout.TheVariants as layouts")
     return parser.word, f"layouts.{parser.layout}"
-
-
-def crate(parser):
-    return "garde_form" if parser.name == "Character" else "garde_parsed"

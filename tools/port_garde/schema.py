@@ -68,14 +68,14 @@ class Schema(Forms):
         self.holding, self.lent = set(), set()
         self.spellings = Spellings(self, writer.checked) if writer.checked else None
 
-    def use(self, *names):
-        """Imports names of `garde_schema`, and gives the first one."""
-        self.writer.uses.others |= {f"garde_schema::{it}" for it in names}
+    def use(self, *names, crate="garde_schema"):
+        """Imports names of a crate, and gives the first one."""
+        self.writer.uses.others |= {f"{crate}::{it}" for it in names}
         return names[0]
 
-    def use_form(self, name):
-        self.writer.uses.others.add(f"garde_form::{name}")
-        return name
+    def name_at(self, it, variant, item, end):
+        """The name of a type that is written for a field."""
+        return f"{item.name}{variant.name if item.kind == 'enum' else ''}{camel(it.name)}{end}"
 
     def texts(self):
         """The makers and the functions that read; or of a body, the statements and the implementation by which a library reads it."""
@@ -127,13 +127,10 @@ class Schema(Forms):
                 for number in group.asked:
                     yield self.shared(variant.fields[number], group, variant, item)
 
-    def shared_name(self, it, variant, item):
-        return f"{item.name}{variant.name if item.kind == 'enum' else ''}{camel(it.name)}Rules"
-
     def shared(self, it, group, variant, item):
         """What a field asks of a group of members, which are given as the form has them."""
-        uses, numbers, name = self.writer.uses, numbers_in(group), self.shared_name(it, variant, item)
-        for taken in {name, f"{name.removesuffix('Rules')}Parts"} & set(self.turned):
+        uses, numbers = self.writer.uses, numbers_in(group)
+        for taken in {self.name_at(it, variant, item, end) for end in ("Rules", "Parts")} & set(self.turned):
             self.writer.notes.refuse(it.line, f"the field `{it.name}`, whose rules are a type `{taken}`: give that of the file another name")
         uses.others |= {"garde::fields::Rules", "garde::I18n", "garde::Report", "garde::Trail", "std::alloc::AllocError"}
         names = {at: f"the_{variant.fields[at].name}" if variant.fields[at].name in OWN else variant.fields[at].name for at in numbers}
@@ -141,7 +138,7 @@ class Schema(Forms):
         own = {variant.fields[at].name: Place(names[at], stated[at], variant.fields[at].type) for at in numbers}
         scope, self.writer.spot = self.writer.form_scope(own), it.name
         place = own[it.name]
-        code, said = Checks(scope, uses, self.writer).of(shared_rules(it), Seen(it.type, place.name))
+        code, said = Checks(scope, self.writer).of(shared_rules(it), Seen(it.type, place.name))
         bound = {at: name if variant.fields[at].name in scope.bound | {it.name} else "_" for at, name in names.items()}
         held = self.held_context(it, scope, variant, item)
         said = within_rule(said, scope.context) if scope.asks_context else said
@@ -157,16 +154,16 @@ class Schema(Forms):
         """What the rules of a field hold, where they ask the context."""
         if not scope.asks_context:
             return {"holds": "", "lives": "", "rule": "_", "let": "let "}
-        self.holding.add(self.shared_name(it, variant, item))
+        self.holding.add(self.name_at(it, variant, item, "Rules"))
         return {"holds": f"<'c>(&'c {self.writer.context})", "lives": "<'_>", "rule": "rule", "let": f"let {scope.context} = self.0;\n        let "}
 
     def shared_type(self, it, group, variant, item):
         """The names of what a field asks of a group, and of the type of that: the group has one where it does not fit into a line."""
         tree = tuple_of(filled(group, [self.writer.type_text(it.type) for it in variant.fields]))
-        kind, name = flat(tree), self.shared_name(it, variant, item)
+        kind, name = flat(tree), self.name_at(it, variant, item, "Rules")
         life, parts, first = "<'t>" if "'t" in kind else "", "", variant.fields[group.asked[0]]
         if len(f"impl{life} Rules<{kind}> for {name} {{") > WIDTH:
-            kind = f"{self.shared_name(first, variant, item).removesuffix('Rules')}Parts{life}"
+            kind = f"{self.name_at(first, variant, item, 'Parts')}{life}"
             parts = PARTS.format(item=item.name, written=statement(tree, 0, f"type {kind} = ", ";")) if it is first else ""
         return {"field": it.name, "item": item.name, "parts": parts, "name": name, "life": life, "kind": kind}
 
@@ -195,7 +192,7 @@ class Schema(Forms):
 
     def make(self, name, *parts):
         name = CODE.get(name, name)
-        word = self.use_form(name) if name in OF_FORMS else self.use(name) if name else ""
+        word = self.use(name, crate="garde_form" if name in OF_FORMS else "garde_schema") if name else ""
         return call(word, *parts) if parts else Word(word)
 
     def in_turn(self, parts):
@@ -211,7 +208,7 @@ class Schema(Forms):
 
     def rules_of(self, it, variant, item):
         """What a field asks of a group, as a value."""
-        name = self.shared_name(it, variant, item)
+        name = self.name_at(it, variant, item, "Rules")
         return call(name, self.writer.context_of(item)[1]) if name in self.holding else Word(name)
 
     def rows(self, rows):
@@ -262,8 +259,6 @@ class Schema(Forms):
         return self.make(word, self.use(kind.name[:1].upper() + kind.name[1:]), self.asked(kind, rules))
 
     def asked(self, kind, rules):
-        """The rules of a value, as the code of the type has them."""
-        code, _ = Checks(self.writer.form_scope(), self.writer.uses, self.writer).of(list(rules), Seen(self.borrowed.type_of(kind), "v"))
-        return code
+        return self.checks(kind, rules)[0]
 
     counted = asked

@@ -22,17 +22,14 @@ CODE = {
 }
 
 
-def is_whole(begun):
-    """Whether a skeleton compiles as it is."""
-    return begun and "todo" not in begun
-
-
 def add(crate, written):
     """Writes the skeletons that the modules of one's own lack. Returns what could not be written."""
     for output, (text, begun) in sorted(written.items()):
         for names, file, lacks in lacking_of(crate, output, SKIPPED.sub("", text)):
             file = file or crate / f"src/{'/'.join(names)}.rt"
-            new = [begun[it] for it in lacks if is_whole(begun.get(it)) and set(MADE.findall(begun[it])) <= set(lacks)]
+            # those that compile as they are
+            whole = {it: begun[it] for it in lacks if begun.get(it) and "todo" not in begun[it]}
+            new = [text for text in whole.values() if set(MADE.findall(text)) <= set(lacks)]
             try:
                 if new:
                     file.parent.mkdir(parents=True, exist_ok=True)

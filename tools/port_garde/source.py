@@ -2,7 +2,7 @@
 from dataclasses import dataclass, field, replace
 
 from .build import Build
-from .derives import read_serde
+from .derives import read_option
 from .expressions import number_of
 from .own import at_field
 from .rules import Attributes, present, read_attributes
@@ -363,7 +363,7 @@ def read_attribute_of(inside, outer, asked, mark, of_the_file):
         outer.condition = mark.line if held is None else outer.condition
         outer.conditions += [None] if held is None else []
     elif word == "serde" and inside.opens("("):
-        outer.serde += (read_serde(inside.group()),)
+        outer.serde += (present(inside.group().items(read_option)),)
     else:
         outer.others += ((mark.line, "::".join(path)),)
 

@@ -226,20 +226,19 @@ class Spellings(Forms):
         at = dict(zip(numbers, places(filled(group, [it.name for it in fields]), "v")))
         turned = next(it.fields for it in self.turned[item.name].variants if it.name == variant.name)
         own = {fields[it].name: Place(fields[it].name, at[it], turned[it].type) for it in numbers}
-        asked = [f'field "{of_field(fields[it], variant, item)}" ({self.shared(turned[it], own)})' for it in group.asked]
+        asked = []
+        for number in group.asked:
+            it = turned[number]
+            self.writer.spot = it.name
+            _, text = Checks(self.writer.form_scope(own), self.writer).of(shared_rules(it), Seen(it.type, own[it.name].name))
+            asked.append(f'field "{of_field(fields[number], variant, item)}" ({text})')
         if len(asked) > 1:
             self.writer.uses.words.add("◌and◌")
         return self.make("CheckedMembers", members, f"(λ v. {' and '.join(asked)})")
 
-    def shared(self, it, own):
-        """What a field asks beside others."""
-        self.writer.spot, scope = it.name, self.writer.form_scope(own)
-        _, text = Checks(scope, self.writer.uses, self.writer).of(shared_rules(it), Seen(it.type, own[it.name].name))
-        return text
-
     def asked_of_member(self, form, name, kind, rules):
         self.writer.uses.words.add("field")
-        return self.make("CheckedMembers", form, f"(λ v. field {name} ({self.checks(kind, rules)}))")
+        return self.make("CheckedMembers", form, f"(λ v. field {name} ({self.checks(kind, rules)[1]}))")
 
     def rows(self, rows):
         return Said(self.listed([f'("{name}", {flat(value)})' for name, value in rows]))
@@ -299,7 +298,7 @@ class Spellings(Forms):
         return text.replace("is (items ", "is (count ")
 
     def asked(self, kind, rules):
-        text = self.checks(kind, rules)
+        text = self.checks(kind, rules)[1]
         if not rules:
             self.writer.uses.words.add("none")
         return f"(λ {'v' if rules else '_'}. {text or 'none'})"
@@ -308,9 +307,5 @@ class Spellings(Forms):
         """What a rule finds in a number, whose bound is that of the numbers beyond the type."""
         if rule.name not in ("range", "custom", "multiple_of"):
             raise Refusal(rule.line, f"`{rule.name}` of a number, which `--body` does not state")
-        fault = self.checks(kind, [rule]).removeprefix("is (").removesuffix(")")
+        fault = self.checks(kind, [rule])[1].removeprefix("is (").removesuffix(")")
         return f"(λ v. {fault})" if rule.name == "custom" else fault.removesuffix(" v")
-
-    def checks(self, kind, rules):
-        scope, seen = self.writer.form_scope(), Seen(self.borrowed.type_of(kind), "v")
-        return Checks(scope, self.writer.uses, self.writer).of(list(rules), seen)[1]

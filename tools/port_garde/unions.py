@@ -1,8 +1,8 @@
 """Enums with fields: how the value of a form holds their variants, and what tells the variants of an `untagged` one apart."""
 from dataclasses import dataclass, field
 
-from .derives import options
-from .names import of_field, of_variant, others_of_variant
+from .derives import all_options, options
+from .names import of_field, of_variant
 from .scope import SIGNED, UNSIGNED, is_option, is_path, is_text
 
 # The kinds of values: whole numbers are those without a sign, those behind a minus, and those of more than 64 bits.
@@ -12,9 +12,6 @@ KINDS = ("null", "boolean", *NUMBERS, "text", "list", "object")
 WORDS = {"null": "Null", "boolean": "Boolean", "text": "Text", "list": "List", "object": "Object"}
 # The forms by which tests are made.
 TESTS = {"has": "Has", "has_with": "HasWith", "any": "AnyOf", "both": "Both", "not": "Not", "unsigned": "IsUnsigned", "whole": "IsWhole"}
-LISTS = ("Vec", "VecDeque", "LinkedList", "HashSet", "BTreeSet", "IndexSet")
-MAPS = ("HashMap", "BTreeMap", "IndexMap", "Map")
-HOLDERS = ("Box", "Rc", "Arc", "Cow")
 SIDES = {"l": "Left", "r": "Right"}
 # A tuple of more items is a tuple in a tuple, whose value is another one.
 MOST_ITEMS = 6
@@ -48,7 +45,7 @@ def is_other(variant):
 
 def names_of(variant, item):
     """The names under which a variant is read."""
-    return [of_variant(variant, item), *others_of_variant(variant)]
+    return [of_variant(variant, item), *(said.value for said in all_options(variant) if said.word == "alias")]
 
 
 def units_of(item):
@@ -127,15 +124,15 @@ class Shapes:
             return Shape(set(KINDS), is_open=True, is_own=kind.name in self.borrowed.holes)
         if is_text(kind):
             return Shape({"text"}, {"text"})
-        if is_path(kind, *HOLDERS) and kind.args:
+        if is_path(kind, "Cow") and kind.args:
             return self.of_type(kind.args[-1], seen)
         if is_option(kind):
             held = self.of_type(kind.args[0], seen)
             return Shape(**{**vars(held), "kinds": held.kinds | {"null"}, "total": held.total | {"null"}})
-        if is_path(kind, *LISTS) or kind.kind in ("array", "slice", "tuple"):
+        if is_path(kind, "Vec") or kind.kind in ("slice", "tuple"):
             items = self.of_type(kind.args[0], seen) if kind.args and kind.kind != "tuple" else anything()
             return Shape({"list"}, items=items)
-        if is_path(kind, *MAPS):
+        if is_path(kind, "HashMap", "BTreeMap"):
             return Shape({"object"}, is_open=True)
         return self.of_item(self.items[kind.name], seen) if kind.name in self.items else self.of_name(kind.name)
 

@@ -29,10 +29,6 @@ def is_made(kind, *names):
     return is_path(kind, *names) and kind.path == (kind.name,) and not kind.args and len(kind.lives) == 1
 
 
-def is_decimal(kind):
-    return is_made(kind, DECIMAL)
-
-
 def as_read(kind, life):
     """The type of the value that a form makes of one of these."""
     name = DECIMAL if is_float(kind) else KEPT

@@ -9,7 +9,7 @@ from .rules import OURS, PLAIN, REPEATED, TEXTS
 from .scope import SIGNED, UNSIGNED, Place, Scope, Seen, is_option, is_path, is_text, range_of as whole_range
 from .source import named_type
 from .tokens import Refusal
-from .values import DECIMAL, KEPT, is_decimal, is_made, multiple_of, range_of
+from .values import DECIMAL, KEPT, is_made, multiple_of, range_of
 
 # The word for what a `length` counts of a text.
 COUNTS = {"simple": "bytes", "bytes": "bytes", "chars": "chars", "graphemes": "graphemes", "utf16": "utf16"}
@@ -44,8 +44,8 @@ def camel(path):
 class Checks:
     """The checks of a value, as code and as they are stated."""
 
-    def __init__(self, scope, uses, writer):
-        self.scope, self.uses, self.writer = scope, uses, writer
+    def __init__(self, scope, writer):
+        self.scope, self.uses, self.writer = scope, writer.uses, writer
 
     def of(self, rules, seen, adapter=()):
         """The check that these rules hold of a value, in turn."""
@@ -93,7 +93,7 @@ class Checks:
         return name
 
     def under(self, rule, seen, adapter):
-        condition, stated = Conditions(self.scope, self.uses, self.writer).whole(rule.place)
+        condition, stated = Conditions(self.scope, self.writer).whole(rule.place)
         code, spec = self.of(rule.rules, seen, adapter)
         return call(self.field("When"), condition, code), f"{self.word('when')} {stated} ({spec})"
 
@@ -226,13 +226,13 @@ class Checks:
         at = {it: f"rule.{number}.now" for number, it in enumerate(held)}
         given = {it: Place("the_value" if it == "value" else outer.places[it].binding, at[it], outer.places[it].type) for it in others}
         inner = Scope(outer.context, given, outer.params, outer.unit, Place("value", "value", seen.type), fields)
-        holds = Conditions(inner, self.uses, self.writer).whole(rule.place)
+        holds = Conditions(inner, self.writer).whole(rule.place)
         word, given = rule.asks()
         self.uses.kept_fields |= {word, "Rule"}
         self.uses.kept_others |= {"garde::I18n", "garde::RuleError", "std::alloc::Global"}
         self.writer.written_rule(name, rule, self.writer.type_text(seen.type), holds, inner)
         inner.value, inner.places = replace(inner.value, name=seen.name), outer.places
-        _, stated = Conditions(inner, self.uses, self.writer).whole(rule.place)
+        _, stated = Conditions(inner, self.writer).whole(rule.place)
         outer.bound |= inner.bound
         value = call(name, *(outer.places[it].binding if it in given else it for it in held)) if held else Word(name)
         return self.asked(value, " ".join([self.word("asks_as" if rule.code else "asks"), *given, stated]), False)
@@ -344,7 +344,7 @@ class Checks:
 
     def range(self, rule, seen):
         kind = seen.type.name
-        if is_decimal(seen.type):
+        if is_made(seen.type, DECIMAL):
             return range_of(self, rule, seen)
         if not is_path(seen.type, *UNSIGNED, *SIGNED):
             floats = " of floating-point numbers" if kind in ("f32", "f64") else ""
@@ -358,7 +358,7 @@ class Checks:
     def multiple(self, rule, seen):
         """The rule that a number is a multiple of another one, by its type."""
         kind = seen.type.name
-        if is_decimal(seen.type):
+        if is_made(seen.type, DECIMAL):
             return multiple_of(self, rule, seen)
         if not is_path(seen.type, *UNSIGNED, *SIGNED):
             raise Refusal(rule.line, f"`multiple_of` of the type `{self.writer.type_text(seen.type, True)}`, which is no whole number")

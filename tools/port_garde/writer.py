@@ -3,7 +3,7 @@ import re
 from dataclasses import replace
 
 from .borrowed import Borrowed, below, is_held, is_named
-from .derives import SERDE, Derives, all_types, fields_of, kept_derives, literal_function, named_function, options, serde_lines
+from .derives import OWN as OWN_DERIVES, SERDE, Derives, all_types, fields_of, literal_function, named_function, options, serde_lines
 from .front import Front, place_named
 from .holes import HOLE, MEMBERS
 from .implementation import Implementation
@@ -86,22 +86,22 @@ impl {name} {{
 
 class Writer:
     """Writes what stands for a source. `module` is the path of what is written, `own` that of the rules of one's own, and
-    `left_out` are the derives and attributes that are left out without a word. With `walks` types that a form reads have a walk too.
+    `leave_out` are the derives and attributes that are left out without a word. With `no_walk` types that a form reads have no walk.
     `body` is the type that a static library checks, and `spelled` one of which JSON spells what a program reads: then they have none.
     What reads reports the `first` faults alone, or all. What is spelled is read from an `input`: JSON, a web form or rows. The types and the
     variants that are `taken` have names that stand for something else in what is written."""
 
-    def __init__(self, source, module=None, own=None, left_out=(), schema=False, walks=True, body=None, first=False, spelled=None, input="json", taken=()):
-        self.given = (module, own, left_out, schema, walks, body, first, spelled, input)
+    def __init__(self, source, module=None, own=None, leave_out=(), schema=False, no_walk=False, body=None, first=False, spelled=None, input="json", taken=()):
+        self.given = (module, own, leave_out, schema, no_walk, body, first, spelled, input)
         self.source, self.module, self.own, self.first, self.input = source, module, own, first, input
         self.taken, self.clashes = frozenset(taken), set()
         front = Front(source, bool(schema or body or spelled), body or spelled, self.taken)
         front.turn()
         self.checked, self.is_library = front.called(body or spelled), body is not None
         quoted = quoted_of(source, self.checked) if spelled else {}
-        self.borrowed = Borrowed(source, left_out, bool(self.checked), walks, spelled is not None, input, own, self.checked) if schema or self.checked else None
-        self.unwalked = self.borrowed.unwalked() if self.checked or schema and not walks else set()
-        self.derives = Derives(source, left_out)
+        self.borrowed = Borrowed(source, leave_out, bool(self.checked), not no_walk, spelled is not None, input, own, self.checked) if schema or self.checked else None
+        self.unwalked = self.borrowed.unwalked() if self.checked or schema and no_walk else set()
+        self.derives = Derives(source, leave_out)
         self.uses = Uses()
         self.patterns, self.skeletons, self.closures, self.copied = {self.checked: quoted} if quoted else {}, {}, {}, {}
         self.item = self.context = self.spot = self.answers = None
@@ -217,7 +217,7 @@ class Writer:
 
     def declaration(self, item):
         """The type itself, with the derives that are here."""
-        derives = kept_derives(item)
+        derives = [name for name in item.derives if name in (*OWN_DERIVES, *SERDE)]
         self.uses.others |= {f"serde::{it}" for it in derives if it in SERDE}
         derives += [] if "Copy" in derives else ["Drop"]
         self.serde_functions(item)
@@ -284,8 +284,8 @@ class Writer:
 
     def type_text(self, kind, declared=False):
         """A type as it is written here; in a declaration its lifetimes stay as they are."""
-        lives = [it if declared else self.renamed.get(it, it) for it in kind.lives]
         inside = [self.type_text(it, declared) for it in kind.args]
+        lives = [it if declared else self.renamed.get(it, it) for it in kind.lives]
         if kind.kind in ("unread", "const"):
             return kind.name or "_"
         if kind.kind == "ref":
