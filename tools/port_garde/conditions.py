@@ -254,7 +254,7 @@ class Conditions:
     def in_order(self, it):
         """A comparison of two dates, two times or two moments, or nothing where a part is none."""
         found = [self.scope.place(part.value, it.line) for part in it.parts if self.writer.resolved(part).kind == "place"]
-        kinds = {kind.path for _, _, kind in found if kind is not None}
+        kinds = {kind and kind.path for _, _, kind in found}
         if len(found) < 2 or len(kinds) > 1 or not kinds & set(ORDERED):
             return None
         (code, spec, kind), (other, like, _) = found

@@ -8,6 +8,7 @@ from .names import of_field
 from .parsed import KNOWN
 from .scope import SIGNED, UNSIGNED, is_option, is_path, is_text
 from .source import is_ported
+from .tokens import Refusal
 
 READ = """{constant}{docs}
 {tactic}{vis}fn read_{name}<{lives}, H: I18n + FormI18n>(
@@ -237,6 +238,8 @@ class Reader:
         """The lists by which a web form is read, whose promise has answers of its own."""
         if self.kind != "web-form" or not spelling:
             return ""
+        if self.writer.module is None:
+            raise Refusal(self.item.line, "a web form, whose answers name its module: say it by `--module CRATE::MODULE`")
         uses, (crate, *modules) = self.writer.uses, self.writer.module.split("::")
         uses.prelude |= {"◌≢◌", "Err", "codes", "map", "[]"} | ({"◌∷◌"} if self.lists() else set())
         uses.state("garde_form.specs.Spelling", "OfForm")

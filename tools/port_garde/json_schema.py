@@ -119,6 +119,9 @@ class JsonSchema:
             schema, tag = self.names_in(item.variants, item), options(item).get("tag")
             whole = {"type": "object", **with_member(tag.value, schema)} if tag else {}
             schema = self.closed(whole, "deny_unknown_fields" in options(item)) if tag else schema
+        elif not item.variants:
+            # read elsewhere, where any value passes
+            schema = {}
         else:
             schema = self.of_enum(item) if item.kind == "enum" else self.inside(item.variants[0], item)
         return {**kept_docs(item.docs), **schema}

@@ -17,7 +17,7 @@ def holds(it, found, numbers):
         return decides if decides in parts else None if None in parts else not decides
     if it.kind in COMPARED:
         one, other = (known(part, found, numbers) for part in it.parts)
-        return None if None in (one, other) else COMPARED[it.kind](one, other)
+        return COMPARED[it.kind](one, other) if type(one) is type(other) and one is not None else None
     if it.kind == "matches":
         name = known(it.parts[0], found, numbers)
         return None if name is None else name in {path[-1] for path in it.value}
