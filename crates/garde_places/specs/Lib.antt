@@ -13,3 +13,4 @@ pub mod JsonLine
 pub mod Format
 pub mod Listed
 pub mod Printed
+pub mod Refusal

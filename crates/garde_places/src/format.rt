@@ -1,5 +1,5 @@
 //! The formats in which faults with places are printed.
-ghost use Rattle.std.specs.Prelude.{◌≡◌, IfOk, Some, string_bytes};
+ghost use Rattle.std.specs.Prelude.{◌≡◌, [], IfOk, IsOk, Some, string_bytes};
 ghost use Rattle.std.specs.Str.{bytes_eq};
 ghost use Rattle.garde_places.specs.Format.{format_of, line_text, lines_text};
 
@@ -35,14 +35,15 @@ impl Format {
     }
 
     /// The faults of the file of this name in this format, each as a line with its line feed, in their
-    /// order.
+    /// order. No fault needs no memory.
     pub fn lines(
         self,
         alloc: Global,
         file: &str,
         faults: &[Fault<'_>],
     ) -> Result<String, AllocError>
-        ensures { IfOk result (λ text. string_bytes text ≡ lines_text self file.now faults.now) }
+        ensures text { IfOk result (λ text. string_bytes text ≡ lines_text self file.now faults.now) }
+        ensures empty { faults.now ≡ [] → IsOk result }
     {
         let mut text = String::new(alloc);
         for fault in faults {

@@ -1,5 +1,5 @@
 //! The places of the values of a text that was written as JSON.
-ghost use Rattle.std.specs.Prelude.{◌≡◌, ◌≤◌, length, map, slice_index_or, Some, IfOk, IsOk};
+ghost use Rattle.std.specs.Prelude.{◌≡◌, ◌≤◌, [], length, map, slice_index_or, Some, IfOk, IsOk};
 ghost use Rattle.json.specs.Json.{Json, document};
 ghost use Rattle.garde_tape.specs.Reading.{json_of};
 ghost use Rattle.garde_tape.specs.Place.{text_start};
@@ -111,6 +111,7 @@ impl<'t, 'a> ListedPlaces<'t, 'a> {
 
     /// The faults of a report, in its order, each with its place: that of the token with which the
     /// value at its path begins in JSON, or the name of its member, as `Places::locate_fault` has it.
+    /// No fault needs no memory.
     pub fn locate_all<'r>(
         &mut self,
         alloc: Global,
@@ -120,6 +121,7 @@ impl<'t, 'a> ListedPlaces<'t, 'a> {
         ensures places { IfOk result (λ faults. (j : Json) → document self.old.0 ≡ Some j
             → AreListed self.old.1 j faults.items) }
         ensures text { self.new ≡ self.old }
+        ensures empty { report.now ≡ [] → IsOk result }
     {
         let mut faults = Vec::new(alloc);
         for (path, error) in report.iter() {

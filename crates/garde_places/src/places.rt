@@ -1,5 +1,5 @@
 //! The places of the values of a JSON text.
-ghost use Rattle.std.specs.Prelude.{◌≡◌, ◌≤◌, length, map, Some, IfOk, IsOk};
+ghost use Rattle.std.specs.Prelude.{◌≡◌, ◌≤◌, [], length, map, Some, IfOk, IsOk};
 ghost use Rattle.json.specs.Json.{Json, document};
 ghost use Rattle.garde_tape.specs.Reading.{json_of};
 ghost use Rattle.garde_places.specs.Places.{IsPlaceOf, IsNamePlace};
@@ -95,7 +95,7 @@ impl<'t, 'a> Places<'t, 'a> {
         self.listed.place_of_fault(alloc, path, error)
     }
 
-    /// The faults of a report, in its order, each with its place.
+    /// The faults of a report, in its order, each with its place. No fault needs no memory.
     pub fn locate_all<'r>(
         &mut self,
         alloc: Global,
@@ -105,6 +105,7 @@ impl<'t, 'a> Places<'t, 'a> {
         ensures places { IfOk result (λ faults. (j : Json) → document self.old ≡ Some j
             → ArePlaced self.old j faults.items) }
         ensures text { self.new ≡ self.old }
+        ensures empty { report.now ≡ [] → IsOk result }
     {
         self.listed.locate_all(alloc, report)
     }

@@ -1,5 +1,5 @@
 //! The faults of an input in lines, under its name.
-ghost use Rattle.std.specs.Prelude.{◌≡◌, ◌≢◌, [], ◌∷◌, IfOk, OnErr, OnOk, string_bytes};
+ghost use Rattle.std.specs.Prelude.{◌≡◌, ◌≢◌, [], ◌∷◌, IfOk, IsOk, OnErr, OnOk, string_bytes};
 ghost use Rattle.std.specs.List.Sorted.{IsPermutation, IsSortedByKey, IsStableByKey};
 ghost use Rattle.garde_places.specs.Fault.{line_and_column, line_first};
 ghost use Rattle.garde_places.specs.Format.{lines_text};
@@ -23,13 +23,14 @@ pub struct Printed<'w> {
 
 impl Printed<'_> {
     /// Faults in lines, each with its line feed: for people they are sorted by their places, and as `json`,
-    /// for programs, they keep their order.
+    /// for programs, they keep their order. No fault needs no memory.
     pub fn lines(self, alloc: Global, faults: &mut Vec<Fault<'_>>) -> Result<String, AllocError>
         ensures text { IfOk result (λ text. string_bytes text ≡ lines_text self.entry.format self.entry.file.now faults.new.items) }
         ensures same { IsPermutation faults.old.items faults.new.items }
         ensures sorted { OnOk result (self.entry.format ≢ ForPrograms → IsSortedByKey line_and_column line_first faults.new.items) }
         ensures stable { IsStableByKey line_and_column line_first faults.old.items faults.new.items }
         ensures in_order { self.entry.format ≡ ForPrograms → faults.new.items ≡ faults.old.items }
+        ensures empty { faults.old.items ≡ [] → IsOk result }
     {
         if !matches!(self.format, Format::Json) {
             sort_by_place(faults)?;

@@ -1,9 +1,10 @@
 //! The faults of a report, with the places in the text that was read.
-ghost use Rattle.std.specs.Prelude.{◌≡◌, IfOk, Some, map};
+ghost use Rattle.std.specs.Prelude.{◌≡◌, IfErr, IfOk, Some, map};
 ghost use Rattle.json.specs.Json.{Json, document};
 ghost use Rattle.garde_tape.specs.Reading.{json_of};
 ghost use Rattle.garde_places.specs.Fault.{ArePlaced, fault_entry};
 ghost use Rattle.garde_places.specs.Listed.{AreListed};
+ghost use Rattle.garde_places.specs.Refusal.{IsRefusal};
 
 use crate::fault::Fault;
 use crate::listed::ListedPlaces;
@@ -17,7 +18,7 @@ use std::alloc::Global;
 ///
 /// # Errors
 ///
-/// Where the text is no JSON, of which there is no report, and `Memory`.
+/// Those of `garde_tape::parse`. So of a JSON text that is not too long it is `Memory`.
 pub fn faults_of<'r>(
     alloc: Global,
     text: &str,
@@ -26,6 +27,7 @@ pub fn faults_of<'r>(
     ensures faults { IfOk result (λ faults. map fault_entry faults.items ≡ report.now) }
     ensures places { IfOk result (λ faults. (j : Json) → document text.now ≡ Some j
         → ArePlaced text.now j faults.items) }
+    ensures refused { IfErr result (IsRefusal text.now) }
 {
     let mut scratch = Scratch::new(alloc);
     let tape = parse(alloc, text, &mut scratch)?;
@@ -47,6 +49,7 @@ fn list_all<'a, 'r>(
     ensures faults { IfOk result (λ faults. map fault_entry faults.items ≡ report.now) }
     ensures places { IfOk result (λ faults. (j : Json) → document text.now ≡ Some j
         → AreListed places.items j faults.items) }
+    ensures refused { IfErr result (λ error. error ≡ ParseError.Memory) }
 {
     match ListedPlaces::of(text, tape, places).locate_all(alloc, report) {
         Ok(faults) => Ok(faults),
@@ -59,7 +62,7 @@ fn list_all<'a, 'r>(
 ///
 /// # Errors
 ///
-/// Where what was written is no JSON, and `Memory`.
+/// Those of `garde_tape::parse`, of what was written.
 pub fn listed_faults_of<'r>(
     alloc: Global,
     json: &str,
@@ -69,6 +72,7 @@ pub fn listed_faults_of<'r>(
     ensures faults { IfOk result (λ faults. map fault_entry faults.items ≡ report.now) }
     ensures places { IfOk result (λ faults. (j : Json) → document json.now ≡ Some j
         → AreListed places.items j faults.items) }
+    ensures refused { IfErr result (IsRefusal json.now) }
 {
     let mut scratch = Scratch::new(alloc);
     let tape = parse(alloc, json, &mut scratch)?;
