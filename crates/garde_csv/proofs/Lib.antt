@@ -1,3 +1,4 @@
+pub mod Begun
 pub mod Feeding
 pub mod Joining
 pub mod Taking

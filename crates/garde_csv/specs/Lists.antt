@@ -1,7 +1,7 @@
 -- What is left of a list, and what reading a record does to it.
 use Rattle.std.specs.Prelude.{◌≡◌, ℕ, List, [], take, drop, Bool, true, false, Option, Some, None, ⊤}
 use Rattle.std.specs.Io.KnownBytes.{prepend_known}
-use Rattle.csv.specs.Machine.{Read, next_record}
+use Rattle.csv.specs.Machine.{Read, ends_at_end, next_record}
 use Rattle.csv.specs.Reading.{default_config}
 use Rattle.csv.specs.declared.parser.State.{State}
 use Rattle.csv.specs.Records.{AllText}
@@ -49,9 +49,9 @@ is_cause stop.Stopped = false
 abbrev pub has_stopped : {R : Type 0} → Records R → Bool
 has_stopped list = list.failed
 
--- what the cells of the next record and what is seen of it come to, if there is one
+-- what the cells of the next record and what is seen of it come to, if there is one; if there is none, no byte is left
 abbrev pub TakesAt : Option Read → Seen → List ℕ → List (List ℕ) → Option Walk → Type 0
-TakesAt None seen rest fields walk = walk ≡ None
+TakesAt None seen rest fields walk = (walk ≡ None) × (rest ≡ [])
 TakesAt (Some p) seen rest fields None = ⊥
 TakesAt (Some p) seen rest fields (Some walk) = (rest ≡ p.2) × (state_of walk.place ≡ p.1) × (seen_of walk ≡ seen) × (fields ≡ p.0)
 
@@ -69,9 +69,10 @@ IsAnswer None fields cells (next.Faulty found) = (found ≡ fault.NotUtf8) × ¬
 IsAnswer None fields cells next.End = ⊥
 IsAnswer (Some broken) fields cells answer = (answer ≡ next.Faulty broken) × (cells ≡ [])
 
--- reading a text gives this: the next record as `csv` has it, with what is seen of its quotes and its lines, or the end of the list
+-- reading a text gives this: the next record as `csv` has it, with what is seen of its quotes and its lines, or the end of the list,
+-- where no byte is left and no record has begun
 abbrev pub Gives : {R : Type 0} → Option Read → Seen → Records R → List ℕ → List (List ℕ) → Next → Type 0
-Gives None seen list rest cells answer = (answer ≡ next.End) × (cells ≡ [])
+Gives None seen list rest cells answer = (answer ≡ next.End) × (cells ≡ []) × (rest ≡ []) × (ends_at_end (list_state list) ≡ false)
 Gives (Some p) seen list rest cells answer =
     (rest ≡ p.2) × (list_state list ≡ p.1) × (next_line list ≡ seen.line) × (row_line list ≡ seen.start) × IsAnswer seen.fault p.0 cells answer
 

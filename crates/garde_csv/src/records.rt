@@ -114,6 +114,7 @@ impl<R: Read + Drop> Records<R> {
         ensures takes { IfOk result (λ found. TakesNext (unbegun (list_state self.old) (next_line self.old))
             (rest_of R.remaining self.old) (rest_of R.remaining self.new) (fields_of cells.new) found) }
         ensures failed { self.new.failed ≡ self.old.failed }
+        ensures place { self.new.place ≡ self.old.place }
         ensures why { IfErr result (λ error. is_cause error ≡ true) }
     {
         self.cell.clear();
@@ -136,8 +137,8 @@ impl<R: Read + Drop> Records<R> {
     /// Reads the next record into `cells`, which is empty where there is none or where it has a fault.
     ///
     /// A record with a fault in its quotes ends where it would end in the toolchain's `csv`, and the
-    /// records behind it are read. After an error each further call is `ListError::Stopped`, and no other
-    /// call is.
+    /// records behind it are read. At `Next::End` no byte is left, and each further call returns it. After
+    /// an error each further call is `ListError::Stopped`, and no other call is.
     pub fn read(&mut self, cells: &mut StringRecord) -> Result<Next, ListError>
         ensures gives { IfOk result (λ next. GivesNext (rest_of R.remaining self.old) (rest_of R.remaining self.new)
             self.old self.new (fields_of cells.new) next) }

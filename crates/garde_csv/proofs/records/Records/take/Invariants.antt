@@ -10,3 +10,4 @@ invariant-pieces g l = Follows (unbegun (list_state l.fn.self) (next_line l.fn.s
     (seen_of l.walk) (fields_of l.cells) l.self.cell.items (rest_of g.R.Read.remaining l.self)
     × (partial_of l.cells ≡ [])
     × (l.self.failed ≡ l.fn.self.failed)
+    × (l.self.place ≡ l.fn.self.place)
