@@ -75,9 +75,9 @@ module _ {L O : Type 0} (gives : L → Option Item → L → Type 0) (tells : O 
 
   -- How the list and the sink stand where an import stops for this reason, from how they stood when all that was read was told, and
   -- so many items were. At `List` the list failed, and at `Report` the sink did, with the report of one more item: nothing is known
-  -- of them.
+  -- of them. At `Memory` one more item was read, whose report was not made.
   abbrev pub StopsAt : {A B C : Type 0} → Cause A B C → ℕ → L → L → O → O → Type 0
-  StopsAt Memory items list end out last = ReadsOn list end × (last ≡ out)
+  StopsAt Memory items list end out last = ((item : Item) × gives list (Some item) end) × (last ≡ out)
   StopsAt (ListFails error) items list end out last = last ≡ out
   StopsAt (Store error) items list end out last = ReadsOn list end × (last ≡ out)
   StopsAt (Report error) items list end out last = (item : Item) × gives list (Some item) end

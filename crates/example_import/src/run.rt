@@ -49,6 +49,7 @@ pub struct Progress {
 /// Why an import ended before the list did.
 #[derive(Drop)]
 pub enum Cause<L, S, R> {
+    /// There is no memory for the report of the item that was read last. It was not handed on.
     Memory,
     /// The list cannot be read on. The reports of its items up to there were handed on.
     List(L),
