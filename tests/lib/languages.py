@@ -15,9 +15,10 @@ from side_by_side import page  # noqa: E402
 
 # Tags under which a language is offered too.
 OTHER_TAGS = {"pt": "pt-BR", "zh-CN": "zh-Hans", "zh-SG": "zh-Hans", "zh": "zh-Hans"}
-RANGE = re.compile(r"[ \t]*([A-Za-z]{1,8}(?:-[A-Za-z0-9]{1,8})*)[ \t]*(?:;[ \t]*[qQ]=(0(?:\.[0-9]{0,3})?|1(?:\.0{0,3})?)[ \t]*)?")
-# Tags that words ask for: of languages that are offered, of their countries, and of none.
-TAGS = ("en", "de", "DE-at", "cs", "zh", "zh-Hant", "pt-PT", "ar", "ja", "sv", "tlh", "")
+TAG = "[A-Za-z]{1,8}(?:-[A-Za-z0-9]{1,8})*"
+RANGE = re.compile(rf"[ \t]*({TAG})[ \t]*(?:;[ \t]*[qQ]=(0(?:\.[0-9]{{0,3}})?|1(?:\.0{{0,3}})?)[ \t]*)?")
+# Tags that words ask for: of languages that are offered, of their countries, and of none, and ill-formed ones.
+TAGS = ("en", "de", "DE-at", "cs", "zh", "zh-Hant", "pt-PT", "ar", "ja", "sv", "tlh", "", "cs-", "cs--CZ", "de-\n")
 CODES = (
     "member_missing", "member_repeated", "member_unknown", "value_unknown", "length_lower_than", "length_greater_than",
     "range_lower_than", "range_greater_than", "prefix_missing", "suffix_missing", "pattern_no_match", "matches_field_mismatch",
@@ -89,7 +90,8 @@ def spoken(words):
     if "--language" not in words:
         return words, "en"
     at = words.index("--language")
-    return words[:at] + words[at + 2 :], tag_of("".join(words[at + 1 : at + 2]))
+    tag = "".join(words[at + 1 : at + 2])
+    return words[:at] + words[at + 2 :], tag_of(tag) if re.fullmatch(TAG, tag) else None
 
 
 def unknown():

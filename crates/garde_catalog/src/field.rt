@@ -146,7 +146,7 @@ fn is_of_subtag(is_first: bool, byte: u8) -> bool
 
 // Whether a tag is a range that names a language: subtags of one to eight letters or digits, with
 // `-` between them.
-fn is_range(tag: &[u8]) -> bool
+pub(crate) fn is_range(tag: &[u8]) -> bool
     ensures { result ≡ is_range tag.now }
 {
     let (mut rest, mut is_first, mut len) = (tag, true, 0);

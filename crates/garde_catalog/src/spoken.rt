@@ -4,6 +4,7 @@ ghost use Rattle.garde_catalog.specs.Spoken.{AreOf, IsNoLanguage, IsOfNone, IsSp
 
 use crate::catalog::{Catalog, Entry};
 use crate::fault::CatalogError;
+use crate::field::is_range;
 use crate::language::Language;
 use std::alloc::{AllocError, Global};
 use std::fmt;
@@ -11,8 +12,8 @@ use std::fmt;
 /// Why there is no catalog of the language that a command line asks for.
 #[derive(Debug, Drop)]
 pub enum SpokenError {
-    /// The tag behind `--language` asks for no language that is offered. The text has the tags that are
-    /// offered, each behind a space.
+    /// The tag behind `--language` is ill-formed, or asks for no language that is offered. The text has
+    /// the tags that are offered, each behind a space.
     NoLanguage(String),
     /// No catalog is made.
     Catalog(CatalogError),
@@ -67,7 +68,7 @@ fn tags_of(alloc: Global, languages: &[Language]) -> Result<String, AllocError>
     Ok(tags)
 }
 
-// The table of the language of a tag, or the other one without a tag.
+// The table of the language of a tag, or the other one without a tag. An ill-formed tag has none.
 fn table_of(
     tag: Option<&str>,
     offered: &[Language],
@@ -79,6 +80,9 @@ fn table_of(
     let Some(tag) = tag else {
         return Some(otherwise);
     };
+    if !is_range(tag.as_bytes()) {
+        return None;
+    }
     let language = Language::named(tag, offered)?;
     Some(language.table)
 }
@@ -89,8 +93,8 @@ impl Catalog<'static> {
     ///
     /// # Errors
     ///
-    /// The tag asks for no language that is offered. No catalog is made, for the reasons of
-    /// `Catalog::new`.
+    /// The tag is ill-formed (RFC 5646, section 2.1), or asks for no language that is offered. No catalog
+    /// is made, for the reasons of `Catalog::new`.
     pub fn spoken(
         alloc: Global,
         tag: Option<&str>,
