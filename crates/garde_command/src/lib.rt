@@ -11,6 +11,6 @@ mod word;
 pub use asked::Asked;
 pub use input::{open_file, read_input};
 pub use printing::{print_faults, print_json_stop, print_report, print_stop};
-pub use program::{NOT_JUDGED, Program, is_help, status_of};
+pub use program::{NOT_JUDGED, Program, args, is_help, status_of};
 pub use spoken::Spoken;
 pub use word::{Word, parted};

@@ -1,14 +1,18 @@
 //! What each program does with its words, and how it ends.
 
 use crate::word::{Word, parted};
-use anyhow::{Context, Error, Result};
+use anyhow::{Context, Error, Result, bail};
 use std::alloc::Global;
+use std::env::{Args, Env};
 use std::fmt::Write;
 use std::process::ExitCode;
 use std::{env, io};
 
 /// The status of a run that judged no input: the words are wrong, or the input is not read.
 pub const NOT_JUDGED: u8 = 2;
+
+/// A word has no more bytes, with a NUL behind it (execve(2)).
+const LONGEST: usize = 128 * 1024;
 
 /// The status of a run that judged its input: 0 where it is valid, and else 1.
 pub fn status_of(is_valid: bool) -> ExitCode {
@@ -35,11 +39,43 @@ pub fn is_help(words: &[Word]) -> bool {
     matches!(words, [word] if word.name.as_str() == "--help")
 }
 
+/// The words of the command line, the name of the program first.
+///
+/// # Errors
+///
+/// A word is not UTF-8: the error has its number and its bytes. Or memory ran out.
+pub fn args(rt: &HostRuntime) -> Result<Args> {
+    match env::args(rt) {
+        Ok(texts) => Ok(texts),
+        Err(error) => {
+            reject_bytes(rt)?;
+            Err(error).context("the command line is not read")
+        }
+    }
+}
+
+// Fails where a word is not UTF-8, with its number and its bytes.
+fn reject_bytes(rt: &HostRuntime) -> Result<()> {
+    let mut word = Vec::new(rt.alloc());
+    word.resize(LONGEST, 0)?;
+    for number in 1..usize::MAX {
+        let Ok(len) = rt.arg(number, &mut word) else {
+            break;
+        };
+        if str::from_utf8(&word[..len]).is_err() {
+            bail!(
+                "word {number} is not UTF-8: \"{}\"",
+                word[..len].escape_ascii()
+            );
+        }
+    }
+    Ok(())
+}
+
 impl Program {
     /// The words behind the name of the program, each option with its value.
     pub fn words(&self, rt: &HostRuntime) -> Result<Vec<Word>> {
-        let texts = env::args(rt).context("the command line is not read")?;
-        let texts: Vec<String> = texts.skip(1).collect(rt.alloc())?;
+        let texts: Vec<String> = args(rt)?.skip(1).collect(rt.alloc())?;
         Ok(parted(rt.alloc(), texts, self.options)?)
     }
 

@@ -7,11 +7,11 @@ mod settings;
 
 use crate::line::{USAGE, matches_of, stop};
 use crate::settings::{Settings, share};
-use anyhow::{Context, Result, bail};
+use anyhow::{Result, bail};
 use clap::ArgMatches;
 use garde::error::Report;
 use garde::{IntoValidError, Unvalidated, Valid};
-use std::env;
+use garde_command::args;
 use std::process::ExitCode;
 
 /// Prints each fault in a line, as `clap` prints its own.
@@ -44,8 +44,7 @@ fn check(rt: &HostRuntime, matches: &ArgMatches<'_>) -> Result<ExitCode> {
 }
 
 fn run(rt: &HostRuntime) -> Result<ExitCode> {
-    let all = env::args(rt).context("the command line is not read")?;
-    let words: Vec<String> = all.collect(rt.alloc())?;
+    let words: Vec<String> = args(rt)?.collect(rt.alloc())?;
     match matches_of(rt.alloc(), &words) {
         Ok(matches) => check(rt, &matches),
         Err(error) => stop(rt, &words, &error),
@@ -57,7 +56,7 @@ fn main(rt: HostRuntime) -> ExitCode {
         Ok(status) => status,
         Err(error) => {
             let _ = eprintln!(rt; "error: {error:#}");
-            ExitCode::FAILURE
+            ExitCode::from(USAGE)
         }
     }
 }
