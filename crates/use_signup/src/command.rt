@@ -1,12 +1,14 @@
 //! What the command line asks for.
 
-use garde_command::{Spoken, Word};
+use garde_command::{Program, Spoken, Word};
 
 /// A longer body is rejected, where the command line names no other length.
 const MOST: usize = 64 * 1024;
 
 /// How the program is called.
-pub const USAGE: &str = "\
+pub const PROGRAM: Program = Program {
+    name: "use_signup",
+    usage: "\
 usage: use_signup [--language TAG] [--page] [FILE | -]
        use_signup --serve [BYTES] [--no-date]
 Reads a web form, and welcomes who signs up or prints every fault of the form.
@@ -18,13 +20,13 @@ Reads a web form, and welcomes who signs up or prints every fault of the form.
   --serve         answers the HTTP requests of standard input on standard output: the form, and what is sent
   BYTES           reads bodies of so many bytes at most, 65536 without it
   --no-date       leaves out the dates of answers
-  --help          prints this";
+  --help          prints this",
+    options: &["--language"],
+};
 
 /// What the words of the command line ask for.
 #[derive(Clone, Copy)]
 pub enum Task<'w> {
-    /// The usage is printed.
-    Help,
     /// The form of this file, or of standard input, is judged, and answered in this language, by lines
     /// or as a page.
     Judge {
@@ -43,7 +45,6 @@ impl<'w> Task<'w> {
     /// What the words after the program's name ask for. Of other words it says what is wrong with them.
     pub fn of(words: &'w [Word]) -> Result<Task<'w>, &'static str> {
         match words {
-            [word] if word.name.as_str() == "--help" => Ok(Task::Help),
             [word, rest @ ..] if word.name.as_str() == "--serve" => Task::serving(rest),
             _ => Task::judging(words),
         }

@@ -12,17 +12,17 @@ mod sign_up;
 mod terms;
 mod texts;
 
-use crate::command::{Task, USAGE};
+use crate::command::{PROGRAM, Task};
 use crate::page::write_page;
 use crate::rely::age;
 use crate::service::SignUps;
 use crate::sign_up::{SignUp, read_sign_up};
 use crate::terms::Words;
 use crate::texts::{Speech, texts_in};
-use anyhow::{Context, Result, bail};
+use anyhow::{Result, bail};
 use garde::{I18n, Report, ValidateError};
 use garde_catalog::{Catalog, CatalogError, Catalogs, Language, languages};
-use garde_command::{Spoken, parted};
+use garde_command::{Spoken, is_help, read_input};
 use garde_form::{FormField, form_fields};
 use garde_html::Form;
 use garde_problem::Escaped;
@@ -31,15 +31,12 @@ use garde_service::answer_all;
 use http_server::{Config, Reason, State};
 use std::alloc::Global;
 use std::hash::RandomState;
-use std::io::{BufWriter, Read};
+use std::io;
+use std::io::BufWriter;
 use std::process::ExitCode;
-use std::{env, fs, io};
 
 /// The byte order mark of UTF-8. The URL Standard has none in a form, but a file may begin with it.
 const MARK: [u8; 3] = [0xEF, 0xBB, 0xBF];
-
-/// The status of a run that judged no form.
-const NOT_JUDGED: u8 = 2;
 
 /// Welcomes who signs up, and names the topics that were chosen. The name stands in quotes, with
 /// what is not shown escaped.
@@ -89,21 +86,6 @@ fn answer<H: I18n + FormI18n>(
     }
 }
 
-/// The bytes of a file, or of standard input.
-fn read(rt: &HostRuntime, file: Option<&str>) -> Result<Vec<u8>> {
-    let Some(name) = file else {
-        let mut bytes = Vec::new(rt.alloc());
-        rt.stdin()
-            .read_to_end(&mut bytes)
-            .context("the form is not read")?;
-        return Ok(bytes);
-    };
-    match fs::read(rt, name) {
-        Ok(bytes) => Ok(bytes),
-        Err(error) => bail!("{name:?}: {error}"),
-    }
-}
-
 /// Judges a form, which is read without the byte order mark at its beginning and the white space at its
 /// end, as of a file.
 fn judge<H: I18n + FormI18n>(
@@ -129,7 +111,7 @@ fn judge_in(
     let catalog = Catalog::spoken(rt.alloc(), spoken.tag, &offered, english.table)?;
     let language = Language::named(spoken.tag.unwrap_or("en"), &offered).unwrap_or(english);
     let page = page.then_some(&texts_in(language.tag).form);
-    let body = read(rt, file)?;
+    let body = read_input(rt, file)?;
     judge(rt, &body, page, &Words::of(language.tag), &catalog)
 }
 
@@ -196,29 +178,17 @@ fn ended(stands: Result<State>) -> Result<ExitCode> {
 }
 
 fn run(rt: &HostRuntime) -> Result<ExitCode> {
-    let all = env::args(rt).context("the command line is not read")?;
-    let words: Vec<String> = all.skip(1).collect(rt.alloc())?;
-    let words = parted(rt.alloc(), words, &["--language"])?;
+    let words = PROGRAM.words(rt)?;
+    if is_help(&words) {
+        return PROGRAM.help(rt);
+    }
     match Task::of(&words) {
-        Ok(Task::Help) => {
-            println!(rt; "{USAGE}")?;
-            Ok(ExitCode::SUCCESS)
-        }
         Ok(Task::Judge { spoken, page, file }) => judge_in(rt, spoken, page, file),
         Ok(Task::Serve { most, dates }) => serve(rt, most, dates),
-        Err(reason) => {
-            eprintln!(rt; "use_signup: {reason}\n{USAGE}")?;
-            Ok(ExitCode::from(NOT_JUDGED))
-        }
+        Err(why) => PROGRAM.reject(rt, why),
     }
 }
 
 fn main(rt: HostRuntime) -> ExitCode {
-    match run(&rt) {
-        Ok(status) => status,
-        Err(error) => {
-            let _ = eprintln!(rt; "use_signup: {error:#}");
-            ExitCode::from(NOT_JUDGED)
-        }
-    }
+    PROGRAM.end(&rt, run(&rt))
 }
