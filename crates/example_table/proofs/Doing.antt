@@ -1,5 +1,5 @@
 -- What the statements on the table do.
-use Rattle.std.proofs.Common.{◌≡◌, ◌⊎◌, inl, inr, ℕ, pos, List, [], ◌∷◌, codes, Bool, true, false, cond, Option, Some, None, Ok, Err, Result, OnOk, refl, sym, ap, subst, ◌∙◌, IsTrue}
+use Rattle.std.proofs.Common.{◌≡◌, ◌⊎◌, inl, inr, ℕ, pos, List, [], ◌∷◌, codes, Bool, true, false, cond, Option, Some, None, Ok, Err, Result, IfErr, OnOk, refl, sym, ap, subst, ◌∙◌, IsTrue}
 use Rattle.sqlite.specs.declared.types.Value.{Value}
 use Rattle.sqlite.specs.declared.types.Value.TheVariants.{Null, Int, Text}
 use Rattle.sqlite.specs.Term.{Term, lit, col}
@@ -22,10 +22,10 @@ use Rattle.sqlite_tied.specs.Compute.{everything}
 use Rattle.sqlite.specs.declared.error.Error.{Error}
 use Rattle.sqlite.specs.Listing.{understood}
 use Rattle.sqlite.specs.Effect.{Database}
-use Rattle.sqlite.specs.State.{State, mode_of, Writes, Executes}
+use Rattle.sqlite.specs.State.{CommitsBy, Executes, HasCleanDisk, State, Survives, Writes, mode_of}
 use Rattle.sqlite.proofs.Callers.{IsPlain, command_of, statement_of, runs_as, one_step}
 use Rattle.example_import.specs.Line.{number_cell, text_cell}
-use Rattle.example_table.specs.Stock.{stock, no_schema, stock_schema, value, HasTable}
+use Rattle.example_table.specs.Stock.{FailsToCreate, HasTable, create_text, no_schema, stock, stock_schema, value}
 
 abbrev pub insert_text : List ℕ
 insert_text = codes "INSERT INTO stock (code, name, quantity, price, page) VALUES (?1, ?2, ?3, ?4, ?5)"
@@ -142,9 +142,6 @@ undoes old new count table up h =
     let ran = runs_as rollback_text [] old new stock_schema table.0 Rollback rollback_is rollback_plain count h in
     ran.1.undone up
 
-abbrev pub create_text : List ℕ
-create_text = codes "CREATE TABLE stock (id INTEGER PRIMARY KEY, code TEXT NOT NULL UNIQUE, name TEXT NOT NULL, quantity INTEGER NOT NULL, price INTEGER NOT NULL, page TEXT) STRICT"
-
 create_is : (command_of (understood no_schema create_text) ≡ CreateTable) × (statement_of create_text (understood no_schema create_text) ≡ create_text) × (table_defined_by create_text ≡ Ok stock)
 unfolding understood everything
 create_is = (refl, refl, refl)
@@ -197,3 +194,7 @@ creates_if old new (Err e) has outside h = tt
 creates_if old new (Ok count) has outside h =
     let made = creates old new count has outside h in
     ((made.0, ap (λ (d : Database). d.schema) made.2 ∙ made.0), made.1, ap (λ (d : Database). d.trees 0) made.2 ∙ made.1)
+
+pub fails_if : (old new : State) (r : Result ℕ Error) → Survives old new (CommitsBy create_text [] old) → (HasCleanDisk new → Executes create_text [] old new r) → IfErr r (FailsToCreate old new)
+fails_if old new (Err e) survives runs = (survives, runs)
+fails_if old new (Ok count) survives runs = tt

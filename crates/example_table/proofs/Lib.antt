@@ -5,3 +5,4 @@ pub mod Behind
 pub mod Paging
 pub mod Order
 pub mod Holding
+pub mod Rejecting

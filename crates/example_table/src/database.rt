@@ -38,7 +38,7 @@ impl<S: Alter + Drop> Stock<S> {
     pub fn make(mut conn: Connection<S>) -> Result<Stock<S>, OpenError>
         ensures made { IfOk result (λ stock. IsTrue stock.is_made) }
         ensures free { OnOk result (IsFree (state S.Store conn)) }
-        ensures refused { IfErr result (λ error. IsNotMade error (state S.Store conn)) }
+        ensures refused { IfErr result (λ error. IsNotMade S.Store error conn) }
         ensures empty { IfOk result (λ stock. IsUp (state S.Store stock.conn)
             → ((state S.Store stock.conn).now.trees 0 ≡ []) × ((state S.Store stock.conn).committed.trees 0 ≡ [])) }
     {

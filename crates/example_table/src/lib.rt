@@ -4,4 +4,5 @@
 pub mod database;
 pub mod opening;
 pub mod reading;
+mod schema;
 mod statements;

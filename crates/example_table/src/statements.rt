@@ -1,11 +1,11 @@
 //! The statements on the table.
-ghost use Rattle.std.specs.Prelude.{◌≡◌, false, [], ◌∷◌, IfOk, IfSome, OnOk, OnErr, IsTrue, ◌≤◌};
+ghost use Rattle.std.specs.Prelude.{◌≡◌, false, [], ◌∷◌, IfErr, IfOk, IfSome, OnOk, OnErr, IsTrue, ◌≤◌};
 ghost use Rattle.sqlite.specs.Held.{state};
 ghost use Rattle.sqlite.specs.Values.{bound};
 ghost use Rattle.sqlite.specs.Tree.{put_row};
 ghost use Rattle.example_import.specs.Line.{line_of, number_cell, text_cell, page_bytes};
 ghost use Rattle.example_import.specs.Import.{Tells};
-ghost use Rattle.example_table.specs.Stock.{no_schema, stock_schema, value, lines_in, params_of, stored, IsUp, HasTable, Ordered, Stays, Fails, page_behind};
+ghost use Rattle.example_table.specs.Stock.{no_schema, stock_schema, value, lines_in, params_of, stored, IsUp, HasTable, Ordered, Stays, Fails, FailsToCreate, page_behind};
 
 use example_import::row::Row;
 use garde::Valid;
@@ -132,16 +132,16 @@ pub(crate) fn rollback<S: Alter>(conn: &mut Connection<S>) -> Result<usize, Erro
     conn.execute("ROLLBACK", &[])
 }
 
-/// The statement that makes the table. A database keeps its text.
-pub(crate) const CREATE: &str =
-    "CREATE TABLE stock (id INTEGER PRIMARY KEY, code TEXT NOT NULL UNIQUE, name TEXT NOT NULL, quantity INTEGER NOT NULL, price INTEGER NOT NULL, page TEXT) STRICT";
-
 /// Makes the table, in a database with no schema.
 pub(crate) fn create<S: Alter>(conn: &mut Connection<S>) -> Result<usize, Error>
     requires empty { (state S.Store conn.old).now.schema ≡ no_schema }
     requires outside { conn.old.in_transaction ≡ false }
-    ensures { IsUp (state S.Store conn.new) → OnOk result (HasTable (state S.Store conn.new)
+    ensures made { IsUp (state S.Store conn.new) → OnOk result (HasTable (state S.Store conn.new)
         × ((state S.Store conn.new).now.trees 0 ≡ []) × ((state S.Store conn.new).committed.trees 0 ≡ [])) }
+    ensures err { IfErr result (FailsToCreate (state S.Store conn.old) (state S.Store conn.new)) }
 {
-    conn.execute(CREATE, &[])
+    conn.execute(
+        "CREATE TABLE stock (id INTEGER PRIMARY KEY, code TEXT NOT NULL UNIQUE, name TEXT NOT NULL, quantity INTEGER NOT NULL, price INTEGER NOT NULL, page TEXT) STRICT",
+        &[],
+    )
 }
