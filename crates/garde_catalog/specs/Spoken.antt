@@ -1,11 +1,12 @@
 -- The catalog of the language that a command line asks for.
-use Rattle.std.specs.Prelude.{◌≡◌, ℕ, List, [], ◌∷◌, IsTrue, Option, Some, None, string_bytes, ⊤}
+use Rattle.std.specs.Prelude.{◌≡◌, ◌⊎◌, ℕ, List, [], ◌∷◌, IsTrue, Option, Some, None, string_bytes}
 use Rattle.std.specs.Borrow.{Bor}
 use Rattle.std.specs.List.{flat_map}
-use Rattle.garde_catalog.specs.Catalog.{Entry, IsCatalog}
+use Rattle.garde_catalog.specs.Catalog.{Entry, IsCatalog, IsRefusal}
 use Rattle.garde_catalog.specs.Field.{is_range}
 use Rattle.garde_catalog.specs.Lookup.{HasNone, IsFound, IsThere}
 use Rattle.garde_catalog.specs.declared.catalog.Catalog.{Catalog}
+use Rattle.garde_catalog.specs.declared.fault.CatalogError.TheVariants.{Memory}
 use Rattle.garde_catalog.specs.declared.language.Language.{Language}
 use Rattle.garde_catalog.specs.declared.spoken.SpokenError.{SpokenError}
 use Rattle.garde_catalog.specs.declared.spoken.SpokenError.TheVariants as errors
@@ -31,7 +32,8 @@ IsSpoken tag offered otherwise catalog =
 abbrev pub tags_text : List Language → List ℕ
 tags_text languages = flat_map (λ language. 32 ∷ language.tag.now) languages
 
--- an error about the language lists the tags of those that are offered, and none of them is asked for
-abbrev pub IsNoLanguage : Option (Bor (List ℕ)) → List Language → SpokenError → Type 0
-IsNoLanguage tag offered (errors.NoLanguage tags) = (string_bytes tags ≡ tags_text offered) × IsOfNone tag offered
-IsNoLanguage tag offered (errors.Catalog error) = ⊤
+-- why there is no catalog: no language that is offered is asked for, and the error lists the tags; or no catalog is made of the table that is; or memory runs out
+abbrev pub IsNotSpoken : Option (Bor (List ℕ)) → List Language → List Entry → SpokenError → Type 0
+IsNotSpoken tag offered otherwise (errors.NoLanguage tags) = (string_bytes tags ≡ tags_text offered) × IsOfNone tag offered
+IsNotSpoken tag offered otherwise (errors.Catalog error) =
+    ((table : List Entry) × AreOf tag offered otherwise table × IsRefusal table [] error) ⊎ (error ≡ Memory)

@@ -1,6 +1,6 @@
 //! The catalog of the language that a command line asks for.
 ghost use Rattle.std.specs.Prelude.{◌≡◌, IfErr, IfOk, MatchOption, string_bytes};
-ghost use Rattle.garde_catalog.specs.Spoken.{AreOf, IsNoLanguage, IsOfNone, IsSpoken, tags_text};
+ghost use Rattle.garde_catalog.specs.Spoken.{AreOf, IsNotSpoken, IsOfNone, IsSpoken, tags_text};
 
 use crate::catalog::{Catalog, Entry};
 use crate::fault::CatalogError;
@@ -102,7 +102,7 @@ impl Catalog<'static> {
         otherwise: &'static [Entry<'static>],
     ) -> Result<Catalog<'static>, SpokenError>
         ensures ok { IfOk result (IsSpoken tag.entry offered.now otherwise.now) }
-        ensures err { IfErr result (IsNoLanguage tag.entry offered.now) }
+        ensures err { IfErr result (IsNotSpoken tag.entry offered.now otherwise.now) }
     {
         match table_of(tag, offered, otherwise) {
             Some(table) => Ok(Catalog::new(alloc, table)?),
