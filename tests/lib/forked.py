@@ -6,6 +6,7 @@ import runpy
 import subprocess
 import sys
 import tempfile
+import unittest.mock
 
 FORK = multiprocessing.get_context("fork")
 MOST_SECONDS = 60
@@ -29,6 +30,18 @@ class Command:
                 process.join()
             written = [os.pread(it.fileno(), os.fstat(it.fileno()).st_size, 0) for it in (out, err)]
         return subprocess.CompletedProcess(words, process.exitcode, *written)
+
+    def arguments(self, *words):
+        """What the script reads of these words, which it takes."""
+        with unittest.mock.patch.object(sys, "argv", [self.script, *map(str, words)]):
+            return self.names["arguments"]()
+
+    def on(self, source, *words):
+        """A run with these words on a file of this text."""
+        with tempfile.NamedTemporaryFile(suffix=".rs") as file:
+            file.write(source.encode())
+            file.flush()
+            return self.run(*words, file.name)
 
     def within(self, words, cwd, before, out, err):
         """Ends this process as the script does, with standard output and standard error in these files."""
