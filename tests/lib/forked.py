@@ -1,5 +1,6 @@
 """Runs a command in a fork of this process. An interpreter of its own takes longer to start, and to load modules that are loaded here,
 than most commands take to run."""
+import functools
 import multiprocessing
 import os
 import runpy
@@ -13,10 +14,16 @@ MOST_SECONDS = 60
 
 
 class Command:
-    """A script with a function `main`, which is loaded here once and runs in a fork each time. `names` are what it defines."""
+    """A script with a function `main`, which is loaded here once, or in each fork, and runs in a fork. `names` are what it defines."""
 
-    def __init__(self, script):
-        self.script, self.names = str(script), runpy.run_path(str(script))
+    def __init__(self, script, is_loaded=True):
+        self.script = str(script)
+        if is_loaded:
+            self.names["main"]
+
+    @functools.cached_property
+    def names(self):
+        return runpy.run_path(self.script)
 
     def run(self, *words, cwd=None, before=lambda: None):
         """A run with these words in this folder, before which something is done: its status, and the bytes that it writes. One that does

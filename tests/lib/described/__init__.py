@@ -5,11 +5,13 @@ the program on a case; else it is run once. It may have `large()`, cases of more
 batch, which are tried before the first random one, and `knows(case)`, which says whether it describes a stored case. An answer is a
 tuple of values. A pattern stands for each text that it matches.
 """
+import contextlib
 import pathlib
 import re
-import subprocess
 import tempfile
 import typing
+
+from lib.programs import answer_of
 
 
 class Case(typing.NamedTuple):
@@ -21,19 +23,12 @@ class Case(typing.NamedTuple):
     files: tuple = ()
 
 
-def run(program, case, **where):
+def run(program, case, cwd=None):
     """What one run of a program answers. Files stand in a folder of their own."""
-    if not case.files:
-        return ran(program, case, **where)
-    with tempfile.TemporaryDirectory() as folder:
+    with tempfile.TemporaryDirectory() if case.files else contextlib.nullcontext(cwd) as folder:
         for name, body in case.files:
             pathlib.Path(folder, name).write_bytes(body)
-        return ran(program, case, cwd=folder)
-
-
-def ran(program, case, **where):
-    told = subprocess.run([program, *case.words], input=case.given, capture_output=True, timeout=60, **where)
-    return told.returncode, told.stdout, told.stderr
+        return answer_of([program, *case.words], case.given, folder)
 
 
 def fits(wanted, met):
