@@ -39,9 +39,10 @@ class Fault(typing.NamedTuple):
         said = language[self.code]
         return said.format(**self.params) if isinstance(said, str) else said(**self.params)
 
-    def told(self):
-        """The parameters as they stand beside a code: a reason by its name."""
-        return {name: urls.NAMES[it] if self.code == "url_invalid" else it for name, it in self.params.items()}
+    def coded(self):
+        """The code and the parameters as programs print them: a reason by its name, and nothing of a message of an author's."""
+        params = {name: urls.NAMES[it] if self.code == "url_invalid" else it for name, it in self.params.items()}
+        return ("custom", {}) if self.code == "own" else (self.code, params)
 
 
 def fault(code, **params):

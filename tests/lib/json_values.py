@@ -5,9 +5,9 @@ import codecs
 import json
 import re
 
-from lib import positions, stops
+from lib import positions
+from lib.positions import DEEPEST
 
-DEEPEST = 128
 SURROGATE = re.compile("[\ud800-\udfff]")
 
 
@@ -81,7 +81,7 @@ def of_bytes(body):
         opened = text.count("[") + text.count("{") > DEEPEST
         found = {"not JSON": True, "nested deeper than 128": opened, "a lone surrogate": "\\u" in text}
     if any(found.values()):
-        raise stopped("(" + "|".join(why for why in found if found[why]) + ")", stops.place_of(text))
+        raise stopped("(" + "|".join(why for why in found if found[why]) + ")", positions.stop_of(text))
     return value
 
 

@@ -1,6 +1,9 @@
 """The page of a form with its faults, as the README of `garde_html` has it."""
 import html
+import string
 import typing
+
+from lib import tables
 
 
 class Field(typing.NamedTuple):
@@ -21,33 +24,7 @@ class Form(typing.NamedTuple):
     direction: str = "ltr"
 
 
-HEAD = """<!DOCTYPE html>
-<html lang="{language}" dir="{direction}">
-<head>
-<meta charset="utf-8">
-<meta name="viewport" content="width=device-width, initial-scale=1">
-<title>{said}</title>
-<style>
-body {{ margin: 1em auto; padding: 0 1em; max-width: 32em; font-family: sans-serif; line-height: 1.5; overflow-wrap: anywhere }}
-.field {{ margin: 1em 0 }}
-.field > label {{ display: block }}
-.field > input {{ box-sizing: border-box; width: 100%; font: inherit }}
-.field > [aria-invalid] {{ border: 2px solid #a00 }}
-fieldset {{ min-width: 0 }}
-.summary, .faults {{ border-inline-start: 4px solid #a00; padding-inline-start: 1em; color: #a00 }}
-.summary a {{ color: inherit }}
-</style>
-</head>
-<body>
-<main>
-<h1>{title}</h1>
-"""
-END = """<button>{send}</button>
-</form>
-</main>
-</body>
-</html>
-"""
+PAGE = string.Template(tables.text_of("form.html"))
 
 
 def text(given):
@@ -99,7 +76,7 @@ def field_of(field, typed, faults):
 
 def page(form, typed, faults):
     """The page of a form, with each name that was sent and its text, and with faults, each a path and a message."""
-    said = text(form.faulty_title if faults else form.title)
-    head = HEAD.format(language=text(form.language), direction=text(form.direction), said=said, title=text(form.title))
+    said = form._asdict() | {"said": form.faulty_title if faults else form.title}
     fields = "".join(field_of(it, typed, faults) for it in form.fields)
-    return head + summary(form, faults) + '<form method="post" novalidate>\n' + fields + END.format(send=text(form.send))
+    texts = {name: text(it) for name, it in said.items() if isinstance(it, str)}
+    return PAGE.substitute(texts, summary=summary(form, faults), fields=fields)

@@ -3,20 +3,16 @@ the README of `garde_places`.
 """
 import re
 
-from lib import positions, stops
+from lib import positions
 from lib.faults import ENGLISH
 from lib.json_values import printed
-from lib.reports import escaped, path_text, pointer
+from lib.reports import escaped, path_text, pointer, told
 
 FORMATS = ("short", "json", "github")
 # What editors read of a line: the file, the line, the column and the message.
 EDITORS = re.compile(r"([^:\n]+):([1-9]\d*):([1-9]\d*): error: (.*)")
 OF_NAMES = ("member_unknown", "member_repeated")
 PROPERTY = {"%": "%25", "\r": "%0D", "\n": "%0A", ":": "%3A", ",": "%2C"}
-
-
-def told(path, detail):
-    return (f"{path_text(path)}: " if path else "") + escaped(detail)
 
 
 def line(form, file, place, path, detail, code, params):
@@ -30,10 +26,6 @@ def line(form, file, place, path, detail, code, params):
     return printed({**members, "detail": detail, "code": code, "params": params}).decode()
 
 
-def place_of(spots, path, code):
-    return (positions.name_of if code in OF_NAMES else positions.place_of)(spots, path)
-
-
 def read_back(text):
     """What an editor reads of lines in the format `short`: each a file, a line, a column and a message."""
     return [EDITORS.fullmatch(it).groups() for it in text.split("\n")[:-1]]
@@ -42,23 +34,24 @@ def read_back(text):
 def lines(form, file, spots, walk, language=ENGLISH):
     """The faults of a walk, as (path, fault), over a text with these places: by place for people, and in their order for programs. What an
     editor reads back has to be what was printed."""
-    placed = [(place_of(spots, path, found.code), path, found.text(language), found) for path, found in walk]
+    placed = [(positions.place_of(spots, path, found.code in OF_NAMES), path, found) for path, found in walk]
     if form != "json":
         placed.sort(key=lambda it: it[0])
-    text = "".join(line(form, file, place, path, detail, found.code, found.told()) + "\n" for place, path, detail, found in placed)
-    if form == "short" and [it[1:] for it in read_back(text)] != [(str(l), str(c), told(path, detail)) for (l, c), path, detail, _ in placed]:
+    text = "".join(lines_at(form, file, place, [(path, found)], language) for place, path, found in placed)
+    wanted = [(str(line), str(column), told(path, found.text(language))) for (line, column), path, found in placed]
+    if form == "short" and [it[1:] for it in read_back(text)] != wanted:
         raise AssertionError(f"an editor reads something else of {text!r}")
     return text
 
 
 def lines_at(form, file, place, walk, language=ENGLISH):
     """The faults of a walk, which stand at one place."""
-    return "".join(line(form, file, place, path, it.text(language), it.code, it.told()) + "\n" for path, it in walk)
+    return "".join(line(form, file, place, path, it.text(language), *it.coded()) + "\n" for path, it in walk)
 
 
 def stop(form, file, text, code):
     """The line of a text that is no JSON, as a pattern: the place where it stops, and some words."""
-    return re.escape(line(form, file, stops.place_of(text), (), "WHY", code, {})).replace("WHY", "[^\\n]+") + "\n"
+    return re.escape(line(form, file, positions.stop_of(text), (), "WHY", code, {})).replace("WHY", "[^\\n]+") + "\n"
 
 
 def stop_anywhere(form, file, code):

@@ -1,5 +1,5 @@
-"""Where the values of a JSON text (RFC 8259) stand: a reader that counts lines and columns as it goes. It shares nothing with the
-library, and reads only what is JSON.
+"""Where the values of a JSON text (RFC 8259) stand, and where a text stops being JSON: up to where some JSON text begins as it does. A
+reader that counts lines and columns as it goes. It shares nothing with the library.
 
 A column counts characters from 1 on, and a tab is one of them. A line ends with a line feed.
 """
@@ -8,11 +8,19 @@ import json
 import re
 import typing
 
-WORD = re.compile(r"[-+.\w]+")
-TEXT = re.compile(r'"(?:[^"\\]|\\.)*"', re.DOTALL)
+DEEPEST = 128
 SPACE = re.compile(r"[ \t\r\n]*")
-# A reader of texts that takes control characters within them too.
-ANY_TEXT = json.JSONDecoder(strict=False)
+HEX = "[0-9a-fA-F]"
+# The escape of a character, or of both halves of one; and the beginnings of such.
+ESCAPE = rf'\\(?:["\\/bfnrt]|u(?:[0-9a-cefA-CEF]{HEX}{{3}}|[dD][0-7]{HEX}{{2}}|[dD][89abAB]{HEX}{{2}}\\u[dD][c-fC-F]{HEX}{{2}}))'
+LOW = rf"(?:\\(?:u(?:[dD](?:[c-fC-F]{HEX}?)?)?)?)?"
+BEGUN = re.compile(
+    rf"(?:\\(?:u(?:[0-9a-cefA-CEF]{HEX}{{0,2}}|[dD](?:[0-7]{HEX}?|[89abAB](?:{HEX}{{2}}{LOW}|{HEX}?))?)?)?)?"
+)
+TEXT = re.compile(rf'"(?:[^"\\\x00-\x1f]|{ESCAPE})*')
+WHOLE = r"-?(?:0|[1-9][0-9]*)"
+NUMBER = re.compile(rf"{WHOLE}(?:\.[0-9]+)?(?:[eE][-+]?[0-9]+)?")
+BEGUN_NUMBER = re.compile(rf"{WHOLE}(?:\.[0-9]+)?[eE][-+]?[0-9]*|{WHOLE}(?:\.[0-9]*)?|-?")
 
 
 class Spot(typing.NamedTuple):
@@ -20,6 +28,10 @@ class Spot(typing.NamedTuple):
     place: tuple
     members: tuple = ()
     items: tuple = ()
+
+
+class Stopped(Exception):
+    """A text that is not read further."""
 
 
 class Reader:
@@ -34,15 +46,18 @@ class Reader:
         begin, self.at = self.at, pattern.match(self.text, self.at).end()
         return self.text[begin:self.at]
 
-    def here(self):
-        """The next character that is no white space."""
-        self.at = SPACE.match(self.text, self.at).end()
-        return self.text[self.at]
-
     def place(self):
         """The line and the column."""
         line = bisect.bisect_right(self.lines, self.at)
         return line, self.at - self.lines[line - 1] + 1
+
+
+class Json(Reader):
+    """A text in JSON, or one that begins so: it stops where no JSON text goes on so."""
+
+    def want(self, is_here):
+        if not is_here:
+            raise Stopped
 
     def past(self, mark):
         """Whether this mark stands here behind white space; goes past it."""
@@ -51,26 +66,64 @@ class Reader:
         self.at += is_here
         return is_here
 
-    def parts(self, end, part):
+    def quoted(self):
+        text = self.take(TEXT)
+        if not self.text.startswith('"', self.at):
+            self.take(BEGUN)
+            raise Stopped
+        self.at += 1
+        return f'{text}"'
+
+    def word(self):
+        """A number or a name."""
+        for name in ("true", "false", "null"):
+            if self.text.startswith(name[0], self.at):
+                for letter in name:
+                    self.want(self.text.startswith(letter, self.at))
+                    self.at += 1
+                return
+        self.want(NUMBER.fullmatch(self.take(BEGUN_NUMBER)))
+
+    def several(self, end, part, depth):
         """What stands between brackets, up to this one."""
+        self.want(depth <= DEEPEST)
+        self.at += 1
+        found = []
         while not self.past(end):
-            yield part()
-            self.past(",")
+            self.want(not found or self.past(","))
+            found.append(part(depth))
+        return tuple(found)
 
-    def member(self):
-        self.here()
-        place, name = self.place(), ANY_TEXT.decode(self.take(TEXT))
-        self.past(":")
-        return name, place, self.value()
+    def member(self, depth):
+        self.take(SPACE)
+        self.want(self.text.startswith('"', self.at))
+        place, name = self.place(), json.loads(self.quoted())
+        self.want(self.past(":"))
+        return name, place, self.value(depth)
 
-    def value(self):
-        first, place = self.here(), self.place()
-        if self.past("{"):
-            return Spot(place, members=tuple(self.parts("}", self.member)))
-        if self.past("["):
-            return Spot(place, items=tuple(self.parts("]", self.value)))
-        self.take(TEXT if first == '"' else WORD)
-        return Spot(place)
+    def value(self, depth=0):
+        self.take(SPACE)
+        place, first, members, items = self.place(), self.text[self.at : self.at + 1], (), ()
+        if first == '"':
+            self.quoted()
+        elif first == "{":
+            members = self.several("}", self.member, depth + 1)
+        elif first == "[":
+            items = self.several("]", self.value, depth + 1)
+        else:
+            self.word()
+        self.take(SPACE)
+        return Spot(place, members, items)
+
+
+def stop_of(text):
+    """The line and the column up to which it begins as some JSON text does; nothing where the whole is one."""
+    reader = Json(text)
+    try:
+        reader.value()
+    except Stopped:
+        return reader.place()
+    return None if reader.at == len(text) else reader.place()
 
 
 def end_of(text):
@@ -80,7 +133,7 @@ def end_of(text):
 
 def spots_of(text):
     """The value of a text, with its places."""
-    return Reader(text).value()
+    return Json(text).value()
 
 
 def step(spot, part):
@@ -91,32 +144,13 @@ def step(spot, part):
     return (spot.items[part], None) if isinstance(part, int) and part < len(spot.items) else None
 
 
-def reached(spot, path):
-    """The value that a path leads to, or the last one on its way, and whether it is the first."""
+def place_of(spot, path, of_name=False):
+    """The place of the value that a path leads to, or of its name; where it leads to none, that of the last value on its way."""
+    place = spot.place
     for part in path:
         found = step(spot, part)
         if not found:
-            return spot, False
-        spot = found[0]
-    return spot, True
-
-
-def place_of(spot, path):
-    """The place of the value that a path leads to; where it leads to none, that of the last on its way."""
-    return reached(spot, path)[0].place
-
-
-def name_of(spot, path):
-    """The place of the name of the member that a path leads to; where it leads to no member, that of the last value on the way to it."""
-    above, is_there = reached(spot, path[:-1])
-    found = step(above, path[-1]) if is_there and path else None
-    return found and found[1] or above.place
-
-
-def paths_in(spot, path=()):
-    """The paths to all values; of members of one name to the last."""
-    yield path
-    for name, value in {name: value for name, _, value in spot.members}.items():
-        yield from paths_in(value, (*path, name))
-    for index, value in enumerate(spot.items):
-        yield from paths_in(value, (*path, index))
+            return spot.place
+        above, (spot, name) = spot, found
+        place = name or above.place
+    return place if of_name else spot.place

@@ -1,21 +1,13 @@
 """Rust sources made at random, each with what the port has to state of it: written from the values, not read from the source."""
 import random
 
+from lib import tables
+
 PIECES = ("r", "#", "red", "r#", "##", "a b", "é", "-1", "0x1f", "//", "/*", "is", "x")
 COMPARED = {"==": "(nat_eq {0} {1})", "!=": "(not (nat_eq {0} {1}))", "<": "(nat_lt {0} {1})", "<=": "(nat_le {0} {1})",
             ">": "(nat_lt {1} {0})", ">=": "(nat_le {1} {0})"}
 # what may stand before a type that is ported
-BEFORE = (
-    "", "#[cfg(test)]\nmod tests {\n    #[derive(Validate)]\n    struct T;\n}\n", "/* a /* #[derive(Validate)] */ struct T; */\n",
-    "const A: P = P { a: 3 };\n", "const A: u8 = if C { 3 } else { 4 };\n", "const A: fn(u8) -> u8 = |x| { x };\n",
-    "const A: u8 = match C {\n    1 => 2,\n    _ => { 3 }\n};\n", "const A: [u8; { 3 }] = [1; 3];\n", "const _: () = {};\n", "static mut A: P = P { a: 3 };\n",
-    "m! { a };\n", "m!(a);\n", "m![a];\n", ";\n", "#![allow(dead_code)]\n", "//! Head.\n", "#![allow(dead_code)]\n//! Head.\n",
-    "pub const unsafe fn f() -> u8 { 3 }\n", 'pub const extern "C" fn f() -> u8 { 3 }\n', 'unsafe extern "C" { fn f(); }\n', "extern crate garde;\n",
-    "pub async fn f<T>() where T: Into<P> {}\n", "union U { a: u8 }\n", "mod a;\n", "mod a { fn f() {} }\n", "impl<const N: usize> P<{ N }> {}\n",
-    "pub unsafe trait A {}\n", "type A = [u8; { 3 }];\n", "macro_rules! m { () => {} }\n", "use std::{fmt, io::{self, Read}};\n",
-    "const A: char = '{';\n", "const A: u8 = b'{';\n", 'const A: &str = "{\\"";\n', 'const A: &str = r#"{"#;\n', 'const A: &[u8] = br##"{"#"##;\n',
-    "fn f<'a>(x: &'a str) -> &'a str { 'b: loop { break 'b; } x }\n", "fn f() { let Some(x) = y else { return }; }\n",
-)
+BEFORE = [it.text for it in tables.cases("before-types")]
 
 
 def number(dice, value):

@@ -26,9 +26,13 @@ def path_text(path):
     return "".join(f"[{it}]" if isinstance(it, int) else f".{escaped(it)}" for it in path).removeprefix(".")
 
 
+def told(path, detail):
+    """A fault in a line. One of the whole value has no path."""
+    return (f"{path_text(path)}: " if path else "") + escaped(detail)
+
+
 def lines(walk, language=ENGLISH):
-    """A line for each fault; one of the whole value has no path."""
-    return "".join((f"{path_text(path)}: " if path else "") + escaped(found.text(language)) + "\n" for path, found in walk)
+    return "".join(f"{told(path, found.text(language))}\n" for path, found in walk)
 
 
 def pointer(path):
@@ -37,4 +41,5 @@ def pointer(path):
 
 
 def details(walk, language=ENGLISH):
-    return [{"pointer": pointer(path), "detail": found.text(language), "code": found.code, "params": found.told()} for path, found in walk]
+    rows = ((path, found.text(language), *found.coded()) for path, found in walk)
+    return [{"pointer": pointer(path), "detail": detail, "code": code, "params": params} for path, detail, code, params in rows]

@@ -1,11 +1,12 @@
 """The program use_import, by crates/use_import/README.md: a stock list in CSV, whose records `lib.rfc4180` reads."""
 import csv
 import io
+import re
 
 from lib import languages, placed, rfc4180
 from lib.described import Case, pattern
-from lib.faults import ALPHANUMERIC, URL, URLS, between, chars, prefix
-from lib.form import Closed, Member, Object, OrEmpty, Parsed, Text, Walk, read
+from lib.faults import ALPHANUMERIC, URL, URLS, between, chars, fault, prefix
+from lib.form import Closed, Member, Object, OrEmpty, Parsed, Text, read
 from lib.json_values import Pairs
 from lib.reports import lines
 from lib.spoiled import cut
@@ -81,24 +82,13 @@ def records(given):
         yield record
 
 
-def row_lines(place, header, record, tag):
-    """The lines of a record, whose place is `[N]` or `line N`."""
-    walk = Walk()
-    if record.fault or len(record.cells) != len(header):
-        return f"{place}: {record.fault or languages.said_in(tag)['RowLength']}\n"
-    ROW.read(Pairs(zip(header, record.cells)), (), walk)
-    between = "." if place.startswith("[") else ", "
-    return "".join(f"{place}{between}{it}\n" for it in lines(walk, languages.of_tag(tag)).splitlines())
-
-
-def placed_lines(form, index, header, record, tag):
-    place, walk = (record.line, 1), Walk()
+def walk_of(index, header, record):
+    """The faults of a record."""
     if record.fault:
-        return placed.line(form, "<stdin>", place, (index,), record.fault, "not_csv", {}) + "\n"
+        return [((index,), fault("not_csv"))]
     if len(record.cells) != len(header):
-        return placed.line(form, "<stdin>", place, (index,), languages.said_in(tag)["RowLength"], "row_length", {}) + "\n"
-    ROW.read(Pairs(zip(header, record.cells)), (index,), walk)
-    return placed.lines_at(form, "<stdin>", place, walk, languages.of_tag(tag))
+        return [((index,), fault("row_length"))]
+    return read(ROW, Pairs(zip(header, record.cells)), (index,))[1]
 
 
 def first_row(words):
@@ -112,9 +102,15 @@ def most(words, all_of_them):
 
 
 def lines_of(words, form, index, header, record, tag):
+    """The lines of a record, whose place is `[N]` or `line N`."""
+    language = {**languages.of_tag(tag), "not_csv": record.fault, "row_length": languages.said_in(tag)["RowLength"]}
+    walk = walk_of(index, header, record)
     if form != "plain":
-        return placed_lines(form, index, header, record, tag)
-    return row_lines(f"line {record.line}" if "--lines" in words else f"[{index}]", header, record, tag)
+        return placed.lines_at(form, "<stdin>", (record.line, 1), walk, language)
+    said = lines(walk, language)
+    if "--lines" not in words:
+        return said
+    return re.sub(r"^\[\d+\](\.?)", lambda it: f"line {record.line}{', ' if it[1] else ''}", said, flags=re.M)
 
 
 def wanted(case):

@@ -38,12 +38,9 @@ def faults_of(index, cells, codes):
 
 
 def told(form, line, walk, tag):
-    """The faults of a row, which begins in this line, as they are printed in a language. Messages of the program have no code."""
+    """The faults of a row, which begins in this line, as they are printed in a language."""
     language = languages.of_tag(tag)
-    if form == "plain":
-        return lines(walk, language)
-    coded = [(path, it, ("custom", {}) if it.code == "own" else (it.code, it.told())) for path, it in walk]
-    return "".join(placed.line(form, "<stdin>", (line, 1), path, it.text(language), *code) + "\n" for path, it, code in coded)
+    return lines(walk, language) if form == "plain" else placed.lines_at(form, "<stdin>", (line, 1), walk, language)
 
 
 def answer_to(found, whole=False, batch=None, form="plain", tag="en"):
