@@ -43,12 +43,14 @@ class Command:
         with unittest.mock.patch.object(sys, "argv", [self.script, *map(str, words)]):
             return self.names["arguments"]()
 
-    def on(self, source, *words):
-        """A run with these words on a file of this text."""
+    def on(self, source, *words, run=None):
+        """A run with these words on a file of this text, whose name is left out of what it says."""
         with tempfile.NamedTemporaryFile(suffix=".rs") as file:
-            file.write(source.encode())
+            file.write(source if isinstance(source, bytes) else source.encode())
             file.flush()
-            return self.run(*words, file.name)
+            ended = (run or self.run)(*words, file.name)
+        ended.stderr = ended.stderr.replace(file.name.encode(), b"")
+        return ended
 
     def within(self, words, cwd, before, out, err):
         """Ends this process as the script does, with standard output and standard error in these files."""

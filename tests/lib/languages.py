@@ -4,14 +4,9 @@
 A language is a table from codes to texts, as in `faults`.
 """
 import re
-import sys
 
-from lib import repository
 from lib.faults import INTEGERS
-
-sys.path.append(str(repository.ROOT / "tools"))
-
-from side_by_side import page  # noqa: E402
+from side_by_side import page
 
 # Tags under which a language is offered too.
 OTHER_TAGS = {"pt": "pt-BR", "zh-CN": "zh-Hans", "zh-SG": "zh-Hans", "zh": "zh-Hans"}

@@ -10,9 +10,10 @@ def put(top, files):
     for path, text in dict(files).items():
         file = pathlib.Path(top, path)
         file.parent.mkdir(parents=True, exist_ok=True)
-        if text is None or text.startswith("-> "):
-            file.unlink(missing_ok=text is not None)
-        if text is not None and text.startswith("-> "):
+        is_link = text is not None and text.startswith("-> ")
+        if text is None or is_link:
+            file.unlink(missing_ok=True)
+        if is_link:
             file.symlink_to(text.removeprefix("-> ").strip())
         elif text is not None:
             file.write_text(text, encoding="utf-8")

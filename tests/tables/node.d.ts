@@ -1,0 +1,2 @@
+interface Buffer extends Uint8Array {}
+declare const Buffer: { from(text: string): Buffer };

@@ -1,0 +1,32 @@
+#include "order.h"
+
+int rattle_alloc(void) { return 0; }
+
+uint32_t order_version(void) { return ORDER_VERSION; }
+
+uint8_t order_check(const uint8_t *body, size_t body_len, size_t most, const uint8_t *language, size_t language_len, uint8_t *out,
+                    size_t out_len, size_t *len) {
+  *len = body_len;
+  for (size_t i = 0; i < body_len && i < out_len; i++) out[i] = body[i];
+  return most > 0 && language[0] + language_len > 0 ? ORDER_FAULTS : ORDER_VALID;
+}
+
+uint8_t order_check_with(order_checker *checker, const uint8_t *body, size_t body_len, size_t most, const uint8_t *language,
+                         size_t language_len, uint8_t *out, size_t out_len, size_t *len) {
+  checker->has_room = true;
+  return order_check(body, body_len, most, language, language_len, out, out_len, len);
+}
+
+uint8_t order_list_with(order_checker *checker, const uint8_t *body, size_t body_len, size_t most, const uint8_t *language,
+                        size_t language_len, uint8_t *out, size_t out_len, size_t *len) {
+  return order_check_with(checker, body, body_len, most, language, language_len, out, out_len, len);
+}
+
+uint8_t order_is_valid(const uint8_t *body, size_t body_len) { return body[0] + body_len > 0 ? ORDER_FAULTS : ORDER_VALID; }
+
+uint8_t order_reserve(order_checker *checker, uint32_t body_len) {
+  checker->has_room = body_len > 0;
+  return ORDER_VALID;
+}
+
+void order_free(order_checker *checker) { checker->has_room = false; }
