@@ -5,6 +5,7 @@ A form has two methods. `read(tree, path, walk)` puts faults on the walk, and re
 makes a tree that has no fault, but that each choice goes wrong with the chance `odd`. A word of members has them too: its trees are the
 pairs of an object, and it spells a dictionary. `names(pairs)` are the names that it knows.
 """
+import functools
 import re
 
 from lib.faults import INTEGERS, fault, first
@@ -48,7 +49,13 @@ class Under:
 
 
 class Scalar:
-    """What forms of texts and numbers have in common: values to choose from, and which of them the rules allow."""
+    """What forms of texts and numbers have in common: values to choose from, and which of them the rules allow. A tree of another type than
+    the one that is wanted is a fault."""
+
+    wanted, is_one = "Text", staticmethod(is_text)
+
+    def read(self, tree, path, walk):
+        return self.spelled(tree, path, walk) if self.is_one(tree) else walk.other(path, self.wanted, tree)
 
     def offer(self, values):
         self.any = list(values)
@@ -63,9 +70,7 @@ class Text(Scalar):
         self.rules = rules
         self.offer([*like * 4, *(near for rule in rules for near in rule.near)] + ([] if like else TEXTS))
 
-    def read(self, tree, path, walk):
-        if not is_text(tree):
-            return walk.other(path, "Text", tree)
+    def spelled(self, tree, path, walk):
         walk.ask(self.rules, tree, path)
         return tree
 
@@ -85,13 +90,16 @@ def held(of, number, rules, path, walk):
 class Whole(Scalar):
     """A whole number of this type: digits alone, perhaps behind a minus, and `-0` is none."""
 
+    wanted = "Whole"
+
     def __init__(self, of, *rules):
         self.of, self.rules = of, rules
         self.offer(Number(it) for it in [*(near for rule in rules for near in rule.near), *INTEGERS[of], *NUMBERS, *range(1, 30, 4)])
 
-    def read(self, tree, path, walk):
-        if not isinstance(tree, Number) or not re.fullmatch("-?[0-9]+", tree) or tree == "-0":
-            return walk.other(path, "Whole", tree)
+    def is_one(self, tree):
+        return isinstance(tree, Number) and re.fullmatch("-?[0-9]+", tree) and tree != "-0"
+
+    def spelled(self, tree, path, walk):
         return held(self.of, int(tree), self.rules, path, walk)
 
 
@@ -105,9 +113,7 @@ class Parsed(Scalar):
         odd = ["+5", "007", "0" * 40 + "7", " 5", "5 ", "", "5.0", "1e3", "1_000", "0x10", "+", "-", "+-1", "--1", "many", "٣", "3\x006"]
         self.offer([*near, *near, *odd, *(it for it in NUMBERS if "." not in it)])
 
-    def read(self, tree, path, walk):
-        if not is_text(tree):
-            return walk.other(path, "Text", tree)
+    def spelled(self, tree, path, walk):
         number = int(tree) if re.fullmatch("[+-]?[0-9]+", tree, re.ASCII) else None
         is_held = number is not None and INTEGERS[self.of][0] <= number <= INTEGERS[self.of][1]
         is_spelled = is_held and not (self.of[0] == "u" and tree[0] == "-")
@@ -126,9 +132,7 @@ class OneOf(Scalar):
         self.known = names
         self.offer([*names, *TEXTS, *(name.upper() for name in names), *(name + " " for name in names)])
 
-    def read(self, tree, path, walk):
-        if not is_text(tree):
-            return walk.other(path, "Text", tree)
+    def spelled(self, tree, path, walk):
         return tree if tree in self.known else walk.put(path, "value_unknown")
 
 
@@ -138,13 +142,11 @@ class Only(Scalar):
     def __init__(self, wanted, *values):
         self.wanted, self.any, self.right = wanted, values, values
 
-    def read(self, tree, path, walk):
-        if not any(tree is it for it in self.any):
-            return walk.other(path, self.wanted, tree)
+    def is_one(self, tree):
+        return any(tree is it for it in self.any)
+
+    def spelled(self, tree, path, walk):
         return True if tree is None else tree
-
-
-Flag, Null = Only("Boolean", True, False), Only("Null", None)
 
 
 class Anything(Scalar):
@@ -154,7 +156,7 @@ class Anything(Scalar):
         return True
 
 
-Any = Anything()
+Flag, Null, Any = Only("Boolean", True, False), Only("Null", None), Anything()
 
 
 class Wrapped:
@@ -171,12 +173,7 @@ class Wrapped:
         return self.none if dice.random() < 0.3 else self.form.some(dice, odd)
 
 
-def Nullable(form):
-    return Wrapped(form, None)
-
-
-def OrEmpty(form):
-    return Wrapped(form, "")
+Nullable, OrEmpty = functools.partial(Wrapped, none=None), functools.partial(Wrapped, none="")
 
 
 def some_count(dice, odd, rules):
@@ -254,16 +251,8 @@ class Member:
         return [(self.name, self.form.some(dice, odd))]
 
 
-def Optional(name, form):
-    return Member(name, form, absent=None)
-
-
-def Nullish(name, form):
-    return Member(name, form, absent=None, is_null_absent=True)
-
-
-def WithDefault(name, form, value):
-    return Member(name, form, absent=value)
+Optional, Nullish = functools.partial(Member, absent=None), functools.partial(Member, absent=None, is_null_absent=True)
+WithDefault = Member
 
 
 class All:
