@@ -27,47 +27,18 @@ class Round(typing.NamedTuple):
     wrong: list
 
 
-class Differs(Exception):
-    """An input that is answered otherwise."""
+def cases_of(described, seed, number, count):
+    """The cases of a round: the first one begins with the large ones."""
+    yield from getattr(described, "large", tuple)() if number == 0 else ()
+    yield from (described.some(random.Random(f"{seed}/{at}")) for at in range(count))
 
 
-class Comparison:
-    """What answers, beside a description, and what came of the inputs so far."""
-
-    def __init__(self, described, met):
-        self.described, self.met = described, met
-        self.statuses, self.ways, self.last = Counter(), Counter(), None
-
-    def differs(self, case):
-        """Whether the program answers otherwise than its description, where that has an answer."""
-        try:
-            return not fits(self.described.wanted(case), self.met(case))
-        except Unsaid:
-            return False
-
-    def tried(self, case):
-        """Compares the answers to an input, and raises `Differs` where they differ."""
-        try:
-            wanted, met = self.described.wanted(case), self.met(case)
-        except Unsaid:
-            self.ways["left out"] += 1
-            return
-        self.statuses[getattr(self.described, "status", lambda answer: answer[0])(wanted)] += 1
-        self.ways.update(case.ways or ["none"])
-        if not fits(wanted, met):
-            self.last = case
-            raise Differs
-
-
-def by_size(comparison):
-    """The large cases of a description."""
-    for case in getattr(comparison.described, "large", tuple)():
-        comparison.tried(case)
-
-
-def by_random(comparison, seed, count):
-    for number in range(count):
-        comparison.tried(comparison.described.some(random.Random(f"{seed}/{number}")))
+def differs(described, met, case):
+    """Whether a program answers otherwise than its description, where that has an answer."""
+    try:
+        return not fits(described.wanted(case), met(case))
+    except Unsaid:
+        return False
 
 
 def simpler(value):
@@ -110,26 +81,30 @@ def smaller(body, is_wrong):
     return body
 
 
-def small(comparison, case):
+def small(described, met, case):
     """A smaller case of those that are answered otherwise. The description may say which bytes of the input are its body."""
-    described = comparison.described
     body_of = getattr(described, "body_of", lambda case: case.given)
     with_body = getattr(described, "with_body", lambda case, body: case._replace(given=body))
 
     def is_wrong(body):
-        return comparison.differs(with_body(case, body))
+        return differs(described, met, with_body(case, body))
 
     return with_body(case, smaller(smaller_json(body_of(case), is_wrong), is_wrong))
 
 
 def compared(name, described, met, seed, number, count):
-    """A round of so many inputs, the first one behind the large ones. It ends at the first that is answered otherwise."""
-    comparison, wrong = Comparison(described, met), []
-    try:
-        if number == 0:
-            by_size(comparison)
-        by_random(comparison, f"{seed}/{number}/{name}", count)
-    except Differs:
-        case = comparison.last if len(comparison.last.given) > LARGE else small(comparison, comparison.last)
-        wrong = [(case, comparison.met(case), described.wanted(case))]
-    return Round(name, comparison.statuses, comparison.ways, wrong)
+    """A round of so many inputs. It ends at the first that is answered otherwise."""
+    came, status_of = Round(name, Counter(), Counter(), []), getattr(described, "status", lambda answer: answer[0])
+    for case in cases_of(described, f"{seed}/{number}/{name}", number, count):
+        try:
+            wanted = described.wanted(case)
+        except Unsaid:
+            came.ways["left out"] += 1
+            continue
+        came.statuses[status_of(wanted)] += 1
+        came.ways.update(case.ways or ["none"])
+        if not fits(wanted, met(case)):
+            case = case if len(case.given) > LARGE else small(described, met, case)
+            came.wrong.append((case, met(case), described.wanted(case)))
+            break
+    return came

@@ -9,23 +9,34 @@ class Unplanted(Exception):
     """Why an edit cannot be planted."""
 
 
-def plant(edit, room):
-    """Changes the files of an edit in a copy."""
-    file = old = None
-    for line in edit.read_text(encoding="utf-8").splitlines():
-        key, _, text = line.partition(": ")
+def lines_of(edit):
+    """The lines of an edit: the key and the text of each."""
+    lines = (line.partition(":") for line in edit.read_text(encoding="utf-8").splitlines())
+    return [(key, text.removeprefix(" ")) for key, _, text in lines]
+
+
+def changed(lines, text_of):
+    """The files that the lines of an edit change, with their texts then. Before, `text_of` gives them."""
+    texts, file, old = {}, None, None
+    for key, text in lines:
         if key == "file":
-            file = room / text
+            file = text
+            texts.setdefault(file, text_of(file))
         elif key == "old":
             old = text
         elif key == "new":
-            before = file.read_text(encoding="utf-8")
-            if before.count(old) != 1:
-                raise Unplanted(f"{old} stands {before.count(old)} times in {file.relative_to(room)}")
-            file.write_text(before.replace(old, text), encoding="utf-8")
+            if texts[file].count(old) != 1:
+                raise Unplanted(f"{old} stands {texts[file].count(old)} times in {file}")
+            texts[file] = texts[file].replace(old, text)
+    return texts
+
+
+def plant(edit, room):
+    """Changes the files of an edit in a copy."""
+    for file, text in changed(lines_of(edit), lambda it: (room / it).read_text(encoding="utf-8")).items():
+        (room / file).write_text(text, encoding="utf-8")
 
 
 def part_of(edit):
-    """The part of a test that an edit names by a first line `by:`, if it names one."""
-    key, _, part = edit.read_text(encoding="utf-8").partition("\n")[0].partition(": ")
-    return [part] if key == "by" else []
+    """The part of a test that an edit names by a line `by:`, if it names one."""
+    return [text for key, text in lines_of(edit) if key == "by"]
