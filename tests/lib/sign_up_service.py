@@ -1,20 +1,16 @@
 """The service of use_signup, by crates/use_signup/README.md: which answer a request has, as bytes, where no date is added."""
 import re
 
-from lib import languages
+from lib import languages, tables
 from lib.requests import Request, bytes_of, requests_of
 
-TAGS = ("en", "cs", "ar")
+# The texts of the pages in each language, by their names: of a field its label, and of `FIELD=VALUE` that of a box.
+SAID = {it.title: dict(line.split(": ", 1) for line in it.text.splitlines()) for it in tables.cases("sign-up")}
 FORM = "application/x-www-form-urlencoded"
 PAGE = "text/html; charset=utf-8"
 PHRASES = {
     200: "OK", 303: "See Other", 404: "Not Found", 405: "Method Not Allowed", 413: "Content Too Large", 415: "Unsupported Media Type",
     422: "Unprocessable Entity",
-}
-THANKS = {
-    "en": ("ltr", "Thank you", "You are signed up."),
-    "cs": ("ltr", "Děkujeme", "Jste zaregistrováni."),
-    "ar": ("rtl", "شكرًا لك", "تم تسجيلك."),
 }
 REFUSED = {
     404: ("Not found", "There is no such page."),
@@ -31,12 +27,12 @@ FIELDS = ("", "cs", "ar", "ar-EG", "cs-CZ,cs;q=0.9,en;q=0.8", "de", "en;q=0.5, a
 
 def tag_of(request):
     """The tag of the language in which a request is answered."""
-    return languages.asked(request.language, TAGS) or "en"
+    return languages.asked(request.language, tuple(SAID)) or "en"
 
 
 def thanks(tag):
-    direction, title, said = THANKS[tag]
-    head = f'<!DOCTYPE html>\n<html lang="{tag}" dir="{direction}">\n<head>\n{VIEWPORT}<title>{title}</title>\n</head>\n'
+    title, said = SAID[tag]["thanks"], SAID[tag]["signed_up"]
+    head = f'<!DOCTYPE html>\n<html lang="{tag}" dir="{SAID[tag]["direction"]}">\n<head>\n{VIEWPORT}<title>{title}</title>\n</head>\n'
     return f"{head}<body>\n<main>\n<h1>{title}</h1>\n<p>{said}</p>\n</main>\n</body>\n</html>\n"
 
 

@@ -11,6 +11,7 @@ from lib.form import Checked, Closed, ListUnder, Member, Object, OneOf, Optional
 from lib.json_values import Pairs
 from lib.reports import lines, quoted
 from lib.requests import bytes_of, requests_of
+from lib.sign_up_service import SAID
 from lib.spoiled import many, missing, renamed, repeated, some_bytes, some_of, unknown, wrong_type
 
 PASSWORDS = ("analytical engine", "é" * 128, "a+b=c&d%e f?")
@@ -30,23 +31,6 @@ LISTS = ("topics",)
 WORDS = {it[0]: it[1:] for it in re.findall(r"^\| `(\w+)` \| ([^|]+) \| ([^|]+) \|$", repository.text_of("crates/use_signup/README.md"), re.MULTILINE)}
 NAMES = ("name", "username", "password", "password_again", "age", "phone", "topics", "terms")
 KINDS = {"password": "password", "password_again": "password", "phone": "tel"}
-PAGES = {
-    "en": (
-        "Sign up", "Please correct: Sign up", "Please correct", "Sign up",
-        ("Name", "Username", "Password", "Password, once more", "Age", "Phone, if you like", "Topics", "Terms"),
-        {"topics": (("news", "News"), ("events", "Events")), "terms": (("on", "I accept the terms"),)},
-    ),
-    "cs": (
-        "Registrace", "Opravte prosím: Registrace", "Opravte prosím", "Registrovat",
-        ("Jméno", "Uživatelské jméno", "Heslo", "Heslo ještě jednou", "Věk", "Telefon, není nutný", "Témata", "Podmínky"),
-        {"topics": (("news", "Zprávy"), ("events", "Akce")), "terms": (("on", "Souhlasím s podmínkami"),)},
-    ),
-    "ar": (
-        "التسجيل", "يُرجى التصحيح: التسجيل", "يُرجى التصحيح", "تسجيل",
-        ("الاسم", "اسم المستخدم", "كلمة المرور", "كلمة المرور مرة أخرى", "العمر", "الهاتف (اختياري)", "المواضيع", "الشروط"),
-        {"topics": (("news", "الأخبار"), ("events", "الفعاليات")), "terms": (("on", "أوافق على الشروط"),)},
-    ),
-}
 SERVE = ("--serve", "--no-date")
 TEXTS = ["", "a", "on", "On", "off", "news", "sport", "36", "\0", 'q"\\\n', "a b", "a+b", "é" * 41, "漢字½", "x" * 129, "\x1b[2K", '"><script>alert(1)</script>', "'&amp;&#60;"]
 # Pieces of bodies as no browser sends them.
@@ -107,14 +91,19 @@ def object_of(fields):
 
 def form_of(tag):
     """The form on the page in a language."""
-    *said, labels, boxes = PAGES[tag]
-    fields = (pages.Field(name, label, KINDS.get(name, "text"), boxes.get(name, ())) for name, label in zip(NAMES, labels))
-    return pages.Form(tag, *said, tuple(fields), "rtl" if tag == "ar" else "ltr")
+    said = SAID[tag]
+
+    def field(name):
+        boxes = tuple((key.partition("=")[2], label) for key, label in said.items() if key.startswith(f"{name}="))
+        return pages.Field(name, said[name], KINDS.get(name, "text"), boxes)
+
+    texts = (said[it] for it in ("title", "faulty_title", "summary", "send"))
+    return pages.Form(tag, *texts, tuple(map(field, NAMES)), said["direction"])
 
 
 def page_of(tag, fields, faults, language):
     """The page with these fields that were sent and these faults, whose texts are in a language."""
-    return pages.page(form_of(tag if tag in PAGES else "en"), fields, [(path, found.text(language)) for path, found in faults])
+    return pages.page(form_of(tag if tag in SAID else "en"), fields, [(path, found.text(language)) for path, found in faults])
 
 
 def language_of(tag):
