@@ -5,7 +5,7 @@ A language is a table from codes to texts, as in `faults`.
 """
 import re
 
-from lib.faults import INTEGERS
+from lib.faults import ENGLISH, INTEGERS
 from side_by_side import page
 
 # Tags under which a language is offered too.
@@ -14,11 +14,6 @@ TAG = "[A-Za-z]{1,8}(?:-[A-Za-z0-9]{1,8})*"
 RANGE = re.compile(rf"[ \t]*({TAG})[ \t]*(?:;[ \t]*[qQ]=(0(?:\.[0-9]{{0,3}})?|1(?:\.0{{0,3}})?)[ \t]*)?")
 # Tags that words ask for: of languages that are offered, of their countries, and of none, and ill-formed ones.
 TAGS = ("en", "de", "DE-at", "cs", "zh", "zh-Hant", "pt-PT", "ar", "ja", "sv", "tlh", "", "cs-", "cs--CZ", "de-\n")
-CODES = (
-    "member_missing", "member_repeated", "member_unknown", "value_unknown", "length_lower_than", "length_greater_than",
-    "range_lower_than", "range_greater_than", "prefix_missing", "suffix_missing", "pattern_no_match", "matches_field_mismatch",
-    "ascii_invalid", "alphanumeric_invalid", "required_not_set",
-)
 # What is wrong with a text of a file has no key, so its sentence is that of the library in each language.
 TEMPLATE_FAULTS = {
     "template_place_unknown": "has a name in braces that is no parameter of this text", "template_place_missing": "lacks a parameter in braces",
@@ -46,7 +41,7 @@ def url_text(said, english):
 def language(said, english):
     """A language, by its texts."""
     return {
-        **{code: said[camel(code)] for code in CODES},
+        **{code: said[camel(code)] for code in ENGLISH if camel(code) in said},
         "wrong_form": lambda wanted, found: said[f"Not{wanted}"],
         "out_of_range": lambda of: said["OutOfRange"].format(least=INTEGERS[of][0], greatest=INTEGERS[of][1]),
         "url_invalid": url_text(said, english), "own": "{text}", **TEMPLATE_FAULTS,

@@ -1,6 +1,12 @@
 """Requests of HTTP, and their bytes one behind the other."""
 import typing
 
+PHRASES = {
+    200: "OK", 303: "See Other", 400: "Bad Request", 404: "Not Found", 405: "Method Not Allowed", 413: "Content Too Large",
+    414: "URI Too Long", 415: "Unsupported Media Type", 422: "Unprocessable Entity", 431: "Request Header Fields Too Large",
+    501: "Not Implemented", 505: "HTTP Version Not Supported",
+}
+
 
 class Request(typing.NamedTuple):
     body: bytes = b""

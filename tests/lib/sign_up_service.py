@@ -2,16 +2,12 @@
 import re
 
 from lib import languages, tables
-from lib.requests import Request, bytes_of, requests_of
+from lib.requests import PHRASES, Request, bytes_of, requests_of
 
 # The texts of the pages in each language, by their names: of a field its label, and of `FIELD=VALUE` that of a box.
 SAID = {it.title: dict(line.split(": ", 1) for line in it.text.splitlines()) for it in tables.cases("sign-up")}
 FORM = "application/x-www-form-urlencoded"
 PAGE = "text/html; charset=utf-8"
-PHRASES = {
-    200: "OK", 303: "See Other", 404: "Not Found", 405: "Method Not Allowed", 413: "Content Too Large", 415: "Unsupported Media Type",
-    422: "Unprocessable Entity",
-}
 REFUSED = {
     404: ("Not found", "There is no such page."),
     405: ("Method not allowed", "This page has other methods."),

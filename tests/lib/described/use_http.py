@@ -8,7 +8,7 @@ from lib.faults import between, chars, items, prefix
 from lib.form import Closed, ListUnder, Member, Object, Text, Whole, read
 from lib.json_values import NoJson, of_bytes, printed
 from lib.reports import details
-from lib.requests import Request, bytes_of, requests_of
+from lib.requests import PHRASES, Request, bytes_of, requests_of
 from lib.spoiled import some_json
 
 ORDER = Object(Closed(
@@ -19,10 +19,6 @@ ORDER = Object(Closed(
     )))),
 ))
 MOST = 1024 * 1024
-PHRASES = {
-    400: "Bad Request", 404: "Not Found", 405: "Method Not Allowed", 413: "Content Too Large", 414: "URI Too Long",
-    415: "Unsupported Media Type", 431: "Request Header Fields Too Large", 501: "Not Implemented", 505: "HTTP Version Not Supported",
-}
 TARGETS = {"": "CONNECT", "*": "OPTIONS"}
 ORDERS = Request(target="/orders", media="application/json")
 DESCRIPTION = "tools/tests/library/order.openapi.json"
