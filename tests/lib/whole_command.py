@@ -154,7 +154,8 @@ def faults_of_look():
             put(top, {"stored.quick": quick or None, "stored.compiles": None if quick else ""})
             says = case.parts["says"].replace("LINE", lines[0]).replace("PARTS", lines[1]).splitlines()
             yield from run.faults((str(run.crate),), 0 if "compiles" in says[0] else 1, says)
-        for path, reason in (("other", "no crates.txt above it has a line of this crate"), ("none", "there is no crate in it: it has no folder `src`")):
+        strangers = {"other": "no crates.txt above it has a line of this crate", "none": "there is no crate in it: it has no folder `src`"}
+        for path, reason in strangers.items():
             yield from run.faults((str(top / path),), 2, [], f"why: {top / path}: {reason}\n")
 
 

@@ -43,6 +43,14 @@ def some_row(dice, columns, odd):
     return row if dice.random() < 0.95 else dice.choice((row[:-1], [*row, "x"]))
 
 
+def several_cuts(dice, body, counts):
+    """The bytes with as many changes as one of these counts says, and whether there is one."""
+    count = dice.choice(counts)
+    for _ in range(count):
+        body = cut(dice, body, PIECES)
+    return body, {"cut"} if count else set()
+
+
 def some_columns(dice):
     columns = dice.sample(COLUMNS, len(COLUMNS))
     for _ in range(dice.choice((0, 0, 0, 0, 0, 0, 1, 3))):
@@ -55,23 +63,27 @@ def some(dice):
     words, form = dice.choice(WORDS), placed.some_format(dice)
     columns, odd = COLUMNS if "--no-header" in words else some_columns(dice), dice.choice((0, 0, 0.1, 0.4))
     rows = [some_row(dice, columns, odd) for _ in range(dice.randrange(6))]
-    body, cuts = written(dice, rows if "--no-header" in words else [columns, *rows]), set()
-    for _ in range(dice.choice((0, 0, 0, 1, 2, 4))):
-        body, cuts = cut(dice, body, PIECES), {"cut"}
-    return Case(languages.some_words(dice) + dice.choice((words + form, form + words)), body, cuts | ({"columns"} if columns != COLUMNS else set()) | ({"cells"} if odd else set()))
+    body, ways = several_cuts(dice, written(dice, rows if "--no-header" in words else [columns, *rows]), (0, 0, 0, 1, 2, 4))
+    ways |= {way for way, is_so in (("columns", columns != COLUMNS), ("cells", odd)) if is_so}
+    return Case(languages.some_words(dice) + dice.choice((words + form, form + words)), body, ways)
+
+
+def rows_of(count):
+    """Rows of which a few are faulty."""
+    return "".join(f"{'X' if row % 700 == 699 else 'P'}{row},Screw,1,5,\n" for row in range(count)).encode()
 
 
 def large():
     """A list of 3,000 rows, some of them faulty, without and with a word, a row whose cell has more than 64 KiB, and rows with
     quotes, empty cells and both ends of lines, of which another byte is the last one of each buffer."""
-    rows = "".join(f"{'X' if row % 700 == 699 else 'P'}{row},Screw,1,5,\n" for row in range(3_000))
+    header = ",".join(COLUMNS).encode()
     for words in (), ("--lines",), ("3",):
-        yield Case(words, ",".join(COLUMNS).encode() + b"\n" + rows.encode())
-    yield Case((), ",".join(COLUMNS).encode() + b'\nP1,"' + b"x\n" * 40_000 + b'",1,5,\nQ1,Screw,1,5,\n')
-    yield Case((), ",".join(COLUMNS).encode() + b"\nP1," + b"x" * 40_000 + b",1,5,\nQ1,Screw,1,5,")
+        yield Case(words, header + b"\n" + rows_of(3_000))
+    yield Case((), header + b'\nP1,"' + b"x\n" * 40_000 + b'",1,5,\nQ1,Screw,1,5,\n')
+    yield Case((), header + b"\nP1," + b"x" * 40_000 + b",1,5,\nQ1,Screw,1,5,")
     row = b'P1,"a ""b"",\r\nc",1,5,\r\n'
     for before in range(len(row)):
-        yield Case(("--lines",), ",".join(COLUMNS).encode() + b"\n" * before + row * 400 + b'Q1,"x"y,1,5,\r\nQ1,,1,5,')
+        yield Case(("--lines",), header + b"\n" * before + row * 400 + b'Q1,"x"y,1,5,\r\nQ1,,1,5,')
 
 
 def records(given):

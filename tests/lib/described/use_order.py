@@ -77,7 +77,9 @@ def wanted(case):
     try:
         page, faults = read(PAGE, of_bytes(case.given))
     except NoJson as why:
-        return (2, b"", pattern(f"use_order: {why}\n")) if form == "plain" else (2, placed.stops_at(form, "<stdin>", case.given, "not_json"), b"")
+        if form == "plain":
+            return 2, b"", pattern(f"use_order: {why}\n")
+        return 2, placed.stops_at(form, "<stdin>", case.given, "not_json"), b""
     if not faults:
         return 0, "".join(it for order in page["entries"] for it in confirmed(order)).encode("utf-8"), b""
     most = int(rest[0]) if rest else len(faults)

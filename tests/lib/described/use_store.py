@@ -7,12 +7,11 @@ import tempfile
 
 from lib import languages, placed
 from lib.described import Case, pattern, run
-from lib.described.use_import import CODES, COLUMNS, PIECES, records, some_row, written
+from lib.described.use_import import CODES, COLUMNS, records, rows_of, several_cuts, some_row, written
 from lib.faults import ALPHANUMERIC, URL, URLS, between, chars, fault, prefix
 from lib.form import Member, Object, OrEmpty, Parsed, Text, read
 from lib.json_values import Pairs
 from lib.reports import lines
-from lib.spoiled import cut
 
 try:
     import sqlite3
@@ -26,6 +25,7 @@ ROW = Object(
     Member("price", Parsed("u64", between(1, 50_000), message="not a price in cents")),
     Member("page", OrEmpty(Text(URL, like=URLS))),
 )
+HEADER = ",".join(COLUMNS).encode()
 SELECT = "select code, name, quantity, price, page from stock order by id"
 
 
@@ -71,19 +71,17 @@ def some(dice):
     odd, words = dice.choice((0, 0, 0.1, 0.4)), dice.choice((("--all-or-nothing",), ("--batch", "1"), ("--batch", "3"), ()))
     form = placed.some_format(dice) + languages.some_words(dice)
     rows = [some_row(dice, COLUMNS, odd) for _ in range(dice.randrange(8))]
-    body, cuts = written(dice, rows), set()
-    for _ in range(dice.choice((0, 0, 1, 2, 3))):
-        body, cuts = cut(dice, body, PIECES), {"cut"}
+    body, ways = several_cuts(dice, written(dice, rows), (0, 0, 1, 2, 3))
     mark = dice.choice((b"", b"", b"\xef\xbb\xbf"))
-    return Case(("stock.db", *dice.choice((words + form, form + words))), mark + ",".join(COLUMNS).encode() + dice.choice((b"\n", b"\r\n")) + body, cuts | ({"cells"} if odd else set()))
+    words = ("stock.db", *dice.choice((words + form, form + words)))
+    return Case(words, mark + HEADER + dice.choice((b"\n", b"\r\n")) + body, ways | ({"cells"} if odd else set()))
 
 
 def large():
     """A list of 2,500 rows, some of them faulty, and one with a cell of more than 64 KiB."""
-    rows = "".join(f"{'X' if row % 700 == 699 else 'P'}{row},Screw,1,5,\n" for row in range(2_500))
     for words in (), ("--batch", "999"), ("--format", "github"):
-        yield Case(("stock.db", *words), ",".join(COLUMNS).encode() + b"\n" + rows.encode())
-    yield Case(("stock.db",), ",".join(COLUMNS).encode() + b'\nP1,"' + b"x\n" * 40_000 + b'",1,5,\nP2,Screw,1,5,\n')
+        yield Case(("stock.db", *words), HEADER + b"\n" + rows_of(2_500))
+    yield Case(("stock.db",), HEADER + b'\nP1,"' + b"x\n" * 40_000 + b'",1,5,\nP2,Screw,1,5,\n')
 
 
 def body_of(case):
