@@ -18,7 +18,8 @@ exec {python} -S {here} {stored} {own} "$@"
 
 def put(kit, stored, own, lib=0):
     """Puts the stand-in into a folder: its prover prints the checks of the file `stored`, of a crate in the folder `own`, and of the
-    compiler's quick pass the file `stored.quick`, where there is one; where there is `stored.compiles` it goes on to the logic. `rt lib` ends with the status `lib`. Gives the folder for PATH."""
+    compiler's quick pass the file `stored.quick`, where there is one; where there is `stored.compiles` it goes on to the logic. `rt lib`
+    ends with the status `lib`. Gives the folder for PATH."""
     here = pathlib.Path(__file__).resolve()
     for name, text in {
         "path/rt": RT.format(kit=kit, lib=lib),

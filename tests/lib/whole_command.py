@@ -13,16 +13,9 @@ from lib import stand_in, tables
 from lib.forked import Command
 from lib.repository import ROOT
 from lib.rooms import put, room
+from lib.told import CASES
 
 WHY = Command(ROOT / "tools/why")
-# the types of `example_types`
-TYPES = (
-    "contact::Contact, data::Data, document::Document, ledger::Ledger, login::Login, names::Names, order::Order, payment::Payment, "
-    "profile::Profile, recursive::comment::Comment, recursive::expr::Expr, recursive::folder::Folder, recursive::menu::Menu, recursive::question::Entry, "
-    "recursive::tree::Tree, signup::Signup, stay::Stay, stock::Stock, table::Table, tag::Tag, team::Member, team::Team, "
-    "username::Username, username::NumberedUsername, username::User, valid::basket::Basket, valid::bill::Bill, valid::level::Level, "
-    "valid::page::Page, valid::panel::Reading, valid::parcel::Parcel, valid::seat::Seat, valid::tariff::Tariff"
-)
 # a library that was never built, and a type above it
 LOW = {"crates.txt": "low:\nhigh: low\n", "crates/low/src/lib.rt": "#![tactic(auto)]\n"}
 
@@ -116,7 +109,8 @@ def faults_of_words(mistake):
 
 def unknown_type(crate, name):
     """What the command says of a type of `example_types` that is not there."""
-    return f"why: {crate.name}: no type of the name `{name}` with `impl Validate`: it has {TYPES}\n"
+    types = " ".join(CASES["the types of example_types"].text.split())
+    return f"why: {crate.name}: no type of the name `{name}` with `impl Validate`: it has {types}\n"
 
 
 def faults_without_library(mistake):
