@@ -8,25 +8,15 @@ import re
 import typing
 import unicodedata
 
-from lib import urls
+from lib import tables, urls
 
-WANTED = {
-    "Text": "not a text", "Whole": "not a whole number", "Boolean": "not true or false", "Null": "not null", "List": "not a list",
-    "Object": "not an object", "OneMember": "not an object with one member", "Character": "not a character",
-}
+# What is not of a type, and what is wrong by a code, in English.
+WANTED, FAULTS = (dict(line.split(": ", 1) for line in it.text.splitlines()) for it in tables.cases("english"))
 BITS = (8, 16, 32, 64, 128)
 INTEGERS = {**{f"u{bits}": (0, 2**bits - 1) for bits in BITS}, **{f"i{bits}": (-(2 ** (bits - 1)), 2 ** (bits - 1) - 1) for bits in BITS}}
 ENGLISH = {
-    "wrong_form": lambda wanted, found: WANTED[wanted],
-    "out_of_range": lambda of: "out of range: {} to {}".format(*INTEGERS[of]),
-    "member_missing": "missing", "member_repeated": "repeated", "member_unknown": "not known here",
-    "value_unknown": "not one of the known values",
-    "length_lower_than": "length is lower than {min}", "length_greater_than": "length is greater than {max}",
-    "range_lower_than": "lower than {min}", "range_greater_than": "greater than {max}",
-    "prefix_missing": 'value does not begin with "{pattern}"', "suffix_missing": 'does not end with "{pattern}"',
-    "pattern_no_match": "does not match pattern /{pattern}/", "matches_field_mismatch": "does not match {field} field",
-    "ascii_invalid": "not ascii", "alphanumeric_invalid": "not alphanumeric", "required_not_set": "not set",
-    "url_invalid": "not a valid url: {reason}", "own": "{text}",
+    **FAULTS, "wrong_form": lambda wanted, found: WANTED[wanted],
+    "out_of_range": lambda of: "out of range: {} to {}".format(*INTEGERS[of]), "own": "{text}",
 }
 
 

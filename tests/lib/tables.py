@@ -26,6 +26,11 @@ class Case(typing.NamedTuple):
         return {name.removeprefix(folder): text for name, text in self.parts.items() if name.startswith(folder)}
 
 
+def plain(text):
+    """The bytes that a text stands for, in which `\\n` is a line feed and `\\xff` a byte."""
+    return text.encode().decode("unicode_escape").encode("latin-1")
+
+
 def text_of(name):
     return (FOLDER / name).read_text(encoding="utf-8")
 
