@@ -26,11 +26,6 @@ def line(form, file, place, path, detail, code, params):
     return printed({**members, "detail": detail, "code": code, "params": params}).decode()
 
 
-def read_back(text):
-    """What an editor reads of lines in the format `short`: each a file, a line, a column and a message."""
-    return [EDITORS.fullmatch(it).groups() for it in text.split("\n")[:-1]]
-
-
 def lines(form, file, spots, walk, language=ENGLISH):
     """The faults of a walk, as (path, fault), over a text with these places: by place for people, and in their order for programs. What an
     editor reads back has to be what was printed."""
@@ -39,7 +34,7 @@ def lines(form, file, spots, walk, language=ENGLISH):
         placed.sort(key=lambda it: it[0])
     text = "".join(lines_at(form, file, place, [(path, found)], language) for place, path, found in placed)
     wanted = [(str(line), str(column), told(path, found.text(language))) for (line, column), path, found in placed]
-    if form == "short" and [it[1:] for it in read_back(text)] != wanted:
+    if form == "short" and [EDITORS.fullmatch(it).groups()[1:] for it in text.split("\n")[:-1]] != wanted:
         raise AssertionError(f"an editor reads something else of {text!r}")
     return text
 

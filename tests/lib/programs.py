@@ -4,6 +4,7 @@ import contextlib
 import os
 import shutil
 import subprocess
+import sys
 import tempfile
 
 from lib.repository import ROOT
@@ -19,6 +20,12 @@ def program_of(name):
 def missing(script, *names):
     """The programs that are not there, a line each."""
     return [f"{script}: {program_of(it)} is not there: run rt ci, or rt run in crates/{it}" for it in names if not program_of(it).exists()]
+
+
+def require(script, *names):
+    """Ends a script where a program is not there."""
+    if lacking := missing(script, *names):
+        sys.exit("\n".join(lacking))
 
 
 def answer_of(command, given=b"", cwd=None, limit=None, env=None, **streams):

@@ -52,10 +52,6 @@ def is_address(domain):
     return all(value < 256 for value in numbers[:-1]) and numbers[-1] < 256 ** (5 - len(parts))
 
 
-def is_bidi(domain):
-    return any(unicodedata.bidirectional(letter) in ("R", "AL", "AN") for letter in domain)
-
-
 def domain_fault(host):
     """What is wrong with the host of a special URL."""
     domain = unicodedata.normalize("NFKC", IGNORED.sub("", unquote(host))).casefold()
@@ -65,7 +61,8 @@ def domain_fault(host):
         return NO_DOMAIN
     # RFC 5893, section 2: each label of such a domain begins with a letter of a direction.
     starts = [unicodedata.bidirectional(label[0]) for label in domain.split(".") if label]
-    if is_bidi(domain) and not all(start in ("L", "R", "AL") for start in starts):
+    is_bidi = any(unicodedata.bidirectional(letter) in ("R", "AL", "AN") for letter in domain)
+    if is_bidi and not all(start in ("L", "R", "AL") for start in starts):
         return NO_DOMAIN
     return NO_ADDRESS if ends_in_a_number(domain) and not is_address(domain) else None
 

@@ -103,10 +103,6 @@ def walk_of(index, header, record):
     return read(ROW, Pairs(zip(header, record.cells)), (index,))[1]
 
 
-def first_row(words):
-    return int(words[words.index("--first-row") + 1]) if "--first-row" in words else 0
-
-
 def most(words, all_of_them):
     """How many faults are printed at most: the number that stands behind no other word's name."""
     numbers = [word for before, word in zip(("", *words), words) if word.isdecimal() and before != "--first-row"]
@@ -140,7 +136,7 @@ def wanted(case):
             told = lines(faults, language) if form == "plain" else placed.lines_at(form, "<stdin>", (first.line, 1), faults, language)
             return 2, told.encode("utf-8"), b"use_import: these are not the columns of a list\n"
         header = first.cells
-    start = first_row(words)
+    start = int(words[words.index("--first-row") + 1]) if "--first-row" in words else 0
     rows = enumerate(found[:GREATEST - start + 1], start)
     said = "".join(lines_of(words, form, index, header, record, tag) for index, record in rows).splitlines(keepends=True)
     out = "".join(said[:most(words, len(said))]).encode("utf-8")
