@@ -14,7 +14,7 @@ returns g c =
         faults = c.in_ok-faults.faults.items;
         are_faults = c.in_ok-faults.ensures.faults;
         are_there = c.in_ok-faults.ensures.places;
-        is_text = c.as_bytes.ensures.value ∙ c.in_ok-text.ensures ∙ ap (lines_text c.args.printed.format c.args.printed.file.now) c.deref.ensures.value;
+        is_text = c.as_bytes.ensures.value ∙ c.in_ok-text.ensures.text ∙ ap (lines_text c.args.printed.format c.args.printed.file.now) c.deref.ensures.value;
       },
     ))
     c.write_all.ensures.bytes
