@@ -1,5 +1,6 @@
--- What an author of a handler relies on: a request asks for one language, and the answer to a `POST` has the body that the handler gave.
-use Rattle.std.proofs.Common.{◌≡◌, ℕ, List, [], Option, Some, None, codes, sym, subst, ◌∙◌, if◌then◌else◌}
+-- What an author of a handler relies on: a request asks for one language, the answer to a `POST` has the body that the handler gave, and each
+-- status of a rejection is an error.
+use Rattle.std.proofs.Common.{◌≡◌, ◌≢◌, ◌≤◌, arith, ℕ, List, [], Option, Some, None, codes, sym, subst, ◌∙◌, if◌then◌else◌}
 use Rattle.garde_catalog.specs.Catalogs.{offered_by}
 use Rattle.garde_catalog.specs.Field.{wants_in}
 use Rattle.garde_catalog.specs.declared.catalogs.Catalogs.{Catalogs}
@@ -12,6 +13,9 @@ use Rattle.http1.specs.Message as Wire
 use Rattle.http1.specs.Server.{is_head}
 use Rattle.garde_service.specs.Asked.{IsAskedIn, IsLanguage}
 use Rattle.garde_service.specs.Fits.{Answered, Fits}
+use Rattle.garde_service.specs.Rejected.{status_of}
+use Rattle.garde_service.specs.declared.rejected.Rejected.{Rejected}
+use Rattle.garde_service.specs.declared.rejected.Rejected.TheVariants.{BadRequest, NotFound, MethodNotAllowed, ContentTooLarge, UriTooLong, UnsupportedMediaType, FieldsTooLarge, InternalServerError, NotImplemented, VersionNotSupported}
 use Rattle.garde_service.proofs.Picked.{picked_once}
 
 is_one_place : (offered : List Language) (field : Option FieldValue) (one other : Option ℕ) → IsAskedIn offered field one → IsAskedIn offered field other
@@ -30,3 +34,16 @@ pub posted_body : (answered : Answered) (request : Wire.Request) (response : Wir
     → x.head.method ≡ codes "POST" → response.body.bytes ≡ x.answer.body.items
 posted_body answered request response x posted =
     body_sent request.head.method response.body.bytes x.answer.body.items (sym x.are_parts.method ∙ posted) x.body
+
+-- a rejection is an error, and not of faults
+pub is_error : (why : Rejected) → (400 ≤ status_of why) × (status_of why ≢ 422)
+is_error BadRequest = (omega arith, λ e. omega (arith, e))
+is_error NotFound = (omega arith, λ e. omega (arith, e))
+is_error MethodNotAllowed = (omega arith, λ e. omega (arith, e))
+is_error ContentTooLarge = (omega arith, λ e. omega (arith, e))
+is_error UriTooLong = (omega arith, λ e. omega (arith, e))
+is_error UnsupportedMediaType = (omega arith, λ e. omega (arith, e))
+is_error FieldsTooLarge = (omega arith, λ e. omega (arith, e))
+is_error InternalServerError = (omega arith, λ e. omega (arith, e))
+is_error NotImplemented = (omega arith, λ e. omega (arith, e))
+is_error VersionNotSupported = (omega arith, λ e. omega (arith, e))

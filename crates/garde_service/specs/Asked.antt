@@ -1,5 +1,5 @@
--- What the fields of a request ask for.
-use Rattle.std.specs.Prelude.{◌≡◌, ◌≤◌, ◌==◌, Bool, true, false, ◌||◌, ℕ, List, length, map, take, slice_index, codes, IsTrue, IsSomeAnd, Option, Some, None}
+-- What a request asks for.
+use Rattle.std.specs.Prelude.{◌≡◌, ◌≤◌, ◌==◌, Bool, true, false, not, ◌||◌, ℕ, List, length, map, take, slice_index, codes, IsTrue, IsSomeAnd, Option, Some, None}
 use Rattle.std.specs.List.{list_any}
 use Rattle.std.specs.Str.{bytes_eq}
 use Rattle.std.specs.Char.{to_ascii_lowercase}
@@ -9,9 +9,9 @@ use Rattle.garde_catalog.specs.declared.catalogs.Catalogs.{Catalogs}
 use Rattle.garde_catalog.specs.declared.language.Language.{Language}
 use Rattle.http.specs.declared.request.Parts.{Parts}
 use Rattle.http_header.specs.FieldValue.{FieldValue}
-use Rattle.http_header.specs.HeaderMap.{get}
+use Rattle.http_header.specs.HeaderMap.{get, get_all}
 use Rattle.http_uri.specs.Uri.{uri_path}
-use Rattle.garde_service.specs.declared.asked.TheConstants.{TYPE_ENDS}
+use Rattle.garde_service.specs.declared.asked.TheConstants.{IDENTITY, TYPE_ENDS}
 
 -- the value ends there, or one of these bytes stands there
 abbrev pub ends_at : List ℕ → ℕ → List ℕ → Bool
@@ -31,6 +31,14 @@ FieldBeginsWith head name word ends = IsSomeAnd (get head.headers name) (λ valu
 -- the body is said to be of this media type
 abbrev pub HasType : Parts → List ℕ → Type 0
 HasType head media = FieldBeginsWith head (codes "content-type") media TYPE_ENDS.now
+
+-- this names a coding: anything but `identity`, in small or capital letters
+abbrev pub is_coding : List ℕ → Bool
+is_coding value = not (bytes_eq (map to_ascii_lowercase value) (map to_ascii_lowercase IDENTITY.now))
+
+-- the body has a coding, by any field of that name
+abbrev pub has_coding : Parts → Bool
+has_coding head = list_any (λ (value : FieldValue). is_coding value.bytes) (get_all head.headers (codes "content-encoding"))
 
 -- the place of the language that a field asks for, among those that are offered: none where it asks for none, or where there is no field
 abbrev pub IsAskedIn : List Language → Option FieldValue → Option ℕ → Type 0

@@ -1,5 +1,5 @@
 -- The answer to a request that `http_server` refuses, which is the last of its connection.
-use Rattle.std.specs.Prelude.{◌≡◌, ℕ, ◌⊎◌, List, ◌++◌, length, codes, Option, Some, None}
+use Rattle.std.specs.Prelude.{◌≡◌, ℕ, ◌⊎◌, List, [], ◌++◌, length, codes, Option, Some, None}
 use Rattle.std.specs.Fmt.{decimal}
 use Rattle.httpdate.specs.Date.{date_text}
 use Rattle.httpdate.specs.declared.date.HttpDate.{HttpDate}
@@ -11,22 +11,13 @@ use Rattle.http_server.specs.declared.state.Reason.TheVariants.{Refused as Refus
 use Rattle.garde_service.specs.declared.rejection.TheConstants as words
 use Rattle.garde_service.specs.declared.rejected.Rejected.{Rejected}
 use Rattle.garde_service.specs.declared.rejected.Rejected.TheVariants.{BadRequest, ContentTooLarge, UriTooLong, FieldsTooLarge, InternalServerError, NotImplemented, VersionNotSupported}
+use Rattle.garde_service.specs.Rejected.{title_of}
 
 -- the media type and the text of the body with which a handler rejects a request, by why it is rejected
 abbrev pub Rejects : Type 0
 Rejects = Rejected → List ℕ × List ℕ
 
--- the status and its phrase
-abbrev pub title_of : Rejected → List ℕ
-title_of BadRequest = codes "400 Bad Request"
-title_of ContentTooLarge = codes "413 Content Too Large"
-title_of UriTooLong = codes "414 URI Too Long"
-title_of FieldsTooLarge = codes "431 Request Header Fields Too Large"
-title_of InternalServerError = codes "500 Internal Server Error"
-title_of NotImplemented = codes "501 Not Implemented"
-title_of VersionNotSupported = codes "505 HTTP Version Not Supported"
-
--- what `http_server` answers: a status, and no body
+-- what `http_server` answers: a status, and no body; nothing for a reason that it does not have
 abbrev pub plain_of : Rejected → List ℕ
 plain_of BadRequest = words.BAD_REQUEST.now
 plain_of ContentTooLarge = words.TOO_LARGE.now
@@ -35,6 +26,7 @@ plain_of FieldsTooLarge = words.TOO_MANY_FIELDS.now
 plain_of InternalServerError = words.SERVER_ERROR.now
 plain_of NotImplemented = words.NOT_IMPLEMENTED.now
 plain_of VersionNotSupported = words.BAD_REQUEST.now
+plain_of _ = []
 
 -- the fields of a body of this media type, and the body
 abbrev pub body_text : List ℕ → List ℕ → List ℕ

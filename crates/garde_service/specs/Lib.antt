@@ -3,6 +3,7 @@ pub mod Dated
 pub mod Ending
 pub mod Fits
 pub mod Reasons
+pub mod Rejected
 pub mod Room
 pub mod Said
 pub mod Wire

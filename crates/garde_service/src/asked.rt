@@ -1,8 +1,10 @@
-//! What the fields of a request ask for.
+//! What a request asks for.
 ghost use Rattle.std.specs.Prelude.{◌≡◌, ◌≤◌, ◌↔◌, IsTrue, length};
 ghost use Rattle.http.specs.Request.{head_of};
-ghost use Rattle.garde_service.specs.Asked.{BeginsWith, FieldBeginsWith, HasType, IsLanguage, ends_at};
+ghost use Rattle.garde_service.specs.Asked.{BeginsWith, FieldBeginsWith, HasType, IsLanguage, ends_at, has_coding, is_coding};
+ghost use Rattle.garde_service.specs.Rejected.{IsElsewhere};
 
+use crate::rejected::Rejected;
 use bytes::Bytes;
 use garde_catalog::Catalogs;
 use http::{HeaderName, Request, header};
@@ -46,6 +48,47 @@ pub fn has_type(request: &Request<Bytes>, media: &[u8]) -> bool
     ensures { IsTrue result ↔ HasType (head_of request.now) media.now }
 {
     field_begins_with(request, header::CONTENT_TYPE, media, TYPE_ENDS)
+}
+
+/// The only coding of a body that is read (RFC 9110, section 8.4.1): none.
+pub const IDENTITY: &str = "identity";
+
+/// Whether this names a coding: anything but `identity`, in small or capital letters.
+fn is_coding(value: &[u8]) -> bool
+    ensures { result ≡ is_coding value.now }
+{
+    !value.eq_ignore_ascii_case(IDENTITY.as_bytes())
+}
+
+/// Whether the body has a coding: by any field `Content-Encoding`.
+pub fn has_coding(request: &Request<Bytes>) -> bool
+    ensures { result ≡ has_coding (head_of request.now) }
+{
+    let mut fields = request.headers().get_all(header::CONTENT_ENCODING).iter();
+    fields.any(|value| is_coding(value.as_bytes()))
+}
+
+/// Why a request is rejected whose path the service does not have. Only `CONNECT` may name a host and a
+/// port, and only `OPTIONS` may name `*` (RFC 9112, section 3.2): neither is implemented.
+pub fn elsewhere(request: &Request<Bytes>) -> Rejected
+    ensures { IsElsewhere result (head_of request.now) }
+{
+    let (path, method) = (request.uri().path(), request.method().as_str());
+    if path == "" {
+        if method == "CONNECT" {
+            Rejected::NotImplemented
+        } else {
+            Rejected::BadRequest
+        }
+    } else if path == "*" {
+        if method == "OPTIONS" {
+            Rejected::NotImplemented
+        } else {
+            Rejected::BadRequest
+        }
+    } else {
+        Rejected::NotFound
+    }
 }
 
 /// The place of the language that a request asks for, among those that the catalogs have, or `None`:

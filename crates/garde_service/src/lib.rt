@@ -9,7 +9,7 @@ mod rejected;
 mod rejection;
 mod wire;
 
-pub use asked::{has_type, language_of};
+pub use asked::{IDENTITY, elsewhere, has_coding, has_type, language_of};
 pub use date::{date_of, put_date};
 pub use handler::{Body, Handler};
 pub use put::{put_field, put_language, put_text};

@@ -55,6 +55,7 @@ fn plain_answer(why: Rejected) -> &'static [u8]
         Rejected::FieldsTooLarge => TOO_MANY_FIELDS,
         Rejected::NotImplemented => NOT_IMPLEMENTED,
         Rejected::InternalServerError => SERVER_ERROR,
+        _ => b"",
     }
 }
 

@@ -14,12 +14,12 @@ use Rattle.garde_schema.specs.Forms.{FormTexts}
 use Rattle.garde_schema.specs.declared.read_error.ReadError.{ReadError}
 use Rattle.garde_schema.specs.declared.read_error.ReadError.TheVariants.{Parse, Report, Memory}
 use Rattle.garde_catalog.specs.declared.catalogs.Catalogs.{Catalogs}
-use Rattle.garde_service.proofs.Author.{is_one_language}
+use Rattle.garde_service.proofs.Author.{is_error, is_one_language}
 use Rattle.garde_service.specs.Asked.{Is, IsNot, path_of}
 use Rattle.http.specs.declared.request.Parts.{Parts}
 use Rattle.http_server.specs.declared.response.Response.{Response}
 use Rattle.use_http.specs.declared.request.Route.{Route}
-use Rattle.use_http.specs.declared.request.Route.TheVariants.{Order, OtherForm, OtherOfOrders, Health, OtherOfHealth, Description, OtherOfDescription, Nowhere, Unserved, BadTarget}
+use Rattle.use_http.specs.declared.request.Route.TheVariants.{Order, OtherForm, Coded, OtherOfOrders, Health, OtherOfHealth, Description, OtherOfDescription, Elsewhere}
 use Rattle.use_http.specs.Answered.{voice_at, IsAnsweredSometime, AnswersRoute}
 use Rattle.use_http.specs.Promised.{HasReport, IsFaultless, IsOrderIn, IsProblemOf, IsPromised, IsShort, ReadsIn}
 use Rattle.use_http.specs.Judged.{Tells}
@@ -61,14 +61,13 @@ other_path path text is is_not = true≢false (sym is ∙ is_not)
 pub only_order : (route : Route) (head : Parts) → IsRoute route head → IsRoute Order head → route ≡ Order
 only_order Order head is order = refl
 only_order OtherForm head is order = absurd (is.2 order.2)
+only_order Coded head is order = absurd (true≢false (sym is.3 ∙ order.3))
 only_order OtherOfOrders head is order = absurd (other_path head.method (codes "POST") order.1 is.1)
 only_order Health head is order = absurd (not_both (path_of head) order.0 is.0)
 only_order OtherOfHealth head is order = absurd (not_both (path_of head) order.0 is.0)
 only_order Description head is order = absurd (not_described (path_of head) order.0 is.0)
 only_order OtherOfDescription head is order = absurd (not_described (path_of head) order.0 is.0)
-only_order Nowhere head is order = absurd (other_path (path_of head) (codes "/orders") order.0 is.0)
-only_order Unserved head is order = absurd (other_path (path_of head) (codes "/orders") order.0 is.0)
-only_order BadTarget head is order = absurd (other_path (path_of head) (codes "/orders") order.0 is.0)
+only_order (Elsewhere why) head is order = absurd (other_path (path_of head) (codes "/orders") order.0 is.0)
 
 -- ---- a body has one result
 
@@ -168,6 +167,8 @@ module _ (catalogs : Catalogs) where
       of_order a.0 head body plain (is_route, a.1) a.2.0 a.2.1 a.2.2
   by_route head body given plain OtherForm is_route a =
       other head body _ _ OtherForm is_route (λ e. cc) (λ e. omega (arith, e, refused_status _ _ _ _ _ a)) (λ e. omega (arith, e, refused_status _ _ _ _ _ a))
+  by_route head body given plain Coded is_route a =
+      other head body _ _ Coded is_route (λ e. cc) (λ e. omega (arith, e, refused_status _ _ _ _ _ a)) (λ e. omega (arith, e, refused_status _ _ _ _ _ a))
   by_route head body given plain OtherOfOrders is_route a =
       other head body _ _ OtherOfOrders is_route (λ e. cc) (λ e. omega (arith, e, refused_status _ _ _ _ _ a)) (λ e. omega (arith, e, refused_status _ _ _ _ _ a))
   by_route head body given plain Health is_route a =
@@ -178,12 +179,9 @@ module _ (catalogs : Catalogs) where
       other head body _ _ Description is_route (λ e. cc) (λ e. omega (arith, e, a.status)) (λ e. omega (arith, e, a.status))
   by_route head body given plain OtherOfDescription is_route a =
       other head body _ _ OtherOfDescription is_route (λ e. cc) (λ e. omega (arith, e, refused_status _ _ _ _ _ a)) (λ e. omega (arith, e, refused_status _ _ _ _ _ a))
-  by_route head body given plain Nowhere is_route a =
-      other head body _ _ Nowhere is_route (λ e. cc) (λ e. omega (arith, e, refused_status _ _ _ _ _ a)) (λ e. omega (arith, e, refused_status _ _ _ _ _ a))
-  by_route head body given plain Unserved is_route a =
-      other head body _ _ Unserved is_route (λ e. cc) (λ e. omega (arith, e, refused_status _ _ _ _ _ a)) (λ e. omega (arith, e, refused_status _ _ _ _ _ a))
-  by_route head body given plain BadTarget is_route a =
-      other head body _ _ BadTarget is_route (λ e. cc) (λ e. omega (arith, e, refused_status _ _ _ _ _ a)) (λ e. omega (arith, e, refused_status _ _ _ _ _ a))
+  by_route head body given plain (Elsewhere why) is_route a =
+      other head body _ _ (Elsewhere why) is_route (λ e. cc) (λ e. omega (arith, e, refused_status _ _ _ _ _ a, (is_error why).0))
+      (λ e. (is_error why).1 (sym (refused_status _ _ _ _ _ a) ∙ e))
 
   -- the answer with its date says the same
   pub promised : (head : Parts) (body : List ℕ) (answer : Response) → IsAnsweredSometime catalogs head body answer

@@ -10,7 +10,11 @@ use Rattle.garde_problem.specs.CodedText.{datum_message}
 use Rattle.garde_schema.specs.FormCode.{form_message}
 use Rattle.garde_service.specs.Asked.{IsLanguage}
 use Rattle.garde_service.specs.Dated.{IsDated}
+use Rattle.garde_service.specs.Rejected.{status_of}
 use Rattle.garde_service.specs.Room.{HasRoom}
+use Rattle.garde_service.specs.declared.asked.TheConstants.{IDENTITY}
+use Rattle.garde_service.specs.declared.rejected.Rejected.{Rejected}
+use Rattle.garde_service.specs.declared.rejected.Rejected.TheVariants.{MethodNotAllowed, UnsupportedMediaType}
 use Rattle.http.specs.declared.request.Parts.{Parts}
 use Rattle.http1.specs.Fields.{Header}
 use Rattle.http_server.specs.declared.response.Response.{Response}
@@ -18,11 +22,9 @@ use Rattle.http_server.specs.Response.{IsResponse}
 use Rattle.httpdate.specs.declared.date.HttpDate.{HttpDate}
 use Rattle.use_http.specs.declared.description.TheConstants.{OPEN_API}
 use Rattle.use_http.specs.declared.request.Route.{Route}
-use Rattle.use_http.specs.declared.request.Route.TheVariants.{Order, OtherForm, OtherOfOrders, Health, OtherOfHealth, Description, OtherOfDescription, Nowhere, Unserved, BadTarget}
-use Rattle.use_http.specs.declared.refused.Refused.{Refused}
-use Rattle.use_http.specs.declared.refused.Refused.TheVariants.{BadRequest, NotFound, MethodNotAllowed, UnsupportedMediaType, NotImplemented}
+use Rattle.use_http.specs.declared.request.Route.TheVariants.{Order, OtherForm, Coded, OtherOfOrders, Health, OtherOfHealth, Description, OtherOfDescription, Elsewhere}
 use Rattle.use_http.specs.Judged.{Judges, Voice, problem_fields}
-use Rattle.use_http.specs.Refused.{status_of, problem_of}
+use Rattle.use_http.specs.Refused.{problem_of}
 use Rattle.use_http.specs.Request.{IsRoute}
 
 -- what is said by a catalog, under this tag: codes beside its texts of faults, and its texts of what is not read as JSON
@@ -49,7 +51,7 @@ json_fields = (codes "content-type", codes "application/json") ∷ []
 
 -- No order is judged, for this reason: problem details, with these fields beside the type of the body. Where the response that was given
 -- had no room for them, it may be the status alone.
-abbrev pub Refuses : Response → Refused → List Header → Response → Type 0
+abbrev pub Refuses : Response → Rejected → List Header → Response → Type 0
 Refuses given why fields response =
     IsResponse (status_of why) (problem_fields ++ fields) (problem_of why) response
     ⊎ (¬ (HasRoom (length (problem_fields ++ fields)) (length (problem_of why)) given) × IsResponse (status_of why) [] [] response)
@@ -59,6 +61,8 @@ abbrev pub AnswersRoute : Catalogs → Response → Route → Parts → List ℕ
 AnswersRoute catalogs given Order head body response = IsJudged catalogs head body response
 AnswersRoute catalogs given OtherForm head body response =
     Refuses given UnsupportedMediaType ((codes "accept", codes "application/json") ∷ []) response
+AnswersRoute catalogs given Coded head body response =
+    Refuses given UnsupportedMediaType ((codes "accept-encoding", IDENTITY.now) ∷ []) response
 AnswersRoute catalogs given OtherOfOrders head body response = Refuses given MethodNotAllowed ((codes "allow", codes "POST") ∷ []) response
 AnswersRoute catalogs given Health head body response = IsResponse 200 [] [] response
 AnswersRoute catalogs given OtherOfHealth head body response =
@@ -66,9 +70,7 @@ AnswersRoute catalogs given OtherOfHealth head body response =
 AnswersRoute catalogs given Description head body response = IsResponse 200 json_fields OPEN_API.now response
 AnswersRoute catalogs given OtherOfDescription head body response =
     Refuses given MethodNotAllowed ((codes "allow", codes "GET, HEAD") ∷ []) response
-AnswersRoute catalogs given Nowhere head body response = Refuses given NotFound [] response
-AnswersRoute catalogs given Unserved head body response = Refuses given NotImplemented [] response
-AnswersRoute catalogs given BadTarget head body response = Refuses given BadRequest [] response
+AnswersRoute catalogs given (Elsewhere why) head body response = Refuses given why [] response
 
 -- the answer to a request with this head and this body, at this date, in the response that was given
 abbrev pub IsAnswered : Catalogs → Option HttpDate → Response → Parts → List ℕ → Response → Type 0

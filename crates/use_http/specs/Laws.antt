@@ -4,12 +4,13 @@ use Rattle.std.proofs.Common.{sym, ◌∙◌, arith, inl, inr}
 use Rattle.garde_catalog.specs.declared.catalogs.Catalogs.{Catalogs}
 use Rattle.garde_schema.specs.declared.read_error.ReadError.{ReadError}
 use Rattle.garde_schema.specs.declared.read_error.ReadError.TheVariants.{Parse, Report, Memory}
+use Rattle.garde_service.proofs.Author.{is_error}
 use Rattle.http.specs.declared.request.Parts.{Parts}
 use Rattle.http1.specs.Fields.{Header}
 use Rattle.http_server.specs.declared.response.Response.{Response}
 use Rattle.http_server.specs.Response.{IsResponse}
 use Rattle.use_http.specs.declared.request.Route.{Route}
-use Rattle.use_http.specs.declared.request.Route.TheVariants.{Order, OtherForm, OtherOfOrders, Health, OtherOfHealth, Description, OtherOfDescription, Nowhere, Unserved, BadTarget}
+use Rattle.use_http.specs.declared.request.Route.TheVariants.{Order, OtherForm, Coded, OtherOfOrders, Health, OtherOfHealth, Description, OtherOfDescription, Elsewhere}
 use Rattle.use_http.specs.Answered.{AnswersRoute, voice_at}
 use Rattle.use_http.specs.Judged.{Tells, Voice}
 use Rattle.use_http.specs.Promised.{IsPromised}
@@ -29,14 +30,13 @@ stays_http : (catalogs : Catalogs) (route : Route) (head : Parts) (body : List �
     → plain.status ≢ 101
 stays_http catalogs Order head body given plain a = read_stays (voice_at catalogs a.0) a.2.0 plain a.2.2
 stays_http catalogs OtherForm head body given plain a = λ e. omega (arith, e, refused_status _ _ _ _ _ a)
+stays_http catalogs Coded head body given plain a = λ e. omega (arith, e, refused_status _ _ _ _ _ a)
 stays_http catalogs OtherOfOrders head body given plain a = λ e. omega (arith, e, refused_status _ _ _ _ _ a)
 stays_http catalogs Health head body given plain a = λ e. omega (arith, e, a.status)
 stays_http catalogs OtherOfHealth head body given plain a = λ e. omega (arith, e, refused_status _ _ _ _ _ a)
 stays_http catalogs Description head body given plain a = λ e. omega (arith, e, a.status)
 stays_http catalogs OtherOfDescription head body given plain a = λ e. omega (arith, e, refused_status _ _ _ _ _ a)
-stays_http catalogs Nowhere head body given plain a = λ e. omega (arith, e, refused_status _ _ _ _ _ a)
-stays_http catalogs Unserved head body given plain a = λ e. omega (arith, e, refused_status _ _ _ _ _ a)
-stays_http catalogs BadTarget head body given plain a = λ e. omega (arith, e, refused_status _ _ _ _ _ a)
+stays_http catalogs (Elsewhere why) head body given plain a = λ e. omega (arith, e, refused_status _ _ _ _ _ a, (is_error why).0)
 
 pub never_upgrades : (catalogs : Catalogs) (head : Parts) (body : List ℕ) (answer : Response) → IsPromised catalogs head body answer → answer.status ≢ 101
 never_upgrades catalogs head body answer x =

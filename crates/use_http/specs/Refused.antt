@@ -1,34 +1,10 @@
 -- The answers in which no order is judged.
 use Rattle.std.specs.Prelude.{ℕ, List, codes}
 use Rattle.garde_service.specs.declared.rejected.Rejected.{Rejected}
-use Rattle.garde_service.specs.declared.rejected.Rejected.TheVariants as rejected
-use Rattle.use_http.specs.declared.refused.Refused.{Refused}
-use Rattle.use_http.specs.declared.refused.Refused.TheVariants.{BadRequest, NotFound, MethodNotAllowed, ContentTooLarge, UriTooLong, UnsupportedMediaType, FieldsTooLarge, InternalServerError, NotImplemented, VersionNotSupported}
-
-abbrev pub status_of : Refused → ℕ
-status_of BadRequest = 400
-status_of NotFound = 404
-status_of MethodNotAllowed = 405
-status_of ContentTooLarge = 413
-status_of UriTooLong = 414
-status_of UnsupportedMediaType = 415
-status_of FieldsTooLarge = 431
-status_of InternalServerError = 500
-status_of NotImplemented = 501
-status_of VersionNotSupported = 505
-
--- the reason for a request that is rejected before the service sees it
-abbrev pub refused_of : Rejected → Refused
-refused_of rejected.BadRequest = BadRequest
-refused_of rejected.ContentTooLarge = ContentTooLarge
-refused_of rejected.UriTooLong = UriTooLong
-refused_of rejected.FieldsTooLarge = FieldsTooLarge
-refused_of rejected.InternalServerError = InternalServerError
-refused_of rejected.NotImplemented = NotImplemented
-refused_of rejected.VersionNotSupported = VersionNotSupported
+use Rattle.garde_service.specs.declared.rejected.Rejected.TheVariants.{BadRequest, NotFound, MethodNotAllowed, ContentTooLarge, UriTooLong, UnsupportedMediaType, FieldsTooLarge, InternalServerError, NotImplemented, VersionNotSupported}
 
 -- the problem details
-abbrev pub problem_of : Refused → List ℕ
+abbrev pub problem_of : Rejected → List ℕ
 problem_of BadRequest = codes "{\"type\":\"about:blank\",\"title\":\"Bad Request\",\"status\":400}"
 problem_of NotFound = codes "{\"type\":\"about:blank\",\"title\":\"Not Found\",\"status\":404}"
 problem_of MethodNotAllowed = codes "{\"type\":\"about:blank\",\"title\":\"Method Not Allowed\",\"status\":405}"

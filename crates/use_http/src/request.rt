@@ -2,10 +2,10 @@
 ghost use Rattle.std.specs.Prelude.{◌≡◌, codes};
 ghost use Rattle.garde_service.specs.Asked.{Is, path_of};
 ghost use Rattle.http.specs.Request.{head_of};
-ghost use Rattle.use_http.specs.Request.{IsRoute, IsRouteElsewhere};
+ghost use Rattle.use_http.specs.Request.{IsRoute};
 
 use bytes::Bytes;
-use garde_service::has_type;
+use garde_service::{Rejected, elsewhere, has_coding, has_type};
 use http::Request;
 
 /// What a request asks for.
@@ -15,6 +15,8 @@ pub enum Route {
     Order,
     /// That an order in another form is judged.
     OtherForm,
+    /// That an order in JSON with a coding is judged.
+    Coded,
     /// Anything else of the path of orders.
     OtherOfOrders,
     /// Whether the service runs.
@@ -25,12 +27,8 @@ pub enum Route {
     Description,
     /// Anything else of that path.
     OtherOfDescription,
-    /// Another path.
-    Nowhere,
-    /// A tunnel, or what the server as a whole can do (RFC 9112, sections 3.2.3 and 3.2.4).
-    Unserved,
-    /// A target that has no path, with a method that needs one.
-    BadTarget,
+    /// No path of the service, and why that is rejected.
+    Elsewhere(Rejected),
 }
 
 /// What a request for orders asks for.
@@ -41,32 +39,12 @@ fn route_of_orders(request: &Request<Bytes>) -> Route
     if request.method().as_str() != "POST" {
         return Route::OtherOfOrders;
     }
-    if has_type(request, b"application/json") {
-        Route::Order
-    } else {
+    if !has_type(request, b"application/json") {
         Route::OtherForm
-    }
-}
-
-/// What a request asks for whose target may lack a path: one is `host:port`, for `CONNECT`, and `*` is
-/// for `OPTIONS`.
-fn route_elsewhere(path: &str, method: &str) -> Route
-    ensures { IsRouteElsewhere result path.now method.now }
-{
-    if path == "" {
-        if method == "CONNECT" {
-            Route::Unserved
-        } else {
-            Route::BadTarget
-        }
-    } else if path == "*" {
-        if method == "OPTIONS" {
-            Route::Unserved
-        } else {
-            Route::BadTarget
-        }
+    } else if has_coding(request) {
+        Route::Coded
     } else {
-        Route::Nowhere
+        Route::Order
     }
 }
 
@@ -90,6 +68,6 @@ pub fn route_of(request: &Request<Bytes>) -> Route
             Route::OtherOfDescription
         }
     } else {
-        route_elsewhere(path, method)
+        Route::Elsewhere(elsewhere(request))
     }
 }

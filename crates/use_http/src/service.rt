@@ -1,5 +1,6 @@
 //! The service: what is answered to each request.
 ghost use Rattle.std.specs.Prelude.{◌≡◌, ◌≢◌, [], ◌∷◌, ◌++◌, IsOk, IsTrue, OnOk, codes, length};
+ghost use Rattle.garde_service.specs.Rejected.{status_of};
 ghost use Rattle.garde_service.specs.Room.{HasRoom};
 ghost use Rattle.http.specs.Request.{head_of, body_of};
 ghost use Rattle.http_header.specs.FieldValue.{is_visible_text};
@@ -8,16 +9,18 @@ ghost use Rattle.use_http.specs.Answered.{AnswersRoute, IsAnswered, IsJudged, Re
 ghost use Rattle.use_http.specs.Judged.{problem_fields};
 ghost use Rattle.use_http.specs.Laws.{never_upgrades};
 ghost use Rattle.use_http.specs.Promised.{IsPromised};
-ghost use Rattle.use_http.specs.Refused.{refused_of, status_of, problem_of};
+ghost use Rattle.use_http.specs.Refused.{problem_of};
 ghost use Rattle.use_http.specs.Request.{IsRoute};
 
 use crate::answer::{judge, put_problem};
 use crate::description::OPEN_API;
-use crate::refused::Refused;
+use crate::refused::problem_of;
 use crate::request::{Route, route_of};
 use bytes::Bytes;
 use garde_catalog::Catalogs;
-use garde_service::{Body, Handler, Rejected, date_of, language_of, put_date, put_field, put_text};
+use garde_service::{
+    Body, Handler, IDENTITY, Rejected, date_of, language_of, put_date, put_field, put_text,
+};
 use http::{HeaderName, Request, StatusCode, header};
 use http_server::Response;
 use httpdate::HttpDate;
@@ -25,7 +28,7 @@ use std::alloc::{AllocError, Global};
 use std::time::Clock;
 
 /// Answers with the status alone, which takes no memory.
-fn put_status(response: &mut Response, why: Refused)
+fn put_status(response: &mut Response, why: Rejected)
     ensures { IsResponse (status_of why) [] [] response.new }
 {
     response.clear();
@@ -33,11 +36,11 @@ fn put_status(response: &mut Response, why: Refused)
 }
 
 /// Answers that no order is judged. Where there is no memory for that, the answer is the status alone.
-fn put_refused(response: &mut Response, why: Refused)
+fn put_refused(response: &mut Response, why: Rejected)
     requires { IsBlank response.old }
     ensures { Refuses response.old why [] response.new }
 {
-    if put_problem(response, why.status(), why.problem()).is_err() {
+    if put_problem(response, why.status(), problem_of(why)).is_err() {
         put_status(response, why);
     }
 }
@@ -46,7 +49,7 @@ fn put_refused(response: &mut Response, why: Refused)
 /// for them.
 fn put_offered(
     response: &mut Response,
-    why: Refused,
+    why: Rejected,
     name: HeaderName,
     offer: &'static str,
 ) -> Result<(), AllocError>
@@ -56,13 +59,13 @@ fn put_offered(
         (problem_fields ++ (name, offer.now) ∷ []) (problem_of why) response.new) }
     ensures room { HasRoom 2 (length (problem_of why)) response.old → IsOk result }
 {
-    put_problem(response, why.status(), why.problem())?;
+    put_problem(response, why.status(), problem_of(why))?;
     put_field(response, name, offer)
 }
 
 /// Answers that no order is judged, and what there is in its place: the methods of the path, or the
-/// form of a body. Where there is no memory for that, the answer is the status alone.
-fn put_offer(response: &mut Response, why: Refused, name: HeaderName, offer: &'static str)
+/// form or the coding of a body. Where there is no memory for that, the answer is the status alone.
+fn put_offer(response: &mut Response, why: Rejected, name: HeaderName, offer: &'static str)
     requires blank { IsBlank response.old }
     requires value { IsTrue (is_visible_text offer.now) }
     ensures { Refuses response.old why ((name, offer.now) ∷ []) response.new }
@@ -110,18 +113,17 @@ fn answer_route(
         (body_of request.now) response.new) }
     ensures given { route ≢ Route.Order → route ≢ Route.Description → IsOk result }
 {
-    let (form, method) = (Refused::UnsupportedMediaType, Refused::MethodNotAllowed);
+    let (form, method) = (Rejected::UnsupportedMediaType, Rejected::MethodNotAllowed);
     match route {
         Route::Order => judge_order(alloc, catalogs, request, response)?,
         Route::OtherForm => put_offer(response, form, header::ACCEPT, "application/json"),
+        Route::Coded => put_offer(response, form, header::ACCEPT_ENCODING, IDENTITY),
         Route::OtherOfOrders => put_offer(response, method, header::ALLOW, "POST"),
         Route::Health => {}
         Route::OtherOfHealth => put_offer(response, method, header::ALLOW, "GET, HEAD"),
         Route::Description => put_description(response)?,
         Route::OtherOfDescription => put_offer(response, method, header::ALLOW, "GET, HEAD"),
-        Route::Nowhere => put_refused(response, Refused::NotFound),
-        Route::Unserved => put_refused(response, Refused::NotImplemented),
-        Route::BadTarget => put_refused(response, Refused::BadRequest),
+        Route::Elsewhere(why) => put_refused(response, why),
     }
     Ok(())
 }
@@ -163,7 +165,7 @@ impl<'a, C: Clock> Handler for Orders<'a, C> {
     ghost is_answered = { λ orders head body response.
         IsPromised orders.catalogs.now head body response };
 
-    ghost rejects = { λ _ why. (codes "application/problem+json", problem_of (refused_of why)) };
+    ghost rejects = { λ _ why. (codes "application/problem+json", problem_of why) };
 
     fn answer(&self, request: &Request<Bytes>, response: &mut Response) -> Result<(), AllocError> {
         answer(
@@ -178,7 +180,7 @@ impl<'a, C: Clock> Handler for Orders<'a, C> {
     fn rejected(&self, why: Rejected) -> Body {
         Body {
             media: "application/problem+json",
-            text: Refused::of(why).problem(),
+            text: problem_of(why),
         }
     }
 

@@ -9,7 +9,7 @@ use Rattle.garde.specs.declared.validate_error.ValidateError.{ValidateError}
 use Rattle.garde.specs.declared.validate_error.ValidateError.TheVariants.{Report, Memory}
 use Rattle.garde_form.specs.WebForm.{fields_in, first_member, first_of_lists, form_json, is_listed, items_of_texts, members_of_fields, texts_of, value_of, without}
 use Rattle.garde_report.specs.Report.{Entry}
-use Rattle.garde_service.proofs.Author.{is_one_language}
+use Rattle.garde_service.proofs.Author.{is_error, is_one_language}
 use Rattle.garde_service.specs.Asked.{Is, IsNot, path_of}
 use Rattle.http.specs.declared.request.Parts.{Parts}
 use Rattle.http_server.specs.declared.response.Response.{Response}
@@ -103,10 +103,11 @@ pub only_sign_up : (route : Route) (head : Parts) → IsRoute route head → IsR
 only_sign_up routes.Form head is sent = absurd (no_get head sent.1 is.1)
 only_sign_up routes.SignUp head is sent = refl
 only_sign_up routes.OtherType head is sent = absurd (is.2 sent.2)
+only_sign_up routes.Coded head is sent = absurd (true≢false (sym is.3 ∙ sent.3))
 only_sign_up routes.OtherOfForm head is sent = absurd (other_text head.method (codes "POST") sent.1 is.2)
 only_sign_up routes.Thanks head is sent = absurd (not_both (path_of head) sent.0 is.0)
 only_sign_up routes.OtherOfThanks head is sent = absurd (not_both (path_of head) sent.0 is.0)
-only_sign_up routes.Nowhere head is sent = absurd (other_text (path_of head) (codes "/") sent.0 is.0)
+only_sign_up (routes.Elsewhere why) head is sent = absurd (other_text (path_of head) (codes "/") sent.0 is.0)
 
 module _ (visits : FormVisits) (speech : Speech) where
   -- a body has no fault and a report of none
@@ -188,14 +189,17 @@ module _ (visits : FormVisits) (speech : Speech) where
   by_route head body plain routes.SignUp is a = of_form a.0 head body plain (is, a.1) a.2.0 a.2.1 a.2.2
   by_route head body plain routes.OtherType is a =
       other head body _ _ routes.OtherType is (λ e. cc) (λ e. omega (arith, e, a.status)) (λ e. omega (arith, e, a.status))
+  by_route head body plain routes.Coded is a =
+      other head body _ _ routes.Coded is (λ e. cc) (λ e. omega (arith, e, a.status)) (λ e. omega (arith, e, a.status))
   by_route head body plain routes.OtherOfForm is a =
       other head body _ _ routes.OtherOfForm is (λ e. cc) (λ e. omega (arith, e, a.status)) (λ e. omega (arith, e, a.status))
   by_route head body plain routes.Thanks is a =
       other head body _ _ routes.Thanks is (λ e. cc) (λ e. omega (arith, e, a.2.status)) (λ e. omega (arith, e, a.2.status))
   by_route head body plain routes.OtherOfThanks is a =
       other head body _ _ routes.OtherOfThanks is (λ e. cc) (λ e. omega (arith, e, a.status)) (λ e. omega (arith, e, a.status))
-  by_route head body plain routes.Nowhere is a =
-      other head body _ _ routes.Nowhere is (λ e. cc) (λ e. omega (arith, e, a.status)) (λ e. omega (arith, e, a.status))
+  by_route head body plain (routes.Elsewhere why) is a =
+      other head body _ _ (routes.Elsewhere why) is (λ e. cc) (λ e. omega (arith, e, a.status, (is_error why).0))
+      (λ e. (is_error why).1 (sym a.status ∙ e))
 
   -- the answer with its date says the same
   pub promised : (date : Option HttpDate) (head : Parts) (body : List ℕ) (answer : Response) → IsAnswered visits speech date head body answer

@@ -17,21 +17,23 @@ use Rattle.garde_report.specs.Report.{Entry}
 use Rattle.garde_schema.specs.Forms.{FormTexts}
 use Rattle.garde_service.specs.Asked.{IsLanguage}
 use Rattle.garde_service.specs.Dated.{IsDated}
+use Rattle.garde_service.specs.Rejected.{status_of}
 use Rattle.garde_service.specs.Said.{language_fields}
+use Rattle.garde_service.specs.declared.asked.TheConstants.{IDENTITY}
+use Rattle.garde_service.specs.declared.rejected.Rejected.{Rejected}
+use Rattle.garde_service.specs.declared.rejected.Rejected.TheVariants.{MethodNotAllowed, UnsupportedMediaType}
 use Rattle.http.specs.declared.request.Parts.{Parts}
 use Rattle.http1.specs.Fields.{Header}
 use Rattle.http_server.specs.declared.response.Response.{Response}
 use Rattle.http_server.specs.Response.{IsResponse}
 use Rattle.httpdate.specs.declared.date.HttpDate.{HttpDate}
-use Rattle.use_signup.specs.declared.refused.Refused.{Refused}
-use Rattle.use_signup.specs.declared.refused.Refused.TheVariants.{NotFound, MethodNotAllowed, UnsupportedMediaType}
 use Rattle.use_signup.specs.declared.request.Route.{Route}
 use Rattle.use_signup.specs.declared.request.Route.TheVariants as route
 use Rattle.use_signup.specs.declared.request.TheConstants.{FORM_TYPE}
 use Rattle.use_signup.specs.declared.terms.Words.{Words}
 use Rattle.use_signup.specs.declared.texts.Speech.{Speech}
 use Rattle.use_signup.specs.declared.texts.Texts.{Texts}
-use Rattle.use_signup.specs.Refused.{status_of, page_of}
+use Rattle.use_signup.specs.Refused.{page_of}
 use Rattle.use_signup.specs.Request.{IsRoute}
 use Rattle.use_signup.specs.Shown.{IsShown}
 use Rattle.use_signup.specs.Texts.{texts_at}
@@ -96,7 +98,7 @@ Judges visits voice body response =
     (read : Result (Unit {0}) ValidateError) × Reads visits voice body read × Tells voice.texts.form voice.tag (fields_in body) read response
 
 -- no form is judged, for this reason, with these fields beside the type of the page
-abbrev pub Refuses : Refused → List Header → Response → Type 0
+abbrev pub Refuses : Rejected → List Header → Response → Type 0
 Refuses why fields response =
     IsResponse (status_of why) ((codes "content-type", codes "text/html; charset=utf-8") ∷ fields) (page_of why) response
 
@@ -111,13 +113,15 @@ AnswersRoute visits speech route.Form head body response =
 AnswersRoute visits speech route.SignUp head body response = InLanguage speech head (λ said. Judges visits said body response)
 AnswersRoute visits speech route.OtherType head body response =
     Refuses UnsupportedMediaType ((codes "accept", FORM_TYPE.now) ∷ []) response
+AnswersRoute visits speech route.Coded head body response =
+    Refuses UnsupportedMediaType ((codes "accept-encoding", IDENTITY.now) ∷ []) response
 AnswersRoute visits speech route.OtherOfForm head body response =
     Refuses MethodNotAllowed ((codes "allow", codes "GET, HEAD, POST") ∷ []) response
 AnswersRoute visits speech route.Thanks head body response =
     InLanguage speech head (λ said. IsResponse 200 (page_fields said.tag) said.texts.thanks.now response)
 AnswersRoute visits speech route.OtherOfThanks head body response =
     Refuses MethodNotAllowed ((codes "allow", codes "GET, HEAD") ∷ []) response
-AnswersRoute visits speech route.Nowhere head body response = Refuses NotFound [] response
+AnswersRoute visits speech (route.Elsewhere why) head body response = Refuses why [] response
 
 -- the answer to a request with this head and this body, at this date
 abbrev pub IsAnswered : FormVisits → Speech → Option HttpDate → Parts → List ℕ → Response → Type 0

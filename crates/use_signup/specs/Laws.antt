@@ -5,6 +5,7 @@ use Rattle.garde.specs.declared.validate_error.ValidateError.{ValidateError}
 use Rattle.garde.specs.declared.validate_error.ValidateError.TheVariants.{Report, Memory}
 use Rattle.garde_form.specs.WebForm.{fields_in}
 use Rattle.garde_html.specs.declared.form.Form.{Form}
+use Rattle.garde_service.proofs.Author.{is_error}
 use Rattle.http.specs.declared.request.Parts.{Parts}
 use Rattle.http_server.specs.declared.response.Response.{Response}
 use Rattle.use_signup.specs.declared.request.Route.{Route}
@@ -26,10 +27,11 @@ route_stays visits speech route.SignUp head body plain a =
     let voice = voice_at speech a.0 in
     told_stays voice.texts.form voice.tag (fields_in body) a.2.0 plain a.2.2
 route_stays visits speech route.OtherType head body plain a = λ e. omega (arith, e, a.status)
+route_stays visits speech route.Coded head body plain a = λ e. omega (arith, e, a.status)
 route_stays visits speech route.OtherOfForm head body plain a = λ e. omega (arith, e, a.status)
 route_stays visits speech route.Thanks head body plain a = λ e. omega (arith, e, a.2.status)
 route_stays visits speech route.OtherOfThanks head body plain a = λ e. omega (arith, e, a.status)
-route_stays visits speech route.Nowhere head body plain a = λ e. omega (arith, e, a.status)
+route_stays visits speech (route.Elsewhere why) head body plain a = λ e. omega (arith, e, a.status, (is_error why).0)
 
 pub never_upgrades : (visits : FormVisits) (speech : Speech) (head : Parts) (body : List ℕ) (answer : Response)
     → IsPromised visits speech head body answer → answer.status ≢ 101

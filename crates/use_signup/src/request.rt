@@ -5,7 +5,7 @@ ghost use Rattle.garde_service.specs.Asked.{Is, path_of};
 ghost use Rattle.use_signup.specs.Request.{IsRoute};
 
 use bytes::Bytes;
-use garde_service::has_type;
+use garde_service::{Rejected, elsewhere, has_coding, has_type};
 use http::Request;
 
 /// What a request asks for.
@@ -17,14 +17,16 @@ pub enum Route {
     SignUp,
     /// The same, where the body is said to be no form.
     OtherType,
+    /// The same, where the body has a coding.
+    Coded,
     /// Anything else of the path of the form.
     OtherOfForm,
     /// The page of thanks.
     Thanks,
     /// Anything else of that path.
     OtherOfThanks,
-    /// Another path, or none.
-    Nowhere,
+    /// No path of the service, and why that is rejected.
+    Elsewhere(Rejected),
 }
 
 /// The media type of a form.
@@ -40,10 +42,12 @@ fn route_of_form(request: &Request<Bytes>) -> Route
         Route::Form
     } else if method != "POST" {
         Route::OtherOfForm
-    } else if has_type(request, FORM_TYPE.as_bytes()) {
-        Route::SignUp
-    } else {
+    } else if !has_type(request, FORM_TYPE.as_bytes()) {
         Route::OtherType
+    } else if has_coding(request) {
+        Route::Coded
+    } else {
+        Route::SignUp
     }
 }
 
@@ -55,7 +59,7 @@ pub fn route_of(request: &Request<Bytes>) -> Route
     if path == "/" {
         route_of_form(request)
     } else if path != "/thanks" {
-        Route::Nowhere
+        Route::Elsewhere(elsewhere(request))
     } else if method == "GET" || method == "HEAD" {
         Route::Thanks
     } else {

@@ -9,10 +9,10 @@ ghost use Rattle.http_server.specs.Response.{IsBlank, IsResponse};
 ghost use Rattle.use_signup.specs.Answered.{AnswersRoute, InLanguage, IsAnswered, Judges, ReadsFields, Refuses, ShowsForm, Tells, page_fields, voice};
 ghost use Rattle.use_signup.specs.Laws.{never_upgrades};
 ghost use Rattle.use_signup.specs.Promised.{IsPromised};
-ghost use Rattle.use_signup.specs.Refused.{rejected_page, status_of};
+ghost use Rattle.use_signup.specs.Refused.{page_of};
 
 use crate::page::write_page;
-use crate::refused::{Refused, rejected_page};
+use crate::refused::page_of;
 use crate::request::{FORM_TYPE, Route, route_of};
 use crate::sign_up::{SignUp, read_sign_up};
 use crate::terms::Words;
@@ -24,7 +24,8 @@ use garde_form::{FormField, form_fields};
 use garde_html::Form;
 use garde_schema::SpelledUnder;
 use garde_service::{
-    Body, Handler, Rejected, date_of, language_of, put_date, put_field, put_language, put_text,
+    Body, Handler, IDENTITY, Rejected, date_of, language_of, put_date, put_field, put_language,
+    put_text,
 };
 use http::{HeaderName, Request, StatusCode, header};
 use http_server::Response;
@@ -212,18 +213,18 @@ fn put_thanks(
 }
 
 /// Answers that no form is judged.
-fn put_refused(response: &mut Response, why: Refused) -> Result<(), AllocError>
+fn put_refused(response: &mut Response, why: Rejected) -> Result<(), AllocError>
     requires { IsBlank response.old }
     ensures { OnOk result (Refuses why [] response.new) }
 {
-    put_text(response, why.status(), PAGE_TYPE, why.page())
+    put_text(response, why.status(), PAGE_TYPE, page_of(why))
 }
 
 /// Answers that no form is judged, and what there is in its place: the methods of the path, or the type
-/// of a body.
+/// or the coding of a body.
 fn put_offer(
     response: &mut Response,
-    why: Refused,
+    why: Rejected,
     name: HeaderName,
     offer: &'static str,
 ) -> Result<(), AllocError>
@@ -247,22 +248,16 @@ fn answer_route(
     ensures { OnOk result (AnswersRoute (λ words. (⟦<SignUp<'static> as SpelledUnder>⟧.spelled words).visits)
         speech.now route (head_of request.now) (body_of request.now) response.new) }
 {
-    let other = Refused::MethodNotAllowed;
+    let (form, method) = (Rejected::UnsupportedMediaType, Rejected::MethodNotAllowed);
     match route {
         Route::Form => put_empty_form(alloc, speech, request, response),
         Route::SignUp => judge_form(alloc, speech, request, response),
-        Route::OtherType => {
-            put_offer(
-                response,
-                Refused::UnsupportedMediaType,
-                header::ACCEPT,
-                FORM_TYPE,
-            )
-        }
-        Route::OtherOfForm => put_offer(response, other, header::ALLOW, "GET, HEAD, POST"),
+        Route::OtherType => put_offer(response, form, header::ACCEPT, FORM_TYPE),
+        Route::Coded => put_offer(response, form, header::ACCEPT_ENCODING, IDENTITY),
+        Route::OtherOfForm => put_offer(response, method, header::ALLOW, "GET, HEAD, POST"),
         Route::Thanks => put_thanks(alloc, speech, request, response),
-        Route::OtherOfThanks => put_offer(response, other, header::ALLOW, "GET, HEAD"),
-        Route::Nowhere => put_refused(response, Refused::NotFound),
+        Route::OtherOfThanks => put_offer(response, method, header::ALLOW, "GET, HEAD"),
+        Route::Elsewhere(why) => put_refused(response, why),
     }
 }
 
@@ -300,7 +295,7 @@ impl<'a, C: Clock> Handler for SignUps<'a, C> {
         IsPromised (λ words. (⟦<SignUp<'static> as SpelledUnder>⟧.spelled words).visits)
         handler.speech head body response };
 
-    ghost rejects = { λ _ why. (codes "text/html; charset=utf-8", rejected_page why) };
+    ghost rejects = { λ _ why. (codes "text/html; charset=utf-8", page_of why) };
 
     fn answer(&self, request: &Request<Bytes>, response: &mut Response) -> Result<(), AllocError> {
         answer(
@@ -315,7 +310,7 @@ impl<'a, C: Clock> Handler for SignUps<'a, C> {
     fn rejected(&self, why: Rejected) -> Body {
         Body {
             media: PAGE_TYPE,
-            text: rejected_page(why),
+            text: page_of(why),
         }
     }
 
