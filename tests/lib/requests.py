@@ -1,4 +1,4 @@
-"""Requests of HTTP, and their bytes one behind the other."""
+"""Requests of HTTP, their bytes one behind the other, and which of them every service rejects."""
 import typing
 
 PHRASES = {
@@ -6,6 +6,9 @@ PHRASES = {
     414: "URI Too Long", 415: "Unsupported Media Type", 422: "Unprocessable Entity", 431: "Request Header Fields Too Large",
     501: "Not Implemented", 505: "HTTP Version Not Supported",
 }
+# Which method alone may name a host and a port, which are no path, or `*` (RFC 9112, section 3.2).
+TARGETS = {"": "CONNECT", "*": "OPTIONS"}
+CODINGS = ("", "", "gzip", "identity", "Identity", "identity, br", "x")
 
 
 class Request(typing.NamedTuple):
@@ -14,10 +17,32 @@ class Request(typing.NamedTuple):
     target: str = "/"
     media: str = ""
     language: str = ""
+    coding: str = ""
+
+
+def path_of(request):
+    """The path of a target: none of `host:port`, and `*` of `*`."""
+    target = request.target
+    if "://" in target:
+        target = "/" + target.partition("://")[2].partition("/")[2]
+    elif target != "*" and not target.startswith("/"):
+        target = ""
+    return target.partition("?")[0]
+
+
+def elsewhere(request):
+    """The status of the answer to a request for no path of a service."""
+    path = path_of(request)
+    return (501 if request.method == TARGETS[path] else 400) if path in TARGETS else 404
+
+
+def has_coding(request):
+    """Whether the body has a coding, which no service undoes."""
+    return request.coding.lower() not in ("", "identity")
 
 
 def fields_of(request):
-    fields = {"Content-Type": request.media, "Accept-Language": request.language}
+    fields = {"Content-Type": request.media, "Accept-Language": request.language, "Content-Encoding": request.coding}
     return {name: value for name, value in fields.items() if value}
 
 
@@ -35,5 +60,6 @@ def requests_of(given):
         fields = dict(line.split(": ", 1) for line in lines)
         method, target, _ = first.split(" ")
         length = int(fields["Content-Length"])
-        yield Request(rest[:length], method, target, fields.get("Content-Type", ""), fields.get("Accept-Language", ""))
+        named = (fields.get(name, "") for name in ("Content-Type", "Accept-Language", "Content-Encoding"))
+        yield Request(rest[:length], method, target, *named)
         given = rest[length:]

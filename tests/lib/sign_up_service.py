@@ -2,22 +2,24 @@
 import re
 
 from lib import languages, tables
-from lib.requests import PHRASES, Request, bytes_of, requests_of
+from lib.requests import CODINGS, PHRASES, Request, bytes_of, elsewhere, has_coding, path_of, requests_of
 
 # The texts of the pages in each language, by their names: of a field its label, and of `FIELD=VALUE` that of a box.
 SAID = {it.title: dict(line.split(": ", 1) for line in it.text.splitlines()) for it in tables.cases("sign-up")}
 FORM = "application/x-www-form-urlencoded"
 PAGE = "text/html; charset=utf-8"
 REFUSED = {
+    400: ("Bad request", "What came is no request."),
     404: ("Not found", "There is no such page."),
     405: ("Method not allowed", "This page has other methods."),
     413: ("Content too large", "The form is too long."),
     415: ("Unsupported media type", "The body is no web form."),
+    501: ("Not implemented", "The method or the coding is not known."),
 }
 METHODS = {"/": "GET, HEAD, POST", "/thanks": "GET, HEAD"}
 VIEWPORT = '<meta charset="utf-8">\n<meta name="viewport" content="width=device-width, initial-scale=1">\n'
 MEDIA = (FORM, FORM, FORM, FORM.upper(), f"{FORM}; charset=utf-8", f"{FORM}x", "multipart/form-data; boundary=x", "text/plain", "")
-PATHS = ("/", "/", "/", "/?x=1", "/thanks", "/thanks?", "/thank", "/thanks/", "//", "/form")
+PATHS = ("/", "/", "/", "/?x=1", "/thanks", "/thanks?", "/thank", "/thanks/", "//", "/form", "form", "x:80", "*", "http://x/thanks")
 FIELDS = ("", "cs", "ar", "ar-EG", "cs-CZ,cs;q=0.9,en;q=0.8", "de", "en;q=0.5, ar", "cs;q=0", "de, *", "AR;q=0.2,CS;q=0.3", "cs,,ar", "x;q=2")
 
 
@@ -45,15 +47,18 @@ def spoken(tag):
 def answer(request, page):
     """The status, the fields and the text of an answer. `page` makes the page of a body in a language, or gives nothing where the body has
     no fault; of no body it makes the page of the form alone."""
-    path, tag, plain = request.target.partition("?")[0], tag_of(request), ("content-type", PAGE)
+    path, tag, plain = path_of(request), tag_of(request), ("content-type", PAGE)
     if path not in METHODS:
-        return 404, (plain,), refused(404)
+        status = elsewhere(request)
+        return status, (plain,), refused(status)
     if request.method in ("GET", "HEAD"):
         return 200, spoken(tag), page(None, tag) if path == "/" else thanks(tag)
     if path != "/" or request.method != "POST":
         return 405, (plain, ("allow", METHODS[path])), refused(405)
     if not re.fullmatch(f"{re.escape(FORM)}([; \t].*)?", request.media, re.IGNORECASE):
         return 415, (plain, ("accept", FORM)), refused(415)
+    if has_coding(request):
+        return 415, (plain, ("accept-encoding", "identity")), refused(415)
     found = page(request.body, tag)
     return (303, (("location", "/thanks"),), "") if found is None else (422, spoken(tag), found)
 
@@ -70,7 +75,7 @@ def some_request(dice, body):
     if dice.random() < 0.7:
         return Request(body, media=FORM, language=dice.choice(FIELDS))
     method = dice.choice(("POST", "GET", "GET", "HEAD", "PUT", "DELETE", "OPTIONS"))
-    return Request(body if method != "HEAD" else b"", method, dice.choice(PATHS), dice.choice(MEDIA), dice.choice(FIELDS))
+    return Request(body if method != "HEAD" else b"", method, dice.choice(PATHS), dice.choice(MEDIA), dice.choice(FIELDS), dice.choice(CODINGS))
 
 
 def are_requests(given):

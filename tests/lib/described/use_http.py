@@ -8,7 +8,7 @@ from lib.faults import between, chars, items, prefix
 from lib.form import Closed, ListUnder, Member, Object, Text, Whole, read
 from lib.json_values import NoJson, of_bytes, printed
 from lib.reports import details
-from lib.requests import PHRASES, Request, bytes_of, requests_of
+from lib.requests import CODINGS, PHRASES, Request, bytes_of, elsewhere, has_coding, path_of, requests_of
 from lib.spoiled import some_json
 
 ORDER = Object(Closed(
@@ -19,8 +19,8 @@ ORDER = Object(Closed(
     )))),
 ))
 MOST = 1024 * 1024
-TARGETS = {"": "CONNECT", "*": "OPTIONS"}
 ORDERS = Request(target="/orders", media="application/json")
+OFFERS = ("accept", "accept-encoding", "allow")
 DESCRIPTION = "tools/tests/library/order.openapi.json"
 MEDIA = ("", "text/plain", "application/json; charset=utf-8", "application/jsonp", "APPLICATION/JSON")
 PATHS = ("/orders", "/orders?x=1", "/health", "/openapi.json", "/openapi.json?x", "/openapi", "/", "/orders/1", "orders", "x:80", "*", "http://x/orders", "http://x")
@@ -52,36 +52,29 @@ def judged(body, tag):
     return 422, printed({"title": "the order has faults", "status": 422, "errors": details(faults, languages.of_tag(tag))})
 
 
-def path_of(target):
-    """The path of a target (RFC 9112, section 3.2): none of `host:port`, and `*` of `*`."""
-    if "://" in target:
-        target = "/" + target.partition("://")[2].partition("/")[2]
-    elif target != "*" and not target.startswith("/"):
-        target = ""
-    return target.partition("?")[0]
-
-
 def tag_of(request):
     """The tag of the language that a request asks for, and that of English where it asks for none."""
     return languages.asked(request.language) or "en"
 
 
+def is_json(request):
+    return re.fullmatch(r"application/json([; \t].*)?", request.media, re.IGNORECASE)
+
+
 def answer(request):
     """The status and the body of the answer to a request."""
-    path = path_of(request.target)
+    path = path_of(request)
     if len(request.body) > MOST:
         return refused(413)
-    if path in TARGETS:
-        return refused(501 if request.method == TARGETS[path] else 400)
     if path == "/health":
         return (200, b"") if request.method in ("GET", "HEAD") else refused(405)
     if path == "/openapi.json":
         return (200, repository.text_of(DESCRIPTION).encode()) if request.method in ("GET", "HEAD") else refused(405)
     if path != "/orders":
-        return refused(404)
+        return refused(elsewhere(request))
     if request.method != "POST":
         return refused(405)
-    if not re.fullmatch(r"application/json([; \t].*)?", request.media, re.IGNORECASE):
+    if not is_json(request) or has_coding(request):
         return refused(415)
     return judged(request.body, tag_of(request))
 
@@ -92,15 +85,17 @@ def media_of(status, body):
 
 
 def offered(request, status):
-    """The field of an answer that says what would do, beside its value: the methods of a path, or the form of a body."""
+    """The field of an answer that says what would do, beside its value: the methods of a path, or the form or the coding of a body."""
     if status == 405:
-        return "allow", "POST" if path_of(request.target) == "/orders" else "GET, HEAD"
-    return ("accept", "application/json") if status == 415 else None
+        return "allow", "POST" if path_of(request) == "/orders" else "GET, HEAD"
+    if status == 415:
+        return ("accept-encoding", "identity") if is_json(request) else ("accept", "application/json")
+    return None
 
 
 def spoken(request, status):
     """The fields of an answer that name its language: of an order that was judged, and has faults or is not read."""
-    is_order = path_of(request.target) == "/orders" and request.method == "POST"
+    is_order = path_of(request) == "/orders" and request.method == "POST"
     return (tag_of(request), "accept-language") if status == 422 or (status == 400 and is_order) else (None, None)
 
 
@@ -118,7 +113,7 @@ def some_request(dice):
     if dice.random() < 0.9:
         return ORDERS._replace(body=body, language=some_field(dice)), ways
     method = dice.choice(("POST", "GET", "PUT", "DELETE", "OPTIONS"))
-    return Request(body, method, dice.choice(PATHS), dice.choice(MEDIA)), {"no order"}
+    return Request(body, method, dice.choice(PATHS), dice.choice(MEDIA), coding=dice.choice(CODINGS)), {"no order"}
 
 
 def some(dice):
@@ -155,6 +150,6 @@ def met(program, case):
     head, _, body = out.partition(b"\r\n\r\n")
     first, *rest = head.decode("latin-1").split("\r\n")
     fields = dict(line.split(": ", 1) for line in rest)
-    offers = next(((name, fields[name]) for name in ("accept", "allow") if name in fields), None)
+    offers = next(((name, fields[name]) for name in OFFERS if name in fields), None)
     language = fields.get("content-language"), fields.get("vary")
     return ended, int((first.split() + ["0", "0"])[1]), fields.get("content-type"), body, language, offers, err
