@@ -2,8 +2,10 @@
 ghost use Rattle.std.specs.Prelude.{◌≡◌, ◌≢◌, ℕ, List, OnOk};
 ghost use Rattle.http.specs.Request.{head_of, body_of};
 ghost use Rattle.http.specs.declared.request.Parts.{Parts};
+ghost use Rattle.http1.specs.Message as wire;
 ghost use Rattle.http_server.specs.declared.response.Response.{Response};
 ghost use Rattle.http_server.specs.Response.{IsBlank};
+ghost use Rattle.garde_service.specs.Fits.{Fits};
 ghost use Rattle.garde_service.specs.declared.rejected.Rejected.{Rejected};
 
 use crate::rejected::Rejected;
@@ -24,6 +26,9 @@ pub trait Handler {
     // The response answers a request with this head and this body.
     ghost is_answered: { Self → Parts → List ℕ → Response → Type 0 };
 
+    // What an answer says of its request, both as they are on the wire.
+    ghost says: { Self → wire.Request → wire.Response → Type 0 };
+
     // The media type and the text of the answer to a request that is rejected so.
     ghost rejects: { Self → Rejected → List ℕ × List ℕ };
 
@@ -43,4 +48,8 @@ pub trait Handler {
     // No answer hands the connection over.
     ghost stays: { (handler : Self) → (head : Parts) → (body : List ℕ) → (response : Response)
         → is_answered handler head body response → response.status ≢ 101 };
+
+    // Each answer on the wire says it.
+    ghost told: { (handler : Self) → (request : wire.Request) → (response : wire.Response)
+        → Fits (is_answered handler) request response → says handler request response };
 }

@@ -4,7 +4,9 @@ ghost use Rattle.std.specs.Io.KnownBytes.{Appends, Consumes, IsAtEnd};
 ghost use Rattle.http_server.specs.Connection.{config_of, history};
 ghost use Rattle.http.specs.Request.{head_of, body_of};
 ghost use Rattle.http_server.specs.Exchange.{Calls};
+ghost use Rattle.http1.specs.Message as wire;
 ghost use Rattle.garde_service.specs.Ending.{Ends};
+ghost use Rattle.garde_service.specs.Fits.{Fits};
 ghost use Rattle.garde_service.specs.Wire.{IsTalk};
 
 use crate::date::date_of;
@@ -170,12 +172,14 @@ pub fn answer_all<H: Handler, C: Clock, R: Read, W: Write>(
     reader: &mut R,
     writer: &mut W,
 ) -> io::Result<State>
-    ensures { (read : List ℕ) × (written : List ℕ) × (ended : Bool)
+    ensures talk { (read : List ℕ) × (written : List ℕ) × (ended : Bool)
         × Consumes (R.remaining reader.old) (R.remaining reader.new) read
         × Appends (W.contents writer.old) (W.contents writer.new) written
         × (IsTrue ended → IsAtEnd (R.remaining reader.new))
         × ∥ IsTalk (H.is_answered handler.now) (H.rejects handler.now) config ended read written
         result ∥₁ }
+    ensures says { (request : wire.Request) → (response : wire.Response)
+        → Fits (H.is_answered handler.now) request response → H.says handler.now request response }
 {
     let mut connection = Connection::new(alloc, keys, config);
     let mut service = Served { handler };

@@ -1,19 +1,22 @@
--- No answer hands the connection over.
+-- No answer hands the connection over, and each reports on its own request.
 use Rattle.std.specs.Prelude.{◌≡◌, ◌≢◌, ℕ, ◌⊎◌, List, [], Result, Ok, Err}
 use Rattle.std.proofs.Common.{sym, ◌∙◌, arith, inl, inr}
+use Rattle.std.proofs.lemmas.Slice.Eq.{bytes_eq-Decides}
 use Rattle.garde_catalog.specs.declared.catalogs.Catalogs.{Catalogs}
 use Rattle.garde_schema.specs.declared.read_error.ReadError.{ReadError}
 use Rattle.garde_schema.specs.declared.read_error.ReadError.TheVariants.{Parse, Report, Memory}
-use Rattle.garde_service.proofs.Author.{is_error}
+use Rattle.garde_service.proofs.Author.{is_error, posted_body}
+use Rattle.garde_service.specs.Fits.{Fits}
 use Rattle.http.specs.declared.request.Parts.{Parts}
 use Rattle.http1.specs.Fields.{Header}
+use Rattle.http1.specs.Message as Wire
 use Rattle.http_server.specs.declared.response.Response.{Response}
 use Rattle.http_server.specs.Response.{IsResponse}
 use Rattle.use_http.specs.declared.request.Route.{Route}
 use Rattle.use_http.specs.declared.request.Route.TheVariants.{Order, OtherForm, Coded, OtherOfOrders, Health, OtherOfHealth, Description, OtherOfDescription, Elsewhere}
 use Rattle.use_http.specs.Answered.{AnswersRoute, voice_at}
 use Rattle.use_http.specs.Judged.{Tells, Voice}
-use Rattle.use_http.specs.Promised.{IsPromised}
+use Rattle.use_http.specs.Promised.{IsPromised, Reports}
 
 -- the status where no order is judged, with problem details or alone
 pub refused_status : (code : ℕ) (sent : List Header) (text : List ℕ) (alone : Type 0) (r : Response)
@@ -42,3 +45,13 @@ pub never_upgrades : (catalogs : Catalogs) (head : Parts) (body : List ℕ) (ans
 never_upgrades catalogs head body answer x =
     let a = x.is_answered in
     λ e. stays_http catalogs a.2.0 head body a.1 a.2.2 a.2.3 (sym a.2.4.0 ∙ e)
+
+pub reported : (catalogs : Catalogs) (request : Wire.Request) (response : Wire.Response) → Fits (IsPromised catalogs) request response
+    → Reports catalogs request response
+reported catalogs request response x e =
+    let problem = x.is_answered.reports (sym x.status ∙ e) in
+    let body = posted_body (IsPromised catalogs) request response x ((bytes_eq-Decides _ _).0 problem.is_order.0.1) in (
+      x.head,
+      x.are_parts,
+      record { place = problem.place; is_order = problem.is_order; report = problem.report; is_report = problem.is_report; is_text = body ∙ problem.is_text },
+    )

@@ -7,7 +7,10 @@ use Rattle.garde_schema.specs.declared.read_error.ReadError.TheVariants.{Report}
 use Rattle.garde_catalog.specs.declared.catalogs.Catalogs.{Catalogs}
 use Rattle.garde_service.specs.Asked.{IsLanguage}
 use Rattle.http.specs.declared.request.Parts.{Parts}
+use Rattle.http1.specs.Message as Wire
 use Rattle.http_server.specs.declared.response.Response.{Response}
+use Rattle.http_server.specs.Exchange.{ArePartsOf}
+use Rattle.httparse.specs.Grammar.{status_code}
 use Rattle.use_http.specs.declared.request.Route.TheVariants.{Order}
 use Rattle.use_http.specs.Answered.{voice_at, IsAnsweredSometime}
 use Rattle.use_http.specs.Judged.{Reads, faults_text}
@@ -52,3 +55,9 @@ pub record IsPromised (catalogs : Catalogs) (head : Parts) (body : List ℕ) (an
       → IsFaultless catalogs place body → answer.status ≡ 204
   pub reports_each : (place : Option ℕ) → IsOrderIn catalogs place head → IsShort body
       → (report : List Entry) → HasReport catalogs place body report → answer.status ≡ 422
+
+-- On the wire 422 has the problem details of the report of the request's own body.
+abbrev pub Reports : Catalogs → Wire.Request → Wire.Response → Type 0
+Reports catalogs request response =
+    status_code response.head ≡ 422
+    → (head : Parts) × ArePartsOf request.head head × IsProblemOf catalogs head request.body.bytes response.body.bytes

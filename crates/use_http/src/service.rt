@@ -7,8 +7,8 @@ ghost use Rattle.http_header.specs.FieldValue.{is_visible_text};
 ghost use Rattle.http_server.specs.Response.{IsBlank, IsResponse};
 ghost use Rattle.use_http.specs.Answered.{AnswersRoute, IsAnswered, IsJudged, Refuses, json_fields};
 ghost use Rattle.use_http.specs.Judged.{problem_fields};
-ghost use Rattle.use_http.specs.Laws.{never_upgrades};
-ghost use Rattle.use_http.specs.Promised.{IsPromised};
+ghost use Rattle.use_http.specs.Laws.{never_upgrades, reported};
+ghost use Rattle.use_http.specs.Promised.{IsPromised, Reports};
 ghost use Rattle.use_http.specs.Refused.{problem_of};
 ghost use Rattle.use_http.specs.Request.{IsRoute};
 
@@ -165,6 +165,8 @@ impl<'a, C: Clock> Handler for Orders<'a, C> {
     ghost is_answered = { λ orders head body response.
         IsPromised orders.catalogs.now head body response };
 
+    ghost says = { λ orders request response. Reports orders.catalogs.now request response };
+
     ghost rejects = { λ _ why. (codes "application/problem+json", problem_of why) };
 
     fn answer(&self, request: &Request<Bytes>, response: &mut Response) -> Result<(), AllocError> {
@@ -186,4 +188,7 @@ impl<'a, C: Clock> Handler for Orders<'a, C> {
 
     ghost stays = { λ orders head body response promised.
         never_upgrades orders.catalogs.now head body response promised };
+
+    ghost told = { λ orders request response fits.
+        reported orders.catalogs.now request response fits };
 }

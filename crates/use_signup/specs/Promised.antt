@@ -5,7 +5,10 @@ use Rattle.garde_form.specs.WebForm.{fields_in}
 use Rattle.garde_report.specs.Report.{Entry}
 use Rattle.garde_service.specs.Asked.{IsLanguage}
 use Rattle.http.specs.declared.request.Parts.{Parts}
+use Rattle.http1.specs.Message as Wire
 use Rattle.http_server.specs.declared.response.Response.{Response}
+use Rattle.http_server.specs.Exchange.{ArePartsOf}
+use Rattle.httparse.specs.Grammar.{status_code}
 use Rattle.httpdate.specs.declared.date.HttpDate.{HttpDate}
 use Rattle.use_signup.specs.declared.request.Route.TheVariants.{SignUp}
 use Rattle.use_signup.specs.declared.texts.Speech.{Speech}
@@ -43,3 +46,9 @@ pub record IsPromised (visits : FormVisits) (speech : Speech) (head : Parts) (bo
   pub accepts_each : (place : Option ℕ) → IsSignUpIn speech place head → IsFaultless visits speech place body → answer.status ≡ 303
   pub reports_each : (place : Option ℕ) → IsSignUpIn speech place head
       → (report : List Entry) → HasReport visits speech place body report → answer.status ≡ 422
+
+-- On the wire 422 has the page of the fields and of the report of the request's own body.
+abbrev pub Shows : FormVisits → Speech → Wire.Request → Wire.Response → Type 0
+Shows visits speech request response =
+    status_code response.head ≡ 422
+    → (head : Parts) × ArePartsOf request.head head × IsPageOf visits speech head request.body.bytes response.body.bytes

@@ -51,10 +51,16 @@ const URI_TOO_LONG: &str = page!("URI too long", "The address is too long.");
 
 const UNSUPPORTED_MEDIA_TYPE: &str = page!("Unsupported media type", "The body is no web form.");
 
-const FIELDS_TOO_LARGE: &str = page!("Request header fields too large", "The header of the request is too long.");
+const FIELDS_TOO_LARGE: &str = page!(
+    "Request header fields too large",
+    "The header of the request is too long."
+);
 
 const INTERNAL_SERVER_ERROR: &str = page!("Internal server error", "The answer cannot be sent.");
 
 const NOT_IMPLEMENTED: &str = page!("Not implemented", "The method or the coding is not known.");
 
-const VERSION_NOT_SUPPORTED: &str = page!("HTTP version not supported", "The request is in another version of HTTP.");
+const VERSION_NOT_SUPPORTED: &str = page!(
+    "HTTP version not supported",
+    "The request is in another version of HTTP."
+);

@@ -7,8 +7,8 @@ ghost use Rattle.http.specs.Request.{head_of, body_of};
 ghost use Rattle.http_header.specs.FieldValue.{is_visible_text};
 ghost use Rattle.http_server.specs.Response.{IsBlank, IsResponse};
 ghost use Rattle.use_signup.specs.Answered.{AnswersRoute, InLanguage, IsAnswered, Judges, ReadsFields, Refuses, ShowsForm, Tells, page_fields, voice};
-ghost use Rattle.use_signup.specs.Laws.{never_upgrades};
-ghost use Rattle.use_signup.specs.Promised.{IsPromised};
+ghost use Rattle.use_signup.specs.Laws.{never_upgrades, shown};
+ghost use Rattle.use_signup.specs.Promised.{IsPromised, Shows};
 ghost use Rattle.use_signup.specs.Refused.{page_of};
 
 use crate::page::write_page;
@@ -295,6 +295,10 @@ impl<'a, C: Clock> Handler for SignUps<'a, C> {
         IsPromised (λ words. (⟦<SignUp<'static> as SpelledUnder>⟧.spelled words).visits)
         handler.speech head body response };
 
+    ghost says = { λ handler request response.
+        Shows (λ words. (⟦<SignUp<'static> as SpelledUnder>⟧.spelled words).visits)
+        handler.speech request response };
+
     ghost rejects = { λ _ why. (codes "text/html; charset=utf-8", page_of why) };
 
     fn answer(&self, request: &Request<Bytes>, response: &mut Response) -> Result<(), AllocError> {
@@ -317,4 +321,8 @@ impl<'a, C: Clock> Handler for SignUps<'a, C> {
     ghost stays = { λ handler head body response promised.
         never_upgrades (λ words. (⟦<SignUp<'static> as SpelledUnder>⟧.spelled words).visits)
         handler.speech head body response promised };
+
+    ghost told = { λ handler request response fits.
+        shown (λ words. (⟦<SignUp<'static> as SpelledUnder>⟧.spelled words).visits)
+        handler.speech request response fits };
 }

@@ -6,8 +6,8 @@ use Rattle.garde_service.proofs.Talk.{closed, ended_first, failed, failed_at_onc
 use Rattle.garde_service.proofs.wire.answer_all.Goals as goal
 
 -- where reading or writing failed while the connection was open
-pub returns-in-Err : goal.returns-in-Err
-returns-in-Err g c =
+pub returns-in-Err-clause-talk : goal.returns-in-Err-clause-talk
+returns-in-Err-clause-talk g c =
     let read = c.talk.ensures.read in
     let written = c.talk.ensures.written in
     let t = talked g.H.Handler.is_answered _ (λ o. o.handler.now) (λ old new call is. is) c.args.handler.now c.args.config c.new-connection.result c.talk.new.connection _ _ refl read.0 written.0
@@ -22,8 +22,8 @@ returns-in-Err g c =
     )
 
 -- where the end of it was not written
-pub returns-in_err-close-in-Ok : goal.returns-in_err-close-in-Ok
-returns-in_err-close-in-Ok g c =
+pub returns-in_err-close-in-Ok-clause-talk : goal.returns-in_err-close-in-Ok-clause-talk
+returns-in_err-close-in-Ok-clause-talk g c =
     let read = c.talk.ensures.read in
     let written = c.talk.ensures.written in
     let t = talked g.H.Handler.is_answered _ (λ o. o.handler.now) (λ old new call is. is) c.args.handler.now c.args.config c.new-connection.result c.talk.new.connection _ _ refl read.0 written.0
@@ -38,8 +38,8 @@ returns-in_err-close-in-Ok g c =
       of_err (g.H.Handler.is_answered c.args.handler.now) (g.H.Handler.rejects c.args.handler.now) (g.met.H.Handler.stays c.args.handler.now) _ _ _ _ _ _ c.from_residual.ensures.0 (λ e. failed (g.H.Handler.is_answered c.args.handler.now) (g.H.Handler.rejects c.args.handler.now) (g.met.H.Handler.stays c.args.handler.now) _ c.args.config c.talk.new.connection read.0 written.0 end.0 end.1 e t end.3),
     )
 
-pub returns-in_ok-close-in-Ok : goal.returns-in_ok-close-in-Ok
-returns-in_ok-close-in-Ok g c =
+pub returns-in_ok-close-in-Ok-clause-talk : goal.returns-in_ok-close-in-Ok-clause-talk
+returns-in_ok-close-in-Ok-clause-talk g c =
     let read = c.talk.ensures.read in
     let written = c.talk.ensures.written in
     let t = talked g.H.Handler.is_answered _ (λ o. o.handler.now) (λ old new call is. is) c.args.handler.now c.args.config c.new-connection.result c.talk.new.connection _ _ refl read.0 written.0
@@ -53,3 +53,12 @@ returns-in_ok-close-in-Ok g c =
       c.talk.ensures.end (ended_first _ _ c.new-connection.ensures.history),
       closed (g.H.Handler.is_answered c.args.handler.now) (g.H.Handler.rejects c.args.handler.now) (g.met.H.Handler.stays c.args.handler.now) io_error.the_row.Denot c.args.config c.talk.new.connection read.0 written.0 end.0 end.1 _ t c.state-stands.ensures c.in-Ok.ensures.closed end.3 end.4,
     )
+
+pub returns-in-Err-clause-says : goal.returns-in-Err-clause-says
+returns-in-Err-clause-says g c = g.met.H.Handler.told c.args.handler.now
+
+pub returns-in_err-close-in-Ok-clause-says : goal.returns-in_err-close-in-Ok-clause-says
+returns-in_err-close-in-Ok-clause-says g c = g.met.H.Handler.told c.args.handler.now
+
+pub returns-in_ok-close-in-Ok-clause-says : goal.returns-in_ok-close-in-Ok-clause-says
+returns-in_ok-close-in-Ok-clause-says g c = g.met.H.Handler.told c.args.handler.now
