@@ -8,7 +8,7 @@ PHRASES = {
 }
 # Which method alone may name a host and a port, which are no path, or `*` (RFC 9112, section 3.2).
 TARGETS = {"": "CONNECT", "*": "OPTIONS"}
-CODINGS = ("", "", "gzip", "identity", "Identity", "identity, br", "x")
+CODINGS = ("gzip", "identity", "Identity", "identity, br")
 
 
 class Request(typing.NamedTuple):
@@ -39,6 +39,11 @@ def elsewhere(request):
 def has_coding(request):
     """Whether the body has a coding, which no service undoes."""
     return request.coding.lower() not in ("", "identity")
+
+
+def some_coding(dice):
+    """The coding of a body, most often none."""
+    return dice.choice(CODINGS) if dice.random() < 0.1 else ""
 
 
 def fields_of(request):

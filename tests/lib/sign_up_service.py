@@ -2,7 +2,7 @@
 import re
 
 from lib import languages, tables
-from lib.requests import CODINGS, PHRASES, Request, bytes_of, elsewhere, has_coding, path_of, requests_of
+from lib.requests import PHRASES, Request, bytes_of, elsewhere, has_coding, path_of, requests_of, some_coding
 
 # The texts of the pages in each language, by their names: of a field its label, and of `FIELD=VALUE` that of a box.
 SAID = {it.title: dict(line.split(": ", 1) for line in it.text.splitlines()) for it in tables.cases("sign-up")}
@@ -73,9 +73,9 @@ def answered(request, page):
 def some_request(dice, body):
     """A request, most often with a form."""
     if dice.random() < 0.7:
-        return Request(body, media=FORM, language=dice.choice(FIELDS))
+        return Request(body, media=FORM, language=dice.choice(FIELDS), coding=some_coding(dice))
     method = dice.choice(("POST", "GET", "GET", "HEAD", "PUT", "DELETE", "OPTIONS"))
-    return Request(body if method != "HEAD" else b"", method, dice.choice(PATHS), dice.choice(MEDIA), dice.choice(FIELDS), dice.choice(CODINGS))
+    return Request(body if method != "HEAD" else b"", method, dice.choice(PATHS), dice.choice(MEDIA), dice.choice(FIELDS), some_coding(dice))
 
 
 def are_requests(given):

@@ -8,7 +8,7 @@ from lib.faults import between, chars, items, prefix
 from lib.form import Closed, ListUnder, Member, Object, Text, Whole, read
 from lib.json_values import NoJson, of_bytes, printed
 from lib.reports import details
-from lib.requests import CODINGS, PHRASES, Request, bytes_of, elsewhere, has_coding, path_of, requests_of
+from lib.requests import PHRASES, Request, bytes_of, elsewhere, has_coding, path_of, requests_of, some_coding
 from lib.spoiled import some_json
 
 ORDER = Object(Closed(
@@ -111,9 +111,9 @@ def some_request(dice):
     """A request, and how its body was spoiled."""
     body, ways = some_json(dice, ORDER)
     if dice.random() < 0.9:
-        return ORDERS._replace(body=body, language=some_field(dice)), ways
+        return ORDERS._replace(body=body, language=some_field(dice), coding=some_coding(dice)), ways
     method = dice.choice(("POST", "GET", "PUT", "DELETE", "OPTIONS"))
-    return Request(body, method, dice.choice(PATHS), dice.choice(MEDIA), coding=dice.choice(CODINGS)), {"no order"}
+    return Request(body, method, dice.choice(PATHS), dice.choice(MEDIA), coding=some_coding(dice)), {"no order"}
 
 
 def some(dice):
