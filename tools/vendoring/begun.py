@@ -24,11 +24,12 @@ LEFT_OUT = ("README.md", "stdin", "stdout", "status", "src/order.garde.rs", "src
 OPTIONS = re.compile(r"^//@ (.*)$", re.M)
 DOCS = re.compile(r"(?://!.*\n)*")
 BODY = re.compile(r"^impl(?:<'a>)? ReadBody<'a> for (\w+)(<'a>)? \{", re.M)
-READ = re.compile(r"^pub fn (read_\w+)<(?:'a, )?H: I18n \+ FormI18n>\([^)]*most: usize,\s*h: &H,?\s*\) -> Result<(.+), FirstReadError>", re.M)
+READ = re.compile(r"^pub fn (read_\w+)<(?:'a, )?H: I18n \+ FormI18n>\([^)]*most: usize,\s*(?:patterns: &(\w+Patterns),\s*)?h: &H,?\s*\) -> Result<(.+), FirstReadError>", re.M)
+IN_CONTEXT = re.compile(r"^pub fn read_\w+<[^>]*>\([^)]*most: usize,\s*\w+: &[^)]*\s*h: &H,?\s*\) -> Result<(?:\w+<)?(\w+)", re.M)
 RELY = """//! What is read, and what is done with it where it is valid.
 
 use crate::{module}::{kind};
-use anyhow::Result;
+use anyhow::{result};
 {imports}use std::process::ExitCode;
 
 {read}
@@ -52,6 +53,21 @@ pub fn read_input<'a, H: I18n + FormI18n>(
         Err(error) => Err(error),
     }}
 }}"""
+PATTERNS = """{read}
+
+/// The compiled patterns of what is read.
+pub fn patterns(alloc: Global) -> Result<{patterns}> {{
+    match {patterns}::new(alloc) {{
+        Ok(patterns) => Ok(patterns),
+        Err(error) => bail!("a pattern is not compiled: {{error}}"),
+    }}
+}}"""
+# What the program says otherwise of a type with patterns.
+WITH_PATTERNS = (
+    (b"use crate::rely::{accept, read_input};", b"use crate::rely::{accept, patterns, read_input};"),
+    (b"    let mut scratch = Scratch::new(rt.alloc());\n", b"    let patterns = patterns(rt.alloc())?;\n    let mut scratch = Scratch::new(rt.alloc());\n"),
+    (b"options.most, h)", b"options.most, &patterns, h)"),
+)
 OF_BODY = """use garde::{I18n, Valid};
 use garde_schema::{FirstReadError, FormI18n, ReadBody, Scratch};
 use std::alloc::Global;
@@ -60,17 +76,22 @@ use std::alloc::Global;
 
 def rely_of(written, module):
     """The module that says what is read, and what is done with it; and the type that is read. Or nothing."""
+    result = "Result"
     if found := BODY.search(written):
         kind, life = found[1], found[2] or ""
         read = READ_BODY.format(kind=kind, life=life)
         value, imports = f"Valid<{kind}{life}>", OF_BODY
     elif found := READ.search(written):
-        kind = re.search(r"\w+(?=<'a>|>*$)", found[2])[0]
-        read, value = f"pub use crate::{module}::{found[1]} as read_input;", found[2]
-        imports = "use garde::Valid;\n" * value.startswith("Valid<")
+        name, patterns, value = found.groups()
+        kind = re.search(r"\w+(?=<'a>|>*$)", value)[0]
+        read = f"pub use crate::{module}::{name} as read_input;"
+        imports = "use garde::Valid;\n" * value.startswith("Valid<") + "use std::alloc::Global;\n" * bool(patterns)
+        if patterns:
+            result, read = "{Result, bail}", PATTERNS.format(read=read, patterns=patterns)
     else:
         return None
-    return RELY.format(module=module, kind=kind, imports=imports, read=read, value=value.replace("'a", "'_")), kind
+    kinds = f"{{{kind}, {patterns}}}" if result != "Result" else kind
+    return RELY.format(module=module, kind=kinds, result=result, imports=imports, read=read, value=value.replace("'a", "'_")), kind
 
 
 @dataclass(frozen=True)
@@ -95,6 +116,8 @@ class Begun:
         kept = {path: it for path, it in files.items() if path not in LEFT_OUT}
         lines = "\n".join(f"mod {it};" for it in sorted({self.module, *(pathlib.Path(path).stem for path in self.written)}))
         kept["src/main.rt"] = kept["src/main.rt"].replace(b"mod order;", lines.encode())
+        for old, new in WITH_PATTERNS if "pub fn patterns(" in self.rely else ():
+            kept["src/main.rt"] = kept["src/main.rt"].replace(old, new)
         kept["src/rely.rt"] = self.rely.encode()
         kept[f"src/{self.module}.garde.rs"] = self.text.encode()
         return {**kept, **{path: it.encode() for path, it in self.written.items()}}
@@ -112,6 +135,8 @@ def begun_of(root, path, crate):
         raise Refusal(f"{path}: {getattr(error, 'strerror', None) or 'it is no UTF-8'}") from None
     text, written, says = read(root, path, with_options(path, text), crate or module, module)
     found = rely_of(written[f"src/{module}.rt"], module)
+    if not found and (held := IN_CONTEXT.search(written[f"src/{module}.rt"])):
+        raise Refusal(f"{path}: the rules of `{held[1]}` have a context, which your code makes: copy {PROGRAM}, and write src/rely.rt")
     if not found:
         raise Refusal(f"{path}: of its line `//@ ` the program is not known: write `--spelled TYPE --first`, or `--schema --no-walk --first` of a type that holds itself; or copy {PROGRAM} and write src/rely.rt")
     rely, kind = found
