@@ -1,5 +1,5 @@
 //! The language that the words of a command line ask for.
-ghost use Rattle.std.specs.Prelude.{◌≡◌, IfOk, IsSome, None, OnErr, true};
+ghost use Rattle.std.specs.Prelude.{◌≡◌, IfErr, IfOk, IsSome, None, OnErr, codes, true};
 ghost use Rattle.garde_command.specs.Spoken.{IsTaken, is_option};
 
 use crate::word::Word;
@@ -29,6 +29,7 @@ impl<'w> Spoken<'w> {
         ensures taken { IfOk result (λ is_taken. IsTaken is_taken self.old word.now self.new) }
         ensures twice { OnErr result ((is_option word.now ≡ true) × IsSome self.old.tag) }
         ensures unchanged { OnErr result (self.new ≡ self.old) }
+        ensures why { IfErr result (λ why. why.now ≡ codes "--language must stand once at most") }
     {
         if word.name.as_str() != "--language" {
             return Ok(false);
