@@ -4,8 +4,8 @@ ghost use Rattle.use_http.specs.Refused.{problem_of};
 
 use garde_service::Rejected;
 
-/// The problem details. Their type is `about:blank`, so the title is the phrase of the status (RFC
-/// 9457, section 4.2.1).
+/// The problem details. Their type is `about:blank`, so the title is the phrase of the status
+/// (RFC 9457, section 4.2.1).
 pub fn problem_of(why: Rejected) -> &'static str
     ensures value { result.now ≡ problem_of why }
     ensures short { length result.now ≤ 128 }
