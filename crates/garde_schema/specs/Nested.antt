@@ -11,7 +11,7 @@ use Rattle.garde_tape.specs.declared.found.Found.{Found}
 use Rattle.garde_tape.specs.declared.found.Found.TheVariants.{Missing, Once, Repeated}
 use Rattle.garde.specs.Tree.{Tree}
 use Rattle.garde.specs.Visits.{Visits, none, ◌and◌, under, when}
-use Rattle.garde.specs.Nest.{recursive_visits}
+use Rattle.garde.specs.Nest.{recursive_visits, child_visits}
 use Rattle.garde_schema.specs.declared.fault.FormFault.{FormFault}
 use Rattle.garde_schema.specs.declared.fault.FormFault.TheVariants as faults
 use Rattle.garde_schema.specs.declared.fault.Wanted.TheVariants as wanted
@@ -111,6 +111,33 @@ level_value name own builds child j = made_of builds (own j) (below_value child 
 -- the value of an object of the form: it is made of that of its own members and of those of the objects in it
 abbrev pub nested_value : {A B : Type 0} → List ℕ → (Json → Option A) → (A → List B → B) → Json → Option B
 nested_value name own builds j = recursive_value (level_value name (own_value own) builds) depth j
+
+-- ---- an object by its parts
+
+-- what is asked of an object and read of it, without the objects in it
+pub record Parts (A : Type 0) : Type 1 where
+  -- the name of the member with the list
+  pub name : List ℕ
+  -- what is asked before the objects in it, and after them
+  pub first : Json → Visits
+  pub last : Json → Visits
+  -- the value of its own members, and what the rules ask of it
+  pub own : Json → Option A
+  pub keeps : A → Type 0
+
+-- what is asked of it and of those in it, and its value
+abbrev pub object_visits : {A : Type 0} → Parts A → Json → Visits
+object_visits parts j = recursive_visits (level_visits parts.name parts.first parts.last) depth j
+
+abbrev pub object_value : {A B : Type 0} → (A → List B → B) → Parts A → Json → Option B
+object_value builds parts j = recursive_value (level_value parts.name parts.own builds) depth j
+
+-- the same of one in this one
+abbrev pub inner_visits : {A : Type 0} → Parts A → Json → Json → Visits
+inner_visits parts j x = child_visits (level_visits parts.name parts.first parts.last) depth j x
+
+abbrev pub inner_value : {A B : Type 0} → (A → List B → B) → Parts A → Json → Json → Option B
+inner_value builds parts j x = child_value (level_value parts.name parts.own builds) depth j x
 
 -- ---- nothing is left out
 

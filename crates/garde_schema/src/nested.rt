@@ -5,7 +5,6 @@ ghost use Rattle.garde_schema.specs.Forms.{forget, Sound};
 ghost use Rattle.garde_schema.specs.Nested.{nested_visits, nested_value, Kept};
 
 mod level;
-mod steps;
 mod walk;
 mod way;
 
@@ -75,7 +74,6 @@ fn read_nested<'t, 'a, T: FromNested, M: Members<'a, Out = T::Own>, H: I18n + Fo
     let way = Way {
         name: form.0,
         members: &form.1,
-        made: PhantomData::<T>,
         closed,
         h,
         tree,

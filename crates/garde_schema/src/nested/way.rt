@@ -1,43 +1,53 @@
-//! The walk over trees of a tape.
-ghost use Rattle.std.specs.Prelude.{◌≡◌, IfOk};
-ghost use Rattle.garde.specs.Visits.{Visited};
-ghost use Rattle.garde_schema.specs.Forms.{forget};
-ghost use Rattle.garde_schema.specs.Nested.{first_visits, last_visits, made_of, own_value};
+//! The steps over trees of a tape.
+ghost use Rattle.std.specs.Prelude.{◌≡◌, ◌<◌, ◌^◌, length, IfOk};
+ghost use Rattle.garde_schema.specs.Nested.{first_visits, last_visits, list_in, own_value};
 
-use super::FromNested;
 use super::level::{Begun, Level};
-use super::steps::{begin, check_rest, made};
+use crate::closed::check_members;
+use crate::fault::{FormFault, Wanted};
 use crate::form::Members;
 use crate::handler::FormI18n;
-use crate::items::Items;
-use crate::put::with;
+use crate::optional::Optional;
+use crate::put::{put, put_under, with};
+use crate::simple::Any;
 use garde::{Component, I18n, Report, Trail};
-use garde_tape::{Tree, TreeItems};
+use garde_tape::{Found, Tree, TreeItems};
 use std::alloc::{AllocError, Global};
-use std::marker::PhantomData;
 
 /// The parts of the form, whether it is closed, the handler, and the tree that the walk begins at.
 #[derive(Drop)]
-pub(super) struct Way<'t, 'r, 'f, 'h, 'a, M, T, H> {
+pub(super) struct Way<'t, 'r, 'f, 'h, 'a, M, H> {
     pub(super) name: &'a str,
     pub(super) members: &'f M,
-    pub(super) made: PhantomData<T>,
     pub(super) closed: bool,
     pub(super) h: &'h H,
     pub(super) tree: &'r Tree<'t, 'a>,
 }
 
-impl<'t, 'r, 'f, 'h, 'a: 't, T: FromNested, M: Members<'a, Out = T::Own>, H: I18n + FormI18n> Level
-    for Way<'t, 'r, 'f, 'h, 'a, M, T, H> {
+// The items of the list under this name, or what is wrong with the member of this name.
+fn items_in<'t, 'a>(object: &Tree<'t, 'a>, name: &str) -> Result<TreeItems<'t, 'a>, FormFault>
+    ensures list { result ≡ list_in name.now object.now }
+    ensures bound { IfOk result (λ items. length items < 2 ^ 64) }
+{
+    match object.find(name) {
+        Found::Once(value) => match value.items() {
+            Some(items) => Ok(items),
+            None => Err(FormFault::Wrong(Wanted::List, value.kind())),
+        },
+        Found::Missing => Err(FormFault::Missing),
+        Found::Repeated => Err(FormFault::Repeated),
+    }
+}
+
+impl<'t, 'r, 'f, 'h, 'a: 't, M: Members<'a>, H: I18n + FormI18n> Level
+    for Way<'t, 'r, 'f, 'h, 'a, M, H> {
     type Tree = Tree<'t, 'a>;
 
     type Trees = TreeItems<'t, 'a>;
 
     type Trail = Trail<'a>;
 
-    type Own = T::Own;
-
-    type Made = T;
+    type Own = M::Out;
 
     ghost json = { λ tree. tree };
 
@@ -47,21 +57,13 @@ impl<'t, 'r, 'f, 'h, 'a: 't, T: FromNested, M: Members<'a, Out = T::Own>, H: I18
 
     ghost text = { λ way. H.text way.h.now };
 
-    ghost name = { λ way. way.name.now };
-
-    ghost first = { λ way j. first_visits way.name.now
-        (M.visits way.members.now (H.form_text way.h.now)) (H.form_text way.h.now) j };
-
-    ghost last = { λ way j. last_visits way.closed way.name.now
-        (M.names way.members.now) (H.form_text way.h.now) j };
-
-    ghost spells = { λ way j. own_value (M.value way.members.now) j };
-
-    ghost keeps = { λ way own. M.keeps way.members.now own };
-
-    ghost builds = { λ way own values. T.builds own values };
-
-    ghost parts_of = { λ way made. T.parts_of made };
+    ghost parts = { λ way. record {
+      name = way.name.now;
+      first = λ j. first_visits way.name.now (M.visits way.members.now (H.form_text way.h.now)) (H.form_text way.h.now) j;
+      last = λ j. last_visits way.closed way.name.now (M.names way.members.now) (H.form_text way.h.now) j;
+      own = λ j. own_value (M.value way.members.now) j;
+      keeps = λ own. M.keeps way.members.now own;
+    } };
 
     fn alloc(&self, trail: &Trail<'a>) -> Global {
         trail.alloc()
@@ -72,8 +74,40 @@ impl<'t, 'r, 'f, 'h, 'a: 't, T: FromNested, M: Members<'a, Out = T::Own>, H: I18
         tree: &Tree<'t, 'a>,
         trail: &mut Trail<'a>,
         report: &mut Report,
-    ) -> Result<Begun<T::Own, TreeItems<'t, 'a>>, AllocError> {
-        begin(self.name, self.members, tree, trail, report, self.h)
+    ) -> Result<Begun<M::Out, TreeItems<'t, 'a>>, AllocError> {
+        let Some(_) = tree.members() else {
+            let fault = FormFault::Wrong(Wanted::Object, tree.kind());
+            let nothing = Begun {
+                own: None,
+                below: None,
+            };
+            return with(put(fault, trail, report, self.h), nothing);
+        };
+        let own = self.members.read_members(tree, trail, report, self.h)?;
+        match items_in(tree, self.name) {
+            Ok(items) => Ok(Begun {
+                own,
+                below: Some(items),
+            }),
+            Err(fault) => {
+                let nothing = Begun { own, below: None };
+                with(put_under(self.name, fault, trail, report, self.h), nothing)
+            }
+        }
+    }
+
+    fn end(
+        &self,
+        tree: &Tree<'t, 'a>,
+        trail: &mut Trail<'a>,
+        report: &mut Report,
+    ) -> Result<(), AllocError> {
+        if self.closed {
+            let known = (self.members, Optional(self.name, Any));
+            check_members(&known, tree, trail, report, self.h)
+        } else {
+            Ok(())
+        }
     }
 
     fn enter(&self, trail: &mut Trail<'a>) -> Result<(), AllocError> {
@@ -91,32 +125,4 @@ impl<'t, 'r, 'f, 'h, 'a: 't, T: FromNested, M: Members<'a, Out = T::Own>, H: I18
     fn next(&self, items: &mut TreeItems<'t, 'a>) -> Option<Tree<'t, 'a>> {
         items.next()
     }
-
-    fn finish(
-        &self,
-        tree: &Tree<'t, 'a>,
-        own: Option<T::Own>,
-        values: Option<Items<T>>,
-        trail: &mut Trail<'a>,
-        report: &mut Report,
-    ) -> Result<Option<T>, AllocError>
-        ensures answer { Visited (last_visits self.now.closed self.now.name.now
-            (M.names self.now.members.now) (H.form_text self.now.h.now) tree.now)
-            (H.text self.now.h.now) trail.old trail.new report.old report.new (forget result) }
-        ensures value { IfOk result (λ out.
-            out ≡ made_of T.builds own values) }
-    {
-        let told = check_rest(
-            self.closed,
-            self.name,
-            self.members,
-            tree,
-            trail,
-            report,
-            self.h,
-        );
-        with(told, made(own, values))
-    }
-
-    ghost kept = { λ way own values. T.kept own values };
 }

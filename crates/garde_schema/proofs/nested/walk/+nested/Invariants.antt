@@ -4,10 +4,9 @@ use Rattle.std.specs.declared.alloc.AllocError.{AllocError}
 use Rattle.json.specs.Tree.{depth}
 use Rattle.garde_report.specs.Report.{Entry}
 use Rattle.garde.specs.Visits.{Visited}
-use Rattle.garde.specs.Nest.{child_visits}
 use Rattle.garde_schema.specs.Forms.{Sound}
 use Rattle.garde_schema.specs.Lists.{all_values, each_item}
-use Rattle.garde_schema.specs.Nested.{level_visits, level_value, child_value, Kept}
+use Rattle.garde_schema.specs.Nested.{inner_value, inner_visits, Kept}
 use Rattle.garde_schema.proofs.Lists.{items_left, values_from}
 use Rattle.garde_schema.proofs.nested.walk.+nested.Given as goal
 
@@ -27,11 +26,10 @@ decreases-read_item g l = 4 * depth (g.L.Level.json l.item.now) + 4
 -- what is told, read and known of the items that are left makes that of all, and each of them nests less deep than the object
 abbrev pub invariant-read_items-loop-item : goal.invariant-read_items-loop-item
 invariant-read_items-loop-item g l =
-    let level = level_visits (g.L.Level.name l.level) (g.L.Level.first l.level) (g.L.Level.last l.level) in
-    let values = level_value (g.L.Level.name l.level) (g.L.Level.spells l.level) (g.L.Level.builds l.level) in
-    let child = child_visits level depth (g.L.Level.json l.object) in
-    let value = child_value values depth (g.L.Level.json l.object) in
-    let keeps = Kept (g.L.Level.keeps l.level) (g.L.Level.parts_of l.level) in
+    let parts = g.L.Level.parts l.level in
+    let child = inner_visits parts (g.L.Level.json l.object) in
+    let value = inner_value g.T.FromNested.builds parts (g.L.Level.json l.object) in
+    let keeps = Kept parts.keeps g.T.FromNested.parts_of in
     ((after : g.row.L-Trail.Denot) (new : List Entry) (answer : Result (Unit {0}) AllocError)
     → Visited (items_left child l.index (g.L.Level.jsons l.left)) (g.L.Level.text l.level) (g.L.Level.trace l.trail) (g.L.Level.trace after) l.report new answer
     → Visited (each_item child (g.L.Level.jsons l.initial.left)) (g.L.Level.text l.level) (g.L.Level.trace l.initial.trail) (g.L.Level.trace after) l.initial.report new answer)
