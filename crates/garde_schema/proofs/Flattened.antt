@@ -1,5 +1,5 @@
 -- Lemmas on the members of one type among those of another one.
-use Rattle.std.proofs.Common.{◌≡◌, ℕ, Bool, List, [], ◌∷◌, Option, Some, None, Result, Ok, ap, sym, subst, ◌∙◌}
+use Rattle.std.proofs.Common.{◌≡◌, ℕ, Bool, false, List, [], ◌∷◌, Option, Some, None, Result, Ok, refl, ap, sym, subst, ◌∙◌}
 use Rattle.std.proofs.lemmas.List.Elements.{All-nil}
 use Rattle.std.specs.List.{All}
 use Rattle.std.specs.Prelude.{IfOk, OnOk, option_map}
@@ -17,6 +17,11 @@ use Rattle.garde_schema.specs.Maps.{each_entry, entry_value, members_first}
 use Rattle.garde_schema.specs.Members.{members_in}
 use Rattle.garde_schema.proofs.Lemmas.{members_some, members_none, on_ok_then}
 use Rattle.garde_schema.proofs.Maps.{if_ok_same, member_end}
+
+-- where no name is asked for each member is one of the others
+pub others_all : (ms : List (List ℕ × Json)) → others (λ name. false) ms ≡ ms
+others_all [] = refl
+others_all (m ∷ ms) = ap (λ l. m ∷ l) (others_all ms)
 
 -- the members that were looked up are those of the object
 object_members : (j : Json) (ms : List (List ℕ × Json)) {seen : Option (List (List ℕ × Json))} → seen ≡ Some ms → seen ≡ option_map member_list (as_object j) → ms ≡ members_in j

@@ -15,8 +15,8 @@ use crate::form::Form;
 use crate::handler::FormI18n;
 use crate::items::{Items, add};
 use crate::list::read_in;
-use crate::names::Names;
 use crate::put::{put, put_under, with};
+use crate::rest::read_others;
 use crate::text_ref::TextRef;
 use garde::{Component, I18n, Report, Trail};
 use garde_tape::{Tree, TreeMembers};
@@ -85,8 +85,7 @@ pub(crate) fn read_entry<'t, 'a, F: Form<'a>, H: I18n + FormI18n>(
     }
 }
 
-// Reads the values of the members, each under its name. After one of another form the others are
-// read for their faults.
+// Reads the values of the members, each under its name: no name is asked for otherwise.
 pub(crate) fn read_entries<'t, 'a, F: Form<'a>, H: I18n + FormI18n>(
     form: &F,
     members: TreeMembers<'t, 'a>,
@@ -104,15 +103,7 @@ pub(crate) fn read_entries<'t, 'a, F: Form<'a>, H: I18n + FormI18n>(
         (λ out. All (λ e. F.keeps form.now e.1) out)
         (all_values (entry_value (λ v. F.value form.now v)) (members_first members.entry))) }
 {
-    let alloc = trail.alloc();
-    let mut left = members;
-    let mut names = Names::new(alloc);
-    let mut values = Some(Items::new(alloc));
-    while let Some((name, value)) = left.next() {
-        let came = names.add(name)?;
-        values = read_entry(form, came, name, &value, values, trail, report, h)?;
-    }
-    Ok(values)
+    read_others(&(), form, members, trail, report, h)
 }
 
 /// An object with any members, whose values have this form. The value is the list of their names and

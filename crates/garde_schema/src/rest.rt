@@ -43,8 +43,9 @@ fn next_other<'t, 'a, M: Members<'a>>(
     None
 }
 
-// Reads the values of the members whose names are not asked for, each under its name, as `Map` does.
-fn read_others<'t, 'a, M: Members<'a>, F: Form<'a>, H: I18n + FormI18n>(
+// Reads the values of the members whose names are not asked for, each under its name. After one of
+// another form the others are read for their faults.
+pub(crate) fn read_others<'t, 'a, M: Members<'a>, F: Form<'a>, H: I18n + FormI18n>(
     named: &M,
     form: &F,
     members: TreeMembers<'t, 'a>,
