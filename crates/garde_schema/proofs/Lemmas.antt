@@ -71,8 +71,8 @@ sound_some visits keeps None sound = sound
 pub sound_optional_missing : {A : Type 0} (name : Part) (texts : FormTexts) (each : Json → Visits) (keeps : A → Type 0) (value : Json → Option A) (f : Found) → f ≡ Missing → Sound (optional_visits name texts each f) (λ out. KeepsSome keeps out) (optional_value value f)
 sound_optional_missing name texts each keeps value f is = subst (λ z. Sound (optional_visits name texts each z) (λ out. KeepsSome keeps out) (optional_value value z)) (sym is) (λ known. tt)
 
-pub sound_optional_once : {A : Type 0} (name : Part) (texts : FormTexts) (each : Json → Visits) (keeps : A → Type 0) (value : Json → Option A) (f : Found) (v : Json) → f ≡ Once v → Sound (under name (each v)) keeps (value v) → Sound (optional_visits name texts each f) (λ out. KeepsSome keeps out) (optional_value value f)
-sound_optional_once name texts each keeps value f v is sound = subst (λ z. Sound (optional_visits name texts each z) (λ out. KeepsSome keeps out) (optional_value value z)) (sym is) (sound_some (under name (each v)) keeps (value v) sound)
+pub sound_optional_once : {A : Type 0} (name : Part) (texts : FormTexts) (each : Json → Visits) (keeps : A → Type 0) (value : Json → Option A) (f : Found) (v : Json) → f ≡ Once v → Sound (each v) keeps (value v) → Sound (optional_visits name texts each f) (λ out. KeepsSome keeps out) (optional_value value f)
+sound_optional_once name texts each keeps value f v is sound = subst (λ z. Sound (optional_visits name texts each z) (λ out. KeepsSome keeps out) (optional_value value z)) (sym is) (sound_some (under name (each v)) keeps (value v) (sound_below name (each v) keeps (value v) sound))
 
 pub sound_optional_repeated : {A : Type 0} (name : Part) (texts : FormTexts) (each : Json → Visits) (keeps : A → Type 0) (value : Json → Option A) (f : Found) → f ≡ Repeated → Sound (optional_visits name texts each f) (λ out. KeepsSome keeps out) (optional_value value f)
 unfolding Known under
@@ -188,8 +188,10 @@ module _ {text : Datum → List ℕ} {E : Type 0} where
   pub optional_missing : (name : Part) (texts : FormTexts) (each : Json → Visits) (f : Found) {walk : Trace} {old : List Entry} → f ≡ Missing → Visited {E = E} (optional_visits name texts each f) text walk walk old old (Ok tt)
   optional_missing name texts each f {walk} {old} is = subst (λ z. Visited {E = E} (optional_visits name texts each z) text walk walk old old (Ok tt)) (sym is) visited_none
 
-  pub optional_once : (name : Part) (texts : FormTexts) (each : Json → Visits) (f : Found) (v : Json) {before after : Trace} {old new : List Entry} {told result : Result Unit E} → f ≡ Once v → Visited (under name (each v)) text before after old new told → result ≡ told → Visited (optional_visits name texts each f) text before after old new result
-  optional_once name texts each f v {before} {after} {old} {new} {result = result} is told same = subst (λ z. Visited (optional_visits name texts each z) text before after old new result) (sym is) (told_as (under name (each v)) same told)
+  pub optional_once : (name : Part) {p : Part} (texts : FormTexts) (each : Json → Visits) (f : Found) (v : Json) {before after : Trace} {old new : List Entry} {told result : Result Unit E} → p ≡ name → f ≡ Once v → Visited (under p (each v)) text before after old new told → result ≡ told → Visited (optional_visits name texts each f) text before after old new result
+  optional_once name texts each f v {before} {after} {old} {new} {result = result} at is told same =
+      subst (λ z. Visited (optional_visits name texts each z) text before after old new result) (sym is)
+      (subst (λ k. Visited (under k (each v)) text before after old new result) at (told_as (under _ (each v)) same told))
 
   pub optional_repeated : (name : Part) (texts : FormTexts) (each : Json → Visits) (f : Found) {before after : Trace} {old new : List Entry} {told result : Result Unit E} → f ≡ Repeated → Visited (under name (refused (texts faults.Repeated))) text before after old new told → result ≡ told → Visited (optional_visits name texts each f) text before after old new result
   optional_repeated name texts each f {before} {after} {old} {new} {result = result} is told same = subst (λ z. Visited (optional_visits name texts each z) text before after old new result) (sym is) (told_as (under name (refused (texts faults.Repeated))) same told)

@@ -2,7 +2,7 @@
 ghost use Rattle.std.specs.Prelude.{◌≡◌, Option, Some, option_map, IfOk, OnOk};
 ghost use Rattle.std.specs.Str.{bytes_eq};
 ghost use Rattle.garde_report.specs.Part.{key_part};
-ghost use Rattle.garde.specs.Visits.{Visited, under};
+ghost use Rattle.garde.specs.Visits.{Visited};
 ghost use Rattle.garde_tape.specs.Look.{find_answer};
 ghost use Rattle.garde_schema.specs.Forms.{forget, KeepsSome, Sound};
 ghost use Rattle.garde_schema.specs.Members.{optional_value, optional_visits};
@@ -10,6 +10,7 @@ ghost use Rattle.garde_schema.specs.Members.{optional_value, optional_visits};
 use crate::fault::FormFault;
 use crate::form::{Form, Members};
 use crate::handler::FormI18n;
+use crate::list::read_in;
 use crate::put::{put_under, with};
 use garde::{Component, I18n, Report, Trail};
 use garde_tape::{Found, Tree};
@@ -19,29 +20,6 @@ use std::alloc::AllocError;
 /// member is missing. `null` is no missing member.
 #[derive(Clone, Copy)]
 pub struct Optional<'a, F>(pub &'a str, pub F);
-
-// Reads the value of a member, under its name.
-#[inline(always)]
-fn read_under<'t, 'a, F: Form<'a>, H: I18n + FormI18n>(
-    name: &'a str,
-    form: &F,
-    tree: &Tree<'t, 'a>,
-    trail: &mut Trail<'a>,
-    report: &mut Report,
-    h: &H,
-) -> Result<Option<F::Out>, AllocError>
-    ensures answer { Visited (under (key_part name.now) (F.visits form.now (H.form_text h.now) tree.now))
-        (H.text h.now) trail.old trail.new report.old report.new (forget result) }
-    ensures value { IfOk result (λ out. out ≡ F.value form.now tree.now) }
-    ensures sound { OnOk result
-        (Sound (under (key_part name.now) (F.visits form.now (H.form_text h.now) tree.now))
-        (λ out. F.keeps form.now out) (F.value form.now tree.now)) }
-{
-    trail.push(Component::key(name))?;
-    let value = form.read(tree, trail, report, h);
-    trail.pop();
-    value
-}
 
 // The value, as one that is there.
 #[inline(always)]
@@ -80,7 +58,7 @@ pub(crate) fn read_optional<'t, 'a, F: Form<'a>, H: I18n + FormI18n>(
     match found {
         Found::Missing => Ok(Some(None)),
         Found::Once(value) => {
-            let read = read_under(name, form, &value, trail, report, h);
+            let read = read_in(Component::key(name), form, &value, trail, report, h);
             present(read)
         }
         Found::Repeated => {
