@@ -1,5 +1,5 @@
 //! Texts of which each stands for a value.
-ghost use Rattle.std.specs.Prelude.{◌≡◌, unwrap_or};
+ghost use Rattle.std.specs.Prelude.{◌≡◌};
 ghost use Rattle.garde.specs.Visits.{Known, none};
 ghost use Rattle.garde_schema.specs.Forms.{formed};
 ghost use Rattle.garde_tape.specs.Look.{kind_of};
@@ -85,21 +85,11 @@ impl<'a, 'n, V: Copy + Drop> Form<'a> for OneOf<'n, V> {
 #[derive(Clone, Copy)]
 pub struct OneOfOr<'n, V>(pub &'n [(&'n str, V)], pub V);
 
-// The value beside this text, and else the other one.
-fn beside_or<V: Copy>(rows: &[(&str, V)], other: V, text: &str) -> V
-    ensures { result ≡ unwrap_or (beside rows.now text.now) other }
-{
-    match beside(rows, text) {
-        Some(value) => value,
-        None => other,
-    }
-}
-
 // The value that the text of a tree stands for, and this one for another text.
-fn value_or<V: Copy>(rows: &[(&str, V)], other: V, tree: &Tree<'_, '_>) -> Option<V>
+fn value_or<V: Copy + Drop>(rows: &[(&str, V)], other: V, tree: &Tree<'_, '_>) -> Option<V>
     ensures { result ≡ known_or rows.now other tree.now }
 {
-    Some(beside_or(rows, other, tree.as_str()?))
+    Some(beside(rows, tree.as_str()?).unwrap_or(other))
 }
 
 impl<'a, 'n, V: Copy + Drop> Form<'a> for OneOfOr<'n, V> {

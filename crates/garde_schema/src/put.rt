@@ -50,8 +50,5 @@ pub(crate) fn with<T: Drop>(told: Result<(), AllocError>, value: T) -> Result<T,
     ensures answer { forget result ≡ told }
     ensures value { IfOk result (λ out. out ≡ value) }
 {
-    match told {
-        Ok(()) => Ok(value),
-        Err(refused) => Err(refused),
-    }
+    told.map(|()| value)
 }

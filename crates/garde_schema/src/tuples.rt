@@ -83,10 +83,7 @@ impl<'a, A: Members<'a>> Members<'a> for (A,) {
 pub(crate) fn pair<A: Drop, B: Drop>(first: Option<A>, second: Option<B>) -> Option<(A, B)>
     ensures { result ≡ both first second }
 {
-    match (first, second) {
-        (Some(first), Some(second)) => Some((first, second)),
-        _ => None,
-    }
+    first.zip(second)
 }
 
 /// Two in turn.

@@ -53,19 +53,10 @@ fn to_u128(numeral: &Numeral<'_>) -> Option<u128>
 fn signed_size(negative: bool, size: u128) -> Option<i128>
     ensures { SomeIff result (FitsSigned w128 (with_sign negative size)) (with_sign negative size) }
 {
-    if !negative {
-        return if size <= i128::MAX as u128 {
-            Some(size as i128)
-        } else {
-            None
-        };
-    }
-    if size == 0 {
-        Some(0)
-    } else if size <= 1 << 127 {
-        Some(-((size - 1) as i128) - 1)
+    if negative {
+        0i128.checked_sub_unsigned(size)
     } else {
-        None
+        i128::try_from(size).ok()
     }
 }
 
