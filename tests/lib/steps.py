@@ -12,7 +12,7 @@ from lib.repository import ROOT
 
 # the steps that need no prover
 QUICK = (
-    "tests/documents", "tests/sources", "tests/words", "tests/layout", "tests/promises", "tests/since", "tests/successors",
+    "tests/documents", "tests/sources", "tests/words", "tests/layout", "tests/promises",
     "tests/ported", "tests/kept", "tests/json-schema", "tests/vendored", "tests/needed",
     "tests/languages", "tests/bind", "tests/why", "tests/finds",
 )
