@@ -4,7 +4,7 @@ from dataclasses import dataclass
 
 from lib import paths
 
-from .spans import Plain, Span, texts
+from .spans import Span, texts
 
 NAME = re.compile(r"(?:\w+\s*::\s*)*(\w+)(!?)\s*(?:::\s*<([^;{}]*)>)?\s*")
 # Words of forms by what they read, where `F` is what the form within reads and its number among what is given.
@@ -69,7 +69,7 @@ def built(code):
 def given(inner):
     """The parts between commas, but for those in `<..>`."""
     parts = []
-    for it in inner.split(","):
+    for it in inner.split():
         if parts and parts[-1].blank.count("<") != parts[-1].blank.count(">"):
             it = Span(it.plain, parts.pop().start, it.end)
         parts.append(it)
@@ -88,8 +88,8 @@ def read_kind(text):
 class File:
     """The forms of a file, by which values of types are made."""
 
-    def __init__(self, file, text):
-        self.plain = Plain(file, text)
+    def __init__(self, plain):
+        self.plain = plain
         self.parts = {it[1]: (read_kind(it[2]), it.start(2)) for it in re.finditer(r"\bFromParts\s+for\s+(\w+)[^{]*\{\s*type\s+Parts\s*=\s*([^;]*);", self.plain.blank)}
         self.lets = [(it[1], it.end()) for it in re.finditer(r"\blet\s+(\w+)\s*=", self.plain.blank)]
 
@@ -181,7 +181,7 @@ def agree(met, wanted):
 
 def differences(folder):
     """The lines of the members of a crate's forms whose values differ from the parts of the type that is made of them."""
-    files = [File(*it) for it in texts(folder).items()]
+    files = list(map(File, texts(folder)))
     parts = {name: (kind, file, at) for file in files for name, (kind, at) in file.parts.items()}
     for file in files:
         for code, name in file.made():

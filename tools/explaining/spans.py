@@ -5,16 +5,10 @@ from dataclasses import dataclass
 from lib import source
 from lib.source import spaces
 
-OPENING, CLOSING = "([{⟦", ")]}⟧"
+OPENING, CLOSING = "([{", ")]}"
 INSIDE = "\0"
 # a comment of a statement
 COMMENT = re.compile(r"--[^\n]*")
-
-
-def texts(folder):
-    """The texts of a crate's sources, by their paths there."""
-    files = sorted(folder.glob("src/**/*.rt"))
-    return {str(it.relative_to(folder)): it.read_text(encoding="utf-8", errors="replace") for it in files}
 
 
 class Plain:
@@ -58,13 +52,11 @@ class Span:
         """What is said at this line."""
         return f"{self.plain.file}:{self.line}: {text}"
 
-    @property
-    def shown(self):
-        """The piece on one line."""
-        text = " ".join(self.text.split())
-        return re.sub(r",? ([)\]])", r"\1", re.sub(r"([(\[]) ", r"\1", text))
+    def part(self, start, end):
+        """What stands between two places of the piece, without the space round it."""
+        kept = self.text[start:end]
+        return Span(self.plain, self.start + end - len(kept.lstrip()), self.start + start + len(kept.rstrip()))
 
-    @property
     def flat(self):
         """The piece with one mark for each letter that stands in brackets."""
         depth, letters = 0, []
@@ -74,21 +66,19 @@ class Span:
             depth += letter in OPENING
         return "".join(letters)
 
-    def part(self, start, end):
-        """What stands between two places of the piece, without the space round it."""
-        kept = self.text[start:end]
-        return Span(self.plain, self.start + end - len(kept.lstrip()), self.start + start + len(kept.rstrip()))
+    def split(self):
+        """The parts between commas that stand in no brackets."""
+        ends = [it.start() for it in re.finditer(",", self.flat())]
+        parts = [self.part(at, end) for at, end in zip([0, *(it + 1 for it in ends)], [*ends, self.end - self.start])]
+        return [it for it in parts if it.start < it.end]
 
-    def split(self, mark):
-        """The parts between marks that stand in no brackets."""
-        parts, at = [], 0
-        for found in re.finditer(mark, self.flat):
-            parts.append(self.part(at, found.start()))
-            at = found.end()
-        return [it for it in [*parts, self.part(at, self.end - self.start)] if it.start < it.end]
+    def inside(self):
+        """What stands within the round brackets that hold the whole piece, or None."""
+        flat = self.flat()
+        is_held = flat[:1] == "(" and flat[-1:] == ")" and not flat[1:-1].strip(INSIDE)
+        return self.part(1, len(flat) - 1) if is_held else None
 
-    def inside(self, opening="("):
-        """What stands within the brackets that hold the whole piece, or None."""
-        flat = self.flat
-        is_held = flat[:1] == opening and flat[-1:] in CLOSING and not flat[1:-1].strip(INSIDE)
-        return self.part(1, len(flat) - 1) if is_held and len(flat) > 1 else None
+
+def texts(folder):
+    """The sources of a crate."""
+    return [Plain(str(it.relative_to(folder)), it.read_text(encoding="utf-8", errors="replace")) for it in sorted(folder.glob("src/**/*.rt"))]

@@ -12,11 +12,11 @@ WITH_FORM = {"use_library": ("example_order", "order")}
 LICENCES = ("LICENSE-MIT", "LICENSE-APACHE")
 # Mutants, which the prover has to reject: a test of the crates' contracts, which is run where the crates are written.
 NOT_COPIED = ("must-fail", "wrong-bodies")
-# The commands that write modules of sources with attributes, and that say why something is rejected, which stand in the copy under the
+# The commands that write modules of sources with attributes, and that say what does not compile, which stand in the copy under the
 # same paths, and the modules of tests that the second one takes, which stand below it there.
 COMMANDS = ("tools/port-garde", "tools/why")
 TOOL = (*COMMANDS, "tools/port_garde/", "tools/explaining/")
-SHARED = ("__init__", "copies", "edits", "paths", "prover", "repository", "source", "verdicts")
+SHARED = ("__init__", "paths", "repository", "source")
 # What is read of the repository.
 READ = ("crates.txt", "crates/", "tests/lib/", *LICENCES, *TOOL)
 PROGRAM_FILES = ("stdin", "stdout", "args", "status")
