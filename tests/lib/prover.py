@@ -6,7 +6,6 @@ import tempfile
 
 from explaining.quick import kit, words_of
 from lib import repository
-from lib.copies import Copy
 from lib.edits import source_of
 from lib.verdicts import functions_of, without_answers
 
@@ -37,8 +36,6 @@ def edited(crate, edits, room):
             at = end
         pathlib.Path(room, path).write_text("\n".join(text + lines[at:]), encoding="utf-8")
     for it in edits:
-        if isinstance(it, Copy):
-            it.add_proofs(room)
         if it.unanswered:
             leave_out_answers(it, room)
 

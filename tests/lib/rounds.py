@@ -4,7 +4,6 @@ import tempfile
 import time
 
 from lib import edits as edits_of_crates
-from lib.copies import Copy, beside
 from lib.edits import OPEN
 from lib.prover import checked
 from lib.verdicts import NAMED, PROVED, unfit_answers, verdicts
@@ -27,46 +26,34 @@ def reason(edit, found, lines):
     return (found.get(edit.function) or next((it for it in lines if "error" in it), "no verdict"))[:300]
 
 
-def batch_of(edits, in_place):
-    """As many of the edits as one check can judge, as bodies of functions of their own where that can be: the function that an
-    edit is of is then proved as it stands, and so has a verdict what calls it."""
+def batch_of(edits):
+    """As many of the edits as one check can judge."""
     taken = []
     for it in edits:
-        fit = it if it.title in in_place else beside(it, len(taken)) or it
-        if fit.stands_apart(taken):
-            taken.append(fit)
+        if it.stands_apart(taken):
+            taken.append(it)
     return taken
-
-
-def judged(batch, found, lines, in_place):
-    """The edits of a batch that have a verdict, and those that have none by themselves. A copy that is not refused, or that has no
-    verdict, is tried once more in place."""
-    done = [it for it in batch if found.get(it.function) in (PROVED, NAMED, OPEN)]
-    survivors = [it for it in done if isinstance(it, Copy) and found[it.function] != OPEN]
-    lost = batch if len(batch) == 1 and not done else [it for it in batch if is_unknown(it, lines)]
-    in_place |= {it.title for it in [*survivors, *lost] if isinstance(it, Copy)}
-    return [it for it in done if it not in survivors], [it for it in lost if not isinstance(it, Copy)]
 
 
 def rounds(crate, edits, jobs):
     """Tries a crate's edits. Gives what came of each, and how many checks that took."""
-    came, number, most, in_place, unread = {}, 0, len(edits), set(), set()
+    came, number, most, unread = {}, 0, len(edits), set()
     with tempfile.TemporaryDirectory(prefix="wrong-bodies-kept-") as kept:
         left = sorted(edits, key=lambda it: it.is_alone)
         while left:
-            batch, tried_in_place = batch_of(left, in_place)[:most], len(in_place)
+            batch = batch_of(left)[:most]
             lines, number = checked(crate, batch, kept, jobs), number + 1
             is_read = bool(lines) and re.match(r"(logic|only)=", lines[-1])
             found = verdicts(lines) if is_read else {}
             again = [it for it in batch if found.get(it.function) == NAMED and leaves_out(it, lines)]
-            done, lost = judged([it for it in batch if it not in again], found, lines, in_place)
+            done = [it for it in batch if it not in again and found.get(it.function) in (PROVED, NAMED, OPEN)]
+            lost = batch if len(batch) == 1 and not done else [it for it in batch if is_unknown(it, lines)]
             came.update({it.title: found[it.function] for it in done})
             if not done and not again:
                 came.update({it.title: f"NOT JUDGED: {reason(it, found, lines)}" for it in lost})
                 done = lost
             # where one edit keeps the others from a verdict, each half is tried by itself, until that edit is found
-            moved = done or again or len(in_place) > tried_in_place
-            unread = {it.title for it in batch} if not moved else set() if lost and not is_read else unread - {it.title for it in done}
+            unread = {it.title for it in batch} if not done and not again else set() if lost and not is_read else unread - {it.title for it in done}
             most = (len(unread) + 1) // 2 if unread else len(edits)
             left = [it for it in left if it.title not in {other.title for other in done}]
     return came, number
