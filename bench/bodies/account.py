@@ -1,12 +1,18 @@
-"""The account of account.rt.txt, by the words of `lib.form` of tests/, and what is printed of a body."""
+"""The account of account.rt.txt, by the words of `lib.form` of tests/, and what is printed of a body. Its names are those of
+`lib.described`."""
+import json
 import re
+import subprocess
 
+import programs  # noqa: F401
+from lib.described import Case
 from lib.faults import ALPHANUMERIC, ASCII, ENGLISH, REQUIRED, between, chars, items, length
 from lib.form import (
     All, Any, Checked, Closed, Flag, ListUnder, MapUnder, Member, Null, Nullable, Nullish, Object, OneOf, Optional, Tagged, Text, Under, Whole,
     WithDefault, read,
 )
 from lib.json_values import NoJson, of_bytes
+from lib.spoiled import some_json
 
 ADDRESS = Object(Closed(
     Member("street", Text(length(2, 8))),
@@ -57,12 +63,25 @@ def step(it):
     return ["index", str(it)] if isinstance(it, int) else ["key", it]
 
 
-def wanted(body):
-    """What is printed of a body: its value, the tree of its report in JSON, or a pattern of why it is no JSON."""
+def some(dice):
+    return Case((), *some_json(dice, ACCOUNT))
+
+
+def wanted(case):
+    """What is said of a body: its value, the tree of its report in JSON, or a pattern of why it is no JSON."""
     try:
-        account, faults = read(ACCOUNT, of_bytes(body))
+        account, faults = read(ACCOUNT, of_bytes(case.given))
     except NoJson as why:
-        return re.compile(str(why))
+        return "no JSON", re.compile(str(why).encode())
     if not faults:
-        return value_of(account)
-    return {"errors": [[[step(it) for it in path], {"message": found.text(ENGLISH)}] for path, found in faults]}
+        return "valid", value_of(account)
+    return "faulty", {"errors": [[[step(it) for it in path], {"message": found.text(ENGLISH)}] for path, found in faults]}
+
+
+def met(program, case):
+    """What the program says of a body: a line of hex digits."""
+    done = subprocess.run([program], input=case.given.hex() + "\n", capture_output=True, text=True, check=True)
+    said = bytes.fromhex(done.stdout).decode()
+    if said.startswith("report "):
+        return "faulty", json.loads(said.removeprefix("report "))
+    return ("valid", said) if said.startswith("value ") else ("no JSON", said.encode())
