@@ -11,7 +11,6 @@ use Rattle.serde_json.specs.View.{items_of}
 use Rattle.serde_json.specs.Written.{outline, items_outline}
 use Rattle.garde_tape.specs.Reading.{item_list, member_list}
 use Rattle.std.specs.Prelude.{codes}
-use Rattle.garde_json.specs.Json.{report_json}
 use Rattle.garde_report.specs.Part.{Part}
 use Rattle.garde_report.specs.Report.{Entry}
 use Rattle.garde_json.specs.First.{entries_json}
@@ -120,7 +119,7 @@ more_is tree j i xs x left rest step is e =
     e ∙ ap Some all
 
 -- what is read where a value is none
-pub none_reads : {X : Type 0} (tree : X → Data) (j : Json) (r : Option (Result X AllocError)) → r ≡ None → ((x : X) → j ≢ outline (tree x)) → Reads tree j r
+pub none_reads : {X D : Type 0} (tree : X → D) (j : D) (r : Option (Result X AllocError)) → r ≡ None → ((x : X) → j ≢ tree x) → Reads tree j r
 none_reads tree j r none other = subst (Reads tree j) (sym none) other
 
 -- the list that was made, where one was, has the value more
@@ -161,14 +160,13 @@ fault_made (Ok f) (Ok p) (Err a) parts message of is same = absurd of.1
 fault_made (Ok f) (Err a) error parts message of is same = absurd of.0
 fault_made (Err a) path error parts message of is same = tt
 
-same_value : (name : List ℕ) (a b : Json) → json.object (json.member name a json.no_members) ≡ json.object (json.member name b json.no_members) → a ≡ b
+pub same_value : (name : List ℕ) (a b : Json) → json.object (json.member name a json.no_members) ≡ json.object (json.member name b json.no_members) → a ≡ b
 same_value name a b e = cc
 
--- a report is the object of its faults
-pub report_read : (j errors : Json) (r : Option (Result (List Entry) AllocError)) → j ≡ json.object (json.member (codes "errors") errors json.no_members)
-    → Reads entries_json errors r → Reads report_json j r
-report_read j errors None is other = λ entries same. other entries (same_value (codes "errors") errors _ (sym is ∙ same))
-report_read j errors (Some made) is read = (read.0, is ∙ ap (λ e. json.object (json.member (codes "errors") e json.no_members)) read.1, read.2)
+-- what is read of a tree is read of what has it inside
+pub reads_inside : {X D : Type 0} (tree : X → D) (wrap : D → D) (d inner : D) (r : Option (Result X AllocError)) → ((a b : D) → wrap a ≡ wrap b → a ≡ b) → d ≡ wrap inner → Reads tree inner r → Reads (λ x. wrap (tree x)) d r
+reads_inside tree wrap d inner None one is other = λ x same. other x (one inner (tree x) (sym is ∙ same))
+reads_inside tree wrap d inner (Some made) one is read = (read.0, is ∙ ap wrap read.1, read.2)
 
 -- the faults of a report with none
 pub no_errors : (j errors : Json) → j ≡ json.object (json.member (codes "errors") errors json.no_members) → j ≡ report_tree [] → errors ≡ outline (entries_json [])

@@ -13,7 +13,7 @@ use Rattle.garde_report.specs.Report.{Entry}
 use Rattle.garde_json.specs.First.{entries_json}
 use Rattle.garde_json.specs.Json.{path_json, error_json, entry_json, report_json}
 use Rattle.std.specs.declared.alloc.AllocError.{AllocError}
-use Rattle.garde_json.specs.Next.{ReadsNext, ReadsAll}
+use Rattle.garde_json.specs.Next.{ReadsNext}
 use Rattle.garde_json.specs.Tokens.{tree_tokens, rest_tokens}
 
 -- what stands behind what was read
@@ -41,9 +41,6 @@ no_end (json.object ms) r s e = cc
 pub record Goes {X : Type 0} (tree : X → Data) (done : List X) (start now : List Token) : Type 0 where
   pub made : (ys : List X) (rest : List Token) → now ≡ rest_tokens tree ys ++ rest → start ≡ rest_tokens tree (done ++ ys) ++ rest
   pub left : (xs : List X) (rest : List Token) → start ≡ rest_tokens tree xs ++ rest → (ys : List X) × (now ≡ rest_tokens tree ys ++ rest)
-
-pub goes_start : {X : Type 0} (tree : X → Data) (start : List Token) → Goes tree [] start start
-goes_start tree start = record { made = λ ys rest e. e; left = λ xs rest e. (xs, e) }
 
 behind : {X : Type 0} (tree : X → Data) (x : X) (ys : List X) (next now rest : List Token) → now ≡ tree_tokens (tree x) ++ next → now ≡ rest_tokens tree ys ++ rest → (zs : List X) × (next ≡ rest_tokens tree zs ++ rest)
 behind tree x [] next now rest is e = absurd (no_end (outline (tree x)) next rest (sym is ∙ e))
@@ -79,9 +76,6 @@ goes_astray tree done start now so_far no_end no_value xs rest e =
 -- what is read where no written form is next
 pub none_next : {X : Type 0} (tree : X → Data) (old new : List Token) (r : Option (Result X AllocError)) → r ≡ None → ((x : X) (rest : List Token) → old ≢ tree_tokens (tree x) ++ rest) → ReadsNext tree old new r
 none_next tree old new r none other = subst (ReadsNext tree old new) (sym none) other
-
-pub none_all : {X : Type 0} (tree : X → Data) (old : List Token) (r : Option (Result X AllocError)) → r ≡ None → ((x : X) → old ≢ tree_tokens (tree x)) → ReadsAll tree old r
-none_all tree old r none other = subst (ReadsAll tree old) (sym none) other
 
 pub tail_is : (t : Token) (old xs ys : List Token) → old ≡ t ∷ xs → old ≡ t ∷ ys → xs ≡ ys
 tail_is t old xs ys is same =

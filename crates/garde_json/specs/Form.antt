@@ -16,6 +16,15 @@ array_tree tree xs = outline (array (items_of (map tree xs)))
 abbrev pub report_tree : List Entry → Json
 report_tree entries = outline (report_json entries)
 
--- what is read of a tree: none where it is no written form, else one, which is told where there was memory for it
-abbrev pub Reads : {X : Type 0} → (X → Data) → Json → Option (Result X AllocError) → Type 0
-Reads {X} tree j result = MatchOption result ((x : X) → j ≢ outline (tree x)) (λ made. (x : X) × (j ≡ outline (tree x)) × IfOk made (λ read. read ≡ x))
+-- the tree that a text spells of a written form
+abbrev pub spelled : {X : Type 0} → (X → Data) → X → Json
+spelled tree x = outline (tree x)
+
+-- what is read of a tree, or of tokens: none where they are no written form, else one, and what was made says it, where there was
+-- memory for it
+abbrev pub ReadsAs : {R X D : Type 0} → (R → X) → (X → D) → D → Option (Result R AllocError) → Type 0
+ReadsAs {X = X} says tree d result = MatchOption result ((x : X) → d ≢ tree x) (λ made. (x : X) × (d ≡ tree x) × IfOk made (λ read. says read ≡ x))
+
+-- the same of what says itself
+abbrev pub Reads : {X D : Type 0} → (X → D) → D → Option (Result X AllocError) → Type 0
+Reads tree d result = ReadsAs (λ x. x) tree d result

@@ -1,9 +1,7 @@
 -- The written forms of paths and reports as JSON trees.
-use Rattle.std.specs.Prelude.{◌≡◌, ℕ, List, [], ◌∷◌, false, ◌||◌, map, codes, refl}
-use Rattle.std.proofs.Common.{ap, ◌∙◌}
+use Rattle.std.specs.Prelude.{ℕ, List, map, codes}
 use Rattle.serde_json.specs.Data.{Data, string, array, object, item, no_items, member, no_members}
 use Rattle.serde_json.specs.View.{items_of}
-use Rattle.serde_json.specs.Written.{has_float, items_have_float}
 use Rattle.garde_report.specs.declared.error.component.Kind.{Kind}
 use Rattle.garde_report.specs.declared.error.component.Kind.TheVariants.{None, Key, Index}
 use Rattle.garde_report.specs.Part.{Part}
@@ -34,20 +32,3 @@ entry_json e = array (item (path_json e.0) (item (error_json e.1) no_items))
 -- a report is an object with the one member `errors`, the array of its faults in order
 abbrev pub report_json : List Entry → Data
 report_json entries = object (member (codes "errors") (array (items_of (map entry_json entries))) no_members)
-
--- ---- no written form holds a float, so that its compact text is known byte for byte
-
-parts_no_float : (path : List Part) → items_have_float (items_of (map part_json path)) ≡ false
-parts_no_float [] = refl
-parts_no_float (p ∷ ps) = parts_no_float ps
-
-pub path_json-no_float : (path : List Part) → has_float (path_json path) ≡ false
-path_json-no_float path = parts_no_float path
-
-entries_no_float : (entries : List Entry) → items_have_float (items_of (map entry_json entries)) ≡ false
-entries_no_float [] = refl
-entries_no_float (e ∷ es) =
-    ap (λ b. (b || false) || items_have_float (items_of (map entry_json es))) (parts_no_float e.0) ∙ entries_no_float es
-
-pub report_json-no_float : (entries : List Entry) → has_float (report_json entries) ≡ false
-report_json-no_float entries = ap (λ b. b || false) (entries_no_float entries)

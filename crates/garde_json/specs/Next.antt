@@ -15,10 +15,6 @@ abbrev pub ReadsNext : {X : Type 0} → (X → Data) → List Token → List Tok
 ReadsNext {X} tree old new result = MatchOption result ((x : X) (rest : List Token) → old ≢ tree_tokens (tree x) ++ rest)
     (λ made. (x : X) × (old ≡ tree_tokens (tree x) ++ new) × IfOk made (λ read. read ≡ x))
 
--- the same of all tokens
-abbrev pub ReadsAll : {X : Type 0} → (X → Data) → List Token → Option (Result X AllocError) → Type 0
-ReadsAll {X} tree old result = MatchOption result ((x : X) → old ≢ tree_tokens (tree x)) (λ made. (x : X) × (old ≡ tree_tokens (tree x)) × IfOk made (λ read. read ≡ x))
-
 -- whether no token is left
 abbrev pub Ends : List Token → Bool → Type 0
 Ends old true = old ≡ []

@@ -11,6 +11,10 @@ use Rattle.serde_json.specs.Written.{outline, items_outline}
 abbrev pub tree_tokens : Data → List Token
 tree_tokens d = json_tokens (outline d)
 
+-- the tokens of a written form
+abbrev pub tokens_of : {X : Type 0} → (X → Data) → X → List Token
+tokens_of tree x = tree_tokens (tree x)
+
 -- the tokens of the trees of a list, and the bracket that closes their array
 abbrev pub rest_tokens : {X : Type 0} → (X → Data) → List X → List Token
 rest_tokens tree xs = items_tokens (items_outline (items_of (map tree xs)))

@@ -4,7 +4,7 @@ ghost use Rattle.serde_json.specs.Written.{outline};
 ghost use Rattle.garde_json.specs.Json.{part_json, path_json};
 ghost use Rattle.garde_report.specs.Part.{Part, part};
 ghost use Rattle.garde_report.specs.declared.error.component.Kind.{Kind as AKind};
-ghost use Rattle.garde_json.specs.Form.{Reads};
+ghost use Rattle.garde_json.specs.Form.{Reads, spelled};
 
 use crate::form::{pair, text_in};
 use crate::kind::kind_named;
@@ -99,7 +99,7 @@ pub(crate) fn joined(
 /// The path whose written form this is, where there is memory for it. All of the form is read where
 /// there is none.
 pub(crate) fn path_in(alloc: Global, tree: &Tree<'_, '_>) -> Option<Result<Path, AllocError>>
-    ensures { Reads path_json tree.now result }
+    ensures { Reads (spelled path_json) tree.now result }
 {
     let mut items = tree.items()?;
     let mut path = Ok(Path::empty());

@@ -5,7 +5,7 @@ ghost use Rattle.json.specs.Json.{document};
 ghost use Rattle.garde_json.specs.Json.{error_json, entry_json, report_json};
 ghost use Rattle.garde_report.specs.Report.{Entry};
 ghost use Rattle.garde_json.specs.First.{entries_json};
-ghost use Rattle.garde_json.specs.Form.{array_tree, Reads, report_tree};
+ghost use Rattle.garde_json.specs.Form.{array_tree, Reads, report_tree, spelled};
 ghost use Rattle.garde_json.specs.declared.refused.JsonRefused.{JsonRefused as Refused};
 
 use crate::JsonRefused;
@@ -18,7 +18,7 @@ use json::{Reader, Scratch};
 use std::alloc::{AllocError, Global};
 
 fn error_in(alloc: Global, tree: &Tree<'_, '_>) -> Option<Result<Error, AllocError>>
-    ensures { Reads error_json tree.now result }
+    ensures { Reads (spelled error_json) tree.now result }
 {
     let message = sole_member(tree, "message")?;
     Some(Error::new(alloc, text_in(&message)?))
@@ -36,7 +36,7 @@ pub(crate) fn both(
 }
 
 fn entry_in(alloc: Global, tree: &Tree<'_, '_>) -> Option<Result<(Path, Error), AllocError>>
-    ensures { Reads entry_json tree.now result }
+    ensures { Reads (spelled entry_json) tree.now result }
 {
     let (path_tree, error_tree) = pair(tree)?;
     let path = path_in(alloc, &path_tree)?;
@@ -60,7 +60,7 @@ pub(crate) fn with_fault(
 
 // The report of these faults, where there is memory for it. No fault needs none.
 fn faults_in(alloc: Global, tree: &Tree<'_, '_>) -> Option<Result<Report, AllocError>>
-    ensures read { Reads entries_json tree.now result }
+    ensures read { Reads (spelled entries_json) tree.now result }
     ensures empty { tree.now ≡ array_tree entry_json [] → IfSome result (λ made. IsOk made) }
 {
     let mut items = tree.items()?;
@@ -73,7 +73,7 @@ fn faults_in(alloc: Global, tree: &Tree<'_, '_>) -> Option<Result<Report, AllocE
 }
 
 fn report_in(alloc: Global, tree: &Tree<'_, '_>) -> Option<Result<Report, AllocError>>
-    ensures read { Reads report_json tree.now result }
+    ensures read { Reads (spelled report_json) tree.now result }
     ensures empty { tree.now ≡ report_tree [] → IfSome result (λ made. IsOk made) }
 {
     let errors = sole_member(tree, "errors")?;

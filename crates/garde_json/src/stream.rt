@@ -2,9 +2,10 @@
 ghost use Rattle.std.specs.Prelude.{◌≡◌, ◌≢◌, ◌∷◌, [], ◌++◌, List, IfOk, IsOkAnd, MatchOption};
 ghost use Rattle.json.specs.Token.{Token};
 ghost use Rattle.garde_json.specs.First.{entries_json};
+ghost use Rattle.garde_json.specs.Form.{Reads};
 ghost use Rattle.garde_json.specs.Json.{part_json, path_json, error_json, entry_json, report_json};
-ghost use Rattle.garde_json.specs.Next.{ReadsAll, ReadsNext};
-ghost use Rattle.garde_json.specs.Tokens.{tree_tokens};
+ghost use Rattle.garde_json.specs.Next.{ReadsNext};
+ghost use Rattle.garde_json.specs.Tokens.{tokens_of, tree_tokens};
 ghost use Rattle.garde_report.specs.Part.{Part, part};
 
 use crate::kind::kind_named;
@@ -97,7 +98,7 @@ pub(crate) fn whole_report(
     alloc: Global,
     reader: &mut Reader<'_>,
 ) -> Option<Result<Report, AllocError>>
-    ensures { ReadsAll report_json reader.old result }
+    ensures { Reads (tokens_of report_json) reader.old result }
 {
     if !opens_object(reader) {
         return None;

@@ -1,6 +1,7 @@
 //! Components and paths as JSON trees.
-ghost use Rattle.std.specs.Prelude.{◌≡◌, ◌≢◌, List, true, false, IfOk, Err, MatchOption};
+ghost use Rattle.std.specs.Prelude.{◌≡◌, ◌≢◌, List, IfOk, Err, MatchOption};
 ghost use Rattle.serde_json.specs.View.{view};
+ghost use Rattle.garde_json.specs.Form.{Reads};
 ghost use Rattle.garde_json.specs.Json.{part_json, path_json};
 ghost use Rattle.garde_report.specs.Part.{Part, part};
 ghost use Rattle.garde_json.specs.declared.refused.JsonRefused.{JsonRefused};
@@ -8,7 +9,7 @@ ghost use Rattle.garde_json.specs.declared.refused.JsonRefused.{JsonRefused};
 use super::form::pair;
 use crate::JsonRefused;
 use crate::kind::{kind_name, kind_named};
-use crate::path::join;
+use crate::path::joined;
 use garde_report::{Kind, Path};
 use serde_json::{Value, json};
 use std::alloc::{AllocError, Global};
@@ -42,20 +43,17 @@ pub fn path_to_json(alloc: Global, path: &Path) -> Result<Value, AllocError>
     Ok(Value::Array(items))
 }
 
-/// Whether a tree is the written form of a path. No memory is asked for.
-pub(super) fn is_path(tree: &Value) -> bool
-    ensures written { result ≡ true → (path : List Part) × (view tree.now ≡ path_json path) }
-    ensures other { result ≡ false → (path : List Part) → view tree.now ≢ path_json path }
+// The path whose written form a tree is, where there is memory for it. All of the form is read where
+// there is none.
+pub(super) fn path_in(alloc: Global, tree: &Value) -> Option<Result<Path, AllocError>>
+    ensures { Reads path_json (view tree.now) result }
 {
-    let Some(items) = tree.as_array() else {
-        return false;
-    };
-    for item in items {
-        let Some(_component) = component_from_json(item) else {
-            return false;
-        };
+    let mut path = Ok(Path::empty());
+    for item in tree.as_array()? {
+        let (kind, text) = component_from_json(item)?;
+        path = joined(alloc, path, kind, text);
     }
-    true
+    Some(path)
 }
 
 /// The path whose written form a tree is. `Form` is returned exactly where no path has that form,
@@ -67,27 +65,9 @@ pub fn path_from_json(alloc: Global, tree: &Value) -> Result<Path, JsonRefused>
     ensures refused { ((path : List Part) → view tree.now ≢ path_json path)
         → result ≡ Err JsonRefused.Form }
 {
-    if !is_path(tree) {
-        return Err(JsonRefused::Form);
+    match path_in(alloc, tree) {
+        Some(Ok(path)) => Ok(path),
+        Some(Err(_)) => Err(JsonRefused::Memory),
+        None => Err(JsonRefused::Form),
     }
-    read_path(alloc, tree)
-}
-
-// The path whose written form a tree is.
-pub(super) fn read_path(alloc: Global, tree: &Value) -> Result<Path, JsonRefused>
-    ensures ok { IfOk result (λ path. path_json path ≡ view tree.now) }
-    ensures form { result ≡ Err JsonRefused.Form
-        → (path : List Part) → view tree.now ≢ path_json path }
-{
-    let Some(items) = tree.as_array() else {
-        return Err(JsonRefused::Form);
-    };
-    let mut path = Path::empty();
-    for item in items {
-        let Some((kind, text)) = component_from_json(item) else {
-            return Err(JsonRefused::Form);
-        };
-        path = join(alloc, &path, kind, text)?;
-    }
-    Ok(path)
 }

@@ -1,13 +1,16 @@
 //! Errors, faults and reports as JSON trees.
-ghost use Rattle.std.specs.Prelude.{◌≡◌, ◌≢◌, ℕ, List, true, false, IfOk, Err};
+ghost use Rattle.std.specs.Prelude.{◌≡◌, ◌≢◌, List, IfOk, Err};
 ghost use Rattle.serde_json.specs.View.{view};
+ghost use Rattle.garde_json.specs.First.{entries_json};
+ghost use Rattle.garde_json.specs.Form.{Reads};
 ghost use Rattle.garde_json.specs.Json.{error_json, entry_json, report_json};
 ghost use Rattle.garde_report.specs.Report.{Entry};
 ghost use Rattle.garde_json.specs.declared.refused.JsonRefused.{JsonRefused};
 
 use super::form::{pair, sole_member};
-use super::path::{is_path, path_to_json, read_path};
+use super::path::{path_in, path_to_json};
 use crate::JsonRefused;
+use crate::read::{both, with_fault};
 use garde_report::{Error, Path, Report};
 use serde_json::{Value, json};
 use std::alloc::{AllocError, Global};
@@ -19,32 +22,11 @@ fn error_to_json(alloc: Global, error: &Error) -> Result<Value, AllocError>
     json!(in alloc; {"message": message})
 }
 
-// Whether a tree is the written form of an error.
-fn is_error(tree: &Value) -> bool
-    ensures written { result ≡ true → (error : List ℕ) × (view tree.now ≡ error_json error) }
-    ensures other { result ≡ false → (error : List ℕ) → view tree.now ≢ error_json error }
+fn error_in(alloc: Global, tree: &Value) -> Option<Result<Error, AllocError>>
+    ensures { Reads error_json (view tree.now) result }
 {
-    let Some(message) = sole_member(tree, "message") else {
-        return false;
-    };
-    let Some(_message) = message.as_str() else {
-        return false;
-    };
-    true
-}
-
-fn error_from_json(alloc: Global, tree: &Value) -> Result<Error, JsonRefused>
-    ensures ok { IfOk result (λ error. view tree.now ≡ error_json error) }
-    ensures form { result ≡ Err JsonRefused.Form
-        → (error : List ℕ) → view tree.now ≢ error_json error }
-{
-    let Some(message) = sole_member(tree, "message") else {
-        return Err(JsonRefused::Form);
-    };
-    let Some(message) = message.as_str() else {
-        return Err(JsonRefused::Form);
-    };
-    Ok(Error::new(alloc, message)?)
+    let message = sole_member(tree, "message")?;
+    Some(Error::new(alloc, message.as_str()?))
 }
 
 fn entry_to_json(alloc: Global, path: &Path, error: &Error) -> Result<Value, AllocError>
@@ -55,28 +37,13 @@ fn entry_to_json(alloc: Global, path: &Path, error: &Error) -> Result<Value, All
     json!(in alloc; [path, error])
 }
 
-// Whether a tree is the written form of a fault.
-fn is_entry(tree: &Value) -> bool
-    ensures written { result ≡ true → (entry : Entry) × (view tree.now ≡ entry_json entry) }
-    ensures other { result ≡ false → (entry : Entry) → view tree.now ≢ entry_json entry }
+fn entry_in(alloc: Global, tree: &Value) -> Option<Result<(Path, Error), AllocError>>
+    ensures { Reads entry_json (view tree.now) result }
 {
-    let Some((path, error)) = pair(tree) else {
-        return false;
-    };
-    is_path(path) && is_error(error)
-}
-
-fn entry_from_json(alloc: Global, tree: &Value) -> Result<(Path, Error), JsonRefused>
-    ensures ok { IfOk result (λ entry. view tree.now ≡ entry_json entry) }
-    ensures form { result ≡ Err JsonRefused.Form
-        → (entry : Entry) → view tree.now ≢ entry_json entry }
-{
-    let Some((path, error)) = pair(tree) else {
-        return Err(JsonRefused::Form);
-    };
-    let path = read_path(alloc, path)?;
-    let error = error_from_json(alloc, error)?;
-    Ok((path, error))
+    let (path_tree, error_tree) = pair(tree)?;
+    let path = path_in(alloc, path_tree)?;
+    let error = error_in(alloc, error_tree)?;
+    Some(both(path, error))
 }
 
 /// The written form of a report.
@@ -91,23 +58,23 @@ pub fn report_to_json(alloc: Global, report: &Report) -> Result<Value, AllocErro
     json!(in alloc; {"errors": errors})
 }
 
-// Whether a tree is the written form of a report.
-fn is_report(tree: &Value) -> bool
-    ensures written { result ≡ true → (report : List Entry) × (view tree.now ≡ report_json report) }
-    ensures other { result ≡ false → (report : List Entry) → view tree.now ≢ report_json report }
+// The report of these faults, where there is memory for it.
+fn faults_in(alloc: Global, tree: &Value) -> Option<Result<Report, AllocError>>
+    ensures { Reads entries_json (view tree.now) result }
 {
-    let Some(errors) = sole_member(tree, "errors") else {
-        return false;
-    };
-    let Some(entries) = errors.as_array() else {
-        return false;
-    };
-    for entry in entries {
-        if !is_entry(entry) {
-            return false;
-        }
+    let mut report = Ok(Report::new(alloc));
+    for entry in tree.as_array()? {
+        let fault = entry_in(alloc, entry)?;
+        report = with_fault(report, fault);
     }
-    true
+    Some(report)
+}
+
+fn report_in(alloc: Global, tree: &Value) -> Option<Result<Report, AllocError>>
+    ensures { Reads report_json (view tree.now) result }
+{
+    let errors = sole_member(tree, "errors")?;
+    faults_in(alloc, errors)
 }
 
 /// The report whose written form a tree is. `Form` is returned exactly where no report has that
@@ -119,28 +86,9 @@ pub fn report_from_json(alloc: Global, tree: &Value) -> Result<Report, JsonRefus
     ensures refused { ((report : List Entry) → view tree.now ≢ report_json report)
         → result ≡ Err JsonRefused.Form }
 {
-    if !is_report(tree) {
-        return Err(JsonRefused::Form);
+    match report_in(alloc, tree) {
+        Some(Ok(report)) => Ok(report),
+        Some(Err(_)) => Err(JsonRefused::Memory),
+        None => Err(JsonRefused::Form),
     }
-    read_report(alloc, tree)
-}
-
-// The report whose written form a tree is.
-fn read_report(alloc: Global, tree: &Value) -> Result<Report, JsonRefused>
-    ensures ok { IfOk result (λ report. report_json report ≡ view tree.now) }
-    ensures form { result ≡ Err JsonRefused.Form
-        → (report : List Entry) → view tree.now ≢ report_json report }
-{
-    let Some(errors) = sole_member(tree, "errors") else {
-        return Err(JsonRefused::Form);
-    };
-    let Some(entries) = errors.as_array() else {
-        return Err(JsonRefused::Form);
-    };
-    let mut report = Report::new(alloc);
-    for entry in entries {
-        let (path, error) = entry_from_json(alloc, entry)?;
-        report.append(path, error)?;
-    }
-    Ok(report)
 }

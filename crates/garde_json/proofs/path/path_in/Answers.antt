@@ -1,4 +1,5 @@
 use Rattle.std.proofs.Common.{rules, [], ◌∷◌, ◌++◌}
+use Rattle.garde_json.specs.Form.{spelled}
 use Rattle.garde_json.specs.Json.{part_json, path_json}
 use Rattle.garde_report.specs.Part.{part}
 use Rattle.garde_json.proofs.Listed.{left_is, more_is, end_is, none_reads, grown}
@@ -8,7 +9,7 @@ use Rattle.garde_json.proofs.path.path_in.Goals as goal
 pub returns-in_err-kind : goal.returns-in_err-kind
 returns-in_err-kind c =
     let parts = c.loop-item.invariant in
-    none_reads path_json _ c.from_residual-in_err-kind.result (search rules)
+    none_reads (spelled path_json) _ c.from_residual-in_err-kind.result (search rules)
     (left_is part_json _ c.in-Some.item parts.0 c.loop-item.items _ c.in-Some.ensures.steps parts.1 (c.in_err-kind.ensures {u = tt}))
 
 -- an item is a component, and the path has it

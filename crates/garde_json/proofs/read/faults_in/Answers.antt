@@ -1,6 +1,7 @@
 use Rattle.std.proofs.Common.{rules, [], ◌∷◌, ◌++◌, sym, ◌∙◌}
 use Rattle.garde_json.specs.Json.{entry_json}
 use Rattle.garde_json.specs.First.{entries_json}
+use Rattle.garde_json.specs.Form.{spelled}
 use Rattle.garde_json.proofs.Listed.{left_is, more_is, end_is, none_reads, grown_by, some_more, none_listed}
 use Rattle.garde_json.proofs.read.faults_in.Goals as goal
 
@@ -8,7 +9,7 @@ use Rattle.garde_json.proofs.read.faults_in.Goals as goal
 pub returns-in_err-fault-clause-read : goal.returns-in_err-fault-clause-read
 returns-in_err-fault-clause-read c =
     let entries = c.loop-item.invariant in
-    none_reads entries_json _ c.from_residual-in_err-fault.result (search rules)
+    none_reads (spelled entries_json) _ c.from_residual-in_err-fault.result (search rules)
     (left_is entry_json _ c.in-Some.item entries.0 c.loop-item.items _ c.in-Some.ensures.steps entries.1 (c.in_err-fault.ensures {u = tt}))
 
 -- an item is a fault, and the report has it

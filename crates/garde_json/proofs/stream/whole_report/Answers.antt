@@ -1,12 +1,14 @@
 use Rattle.std.proofs.Common.{[], ◌∷◌, ap, ◌∙◌}
 use Rattle.json.specs.Token.{Token}
 use Rattle.garde_json.specs.Json.{report_json}
-use Rattle.garde_json.proofs.Taken.{none_all, report_ends, report_whole, report_without_faults, tail_is}
+use Rattle.garde_json.specs.Tokens.{tokens_of}
+use Rattle.garde_json.proofs.Listed.{none_reads}
+use Rattle.garde_json.proofs.Taken.{report_ends, report_whole, report_without_faults, tail_is}
 use Rattle.garde_json.proofs.stream.whole_report.Goals as goal
 
 pub returns-in_err-report : goal.returns-in_err-report
 returns-in_err-report c =
-    none_all report_json c.args.reader.now c.from_residual.result c.from_residual.ensures
+    none_reads (tokens_of report_json) c.args.reader.now c.from_residual.result c.from_residual.ensures
     (report_without_faults c.args.reader.now c.opens_object.new.reader c.has_key.new.reader (c.if-not-opens_object.ensures {u = tt}) (c.if-not-has_key.ensures {u = tt}) (c.in_err-report.ensures {u = tt}))
 
 pub returns-then-not-ends_object : goal.returns-then-not-ends_object
