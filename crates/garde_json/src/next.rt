@@ -9,10 +9,7 @@ use json::{Reader, Token};
 pub(crate) fn opens_list(reader: &mut Reader<'_>) -> bool
     ensures { Takes begin_array reader.old reader.new result }
 {
-    match reader.next() {
-        Some(Token::BeginArray) => true,
-        _ => false,
-    }
+    matches!(reader.next(), Some(Token::BeginArray))
 }
 
 /// Takes the bracket that closes a list, if it is next.
@@ -27,30 +24,21 @@ pub(crate) fn ends_list(reader: &mut Reader<'_>) -> bool
 pub(crate) fn opens_object(reader: &mut Reader<'_>) -> bool
     ensures { Takes begin_object reader.old reader.new result }
 {
-    match reader.next() {
-        Some(Token::BeginObject) => true,
-        _ => false,
-    }
+    matches!(reader.next(), Some(Token::BeginObject))
 }
 
 /// Takes the brace that closes an object, or ends the reading.
 pub(crate) fn ends_object(reader: &mut Reader<'_>) -> bool
     ensures { Takes end_object reader.old reader.new result }
 {
-    match reader.next() {
-        Some(Token::EndObject) => true,
-        _ => false,
-    }
+    matches!(reader.next(), Some(Token::EndObject))
 }
 
 /// Takes the name of a member, if it is this one, or ends the reading.
 pub(crate) fn has_key(reader: &mut Reader<'_>, name: &str) -> bool
     ensures { Takes (key name.now) reader.old reader.new result }
 {
-    match reader.next() {
-        Some(Token::Key(key)) => key == name,
-        _ => false,
-    }
+    matches!(reader.next(), Some(Token::Key(key)) if key == name)
 }
 
 /// Takes a text, or ends the reading.
@@ -68,8 +56,5 @@ pub(crate) fn next_text<'a>(reader: &mut Reader<'a>) -> Option<&'a str>
 pub(crate) fn is_at_end(reader: &mut Reader<'_>) -> bool
     ensures { Ends reader.old result }
 {
-    match reader.next() {
-        None => true,
-        Some(_) => false,
-    }
+    reader.next().is_none()
 }
