@@ -1,8 +1,15 @@
 -- An object whose members are not those of a body is no tree of one.
-use Rattle.std.proofs.Common.{◌≡◌, ◌≢◌, ℕ, List, Some, codes, ap, ◌∙◌}
-use Rattle.serde_json.specs.Data.{Data, Members, member, no_members}
+use Rattle.std.proofs.Common.{◌≡◌, ◌≢◌, ℕ, List, Some, String, codes, string_bytes, ap, sym, ◌∙◌}
+use Rattle.std.specs.Prelude.{IfOk, IsOkAnd, Option, Result, Ok, Err, Vec}
+use Rattle.std.specs.declared.alloc.AllocError.{AllocError}
+use Rattle.std.specs.declared.alloc.Global.{Global}
+use Rattle.std.specs.BTreeMap.{BTreeMap}
+use Rattle.serde_json.specs.Data.{Data, Members, member, no_members, string}
 use Rattle.serde_json.specs.Find.{as_object}
-use Rattle.garde_check.specs.Request.{BeginsWith, members_json}
+use Rattle.garde_check.specs.declared.body.Address.{Address}
+use Rattle.garde_check.specs.declared.body.Body.{Body}
+use Rattle.garde_check.specs.Body.{Content, content, entries_of, texts_of}
+use Rattle.garde_check.specs.Request.{BeginsWith, IsRequest, age_json, body_json, entries_json, members_json, texts_json}
 use Rattle.garde_check.proofs.Members.{object_is}
 
 -- no tree of a body
@@ -47,3 +54,25 @@ pub has_members : (d a b c e : Data) (all more others last left : Members) → S
 has_members d a b c e all more others last left is first second third fourth none =
     let whole = object_is d all is in
     cc
+
+-- the members of a tree that spells a body
+pub spelled_parts : (d w x y z : Data) (body : Content) → d ≡ members_json w x y z → IsRequest d body
+    → (w ≡ entries_json body.addresses) × (x ≡ age_json body.age) × (y ≡ texts_json body.tags) × (z ≡ string body.username)
+spelled_parts d w x y z body is spells =
+    let whole : members_json w x y z ≡ body_json body = sym is ∙ spells.0 in
+    (cc, cc, cc, cc)
+
+-- a body that was made of these has their content
+pub body_made : (r : Result Body AllocError) (username : Result (String Global) AllocError) (age : Option ℕ) (tags : Result (Vec (String Global) Global) AllocError) (addresses : Result (BTreeMap (String Global) Address) AllocError) (body : Content)
+    → IfOk r (λ b. (b.age ≡ age) × IsOkAnd username (λ it. b.user.username ≡ it) × IsOkAnd tags (λ it. b.tags ≡ it) × IsOkAnd addresses (λ it. b.addresses ≡ it))
+    → IfOk username (λ it. string_bytes it ≡ body.username) → age ≡ body.age → IfOk tags (λ it. texts_of it ≡ body.tags) → IfOk addresses (λ it. entries_of it ≡ body.addresses) → IfOk r (λ b. content b ≡ body)
+body_made (Ok b) (Ok u) age (Ok t) (Ok a) body is name years few places =
+    let one : string_bytes b.user.username ≡ body.username = ap string_bytes is.1 ∙ name in
+    let two : b.age ≡ body.age = is.0 ∙ years in
+    let three : texts_of b.tags ≡ body.tags = ap texts_of is.2 ∙ few in
+    let four : entries_of b.addresses ≡ body.addresses = ap entries_of is.3 ∙ places in
+    λ i. record { username = one i; age = two i; tags = three i; addresses = four i }
+body_made (Ok b) (Ok u) age (Ok t) (Err e) body is name years few places = absurd is.3
+body_made (Ok b) (Ok u) age (Err e) addresses body is name years few places = absurd is.2
+body_made (Ok b) (Err e) age tags addresses body is name years few places = absurd is.1
+body_made (Err e) username age tags addresses body is name years few places = tt

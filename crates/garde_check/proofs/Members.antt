@@ -1,94 +1,103 @@
 -- The members of an object that are read in order.
-use Rattle.std.proofs.Common.{◌≡◌, ℕ, zero, suc, ◌<◌, List, [], ◌∷◌, ◌++◌, length, get_or, map, Some, String, string_bytes, refl, sym, ap, subst, ◌∙◌, arith}
+use Rattle.std.proofs.Common.{◌≡◌, ◌≢◌, List, [], ◌∷◌, ◌++◌, map, ℕ, Some, String, string_bytes, refl, sym, ap, subst, ◌∙◌}
+use Rattle.std.proofs.lemmas.List.{map-append}
+use Rattle.std.specs.Prelude.{Result, Ok, Err, IfOk, IsOkAnd}
+use Rattle.std.specs.declared.alloc.AllocError.{AllocError}
 use Rattle.std.specs.declared.alloc.Global.{Global}
-use Rattle.std.specs.Prelude.{true, Result, Ok, Err, OnOk, is_ok}
-use Rattle.std.specs.declared.cmp.Ordering.{Ordering}
-use Rattle.std.specs.declared.cmp.Ordering.TheVariants.{Less, Greater}
+use Rattle.std.specs.declared.cmp.Ordering.TheVariants.{Less}
 use Rattle.std.specs.Ordering.{nat_cmp, ordering_reverse, match_ordering}
 use Rattle.std.specs.Cmp.Lexicographic.{slice_cmp, nat_list_cmp_total}
 use Rattle.std.specs.List.{AllByRecursion}
 use Rattle.std.specs.List.Sorted.{IsStrictlySortedBy}
 use Rattle.std.specs.Map.{keys_of}
 use Rattle.std.specs.String.{string_cmp}
-use Rattle.std.specs.BTreeMap.{insert_entry}
-use Rattle.serde_json.specs.Data.{Data, null, boolean, number, string, array, object, Items, item, Members, member, no_members}
+use Rattle.std.specs.BTreeMap.{BTreeMap, insert_entry}
+use Rattle.serde_json.specs.Data.{Data, null, boolean, number, string, array, object, Members, member, no_members}
 use Rattle.serde_json.specs.Find.{as_object}
-use Rattle.serde_json.specs.View.{view, items_view, items_of, members_view}
+use Rattle.serde_json.specs.View.{view, members_view}
 use Rattle.serde_json.specs.declared.value.Value.{Value}
 use Rattle.garde_check.specs.declared.body.Address.{Address}
-use Rattle.garde_check.specs.Request.{entries_members}
+use Rattle.garde_check.specs.Body.{entries_of}
+use Rattle.garde_check.specs.Request.{AreBelow, entries_members, entries_json}
 
 abbrev pub Text : Type 0
 Text = String Global
 
--- a name and a tree: of a member, and of an address
-abbrev pub Named : Type 0
-Named = List ℕ × Data
+-- the name and the text of an address
+abbrev pub entry_of : Text × Address → List ℕ × List ℕ
+entry_of e = (string_bytes e.0, string_bytes e.1.0)
 
-abbrev pub of_member : Text × Value → Named
-of_member m = (string_bytes m.0, view m.1)
+pub texts_more : (old new : List Text) (text : Text) (bytes : List ℕ) → new ≡ old ++ text ∷ [] → string_bytes text ≡ bytes → map string_bytes new ≡ map string_bytes old ++ bytes ∷ []
+texts_more old new text bytes push is = ap (map string_bytes) push ∙ map-append string_bytes old (text ∷ []) ∙ ap (λ b. map string_bytes old ++ b ∷ []) is
 
-abbrev pub of_address : Text × Address → Named
-of_address e = (string_bytes e.0, string (string_bytes e.1.0))
+-- an address whose name is behind those of all others is inserted last
+inserted_last : (es : List (Text × Address)) (key : Text) (x : Address) → AreBelow (string_bytes key) (map entry_of es) → insert_entry string_cmp es key x ≡ es ++ (key, x) ∷ []
+inserted_last [] key x below = refl
+inserted_last (e ∷ es) key x below =
+    let above = nat_list_cmp_total.antisymm (string_bytes key) (string_bytes e.0) ∙ ap ordering_reverse below.0 in
+    ap (λ o. match_ordering o ((key, x) ∷ e ∷ es) ((e.0, x) ∷ es) (e ∷ insert_entry string_cmp es key x)) above
+    ∙ ap (λ l. e ∷ l) (inserted_last es key x below.1)
 
-abbrev pub name_of : {X : Type 0} → Text × X → List ℕ
-name_of e = string_bytes e.0
+pub address_more : (old new : List (Text × Address)) (key : Text) (x : Address) (name text : List ℕ) → new ≡ insert_entry string_cmp old key x → string_bytes key ≡ name → string_bytes x.0 ≡ text
+    → AreBelow name (map entry_of old) → map entry_of new ≡ map entry_of old ++ (name, text) ∷ []
+address_more old new key x name text put named is below =
+    ap (map entry_of) (put ∙ inserted_last old key x (subst (λ n. AreBelow n (map entry_of old)) (sym named) below))
+    ∙ map-append entry_of old ((key, x) ∷ []) ∙ (λ i. map entry_of old ++ (named i, is i) ∷ [])
 
-abbrev named_members : List Named → Members
-named_members [] = no_members
-named_members (n ∷ ns) = member n.0 n.1 (named_members ns)
+-- the same of what was made, where it was
+pub grown_behind : (r old : Result (BTreeMap Text Address) AllocError) (name text : List ℕ) (done : List (List ℕ × List ℕ))
+    → IfOk r (λ longer. IsOkAnd old (λ made. AreBelow name (entries_of made) → entries_of longer ≡ entries_of made ++ (name, text) ∷ []))
+    → AreBelow name done → IfOk old (λ made. entries_of made ≡ done) → IfOk r (λ longer. entries_of longer ≡ done ++ (name, text) ∷ [])
+grown_behind (Ok l) (Ok m) name text done more below is = more (subst (AreBelow name) (sym is) below) ∙ ap (λ es. es ++ (name, text) ∷ []) is
+grown_behind (Ok l) (Err a) name text done more below is = absurd more
+grown_behind (Err a) old name text done more below is = tt
 
--- one item goes over from what is left
-pub move : {A B C : Type 0} (f : A → C) (g : B → C) (xs : List A) (x : A) (ys rest : List B) (y : B) (all : List C) → map f xs ++ map g rest ≡ all → rest ≡ y ∷ ys → f x ≡ g y → map f (xs ++ x ∷ []) ++ map g ys ≡ all
-move {A = A} f g xs x ys rest y all e step same = sym (onto xs) ∙ ap (λ l. map f xs ++ map g l) (sym step) ∙ e
-  where
-    onto : (zs : List A) → map f zs ++ map g (y ∷ ys) ≡ map f (zs ++ x ∷ []) ++ map g ys
-    onto [] = ap (λ c. c ∷ map g ys) (sym same)
-    onto (z ∷ zs) = ap (λ l. f z ∷ l) (onto zs)
+-- members with these texts, and then others
+abbrev pub joined : List (List ℕ × List ℕ) → List (Text × Value) → Members
+joined [] ms = members_view ms
+joined (e ∷ es) ms = member e.0 (string e.1) (joined es ms)
 
--- ---- the names are in order, so each is inserted last
+joined_end : (es : List (List ℕ × List ℕ)) → joined es [] ≡ entries_members es
+joined_end [] = refl
+joined_end (e ∷ es) = ap (λ ms. member e.0 (string e.1) ms) (joined_end es)
 
-abbrev bytes_cmp : List ℕ → List ℕ → Ordering
-bytes_cmp = slice_cmp nat_cmp
+-- one member more is read, and its value is a text
+pub joined_more : (es : List (List ℕ × List ℕ)) (name : Text) (value : Value) (ms : List (Text × Value)) (text : List ℕ) → view value ≡ string text → joined es ((name, value) ∷ ms) ≡ joined (es ++ (string_bytes name, text) ∷ []) ms
+joined_more [] name value ms text is = ap (λ d. member (string_bytes name) d (members_view ms)) is
+joined_more (e ∷ es) name value ms text is = ap (λ l. member e.0 (string e.1) l) (joined_more es name value ms text is)
 
-all_names : {X : Type 0} (k : Text) (es : List (Text × X)) → AllByRecursion (λ y. string_cmp k y ≡ Less) (keys_of es) → AllByRecursion (λ y. bytes_cmp (string_bytes k) y ≡ Less) (map name_of es)
+-- a member whose value is no text, so the object is none of texts
+joined_astray : (es : List (List ℕ × List ℕ)) (name : Text) (value : Value) (ms : List (Text × Value)) → ((text : List ℕ) → view value ≢ string text) → (entries : List (List ℕ × List ℕ)) → joined es ((name, value) ∷ ms) ≢ entries_members entries
+joined_astray [] name value ms other [] e = cc
+joined_astray [] name value ms other (x ∷ xs) e = other x.1 (cc)
+joined_astray (y ∷ ys) name value ms other [] e = cc
+joined_astray (y ∷ ys) name value ms other (x ∷ xs) e = joined_astray ys name value ms other xs (cc)
+
+-- the names of the members are in order, so those that were read are below the next one
+abbrev names : Members → List (List ℕ)
+names no_members = []
+names (member k d ms) = k ∷ names ms
+
+all_names : (k : Text) (ms : List (Text × Value)) → AllByRecursion (λ y. string_cmp k y ≡ Less) (keys_of ms) → AllByRecursion (λ y. slice_cmp nat_cmp (string_bytes k) y ≡ Less) (names (members_view ms))
 all_names k [] h = tt
-all_names k (e ∷ es) h = (h.0, all_names k es h.1)
+all_names k (m ∷ ms) h = (h.0, all_names k ms h.1)
 
-pub names_sorted : {X : Type 0} (es : List (Text × X)) → IsStrictlySortedBy string_cmp (keys_of es) → IsStrictlySortedBy bytes_cmp (map name_of es)
+names_sorted : (ms : List (Text × Value)) → IsStrictlySortedBy string_cmp (keys_of ms) → IsStrictlySortedBy (slice_cmp nat_cmp) (names (members_view ms))
 unfolding IsStrictlySortedBy
 names_sorted [] h = tt
-names_sorted (e ∷ es) h = (all_names e.0 es h.0, names_sorted es h.1)
+names_sorted (m ∷ ms) h = (all_names m.0 ms h.0, names_sorted ms h.1)
 
-all_at : (P : List ℕ → Type 0) (ks rest : List (List ℕ)) (k : List ℕ) → AllByRecursion P (ks ++ k ∷ rest) → P k
-all_at P [] rest k h = h.0
-all_at P (l ∷ ks) rest k h = all_at P ks rest k h.1
+next_name : (P : List ℕ → Type 0) (es : List (List ℕ × List ℕ)) (m : Text × Value) (ms : List (Text × Value)) → AllByRecursion P (names (joined es (m ∷ ms))) → P (string_bytes m.0)
+next_name P [] m ms h = h.0
+next_name P (e ∷ es) m ms h = next_name P es m ms h.1
 
-insert_last : {X : Type 0} (es : List (Text × X)) (name : Text) (x : X) (rest : List (List ℕ)) → IsStrictlySortedBy bytes_cmp (map name_of es ++ string_bytes name ∷ rest) → insert_entry string_cmp es name x ≡ es ++ (name, x) ∷ []
+below : (es : List (List ℕ × List ℕ)) (m : Text × Value) (ms : List (Text × Value)) → IsStrictlySortedBy (slice_cmp nat_cmp) (names (joined es (m ∷ ms))) → AreBelow (string_bytes m.0) es
 unfolding IsStrictlySortedBy
-insert_last [] name x rest h = refl
-insert_last (e ∷ es) name x rest h =
-    let below = all_at (λ y. bytes_cmp (string_bytes e.0) y ≡ Less) (map name_of es) rest (string_bytes name) h.0 in
-    let above : bytes_cmp (string_bytes name) (string_bytes e.0) ≡ Greater =
-    nat_list_cmp_total.antisymm (string_bytes name) (string_bytes e.0) ∙ ap ordering_reverse below in
-    ap (λ o. match_ordering o ((name, x) ∷ e ∷ es) ((e.0, x) ∷ es) (e ∷ insert_entry string_cmp es name x)) above
-    ∙ ap (λ l. e ∷ l) (insert_last es name x rest h.1)
+below [] m ms h = tt
+below (e ∷ es) m ms h = (next_name (λ y. slice_cmp nat_cmp e.0 y ≡ Less) es m ms h.0, below es m ms h.1)
 
--- the next of the members, in the order of their names, is inserted last
-pub inserted_last : {X Y : Type 0} (es : List (Text × X)) (key name : Text) (x : X) (y : Y) (rest left all : List (Text × Y)) → IsStrictlySortedBy string_cmp (keys_of all) → map name_of es ++ map name_of left ≡ map name_of all → left ≡ (name, y) ∷ rest → string_bytes key ≡ string_bytes name → insert_entry string_cmp es key x ≡ es ++ (key, x) ∷ []
-inserted_last es key name x y rest left all sorted e step same =
-    insert_last es key x (map name_of rest)
-    (subst (IsStrictlySortedBy bytes_cmp) (sym e ∙ ap (λ l. map name_of es ++ map name_of l) step ∙ ap (λ k. map name_of es ++ k ∷ map name_of rest) (sym same)) (names_sorted all sorted))
-
--- ---- what the members are
-
-members_named : (ms : List (Text × Value)) → members_view ms ≡ named_members (map of_member ms)
-members_named [] = refl
-members_named (m ∷ ms) = ap (λ l. member (string_bytes m.0) (view m.1) l) (members_named ms)
-
-addresses_named : (es : List (Text × Address)) → entries_members (map (λ e. (string_bytes e.0, string_bytes e.1.0)) es) ≡ named_members (map of_address es)
-addresses_named [] = refl
-addresses_named (e ∷ es) = ap (λ l. member (string_bytes e.0) (string (string_bytes e.1.0)) l) (addresses_named es)
+pub are_below : (es : List (List ℕ × List ℕ)) (m : Text × Value) (ms all : List (Text × Value)) → IsStrictlySortedBy string_cmp (keys_of all) → joined es (m ∷ ms) ≡ members_view all → AreBelow (string_bytes m.0) es
+are_below es m ms all sorted is = below es m ms (subst (λ l. IsStrictlySortedBy (slice_cmp nat_cmp) (names l)) (sym is) (names_sorted all sorted))
 
 -- a tree that has members is the object of them
 pub object_is : (d : Data) (ms : Members) → Some ms ≡ as_object d → object ms ≡ d
@@ -99,38 +108,14 @@ object_is (string s) ms e = cc
 object_is (array ds) ms e = cc
 object_is (object ns) ms e = let same : ms ≡ ns = cc in ap object same
 
-append_none : {A B C : Type 0} (f : A → C) (g : B → C) (xs : List A) (ys : List B) → ys ≡ [] → map f xs ++ map g ys ≡ map f xs
-append_none f g [] ys none = ap (map g) none
-append_none f g (x ∷ xs) ys none = ap (λ l. f x ∷ l) (append_none f g xs ys none)
+-- a member's value is no text, so the object is none of texts
+pub none_joined : (d : Data) (es : List (List ℕ × List ℕ)) (name : Text) (value : Value) (ms all : List (Text × Value)) → Some (members_view all) ≡ as_object d → joined es ((name, value) ∷ ms) ≡ members_view all → ((text : List ℕ) → view value ≢ string text)
+    → (entries : List (List ℕ × List ℕ)) → d ≢ entries_json entries
+none_joined d es name value ms all is so_far other entries e =
+    let whole = is ∙ ap as_object e in
+    let same : members_view all ≡ entries_members entries = cc in
+    joined_astray es name value ms other entries (so_far ∙ same)
 
--- where all members were read, the addresses have their tree
-pub all_read : (d : Data) (es : List (Text × Address)) (left all : List (Text × Value)) → Some (members_view all) ≡ as_object d → map of_address es ++ map of_member left ≡ map of_member all → left ≡ [] → object (entries_members (map (λ e. (string_bytes e.0, string_bytes e.1.0)) es)) ≡ d
-all_read d es left all is e none =
-    ap object (addresses_named es ∙ ap named_members (sym (append_none of_address of_member es left none) ∙ e) ∙ sym (members_named all)) ∙ object_is d (members_view all) is
-
-value_at : (xs ys : List Named) (y : Named) (entries : List (List ℕ × List ℕ)) → named_members (xs ++ y ∷ ys) ≡ entries_members entries → (text : List ℕ) × (y.1 ≡ string text)
-value_at [] ys y [] e = cc
-value_at [] ys y (n ∷ ns) e = (n.1, cc)
-value_at (x ∷ xs) ys y [] e = cc
-value_at (x ∷ xs) ys y (n ∷ ns) e = value_at xs ys y ns (cc)
-
--- where the values are texts, the next is one
-pub text_next : (d : Data) (es : List (Text × Address)) (name : Text) (value : Value) (rest left all : List (Text × Value)) (entries : List (List ℕ × List ℕ)) → Some (members_view all) ≡ as_object d → map of_address es ++ map of_member left ≡ map of_member all → left ≡ (name, value) ∷ rest → d ≡ object (entries_members entries) → (text : List ℕ) × (view value ≡ string text)
-text_next d es name value rest left all entries is e step form =
-    let same : members_view all ≡ entries_members entries = let whole = is ∙ ap as_object form in cc in
-    value_at (map of_address es) (map of_member rest) (of_member (name, value)) entries
-    (ap named_members (ap (λ l. map of_address es ++ map of_member l) (sym step) ∙ e) ∙ sym (members_named all) ∙ same)
-
-pub on_ok : {T E P : Type 0} (r : Result T E) → is_ok r ≡ true → OnOk r P → P
-on_ok (Ok x) e h = h
-on_ok (Err y) e h = cc
-
-first_is : {X : Type 0} (tree : X → Data) (v w : Value) (ds es : Items) (x : X) → item (view v) ds ≡ item (tree x) es → w ≡ v → view w ≡ tree x
-first_is tree v w ds es x h e = let k : view v ≡ tree x = cc in ap view e ∙ k
-
--- an array that is the trees of a list has one at each place
-pub tree_at : {X : Type 0} (tree : X → Data) (vs : List Value) (xs : List X) (i : ℕ) (v : Value) → items_view vs ≡ items_of (map tree xs) → i < length vs → v ≡ get_or vs i v → (x : X) × (view v ≡ tree x)
-tree_at tree [] xs i v h lt e = absurd (omega (arith, lt))
-tree_at tree (w ∷ vs) [] i v h lt e = cc
-tree_at tree (w ∷ vs) (x ∷ xs) zero v h lt e = (x, first_is tree w v (items_view vs) (items_of (map tree xs)) x h e)
-tree_at tree (w ∷ vs) (x ∷ xs) (suc i) v h lt e = tree_at tree vs xs i v (cc) (omega (arith, lt)) e
+-- all members were read, each as a text
+pub all_joined : (d : Data) (es : List (List ℕ × List ℕ)) (left all : List (Text × Value)) → Some (members_view all) ≡ as_object d → joined es left ≡ members_view all → left ≡ [] → d ≡ entries_json es
+all_joined d es left all is so_far none = sym (object_is d (members_view all) is) ∙ ap object (sym so_far ∙ ap (joined es) none ∙ joined_end es)

@@ -1,5 +1,5 @@
 -- The visits of a request's body, and the one tree that it has.
-use Rattle.std.specs.Prelude.{ℕ, List, [], ◌∷◌, Option, is_some, map, String}
+use Rattle.std.specs.Prelude.{ℕ, List, [], ◌∷◌, Option, is_some, map, String, Vec}
 use Rattle.std.specs.declared.alloc.Global.{Global}
 use Rattle.std.specs.BTreeMap.{BTreeMap}
 use Rattle.garde.specs.Fields.{◌and◌, alphanumeric, at_most, between, chars, codes, each, each_value, field, ip, is, items, length, of_option, range, required, slice, str, text_key, Visits}
@@ -41,6 +41,10 @@ pub record Content : Type 0 where
   -- each name with its text
   pub addresses : List (List ℕ × List ℕ)
 
+-- the texts of a list
+abbrev pub texts_of : Vec (String Global) Global → List (List ℕ)
+texts_of texts = map str texts.items
+
 -- the names and texts of addresses
 abbrev pub entries_of : BTreeMap (String Global) Address → List (List ℕ × List ℕ)
 entries_of addresses = map (λ e. (str e.0, str e.1.0)) addresses.entries
@@ -49,7 +53,7 @@ abbrev pub content : Body → Content
 content body = record {
   username = str body.user.username;
   age = body.age;
-  tags = map str body.tags.items;
+  tags = texts_of body.tags;
   addresses = entries_of body.addresses;
 }
 

@@ -1,7 +1,10 @@
 -- The JSON trees that spell the bodies of requests.
-use Rattle.std.specs.Prelude.{◌≡◌, ◌<◌, ◌^◌, ℕ, Bool, true, false, ◌&&◌, List, [], ◌∷◌, map, codes, Option, Some, None, is_some, IfSome}
-use Rattle.serde_json.specs.Data.{Data, null, boolean, number, unsigned, string, array, object, Items, item, no_items, Members, member, no_members}
-use Rattle.serde_json.specs.Find.{as_str}
+use Rattle.std.specs.Prelude.{◌≡◌, ◌<◌, ◌^◌, ℕ, List, [], ◌∷◌, map, codes, Option, Some, None, IfSome}
+use Rattle.std.specs.Cmp.Lexicographic.{slice_cmp}
+use Rattle.std.specs.List.{AllByRecursion}
+use Rattle.std.specs.Ordering.{nat_cmp}
+use Rattle.std.specs.declared.cmp.Ordering.TheVariants.{Less}
+use Rattle.serde_json.specs.Data.{Data, null, number, unsigned, string, array, object, Members, member, no_members}
 use Rattle.serde_json.specs.Read.{read}
 use Rattle.serde_json.specs.View.{items_of}
 use Rattle.garde_check.specs.Body.{Content}
@@ -27,6 +30,10 @@ entries_members (e ∷ es) = member e.0 (string e.1) (entries_members es)
 abbrev pub entries_json : List (List ℕ × List ℕ) → Data
 entries_json entries = object (entries_members entries)
 
+-- the names of the entries come before this one
+abbrev pub AreBelow : List ℕ → List (List ℕ × List ℕ) → Type 0
+AreBelow name entries = AllByRecursion (λ e. slice_cmp nat_cmp e.0 name ≡ Less) entries
+
 -- an object with exactly these members, in the order of their names
 abbrev pub members_json : Data → Data → Data → Data → Data
 members_json addresses age tags username =
@@ -41,38 +48,6 @@ abbrev pub body_json : Content → Data
 body_json body =
     members_json
     (entries_json body.addresses) (age_json body.age) (texts_json body.tags) (string body.username)
-
--- Whether a tree is a text, an array of texts, or an object whose values are texts. A body is read only where its members are, so
--- that a tree which spells none is rejected before anything is allocated.
-abbrev pub is_text : Data → Bool
-is_text tree = is_some (as_str tree)
-
-abbrev pub all_texts : Items → Bool
-all_texts no_items = true
-all_texts (item tree trees) = is_text tree && all_texts trees
-
-abbrev pub all_values : Members → Bool
-all_values no_members = true
-all_values (member name tree members) = is_text tree && all_values members
-
-abbrev pub is_texts : Data → Bool
-is_texts null = false
-is_texts (boolean b) = false
-is_texts (number n) = false
-is_texts (string s) = false
-is_texts (array trees) = all_texts trees
-is_texts (object ms) = false
-
-abbrev pub is_entries : Data → Bool
-is_entries null = false
-is_entries (boolean b) = false
-is_entries (number n) = false
-is_entries (string s) = false
-is_entries (array trees) = false
-is_entries (object members) = all_values members
-
-abbrev pub are_spelled : Data → Data → Data → Bool
-are_spelled addresses tags username = is_text username && (is_texts tags && is_entries addresses)
 
 -- the tree spells the body
 abbrev pub IsRequest : Data → Content → Type 0

@@ -1,15 +1,16 @@
 //! Bodies from JSON trees.
-ghost use Rattle.std.specs.Prelude.{◌≡◌, ◌≢◌, ◌<◌, ◌^◌, ℕ, List, IfOk, IfSome, MatchOption, Option, Err, map, string_bytes};
+ghost use Rattle.std.specs.Prelude.{◌≡◌, ◌≢◌, ◌∷◌, [], ◌++◌, ℕ, List, IfOk, IsOkAnd, MatchOption, Option, Err};
 ghost use Rattle.serde_json.specs.Data.{Data, member, string};
 ghost use Rattle.serde_json.specs.View.{members_view, view};
-ghost use Rattle.garde_check.specs.Body.{Content, content, entries_of};
-ghost use Rattle.garde_check.specs.Request.{BeginsWith, IsAge, age_json, texts_json, entries_json, members_json, is_texts, is_entries, are_spelled, IsRequest};
+ghost use Rattle.garde_check.specs.Body.{Content, content, entries_of, texts_of};
+ghost use Rattle.garde_check.specs.Request.{AreBelow, BeginsWith, IsAge, IsRequest, age_json, entries_json, members_json, texts_json};
+ghost use Rattle.garde_json.specs.Form.{ReadsAs};
 
 use super::{Address, Body};
 use crate::user::User;
 use garde_json::JsonRefused;
 use serde_json::Value;
-use std::alloc::Global;
+use std::alloc::{AllocError, Global};
 use std::collections::BTreeMap;
 use std::collections::btree_map::Iter;
 
@@ -70,94 +71,109 @@ fn age_from_json(tree: &Value) -> Option<Option<u32>>
     }
 }
 
-// Whether a tree is an array of texts.
-fn has_texts(tree: &Value) -> bool
-    ensures { result ≡ is_texts (view tree.now) }
+// The text that a tree is.
+fn text_in(tree: &Value) -> Option<&str>
+    ensures { MatchOption result ((text : List ℕ) → view tree.now ≢ string text)
+        (λ text. view tree.now ≡ string text.now) }
 {
-    let Some(items) = tree.as_array() else {
-        return false;
-    };
-    for item in items {
-        if !item.is_string() {
-            return false;
-        }
-    }
-    true
+    tree.as_str()
 }
 
-// Whether a tree is an object whose values are texts.
-fn has_entries(tree: &Value) -> bool
-    ensures { result ≡ is_entries (view tree.now) }
+// The texts with one more at the end, where there was memory for both.
+#[tactic(auto, using(crate::proofs::Members::texts_more))]
+fn with_text(
+    alloc: Global,
+    texts: Result<Vec<String>, AllocError>,
+    text: &str,
+) -> Result<Vec<String>, AllocError>
+    ensures { IfOk result (λ longer. IsOkAnd texts (λ made.
+        texts_of longer ≡ texts_of made ++ text.now ∷ [])) }
 {
-    let Some(members) = tree.as_object() else {
-        return false;
-    };
-    for (_name, value) in members.iter() {
-        if !value.is_string() {
-            return false;
-        }
-    }
-    true
-}
-
-// Whether the members are texts where a body has texts.
-fn are_spelled(members: Members<'_>) -> bool
-    ensures { let m = members.entry in
-        result ≡ are_spelled (view m.addresses.now) (view m.tags.now) (view m.username.now) }
-{
-    members.username.is_string() && has_texts(members.tags) && has_entries(members.addresses)
-}
-
-fn text_from_json(alloc: Global, tree: &Value) -> Result<String, JsonRefused>
-    ensures ok { IfOk result (λ text. view tree.now ≡ string (string_bytes text)) }
-    ensures form { result ≡ Err JsonRefused.Form
-        → (text : List ℕ) → view tree.now ≢ string text }
-{
-    let Some(text) = tree.as_str() else {
-        return Err(JsonRefused::Form);
-    };
-    Ok(String::from_str(alloc, text)?)
-}
-
-fn texts_from_json(alloc: Global, tree: &Value) -> Result<Vec<String>, JsonRefused>
-    ensures ok { IfOk result (λ texts.
-        texts_json (map string_bytes texts.items) ≡ view tree.now) }
-    ensures form { result ≡ Err JsonRefused.Form
-        → (texts : List (List ℕ)) → view tree.now ≢ texts_json texts }
-{
-    let Some(items) = tree.as_array() else {
-        return Err(JsonRefused::Form);
-    };
-    let mut texts = Vec::new(alloc);
-    for item in items {
-        let text = text_from_json(alloc, item)?;
-        if texts.push(text).is_err() {
-            return Err(JsonRefused::Memory);
-        }
-    }
+    let mut texts = texts?;
+    texts.push(String::from_str(alloc, text)?)?;
     Ok(texts)
 }
 
-fn addresses_from_json(
+// The texts of an array, where there is memory for them. All of it is read where there is none.
+fn texts_in(alloc: Global, tree: &Value) -> Option<Result<Vec<String>, AllocError>>
+    ensures { ReadsAs texts_of texts_json (view tree.now) result }
+{
+    let mut texts = Ok(Vec::new(alloc));
+    for item in tree.as_array()? {
+        let text = text_in(item)?;
+        texts = with_text(alloc, texts, text);
+    }
+    Some(texts)
+}
+
+// The addresses with one more, which is the last where its name is behind all of them, where there
+// was memory for both.
+fn with_address(
+    alloc: Global,
+    addresses: Result<BTreeMap<String, Address>, AllocError>,
+    name: &str,
+    text: &str,
+) -> Result<BTreeMap<String, Address>, AllocError>
+    ensures { IfOk result (λ longer. IsOkAnd addresses (λ made. AreBelow name.now (entries_of made)
+        → entries_of longer ≡ entries_of made ++ (name.now, text.now) ∷ [])) }
+{
+    let mut addresses = addresses?;
+    let address = Address(String::from_str(alloc, text)?);
+    addresses.insert(String::from_str(alloc, name)?, address)?;
+    Ok(addresses)
+}
+
+// The addresses of an object, where there is memory for them. All of it is read where there is none.
+fn addresses_in(
     alloc: Global,
     tree: &Value,
-) -> Result<BTreeMap<String, Address>, JsonRefused>
-    ensures ok { IfOk result (λ addresses. entries_json (entries_of addresses) ≡ view tree.now) }
-    ensures form { result ≡ Err JsonRefused.Form
-        → (entries : List (List ℕ × List ℕ)) → view tree.now ≢ entries_json entries }
+) -> Option<Result<BTreeMap<String, Address>, AllocError>>
+    ensures { ReadsAs entries_of entries_json (view tree.now) result }
 {
-    let Some(members) = tree.as_object() else {
-        return Err(JsonRefused::Form);
-    };
-    let mut addresses = BTreeMap::new(alloc);
-    for (name, value) in members.iter() {
-        let text = text_from_json(alloc, value)?;
-        let name = name.clone()?;
-        if addresses.insert(name, Address(text)).is_err() {
-            return Err(JsonRefused::Memory);
-        }
+    let mut addresses = Ok(BTreeMap::new(alloc));
+    for (name, value) in tree.as_object()?.iter() {
+        let text = text_in(value)?;
+        addresses = with_address(alloc, addresses, name.as_str(), text);
     }
-    Ok(addresses)
+    Some(addresses)
+}
+
+// The body of what its members hold, where there was memory for all.
+fn made(
+    username: Result<String, AllocError>,
+    age: Option<u32>,
+    tags: Result<Vec<String>, AllocError>,
+    addresses: Result<BTreeMap<String, Address>, AllocError>,
+) -> Result<Body, AllocError>
+    ensures { IfOk result (λ body. (body.age ≡ age)
+        × IsOkAnd username (λ it. body.user.username ≡ it)
+        × IsOkAnd tags (λ it. body.tags ≡ it)
+        × IsOkAnd addresses (λ it. body.addresses ≡ it)) }
+{
+    Ok(Body {
+        user: User {
+            username: username?,
+        },
+        age,
+        tags: tags?,
+        addresses: addresses?,
+    })
+}
+
+// The body that a tree spells, where there is memory for it.
+fn body_in(alloc: Global, tree: &Value) -> Option<Result<Body, AllocError>>
+    ensures { MatchOption result
+        ((body : Content) → IsRequest (view tree.now) body → ⊥)
+        (λ made. (body : Content) × IsRequest (view tree.now) body
+        × IfOk made (λ read. IsRequest (view tree.now) (content read))) }
+{
+    let members = members_of(tree)?;
+    let age = age_from_json(members.age)?;
+    let name = text_in(members.username)?;
+    let tags = texts_in(alloc, members.tags)?;
+    let addresses = addresses_in(alloc, members.addresses)?;
+    let username = String::from_str(alloc, name);
+    Some(made(username, age, tags, addresses))
 }
 
 impl Body {
@@ -174,22 +190,10 @@ impl Body {
         ensures refused { ((body : Content) → IsRequest (view tree.now) body → ⊥)
             → result ≡ Err JsonRefused.Form }
     {
-        let Some(members) = members_of(tree) else {
-            return Err(JsonRefused::Form);
-        };
-        let Some(age) = age_from_json(members.age) else {
-            return Err(JsonRefused::Form);
-        };
-        if !are_spelled(members) {
-            return Err(JsonRefused::Form);
+        match body_in(alloc, tree) {
+            Some(Ok(body)) => Ok(body),
+            Some(Err(_)) => Err(JsonRefused::Memory),
+            None => Err(JsonRefused::Form),
         }
-        Ok(Body {
-            user: User {
-                username: text_from_json(alloc, members.username)?,
-            },
-            age,
-            tags: texts_from_json(alloc, members.tags)?,
-            addresses: addresses_from_json(alloc, members.addresses)?,
-        })
     }
 }
