@@ -2,6 +2,9 @@ pub mod Asked
 pub mod Dated
 pub mod Ending
 pub mod Fits
+pub mod Json
+pub mod Judged
+pub mod Problems
 pub mod Reasons
 pub mod Rejected
 pub mod Room

@@ -4,14 +4,20 @@
 mod asked;
 mod date;
 mod handler;
+mod json_body;
+mod problems;
 mod put;
 mod rejected;
 mod rejection;
+mod stdio;
 mod wire;
 
 pub use asked::{IDENTITY, elsewhere, has_coding, has_type, language_of};
 pub use date::{date_of, put_date};
 pub use handler::{Body, Handler};
+pub use json_body::put_error;
+pub use problems::{PROBLEM_TYPE, problem_body};
 pub use put::{put_field, put_language, put_text};
 pub use rejected::Rejected;
+pub use stdio::{Serving, serve};
 pub use wire::answer_all;
