@@ -1,6 +1,6 @@
--- What an author of a handler relies on: a request asks for one language, the answer to a `POST` has the body that the handler gave, and each
--- status of a rejection is an error.
-use Rattle.std.proofs.Common.{◌≡◌, ◌≢◌, ◌≤◌, arith, ℕ, List, [], Option, Some, None, codes, sym, subst, ◌∙◌, if◌then◌else◌}
+-- What an author of a handler relies on: a request asks for one language, the answer to a `POST` has the body that the handler gave, each
+-- status of a rejection is an error, and no answer hands the connection over.
+use Rattle.std.proofs.Common.{◌≡◌, ◌≢◌, ◌≤◌, arith, ℕ, List, [], Option, Some, None, codes, sym, subst, ◌∙◌, if◌then◌else◌, inl, inr}
 use Rattle.garde_catalog.specs.Catalogs.{offered_by}
 use Rattle.garde_catalog.specs.Field.{wants_in}
 use Rattle.garde_catalog.specs.declared.catalogs.Catalogs.{Catalogs}
@@ -11,11 +11,18 @@ use Rattle.http_header.specs.HeaderMap.{get}
 use Rattle.http1.specs.Framing.{method_kind}
 use Rattle.http1.specs.Message as Wire
 use Rattle.http1.specs.Server.{is_head}
+use Rattle.http_server.specs.declared.response.Response.{Response}
 use Rattle.garde_service.specs.Asked.{IsAskedIn, IsLanguage}
+use Rattle.garde_service.specs.Answers.{Gives, GivesAsked, IsAnswerOf, Refuses}
+use Rattle.garde_service.specs.Ending.{Rejects}
 use Rattle.garde_service.specs.Fits.{Answered, Fits}
 use Rattle.garde_service.specs.Rejected.{status_of}
+use Rattle.garde_service.specs.Routes.{Entry, asked}
 use Rattle.garde_service.specs.declared.rejected.Rejected.{Rejected}
 use Rattle.garde_service.specs.declared.rejected.Rejected.TheVariants.{BadRequest, NotFound, MethodNotAllowed, ContentTooLarge, UriTooLong, UnsupportedMediaType, FieldsTooLarge, InternalServerError, NotImplemented, VersionNotSupported}
+use Rattle.garde_service.specs.declared.routes.Asks.{Asks}
+use Rattle.garde_service.specs.declared.routes.Asks.TheVariants.{Answer, Rejection}
+use Rattle.garde_service.specs.declared.routes.Offer.{Offer}
 use Rattle.garde_service.proofs.Picked.{picked_once}
 
 is_one_place : (offered : List Language) (field : Option FieldValue) (one other : Option ℕ) → IsAskedIn offered field one → IsAskedIn offered field other
@@ -47,3 +54,20 @@ is_error FieldsTooLarge = (omega arith, λ e. omega (arith, e))
 is_error InternalServerError = (omega arith, λ e. omega (arith, e))
 is_error NotImplemented = (omega arith, λ e. omega (arith, e))
 is_error VersionNotSupported = (omega arith, λ e. omega (arith, e))
+
+-- the status of a rejection, with a body or alone
+pub rejected_status : (body : List ℕ × List ℕ) (given : Response) (why : Rejected) (offer : Offer) (r : Response) → Refuses body given why offer r
+    → r.status ≡ status_of why
+rejected_status body given why offer r a = elim a [ inl whole ↦ whole.status | inr bare ↦ bare.1.status ]
+
+module _ {A : Type 0} (routes : List (Entry A)) (gives : Gives A) (rejects : Rejects)
+    (each : (a : A) (head : Parts) (body : List ℕ) (r : Response) → gives a head body r → r.status ≢ 101) where
+  given_stays : (given plain : Response) (asks : Asks A) (head : Parts) (body : List ℕ) → GivesAsked gives rejects given asks head body plain
+      → plain.status ≢ 101
+  given_stays given plain (Answer a) head body x = each a head body plain x
+  given_stays given plain (Rejection why offer) head body x =
+      λ e. omega (arith, e, rejected_status (rejects why) given why offer plain x, (is_error why).0)
+
+  -- no answer of a service hands the connection over, if nothing that it gives does
+  pub never_upgrades : (head : Parts) (body : List ℕ) (r : Response) → IsAnswerOf routes gives rejects head body r → r.status ≢ 101
+  never_upgrades head body r x = λ e. given_stays x.given x.plain (asked routes head) head body x.is_given (sym x.is_dated.0 ∙ e)

@@ -1,5 +1,5 @@
 -- What a request asks for.
-use Rattle.std.specs.Prelude.{◌≡◌, ◌≤◌, ◌==◌, Bool, true, false, not, ◌||◌, ℕ, List, length, map, take, slice_index, codes, IsTrue, IsSomeAnd, Option, Some, None}
+use Rattle.std.specs.Prelude.{◌≡◌, ◌==◌, Bool, false, not, ◌||◌, ◌&&◌, nat_le, ℕ, List, [], length, map, take, slice_index, codes, Option, Some, None, if◌then◌else◌}
 use Rattle.std.specs.List.{list_any}
 use Rattle.std.specs.Str.{bytes_eq}
 use Rattle.std.specs.Char.{to_ascii_lowercase}
@@ -12,25 +12,27 @@ use Rattle.http_header.specs.FieldValue.{FieldValue}
 use Rattle.http_header.specs.HeaderMap.{get, get_all}
 use Rattle.http_uri.specs.Uri.{uri_path}
 use Rattle.garde_service.specs.declared.asked.TheConstants.{IDENTITY, TYPE_ENDS}
+use Rattle.garde_service.specs.declared.rejected.Rejected.{Rejected}
+use Rattle.garde_service.specs.declared.rejected.Rejected.TheVariants.{BadRequest, NotFound, NotImplemented}
 
 -- the value ends there, or one of these bytes stands there
 abbrev pub ends_at : List ℕ → ℕ → List ℕ → Bool
 ends_at value place ends = (length value == place) || list_any (λ byte. byte == slice_index value place) ends
 
 -- the value begins with this word, in small or capital letters, and there it ends or one of these bytes stands
-abbrev pub BeginsWith : List ℕ → List ℕ → List ℕ → Type 0
-BeginsWith value word ends =
-    (length word ≤ length value)
-    × (map to_ascii_lowercase (take (length word) value) ≡ map to_ascii_lowercase word)
-    × IsTrue (ends_at value (length word) ends)
+abbrev pub begins_with : List ℕ → List ℕ → List ℕ → Bool
+begins_with value word ends =
+    nat_le (length word) (length value)
+    && (bytes_eq (map to_ascii_lowercase (take (length word) value)) (map to_ascii_lowercase word) && ends_at value (length word) ends)
 
 -- the first field of this name does so
-abbrev pub FieldBeginsWith : Parts → List ℕ → List ℕ → List ℕ → Type 0
-FieldBeginsWith head name word ends = IsSomeAnd (get head.headers name) (λ value. BeginsWith value.bytes word ends)
+abbrev pub field_begins_with : Option FieldValue → List ℕ → List ℕ → Bool
+field_begins_with None word ends = false
+field_begins_with (Some value) word ends = begins_with value.bytes word ends
 
 -- the body is said to be of this media type
-abbrev pub HasType : Parts → List ℕ → Type 0
-HasType head media = FieldBeginsWith head (codes "content-type") media TYPE_ENDS.now
+abbrev pub has_type : Parts → List ℕ → Bool
+has_type head media = field_begins_with (get head.headers (codes "content-type")) media TYPE_ENDS.now
 
 -- this names a coding: anything but `identity`, in small or capital letters
 abbrev pub is_coding : List ℕ → Bool
@@ -49,13 +51,14 @@ IsAskedIn offered (Some value) place = IsAskedBy value.bytes offered place
 abbrev pub IsLanguage : Catalogs → Option ℕ → Parts → Type 0
 IsLanguage catalogs place head = IsAskedIn (offered_by catalogs) (get head.headers (codes "accept-language")) place
 
--- the two texts are the same, or not
-abbrev pub Is : List ℕ → List ℕ → Type 0
-Is text other = bytes_eq text other ≡ true
-
-abbrev pub IsNot : List ℕ → List ℕ → Type 0
-IsNot text other = bytes_eq text other ≡ false
-
 -- the path that a request is for
 abbrev pub path_of : Parts → List ℕ
 path_of head = uri_path head.uri
+
+-- Why a request is rejected whose path the service does not have. `CONNECT` may name a host and a port, which are no path, and `OPTIONS`
+-- may name `*`: neither is implemented. With another method such a target is a bad request.
+abbrev pub elsewhere : Parts → Rejected
+elsewhere head =
+    if bytes_eq (path_of head) [] then (if bytes_eq head.method (codes "CONNECT") then NotImplemented else BadRequest)
+    else if bytes_eq (path_of head) (codes "*") then (if bytes_eq head.method (codes "OPTIONS") then NotImplemented else BadRequest)
+    else NotFound

@@ -1,3 +1,4 @@
+pub mod Answers
 pub mod Asked
 pub mod Dated
 pub mod Ending
@@ -8,5 +9,6 @@ pub mod Problems
 pub mod Reasons
 pub mod Rejected
 pub mod Room
+pub mod Routes
 pub mod Said
 pub mod Wire

@@ -1,7 +1,5 @@
 -- Why a request is rejected, and with which status.
-use Rattle.std.specs.Prelude.{ℕ, ◌⊎◌, List, [], codes}
-use Rattle.http.specs.declared.request.Parts.{Parts}
-use Rattle.garde_service.specs.Asked.{Is, IsNot, path_of}
+use Rattle.std.specs.Prelude.{ℕ, List, codes}
 use Rattle.garde_service.specs.declared.rejected.Rejected.{Rejected}
 use Rattle.garde_service.specs.declared.rejected.Rejected.TheVariants.{BadRequest, NotFound, MethodNotAllowed, ContentTooLarge, UriTooLong, UnsupportedMediaType, FieldsTooLarge, InternalServerError, NotImplemented, VersionNotSupported}
 
@@ -29,13 +27,3 @@ title_of FieldsTooLarge = codes "431 Request Header Fields Too Large"
 title_of InternalServerError = codes "500 Internal Server Error"
 title_of NotImplemented = codes "501 Not Implemented"
 title_of VersionNotSupported = codes "505 HTTP Version Not Supported"
-
--- Why a request is rejected whose path the service does not have. `CONNECT` may name a host and a port, which are no path, and `OPTIONS`
--- may name `*`: neither is implemented. With another method such a target is a bad request.
-abbrev pub IsElsewhere : Rejected → Parts → Type 0
-IsElsewhere NotImplemented head =
-    (Is (path_of head) [] × Is head.method (codes "CONNECT")) ⊎ (Is (path_of head) (codes "*") × Is head.method (codes "OPTIONS"))
-IsElsewhere BadRequest head =
-    (Is (path_of head) [] × IsNot head.method (codes "CONNECT")) ⊎ (Is (path_of head) (codes "*") × IsNot head.method (codes "OPTIONS"))
-IsElsewhere NotFound head = IsNot (path_of head) [] × IsNot (path_of head) (codes "*")
-IsElsewhere _ head = ⊥

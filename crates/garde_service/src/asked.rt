@@ -1,8 +1,8 @@
 //! What a request asks for.
-ghost use Rattle.std.specs.Prelude.{◌≡◌, ◌≤◌, ◌↔◌, IsTrue, length};
+ghost use Rattle.std.specs.Prelude.{◌≡◌, ◌≤◌, length};
 ghost use Rattle.http.specs.Request.{head_of};
-ghost use Rattle.garde_service.specs.Asked.{BeginsWith, FieldBeginsWith, HasType, IsLanguage, ends_at, has_coding, is_coding};
-ghost use Rattle.garde_service.specs.Rejected.{IsElsewhere};
+ghost use Rattle.garde_service.specs.Asked.{IsLanguage, begins_with, elsewhere, ends_at, field_begins_with, has_coding, has_type, is_coding};
+ghost use Rattle.http_header.specs.HeaderMap.{get};
 
 use crate::rejected::Rejected;
 use bytes::Bytes;
@@ -23,7 +23,7 @@ fn ends_at(value: &[u8], place: usize, ends: &[u8]) -> bool
 /// Whether a value begins with a word, in small or capital letters, behind which it ends or one of
 /// these bytes stands.
 fn begins_with(value: &[u8], word: &[u8], ends: &[u8]) -> bool
-    ensures { IsTrue result ↔ BeginsWith value.now word.now ends.now }
+    ensures { result ≡ begins_with value.now word.now ends.now }
 {
     let len = word.len();
     if value.len() < len {
@@ -34,7 +34,7 @@ fn begins_with(value: &[u8], word: &[u8], ends: &[u8]) -> bool
 
 /// Whether the first field of a name begins with a word.
 fn field_begins_with(request: &Request<Bytes>, name: HeaderName, word: &[u8], ends: &[u8]) -> bool
-    ensures { IsTrue result ↔ FieldBeginsWith (head_of request.now) name word.now ends.now }
+    ensures { result ≡ field_begins_with (get (head_of request.now).headers name) word.now ends.now }
 {
     match request.headers().get(name) {
         Some(value) => begins_with(value.as_bytes(), word, ends),
@@ -44,10 +44,10 @@ fn field_begins_with(request: &Request<Bytes>, name: HeaderName, word: &[u8], en
 
 /// Whether the body is said to be of this media type, in small or capital letters, with parameters or
 /// without: by the first field `Content-Type`.
-pub fn has_type(request: &Request<Bytes>, media: &[u8]) -> bool
-    ensures { IsTrue result ↔ HasType (head_of request.now) media.now }
+pub fn has_type(request: &Request<Bytes>, media: &str) -> bool
+    ensures { result ≡ has_type (head_of request.now) media.now }
 {
-    field_begins_with(request, header::CONTENT_TYPE, media, TYPE_ENDS)
+    field_begins_with(request, header::CONTENT_TYPE, media.as_bytes(), TYPE_ENDS)
 }
 
 /// The only coding of a body that is read (RFC 9110, section 8.4.1): none.
@@ -71,7 +71,7 @@ pub fn has_coding(request: &Request<Bytes>) -> bool
 /// Why a request is rejected whose path the service does not have. Only `CONNECT` may name a host and a
 /// port, and only `OPTIONS` may name `*` (RFC 9112, section 3.2): neither is implemented.
 pub fn elsewhere(request: &Request<Bytes>) -> Rejected
-    ensures { IsElsewhere result (head_of request.now) }
+    ensures { result ≡ elsewhere (head_of request.now) }
 {
     let (path, method) = (request.uri().path(), request.method().as_str());
     if path == "" {

@@ -1,14 +1,18 @@
 //! What a service answers.
-ghost use Rattle.std.specs.Prelude.{◌≡◌, ◌≢◌, ℕ, List, OnOk};
+ghost use Rattle.std.specs.Prelude.{◌≡◌, ◌≢◌, ℕ, List, map, IsOk, IsTrue, OnOk};
 ghost use Rattle.http.specs.Request.{head_of, body_of};
 ghost use Rattle.http.specs.declared.request.Parts.{Parts};
+ghost use Rattle.http_header.specs.FieldValue.{is_visible_text};
 ghost use Rattle.http1.specs.Message as wire;
 ghost use Rattle.http_server.specs.declared.response.Response.{Response};
 ghost use Rattle.http_server.specs.Response.{IsBlank};
+ghost use Rattle.garde_service.specs.Answers.{IsAnswerOf};
 ghost use Rattle.garde_service.specs.Fits.{Fits};
+ghost use Rattle.garde_service.specs.Routes.{Entry, entry_of};
 ghost use Rattle.garde_service.specs.declared.rejected.Rejected.{Rejected};
 
 use crate::rejected::Rejected;
+use crate::routes::Route;
 use bytes::Bytes;
 use http::Request;
 use http_server::Response;
@@ -21,35 +25,58 @@ pub struct Body {
     pub text: &'static str,
 }
 
-/// Answers the requests of a connection. It keeps nothing from one request to the next.
+/// What a service answers: its routes, and what each of them gives. It keeps nothing from one request
+/// to the next.
 pub trait Handler {
-    // The response answers a request with this head and this body.
-    ghost is_answered: { Self → Parts → List ℕ → Response → Type 0 };
+    /// What answers: an enum of your own, with a variant for each kind of answer.
+    type Answer: Copy + Drop;
 
-    // What an answer says of its request, both as they are on the wire.
-    ghost says: { Self → wire.Request → wire.Response → Type 0 };
+    // Its routes.
+    ghost table: { Self → List (Entry Self.Answer) };
+
+    // The response is what this gives to a request with this head and this body.
+    ghost gives: { Self → Self.Answer → Parts → List ℕ → Response → Type 0 };
+
+    // This is given without any memory.
+    ghost is_free: { Self → Self.Answer → Type 0 };
 
     // The media type and the text of the answer to a request that is rejected so.
     ghost rejects: { Self → Rejected → List ℕ × List ℕ };
 
+    // What an answer says of its request, both as they are on the wire.
+    ghost says: { Self → wire.Request → wire.Response → Type 0 };
+
+    /// The routes of the service. The first one with the path of a request answers it.
+    fn routes(&self) -> &[Route<Self::Answer>]
+        ensures { map (λ route. entry_of route) result.now ≡ table self.now };
+
     /// Fills `response`, which comes as a 200 with no field and no body.
     ///
     /// The error is for memory alone, and ends the connection.
-    fn answer(&self, request: &Request<Bytes>, response: &mut Response) -> Result<(), AllocError>
+    fn give(
+        &self,
+        answer: Self::Answer,
+        request: &Request<Bytes>,
+        response: &mut Response,
+    ) -> Result<(), AllocError>
         requires { IsBlank response.old }
-        ensures { OnOk result (is_answered self.now (head_of request.now) (body_of request.now)
-            response.new) };
+        ensures given { OnOk result (gives self.now answer (head_of request.now)
+            (body_of request.now) response.new) }
+        ensures free { is_free self.now answer → IsOk result };
 
-    /// The body of the answer to a request that `http_server` rejects, which this handler is never given.
+    /// The body of the answer to a request that is rejected: by `http_server`, or since no route
+    /// answers it.
     fn rejected(&self, why: Rejected) -> Body
         ensures media { result.media.now ≡ (rejects self.now why).0 }
-        ensures text { result.text.now ≡ (rejects self.now why).1 };
+        ensures text { result.text.now ≡ (rejects self.now why).1 }
+        ensures visible { IsTrue (is_visible_text result.media.now) };
 
     // No answer hands the connection over.
-    ghost stays: { (handler : Self) → (head : Parts) → (body : List ℕ) → (response : Response)
-        → is_answered handler head body response → response.status ≢ 101 };
+    ghost stays: { (handler : Self) → (answer : Self.Answer) → (head : Parts) → (body : List ℕ)
+        → (response : Response) → gives handler answer head body response → response.status ≢ 101 };
 
     // Each answer on the wire says it.
     ghost told: { (handler : Self) → (request : wire.Request) → (response : wire.Response)
-        → Fits (is_answered handler) request response → says handler request response };
+        → Fits (IsAnswerOf (table handler) (gives handler) (rejects handler)) request response
+        → says handler request response };
 }

@@ -5,6 +5,7 @@ ghost use Rattle.http_server.specs.Connection.{config_of, history};
 ghost use Rattle.http.specs.Request.{head_of, body_of};
 ghost use Rattle.http_server.specs.Exchange.{Calls};
 ghost use Rattle.http1.specs.Message as wire;
+ghost use Rattle.garde_service.specs.Answers.{IsAnswerOf};
 ghost use Rattle.garde_service.specs.Ending.{Ends};
 ghost use Rattle.garde_service.specs.Fits.{Fits};
 ghost use Rattle.garde_service.specs.Wire.{IsTalk};
@@ -12,6 +13,7 @@ ghost use Rattle.garde_service.specs.Wire.{IsTalk};
 use crate::date::date_of;
 use crate::handler::Handler;
 use crate::rejection::{is_plain, rejected_of, rejection};
+use crate::service::respond;
 use bytes::{Buf, Bytes};
 use http::Request;
 use http_server::{Config, Connection, Reason, Refusal, Response, Service, State};
@@ -21,22 +23,26 @@ use std::io;
 use std::io::{ErrorKind, Read, Write};
 use std::time::Clock;
 
-/// A handler as a service of `http_server`.
+/// A handler as a service of `http_server`, with the clock of its answers.
 #[derive(Drop)]
-struct Served<'a, H> {
+struct Served<'a, H, C> {
+    alloc: Global,
+    clock: Option<&'a C>,
     handler: &'a H,
 }
 
-impl<'a, H: Handler> Service for Served<'a, H> {
+impl<'a, H: Handler, C: Clock> Service for Served<'a, H, C> {
     ghost answers = { λ old request response new. (new.handler.now ≡ old.handler.now)
-        × H.is_answered old.handler.now (head_of request) (body_of request) response };
+        × IsAnswerOf (H.table old.handler.now) (H.gives old.handler.now) (H.rejects old.handler.now)
+        (head_of request) (body_of request) response };
 
     fn call(
         &mut self,
         request: &Request<Bytes>,
         response: &mut Response,
     ) -> Result<(), AllocError> {
-        self.handler.answer(request, response)
+        let date = date_of(self.clock);
+        respond(self.alloc, date, self.handler, request, response)
     }
 }
 
@@ -160,8 +166,8 @@ fn discard(connection: Connection) {
     let (_, _) = connection.into_buffers();
 }
 
-/// Answers the requests that the reader gives, as the handler answers them, until the connection is
-/// done, and says how it stands. The clock dates the answers to requests that are rejected.
+/// Answers the requests that the reader gives, by the routes of the handler, until the connection is
+/// done, and says how it stands. The clock dates the answers.
 /// What was read and written before an error is a conversation too.
 pub fn answer_all<H: Handler, C: Clock, R: Read, W: Write>(
     alloc: Global,
@@ -176,13 +182,18 @@ pub fn answer_all<H: Handler, C: Clock, R: Read, W: Write>(
         × Consumes (R.remaining reader.old) (R.remaining reader.new) read
         × Appends (W.contents writer.old) (W.contents writer.new) written
         × (IsTrue ended → IsAtEnd (R.remaining reader.new))
-        × ∥ IsTalk (H.is_answered handler.now) (H.rejects handler.now) config ended read written
-        result ∥₁ }
+        × ∥ IsTalk (IsAnswerOf (H.table handler.now) (H.gives handler.now) (H.rejects handler.now))
+        (H.rejects handler.now) config ended read written result ∥₁ }
     ensures says { (request : wire.Request) → (response : wire.Response)
-        → Fits (H.is_answered handler.now) request response → H.says handler.now request response }
+        → Fits (IsAnswerOf (H.table handler.now) (H.gives handler.now) (H.rejects handler.now))
+        request response → H.says handler.now request response }
 {
     let mut connection = Connection::new(alloc, keys, config);
-    let mut service = Served { handler };
+    let mut service = Served {
+        alloc,
+        clock,
+        handler,
+    };
     match talk(&mut connection, &mut service, reader, writer) {
         Ok(()) => {
             let stands = connection.state();

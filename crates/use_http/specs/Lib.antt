@@ -1,7 +1,1 @@
-pub mod Answered
-pub mod Judged
-pub mod Laws
-pub mod Order
-pub mod Promised
-pub mod Refused
-pub mod Request
+pub mod Orders

@@ -2,94 +2,64 @@
 //! output.
 #![tactic(auto)]
 
-mod answer;
-mod command;
-mod description;
 mod order;
-mod refused;
-mod request;
 mod service;
 
-use crate::command::{Command, USAGE, command_of};
 use crate::service::Orders;
-use anyhow::{Context, Result, bail};
+use anyhow::Result;
 use garde_catalog::{Catalogs, languages};
-use garde_service::answer_all;
-use http_server::{Config, Reason, State};
-use std::alloc::Global;
-use std::hash::RandomState;
-use std::io::BufWriter;
+use garde_command::{Program, Word, is_help};
+use garde_service::{Serving, serve};
 use std::process::ExitCode;
-use std::{env, io};
 
-/// Answers all requests of standard input in these languages, and says how the connection stands then.
-fn serve(rt: &HostRuntime, most: usize, dates: bool, catalogs: &Catalogs) -> Result<State> {
-    let alloc = rt.alloc();
-    // No request is read while an answer is pending, so a refusal of `http_server` is pending alone.
-    let config = Config {
-        max_body_len: most,
-        max_pending: 0,
-        ..Config::default()
-    };
-    let clock = dates.then_some(rt);
-    let orders = Orders {
-        alloc,
-        clock,
-        catalogs,
-    };
-    let keys = RandomState::new(rt)?;
-    let mut output = BufWriter::new(alloc, io::writer(rt))?;
-    let served = answer_all(
-        alloc,
-        keys,
-        config,
-        clock,
-        &orders,
-        &mut rt.stdin(),
-        &mut output,
-    );
-    Ok(served?)
-}
+/// A longer body is rejected, where the command line names no other length.
+const MOST: usize = 1024 * 1024;
 
-/// The catalogs of all languages. The first of them is for a request that asks for none of them.
-fn catalogs_of(alloc: Global) -> Result<Catalogs> {
-    let offered = languages();
-    Ok(Catalogs::new(alloc, &offered, offered[0])?)
-}
+/// How the program is called.
+const PROGRAM: Program = Program {
+    name: "use_http",
+    usage: "\
+usage: use_http [BYTES] [--no-date]
+Answers the HTTP requests of standard input on standard output.
 
-/// Answers all requests of standard input.
-fn run(rt: &HostRuntime, most: usize, dates: bool) -> Result<ExitCode> {
-    let catalogs = catalogs_of(rt.alloc())?;
-    let served = serve(rt, most, dates, &catalogs);
-    match served? {
-        State::Closing(Reason::Asked | Reason::EndOfInput) => Ok(ExitCode::SUCCESS),
-        State::Closing(Reason::Refused(_)) => Ok(ExitCode::FAILURE),
-        _ => bail!("out of memory"),
+  BYTES      reads bodies of so many bytes at most, 1048576 without it
+  --no-date  leaves out the dates of answers
+  --help     prints this",
+    options: &[],
+};
+
+/// What the words of the command line ask for, or why they ask for nothing.
+fn serving(words: &[Word]) -> Result<Serving, &'static str> {
+    let mut serving = Serving::new();
+    for word in words {
+        match word.name.as_str() {
+            "--help" => return Err("--help must be the only word"),
+            text => serving.take(text)?,
+        }
     }
+    Ok(serving)
+}
+
+/// Answers all requests of standard input, in each language that there is a catalog of.
+fn answer(rt: &HostRuntime, serving: Serving) -> Result<ExitCode> {
+    let alloc = rt.alloc();
+    let offered = languages();
+    let catalogs = &Catalogs::new(alloc, &offered, offered[0])?;
+    Ok(serve(rt, serving, MOST, &Orders { alloc, catalogs })?)
 }
 
 /// Does what the command line asks for.
-fn run_command(rt: &HostRuntime) -> Result<ExitCode> {
-    let words = env::args(rt).context("the command line is not read")?;
-    match command_of(&words.skip(1).collect::<Vec<String>>(rt.alloc())?) {
-        Ok(Command::Serve { most, dates }) => run(rt, most, dates),
-        Ok(Command::Help) => {
-            println!(rt; "{USAGE}")?;
-            Ok(ExitCode::SUCCESS)
-        }
-        Err(reason) => {
-            eprintln!(rt; "use_http: {reason}\n{USAGE}")?;
-            Ok(ExitCode::from(2))
-        }
+fn run(rt: &HostRuntime) -> Result<ExitCode> {
+    let words = PROGRAM.words(rt)?;
+    if is_help(&words) {
+        return PROGRAM.help(rt);
+    }
+    match serving(&words) {
+        Ok(serving) => answer(rt, serving),
+        Err(why) => PROGRAM.reject(rt, why),
     }
 }
 
 fn main(rt: HostRuntime) -> ExitCode {
-    match run_command(&rt) {
-        Ok(status) => status,
-        Err(error) => {
-            let _ = eprintln!(rt; "use_http: {error:#}");
-            ExitCode::from(2)
-        }
-    }
+    PROGRAM.end(&rt, run(&rt))
 }

@@ -1,194 +1,160 @@
-//! The service: what is answered to each request.
-ghost use Rattle.std.specs.Prelude.{◌≡◌, ◌≢◌, [], ◌∷◌, ◌++◌, IsOk, IsTrue, OnOk, codes, length};
-ghost use Rattle.garde_service.specs.Rejected.{status_of};
-ghost use Rattle.garde_service.specs.Room.{HasRoom};
-ghost use Rattle.http.specs.Request.{head_of, body_of};
-ghost use Rattle.http_header.specs.FieldValue.{is_visible_text};
+//! The service: its routes, and what they give.
+ghost use Rattle.std.specs.Prelude.{◌≡◌, [], OnOk, codes};
+ghost use Rattle.garde_service.specs.Json.{IsJudged, JudgesBody, json_judging, voice};
+ghost use Rattle.garde_service.specs.Judged.{Promises};
+ghost use Rattle.garde_service.specs.Problems.{problem_of};
+ghost use Rattle.garde_service.specs.Routes.{asked};
+ghost use Rattle.garde_service.specs.declared.routes.Asks.TheVariants as asks;
+ghost use Rattle.http.specs.Request.{body_of, head_of};
 ghost use Rattle.http_server.specs.Response.{IsBlank, IsResponse};
-ghost use Rattle.use_http.specs.Answered.{AnswersRoute, IsAnswered, IsJudged, Refuses, json_fields};
-ghost use Rattle.use_http.specs.Judged.{problem_fields};
-ghost use Rattle.use_http.specs.Laws.{never_upgrades, reported};
-ghost use Rattle.use_http.specs.Promised.{IsPromised, Reports};
-ghost use Rattle.use_http.specs.Refused.{problem_of};
-ghost use Rattle.use_http.specs.Request.{IsRoute};
+ghost use Rattle.use_http.specs.Orders.{Gives, kept, routes, stays};
+ghost use Rattle.use_http.specs.declared.service.Reply.TheVariants as replies;
 
-use crate::answer::{judge, put_problem};
-use crate::description::OPEN_API;
-use crate::refused::problem_of;
-use crate::request::{Route, route_of};
+use crate::order::{OPEN_API, Order};
 use bytes::Bytes;
-use garde_catalog::Catalogs;
+use garde_catalog::{Catalog, Catalogs};
+use garde_problem::WithCodes;
+use garde_schema::{ReadBody, Scratch, Spelled};
 use garde_service::{
-    Body, Handler, IDENTITY, Rejected, date_of, language_of, put_date, put_field, put_text,
+    Body, Handler, Media, Post, Rejected, Route, language_of, problem_body, put_error, put_text,
 };
-use http::{HeaderName, Request, StatusCode, header};
+use http::{Request, StatusCode};
 use http_server::Response;
-use httpdate::HttpDate;
 use std::alloc::{AllocError, Global};
-use std::time::Clock;
 
-/// Answers with the status alone, which takes no memory.
-fn put_status(response: &mut Response, why: Rejected)
-    ensures { IsResponse (status_of why) [] [] response.new }
-{
-    response.clear();
-    response.status = why.status();
+/// What the service gives.
+#[derive(Clone, Copy)]
+pub enum Reply {
+    /// What is said of an order.
+    Order,
+    /// That the service runs.
+    Health,
+    /// The description of the service.
+    Description,
 }
 
-/// Answers that no order is judged. Where there is no memory for that, the answer is the status alone.
-fn put_refused(response: &mut Response, why: Rejected)
-    requires { IsBlank response.old }
-    ensures { Refuses response.old why [] response.new }
-{
-    if put_problem(response, why.status(), problem_of(why)).is_err() {
-        put_status(response, why);
-    }
-}
+/// The routes.
+const ROUTES: &[Route<Reply>] = &[
+    Route {
+        path: "/orders",
+        get: None,
+        post: Some(Post {
+            media: Media::Json,
+            answer: Reply::Order,
+        }),
+    },
+    Route {
+        path: "/health",
+        get: Some(Reply::Health),
+        post: None,
+    },
+    Route {
+        path: "/openapi.json",
+        get: Some(Reply::Description),
+        post: None,
+    },
+];
 
-/// Puts problem details, and the field behind them. It allocates nothing where the response has room
-/// for them.
-fn put_offered(
-    response: &mut Response,
-    why: Rejected,
-    name: HeaderName,
-    offer: &'static str,
-) -> Result<(), AllocError>
-    requires blank { IsBlank response.old }
-    requires value { IsTrue (is_visible_text offer.now) }
-    ensures told { OnOk result (IsResponse (status_of why)
-        (problem_fields ++ (name, offer.now) ∷ []) (problem_of why) response.new) }
-    ensures room { HasRoom 2 (length (problem_of why)) response.old → IsOk result }
-{
-    put_problem(response, why.status(), problem_of(why))?;
-    put_field(response, name, offer)
-}
+/// The title of the problem details of an order with faults.
+const TITLE: &str = "the order has faults";
 
-/// Answers that no order is judged, and what there is in its place: the methods of the path, or the
-/// form or the coding of a body. Where there is no memory for that, the answer is the status alone.
-fn put_offer(response: &mut Response, why: Rejected, name: HeaderName, offer: &'static str)
-    requires blank { IsBlank response.old }
-    requires value { IsTrue (is_visible_text offer.now) }
-    ensures { Refuses response.old why ((name, offer.now) ∷ []) response.new }
-{
-    if put_offered(response, why, name, offer).is_err() {
-        put_status(response, why);
-    }
-}
-
-/// Answers with the description of the service.
-fn put_description(response: &mut Response) -> Result<(), AllocError>
-    requires { IsBlank response.old }
-    ensures { OnOk result (IsResponse 200 json_fields OPEN_API.now response.new) }
-{
-    put_text(response, StatusCode::OK, "application/json", OPEN_API)
-}
-
-/// Judges an order in the language that the request asks for.
-fn judge_order(
-    alloc: Global,
-    catalogs: &Catalogs,
-    request: &Request<Bytes>,
-    response: &mut Response,
-) -> Result<(), AllocError>
-    requires { IsBlank response.old }
-    ensures { OnOk result (IsJudged catalogs.now (head_of request.now) (body_of request.now)
-        response.new) }
-{
-    let place = language_of(catalogs, request);
-    let (catalog, tag) = (catalogs.catalog(place), catalogs.tag(place));
-    judge(alloc, request.body().as_slice(), catalog, tag, response)?;
-    Ok(())
-}
-
-/// Answers a request for this.
-fn answer_route(
-    alloc: Global,
-    catalogs: &Catalogs,
-    route: Route,
-    request: &Request<Bytes>,
-    response: &mut Response,
-) -> Result<(), AllocError>
-    requires { IsBlank response.old }
-    ensures told { OnOk result (AnswersRoute catalogs.now response.old route (head_of request.now)
-        (body_of request.now) response.new) }
-    ensures given { route ≢ Route.Order → route ≢ Route.Description → IsOk result }
-{
-    let (form, method) = (Rejected::UnsupportedMediaType, Rejected::MethodNotAllowed);
-    match route {
-        Route::Order => judge_order(alloc, catalogs, request, response)?,
-        Route::OtherForm => put_offer(response, form, header::ACCEPT, "application/json"),
-        Route::Coded => put_offer(response, form, header::ACCEPT_ENCODING, IDENTITY),
-        Route::OtherOfOrders => put_offer(response, method, header::ALLOW, "POST"),
-        Route::Health => {}
-        Route::OtherOfHealth => put_offer(response, method, header::ALLOW, "GET, HEAD"),
-        Route::Description => put_description(response)?,
-        Route::OtherOfDescription => put_offer(response, method, header::ALLOW, "GET, HEAD"),
-        Route::Elsewhere(why) => put_refused(response, why),
-    }
-    Ok(())
-}
-
-/// Fills a blank response with the answer to a request, at this date, in the language that the request
-/// asks for. Where an order is judged or the description is asked for, it may be out of memory. Each
-/// other request is always answered: where the response has no room for problem details and there is
-/// no memory for more, by the status alone.
-pub fn answer(
-    alloc: Global,
-    catalogs: &Catalogs,
-    date: Option<HttpDate>,
-    request: &Request<Bytes>,
-    response: &mut Response,
-) -> Result<(), AllocError>
-    requires { IsBlank response.old }
-    ensures told { OnOk result (IsAnswered catalogs.now date response.old (head_of request.now)
-        (body_of request.now) response.new) }
-    ensures given { ¬ (IsRoute Route.Order (head_of request.now))
-        → ¬ (IsRoute Route.Description (head_of request.now)) → IsOk result }
-{
-    let route = route_of(request);
-    answer_route(alloc, catalogs, route, request, response)?;
-    put_date(alloc, date, response);
-    Ok(())
-}
-
-/// Judges orders. It keeps nothing from one request to the next.
+/// Judges orders.
 #[derive(Drop)]
-pub struct Orders<'a, C> {
+pub struct Orders<'c> {
     pub alloc: Global,
-    /// Shows the dates of answers. Without one, they have none.
-    pub clock: Option<&'a C>,
     /// The languages in which faults are reported.
-    pub catalogs: &'a Catalogs,
+    pub catalogs: &'c Catalogs,
 }
 
-impl<'a, C: Clock> Handler for Orders<'a, C> {
-    ghost is_answered = { λ orders head body response.
-        IsPromised orders.catalogs.now head body response };
+/// Judges an order in the language of this catalog and this tag. A valid one is dropped here: a program
+/// that keeps orders does so before it answers.
+fn judge(
+    alloc: Global,
+    catalog: &Catalog<'static>,
+    tag: &str,
+    body: &[u8],
+    response: &mut Response,
+) -> Result<(), AllocError>
+    requires { IsBlank response.old }
+    ensures { OnOk result (JudgesBody ⟦<Order<'static> as Spelled>⟧.spelled
+        (codes "the order has faults") (voice catalog.now tag.now) (λ r. IsResponse 204 [] [] r)
+        body.now response.new) }
+{
+    let mut scratch = Scratch::new(alloc);
+    match Order::read_body(alloc, body, &mut scratch, usize::MAX, &WithCodes(catalog)) {
+        Ok(_) => {
+            response.status = StatusCode::NO_CONTENT;
+            Ok(())
+        }
+        Err(error) => {
+            put_error(alloc, catalog, tag, TITLE, &error, response)?;
+            Ok(())
+        }
+    }
+}
 
-    ghost says = { λ orders request response. Reports orders.catalogs.now request response };
+impl<'c> Orders<'c> {
+    /// Judges an order in the language that the request asks for.
+    fn judge(&self, request: &Request<Bytes>, response: &mut Response) -> Result<(), AllocError>
+        requires { IsBlank response.old }
+        ensures { OnOk result (IsJudged ⟦<Order<'static> as Spelled>⟧.spelled
+            (codes "the order has faults") self.now.catalogs.now (λ r. IsResponse 204 [] [] r)
+            (head_of request.now) (body_of request.now) response.new) }
+    {
+        let place = language_of(self.catalogs, request);
+        let (catalog, tag) = (self.catalogs.catalog(place), self.catalogs.tag(place));
+        judge(
+            self.alloc,
+            catalog,
+            tag,
+            request.body().as_slice(),
+            response,
+        )?;
+        Ok(())
+    }
+}
+
+impl<'c> Handler for Orders<'c> {
+    type Answer = Reply;
+
+    ghost table = { λ _. routes };
+
+    ghost gives = { λ orders reply head body response.
+        Gives ⟦<Order<'static> as Spelled>⟧.spelled orders.catalogs.now reply head body response };
+
+    ghost is_free = { λ _ reply. reply ≡ replies.Health };
 
     ghost rejects = { λ _ why. (codes "application/problem+json", problem_of why) };
 
-    fn answer(&self, request: &Request<Bytes>, response: &mut Response) -> Result<(), AllocError> {
-        answer(
-            self.alloc,
-            self.catalogs,
-            date_of(self.clock),
-            request,
-            response,
-        )
+    // 204 answers each valid order and nothing else, and 422 each order with faults and nothing else.
+    ghost says = { λ orders request response.
+        Promises (json_judging ⟦<Order<'static> as Spelled>⟧.spelled (codes "the order has faults") orders.catalogs.now 204)
+        (λ head. asked routes head ≡ asks.Answer replies.Order) request response };
+
+    fn routes(&self) -> &[Route<Reply>] {
+        ROUTES
     }
 
-    fn rejected(&self, why: Rejected) -> Body {
-        Body {
-            media: "application/problem+json",
-            text: problem_of(why),
+    fn give(
+        &self,
+        reply: Reply,
+        request: &Request<Bytes>,
+        response: &mut Response,
+    ) -> Result<(), AllocError> {
+        match reply {
+            Reply::Order => self.judge(request, response),
+            Reply::Health => Ok(()),
+            Reply::Description => put_text(response, StatusCode::OK, "application/json", OPEN_API),
         }
     }
 
-    ghost stays = { λ orders head body response promised.
-        never_upgrades orders.catalogs.now head body response promised };
+    fn rejected(&self, why: Rejected) -> Body {
+        problem_body(why)
+    }
+
+    ghost stays = { λ orders reply head body response given.
+        stays ⟦<Order<'static> as Spelled>⟧.spelled orders.catalogs.now reply head body response given };
 
     ghost told = { λ orders request response fits.
-        reported orders.catalogs.now request response fits };
+        kept ⟦<Order<'static> as Spelled>⟧.spelled orders.catalogs.now request response fits };
 }

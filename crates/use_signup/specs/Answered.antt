@@ -1,5 +1,5 @@
 -- What is answered to a request.
-use Rattle.std.specs.Prelude.{ℕ, List, [], ◌∷◌, codes, Option, Result, Ok, Err}
+use Rattle.std.specs.Prelude.{⊤, ℕ, List, [], ◌∷◌, codes, Option, Some, None, Result, Ok, Err}
 use Rattle.json.specs.Json.{Json}
 use Rattle.garde.specs.Answers.{Answers}
 use Rattle.garde.specs.Handlers.{Datum}
@@ -16,25 +16,19 @@ use Rattle.garde_html.specs.declared.form.Form.{Form}
 use Rattle.garde_report.specs.Report.{Entry}
 use Rattle.garde_schema.specs.Forms.{FormTexts}
 use Rattle.garde_service.specs.Asked.{IsLanguage}
-use Rattle.garde_service.specs.Dated.{IsDated}
-use Rattle.garde_service.specs.Rejected.{status_of}
+use Rattle.garde_service.specs.Judged.{Judging}
+use Rattle.garde_service.specs.Routes.{Entry as RouteEntry}
 use Rattle.garde_service.specs.Said.{language_fields}
-use Rattle.garde_service.specs.declared.asked.TheConstants.{IDENTITY}
-use Rattle.garde_service.specs.declared.rejected.Rejected.{Rejected}
-use Rattle.garde_service.specs.declared.rejected.Rejected.TheVariants.{MethodNotAllowed, UnsupportedMediaType}
+use Rattle.garde_service.specs.declared.routes.Media.TheVariants.{WebForm}
 use Rattle.http.specs.declared.request.Parts.{Parts}
 use Rattle.http1.specs.Fields.{Header}
 use Rattle.http_server.specs.declared.response.Response.{Response}
 use Rattle.http_server.specs.Response.{IsResponse}
-use Rattle.httpdate.specs.declared.date.HttpDate.{HttpDate}
-use Rattle.use_signup.specs.declared.request.Route.{Route}
-use Rattle.use_signup.specs.declared.request.Route.TheVariants as route
-use Rattle.use_signup.specs.declared.request.TheConstants.{FORM_TYPE}
+use Rattle.use_signup.specs.declared.service.Reply.{Reply}
+use Rattle.use_signup.specs.declared.service.Reply.TheVariants as reply
 use Rattle.use_signup.specs.declared.terms.Words.{Words}
 use Rattle.use_signup.specs.declared.texts.Speech.{Speech}
 use Rattle.use_signup.specs.declared.texts.Texts.{Texts}
-use Rattle.use_signup.specs.Refused.{page_of}
-use Rattle.use_signup.specs.Request.{IsRoute}
 use Rattle.use_signup.specs.Shown.{IsShown}
 use Rattle.use_signup.specs.Texts.{texts_at}
 
@@ -97,34 +91,32 @@ abbrev pub Judges : FormVisits → Voice → List ℕ → Response → Type 0
 Judges visits voice body response =
     (read : Result (Unit {0}) ValidateError) × Reads visits voice body read × Tells voice.texts.form voice.tag (fields_in body) read response
 
--- no form is judged, for this reason, with these fields beside the type of the page
-abbrev pub Refuses : Rejected → List Header → Response → Type 0
-Refuses why fields response =
-    IsResponse (status_of why) ((codes "content-type", codes "text/html; charset=utf-8") ∷ fields) (page_of why) response
-
 -- this holds in the language that the request asks for
 abbrev pub InLanguage : Speech → Parts → (Voice → Type 0) → Type 0
 InLanguage speech head holds = (place : Option ℕ) × IsLanguage speech.catalogs.now place head × holds (voice_at speech place)
 
--- the answer to a request for this, without a date
-abbrev pub AnswersRoute : FormVisits → Speech → Route → Parts → List ℕ → Response → Type 0
-AnswersRoute visits speech route.Form head body response =
-    InLanguage speech head (λ said. ShowsForm said.texts.form said.tag 200 [] [] response)
-AnswersRoute visits speech route.SignUp head body response = InLanguage speech head (λ said. Judges visits said body response)
-AnswersRoute visits speech route.OtherType head body response =
-    Refuses UnsupportedMediaType ((codes "accept", FORM_TYPE.now) ∷ []) response
-AnswersRoute visits speech route.Coded head body response =
-    Refuses UnsupportedMediaType ((codes "accept-encoding", IDENTITY.now) ∷ []) response
-AnswersRoute visits speech route.OtherOfForm head body response =
-    Refuses MethodNotAllowed ((codes "allow", codes "GET, HEAD, POST") ∷ []) response
-AnswersRoute visits speech route.Thanks head body response =
-    InLanguage speech head (λ said. IsResponse 200 (page_fields said.tag) said.texts.thanks.now response)
-AnswersRoute visits speech route.OtherOfThanks head body response =
-    Refuses MethodNotAllowed ((codes "allow", codes "GET, HEAD") ∷ []) response
-AnswersRoute visits speech (route.Elsewhere why) head body response = Refuses why [] response
+-- the routes
+abbrev pub routes : List (RouteEntry Reply)
+routes =
+    record { path = codes "/"; get = Some reply.Form; post = Some (record { media = WebForm; answer = reply.SignUp }) }
+    ∷ record { path = codes "/thanks"; get = Some reply.Thanks; post = None } ∷ []
 
--- the answer to a request with this head and this body, at this date
-abbrev pub IsAnswered : FormVisits → Speech → Option HttpDate → Parts → List ℕ → Response → Type 0
-IsAnswered visits speech date head body response =
-    (route : Route) × IsRoute route head
-    × (plain : Response) × AnswersRoute visits speech route head body plain × IsDated date plain response
+-- what is given to a request with this head and this body
+abbrev pub Gives : FormVisits → Speech → Reply → Parts → List ℕ → Response → Type 0
+Gives visits speech reply.Form head body response = InLanguage speech head (λ said. ShowsForm said.texts.form said.tag 200 [] [] response)
+Gives visits speech reply.SignUp head body response = InLanguage speech head (λ said. Judges visits said body response)
+Gives visits speech reply.Thanks head body response =
+    InLanguage speech head (λ said. IsResponse 200 (page_fields said.tag) said.texts.thanks.now response)
+
+-- Forms are judged so: a valid one is answered with 303, and one with faults with the page of its fields and of its report.
+abbrev pub judging : FormVisits → Speech → Judging
+judging visits speech = record {
+  report = List Entry;
+  is_in = λ place head. IsLanguage speech.catalogs.now place head;
+  is_valid = λ place body. Reads visits (voice_at speech place) body (Ok tt);
+  has_report = λ place body report. Reads visits (voice_at speech place) body (Err (Report report));
+  is_text = λ place body report text. IsShown (voice_at speech place).texts.form (fields_in body) report text;
+  is_unread = λ place body. ⊥;
+  is_short = λ body. ⊤;
+  accepted = 303;
+}

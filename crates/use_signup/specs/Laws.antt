@@ -1,58 +1,113 @@
--- No answer hands the connection over, and each shows its own request.
-use Rattle.std.specs.Prelude.{◌≢◌, ℕ, List, Result, Ok, Err}
-use Rattle.std.proofs.Common.{sym, ◌∙◌, arith}
-use Rattle.std.proofs.lemmas.Slice.Eq.{bytes_eq-Decides}
+-- No answer hands the connection over, and the service keeps what it promises of forms.
+use Rattle.std.proofs.Common.{◌≡◌, ◌≢◌, ◌⊎◌, ℕ, Bool, List, [], ◌∷◌, codes, map, Option, Some, None, Result, Ok, Err, refl, sym, ap, subst, ◌∙◌, arith, cond, ◌||◌, bytes_eq, inl, inr}
+use Rattle.std.specs.Borrow.{Bor}
+use Rattle.std.proofs.lemmas.Bool.{true≢false}
+use Rattle.json.specs.Json.{Json, string, array, object, Members, no_members, member}
+use Rattle.garde.specs.Answers.{Answers}
 use Rattle.garde.specs.declared.validate_error.ValidateError.{ValidateError}
 use Rattle.garde.specs.declared.validate_error.ValidateError.TheVariants.{Report, Memory}
-use Rattle.garde_form.specs.WebForm.{fields_in}
-use Rattle.garde_html.specs.declared.form.Form.{Form}
-use Rattle.garde_service.proofs.Author.{is_error, posted_body}
+use Rattle.garde_form.specs.WebForm.{fields_in, first_member, first_of_lists, form_json, is_listed, items_of_texts, members_of_fields, texts_of, value_of, without}
+use Rattle.garde_report.specs.Report.{Entry}
+use Rattle.garde_service.proofs.Author.{is_one_language}
+use Rattle.garde_service.proofs.Judged.{IsLawful, judged_stays, promised}
+use Rattle.garde_service.specs.Answers.{IsAnswerOf}
 use Rattle.garde_service.specs.Fits.{Fits}
+use Rattle.garde_service.specs.Judged.{Judges, JudgesIn, Promises}
+use Rattle.garde_service.specs.Routes.{asked}
+use Rattle.garde_service.specs.declared.routes.Asks.TheVariants.{Answer}
 use Rattle.http.specs.declared.request.Parts.{Parts}
 use Rattle.http1.specs.Message as Wire
 use Rattle.http_server.specs.declared.response.Response.{Response}
-use Rattle.use_signup.specs.declared.request.Route.{Route}
-use Rattle.use_signup.specs.declared.request.Route.TheVariants as route
+use Rattle.use_signup.specs.declared.service.Reply.{Reply}
+use Rattle.use_signup.specs.declared.service.Reply.TheVariants as reply
 use Rattle.use_signup.specs.declared.texts.Speech.{Speech}
-use Rattle.use_signup.specs.Answered.{AnswersRoute, FieldTexts, FormVisits, Tells, voice_at}
-use Rattle.use_signup.specs.Promised.{IsPromised, Shows}
+use Rattle.use_signup.specs.Answered.{FormVisits, Gives, Reads, Tells, Voice, judging, routes, voice_at}
+use Rattle.use_signup.specs.Refused.{page_of}
 
-told_stays : (form : Form) (tag : List ℕ) (fields : FieldTexts) (read : Result (Unit {0}) ValidateError) (r : Response)
-    → Tells form tag fields read r → r.status ≢ 101
-told_stays form tag fields (Ok done) r tells = λ e. omega (arith, e, tells.status)
-told_stays form tag fields (Err (Report report)) r tells = λ e. omega (arith, e, tells.2.status)
-told_stays form tag fields (Err Memory) r tells = absurd tells
+-- ---- the fields of a body are one object, whatever holds the names of the lists
 
-route_stays : (visits : FormVisits) (speech : Speech) (route : Route) (head : Parts) (body : List ℕ) (plain : Response)
-    → AnswersRoute visits speech route head body plain → plain.status ≢ 101
-route_stays visits speech route.Form head body plain a = λ e. omega (arith, e, a.2.2.status)
-route_stays visits speech route.SignUp head body plain a =
-    let voice = voice_at speech a.0 in
-    told_stays voice.texts.form voice.tag (fields_in body) a.2.0 plain a.2.2
-route_stays visits speech route.OtherType head body plain a = λ e. omega (arith, e, a.status)
-route_stays visits speech route.Coded head body plain a = λ e. omega (arith, e, a.status)
-route_stays visits speech route.OtherOfForm head body plain a = λ e. omega (arith, e, a.status)
-route_stays visits speech route.Thanks head body plain a = λ e. omega (arith, e, a.2.status)
-route_stays visits speech route.OtherOfThanks head body plain a = λ e. omega (arith, e, a.status)
-route_stays visits speech (route.Elsewhere why) head body plain a = λ e. omega (arith, e, a.status, (is_error why).0)
+abbrev Names : Type 0
+Names = List (Bor (List ℕ))
 
-pub never_upgrades : (visits : FormVisits) (speech : Speech) (head : Parts) (body : List ℕ) (answer : Response)
-    → IsPromised visits speech head body answer → answer.status ≢ 101
-never_upgrades visits speech head body answer x =
-    λ e. route_stays visits speech x.is_answered.0 head body x.is_answered.2 x.is_answered.3 (sym x.is_answered.4.0 ∙ e)
+abbrev texts : Names → List (List ℕ)
+texts names = map (λ (name : Bor (List ℕ)). name.now) names
 
-pub shown : (visits : FormVisits) (speech : Speech) (request : Wire.Request) (response : Wire.Response)
-    → Fits (IsPromised visits speech) request response → Shows visits speech request response
-shown visits speech request response x e =
-    let page = x.is_answered.reports (sym x.status ∙ e) in
-    let body = posted_body (IsPromised visits speech) request response x ((bytes_eq-Decides _ _).0 page.is_sign_up.0.1) in (
-      x.head,
-      x.are_parts,
-      record {
-        place = page.place;
-        is_sign_up = page.is_sign_up;
-        report = page.report;
-        is_report = page.is_report;
-        is_page = (page.is_page.0, page.is_page.1, body ∙ page.is_page.2);
-      },
-    )
+abbrev head_or : List (List ℕ) → List ℕ
+head_or [] = []
+head_or (x ∷ xs) = x
+
+abbrev tail_or : List (List ℕ) → List (List ℕ)
+tail_or [] = []
+tail_or (x ∷ xs) = xs
+
+listed_alike : (one other : Names) → texts one ≡ texts other → (text : List ℕ) → is_listed one text ≡ is_listed other text
+listed_alike [] [] e text = refl
+listed_alike [] (y ∷ ys) e text = cc
+listed_alike (x ∷ xs) [] e text = cc
+listed_alike (x ∷ xs) (y ∷ ys) e text =
+    ap (λ (name : List ℕ). bytes_eq text name || is_listed xs text) (ap head_or e)
+    ∙ ap (λ (b : Bool). bytes_eq text y.now || b) (listed_alike xs ys (ap tail_or e) text)
+
+members_alike : (one other : Names) → texts one ≡ texts other → (all fields : List (List ℕ × List ℕ))
+    → members_of_fields one all fields ≡ members_of_fields other all fields
+members_alike one other e all [] = refl
+members_alike one other e all (f ∷ fs) =
+    ap (λ (b : Bool). member f.0 (cond b (array (items_of_texts (texts_of f.0 all))) (string f.1)) (members_of_fields one all fs))
+    (listed_alike one other e f.0)
+    ∙ ap (λ (ms : Members). member f.0 (value_of other all f.0 f.1) ms) (members_alike one other e all fs)
+
+firsts_alike : (one other : Names) → texts one ≡ texts other → (ms : Members) → first_of_lists one ms ≡ first_of_lists other ms
+firsts_alike one other e no_members = refl
+firsts_alike one other e (member k j ms) =
+    ap (λ (b : Bool). member k j (cond b (without k (first_of_lists one ms)) (first_of_lists one ms))) (listed_alike one other e k)
+    ∙ ap (λ (rest : Members). first_member other k j rest) (firsts_alike one other e ms)
+
+object_alike : (one other : Names) → texts one ≡ texts other → (fields : List (List ℕ × List ℕ)) → form_json one fields ≡ form_json other fields
+object_alike one other e fields =
+    ap (λ (ms : Members). object (first_of_lists one ms)) (members_alike one other e fields fields)
+    ∙ ap (λ (ms : Members). object ms) (firsts_alike one other e (members_of_fields other fields fields))
+
+module _ (visits : FormVisits) (speech : Speech) where
+  -- a body has no fault and a report of none
+  clash : (voice : Voice) (body : List ℕ) (report : List Entry) → Reads visits voice body (Ok tt) → Reads visits voice body (Err (Report report)) → ⊥
+  clash voice body report none some =
+      let found = subst (λ (j : Json). Answers (visits voice.texts.words voice.form_text j) voice.text (Err (Report report)))
+      (object_alike some.lists none.lists (some.named ∙ sym none.named) (fields_in body)) some.is in
+      true≢false (sym found.2 ∙ none.is found.0 found.1)
+
+  lawful : IsLawful (judging visits speech)
+  lawful = record {
+    one = λ place other head. is_one_language speech.catalogs.now place other head;
+    apart = λ place body report valid has. clash (voice_at speech place) body report valid has;
+    unread = λ place body short unread. absurd unread;
+    not_faults = λ e. omega (arith, e);
+    success = omega arith;
+  }
+
+  told : (place : Option ℕ) (body : List ℕ) (r : Response) (read : Result (Unit {0}) ValidateError) → Reads visits (voice_at speech place) body read
+      → Tells (voice_at speech place).texts.form (voice_at speech place).tag (fields_in body) read r → JudgesIn (judging visits speech) place body r
+  told place body r (Ok done) reads tells = inl (reads, tells.status)
+  told place body r (Err (Report report)) reads tells =
+      inr (inl (report, reads, tells.2.status, (tells.1.0, tells.1.1, tells.2.body ∙ tells.1.2)))
+  told place body r (Err Memory) reads tells = absurd tells
+
+  judges : (head : Parts) (body : List ℕ) (r : Response) → Gives visits speech reply.SignUp head body r → Judges (judging visits speech) head body r
+  judges head body r given = (given.0, given.1, told given.0 body r given.2.0 given.2.1 given.2.2)
+
+  -- no answer hands the connection over
+  pub stays : (gift : Reply) (head : Parts) (body : List ℕ) (r : Response) → Gives visits speech gift head body r → r.status ≢ 101
+  stays reply.Form head body r given = λ e. omega (arith, e, given.2.2.status)
+  stays reply.SignUp head body r given = judged_stays (judging visits speech) (λ e. omega (arith, e)) head body r (judges head body r given)
+  stays reply.Thanks head body r given = λ e. omega (arith, e, given.2.status)
+
+  others : (gift : Reply) → (gift ≡ reply.SignUp) ⊎ ((gift ≢ reply.SignUp) × ((head : Parts) (body : List ℕ) (r : Response) → Gives visits speech gift head body r
+      → (r.status ≢ 303) × (r.status ≢ 422)))
+  others reply.Form = inr (λ e. cc, λ head body r given. (λ e. omega (arith, e, given.2.2.status), λ e. omega (arith, e, given.2.2.status)))
+  others reply.SignUp = inl refl
+  others reply.Thanks = inr (λ e. cc, λ head body r given. (λ e. omega (arith, e, given.2.status), λ e. omega (arith, e, given.2.status)))
+
+  pub kept : (request : Wire.Request) (response : Wire.Response)
+      → Fits (IsAnswerOf routes (Gives visits speech) (λ why. (codes "text/html; charset=utf-8", page_of why))) request response
+      → Promises (judging visits speech) (λ head. asked routes head ≡ Answer reply.SignUp) request response
+  kept = promised routes (Gives visits speech) (λ why. (codes "text/html; charset=utf-8", page_of why)) (judging visits speech) lawful
+      reply.SignUp (λ e. cc, (λ e. cc, tt)) judges others

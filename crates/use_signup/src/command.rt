@@ -1,9 +1,10 @@
 //! What the command line asks for.
 
 use garde_command::{Program, Spoken, Word};
+use garde_service::Serving;
 
 /// A longer body is rejected, where the command line names no other length.
-const MOST: usize = 64 * 1024;
+pub const MOST: usize = 64 * 1024;
 
 /// How the program is called.
 pub const PROGRAM: Program = Program {
@@ -34,11 +35,8 @@ pub enum Task<'w> {
         page: bool,
         file: Option<&'w str>,
     },
-    /// Requests are answered whose body has so many bytes at most, with dates or not.
-    Serve {
-        most: usize,
-        dates: bool,
-    },
+    /// Requests are answered.
+    Serve(Serving),
 }
 
 impl<'w> Task<'w> {
@@ -71,21 +69,10 @@ impl<'w> Task<'w> {
 
     // How the words behind `--serve` ask for requests to be answered.
     fn serving(words: &[Word]) -> Result<Task<'w>, &'static str> {
-        let (mut most, mut dates) = (None, true);
+        let mut serving = Serving::new();
         for word in words {
-            match word.name.as_str() {
-                "--no-date" if dates => dates = false,
-                "--no-date" => return Err("there must be one --no-date at most"),
-                text => match text.parse() {
-                    Ok(number) if most.is_none() => most = Some(number),
-                    Ok(_) => return Err("there must be one number at most"),
-                    Err(_) => return Err("the longest body is no number of bytes"),
-                },
-            }
+            serving.take(word.name.as_str())?;
         }
-        Ok(Task::Serve {
-            most: most.unwrap_or(MOST),
-            dates,
-        })
+        Ok(Task::Serve(serving))
     }
 }

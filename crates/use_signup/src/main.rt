@@ -6,20 +6,19 @@ mod command;
 mod page;
 mod refused;
 mod rely;
-mod request;
 mod service;
 mod sign_up;
 mod terms;
 mod texts;
 
-use crate::command::{PROGRAM, Task};
+use crate::command::{MOST, PROGRAM, Task};
 use crate::page::write_page;
 use crate::rely::age;
 use crate::service::SignUps;
 use crate::sign_up::{SignUp, read_sign_up};
 use crate::terms::Words;
 use crate::texts::{Speech, texts_in};
-use anyhow::{Result, bail};
+use anyhow::Result;
 use garde::{I18n, Report, ValidateError};
 use garde_catalog::{Catalog, CatalogError, Catalogs, Language, languages};
 use garde_command::{Spoken, is_help, read_input};
@@ -27,12 +26,8 @@ use garde_form::{FormField, form_fields};
 use garde_html::Form;
 use garde_problem::Escaped;
 use garde_schema::FormI18n;
-use garde_service::answer_all;
-use http_server::{Config, Reason, State};
+use garde_service::{Serving, serve};
 use std::alloc::Global;
-use std::hash::RandomState;
-use std::io;
-use std::io::BufWriter;
 use std::process::ExitCode;
 
 /// The byte order mark of UTF-8. The URL Standard has none in a form, but a file may begin with it.
@@ -125,56 +120,19 @@ fn catalogs(alloc: Global) -> Result<Catalogs, CatalogError> {
     Catalogs::new(alloc, &[english, czech, arabic], english)
 }
 
-/// Answers all requests of standard input, and says how the connection stands then.
-fn answer_input(
-    rt: &HostRuntime,
-    config: Config,
-    handler: &SignUps<'_, HostRuntime>,
-) -> Result<State> {
-    let keys = RandomState::new(rt)?;
-    let mut output = BufWriter::new(rt.alloc(), io::writer(rt))?;
-    let clock = handler.clock;
-    let stands = answer_all(
-        rt.alloc(),
-        keys,
-        config,
-        clock,
-        handler,
-        &mut rt.stdin(),
-        &mut output,
-    );
-    Ok(stands?)
-}
-
 /// Answers all requests of standard input, in the languages that the pages have.
-fn serve(rt: &HostRuntime, most: usize, dates: bool) -> Result<ExitCode> {
-    // No request is read while an answer is pending, so a refusal of `http_server` is pending alone.
-    let config = Config {
-        max_body_len: most,
-        max_pending: 0,
-        ..Config::default()
-    };
+fn answer_input(rt: &HostRuntime, serving: Serving) -> Result<ExitCode> {
     let texts = [*texts_in("en"), *texts_in("cs"), *texts_in("ar")];
     let catalogs = catalogs(rt.alloc())?;
     let handler = SignUps {
         alloc: rt.alloc(),
-        clock: dates.then_some(rt),
         speech: Speech {
             catalogs: &catalogs,
             texts: &texts,
             otherwise: &texts[0],
         },
     };
-    ended(answer_input(rt, config, &handler))
-}
-
-/// The status of a run that ended with its connection like this, or the error that ended it.
-fn ended(stands: Result<State>) -> Result<ExitCode> {
-    match stands? {
-        State::Closing(Reason::Asked | Reason::EndOfInput) => Ok(ExitCode::SUCCESS),
-        State::Closing(Reason::Refused(_)) => Ok(ExitCode::FAILURE),
-        _ => bail!("out of memory"),
-    }
+    Ok(serve(rt, serving, MOST, &handler)?)
 }
 
 fn run(rt: &HostRuntime) -> Result<ExitCode> {
@@ -184,7 +142,7 @@ fn run(rt: &HostRuntime) -> Result<ExitCode> {
     }
     match Task::of(&words) {
         Ok(Task::Judge { spoken, page, file }) => judge_in(rt, spoken, page, file),
-        Ok(Task::Serve { most, dates }) => serve(rt, most, dates),
+        Ok(Task::Serve(serving)) => answer_input(rt, serving),
         Err(why) => PROGRAM.reject(rt, why),
     }
 }

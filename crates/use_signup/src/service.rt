@@ -1,19 +1,20 @@
 //! The service: what is answered to each request.
-ghost use Rattle.std.specs.Prelude.{◌≡◌, ◌≢◌, [], ◌∷◌, Err, IsTrue, OnOk, codes};
+ghost use Rattle.std.specs.Prelude.{◌≡◌, ◌≢◌, [], ◌∷◌, Err, OnOk, codes};
 ghost use Rattle.garde_catalog.specs.Catalog.{catalog_text};
 ghost use Rattle.garde_catalog.specs.Forms.{catalog_form_text};
 ghost use Rattle.garde_form.specs.WebForm.{field_texts};
+ghost use Rattle.garde_service.specs.Judged.{Promises};
+ghost use Rattle.garde_service.specs.Routes.{asked};
+ghost use Rattle.garde_service.specs.declared.routes.Asks.TheVariants as asks;
 ghost use Rattle.http.specs.Request.{head_of, body_of};
-ghost use Rattle.http_header.specs.FieldValue.{is_visible_text};
 ghost use Rattle.http_server.specs.Response.{IsBlank, IsResponse};
-ghost use Rattle.use_signup.specs.Answered.{AnswersRoute, InLanguage, IsAnswered, Judges, ReadsFields, Refuses, ShowsForm, Tells, page_fields, voice};
-ghost use Rattle.use_signup.specs.Laws.{never_upgrades, shown};
-ghost use Rattle.use_signup.specs.Promised.{IsPromised, Shows};
+ghost use Rattle.use_signup.specs.Answered.{Gives, InLanguage, Judges, ReadsFields, ShowsForm, Tells, judging, page_fields, routes, voice};
+ghost use Rattle.use_signup.specs.Laws.{kept, stays};
 ghost use Rattle.use_signup.specs.Refused.{page_of};
+ghost use Rattle.use_signup.specs.declared.service.Reply.TheVariants as replies;
 
 use crate::page::write_page;
 use crate::refused::page_of;
-use crate::request::{FORM_TYPE, Route, route_of};
 use crate::sign_up::{SignUp, read_sign_up};
 use crate::terms::Words;
 use crate::texts::{Speech, Texts};
@@ -24,14 +25,39 @@ use garde_form::{FormField, form_fields};
 use garde_html::Form;
 use garde_schema::SpelledUnder;
 use garde_service::{
-    Body, Handler, IDENTITY, Rejected, date_of, language_of, put_date, put_field, put_language,
-    put_text,
+    Body, Handler, Media, Post, Rejected, Route, language_of, put_field, put_language, put_text,
 };
-use http::{HeaderName, Request, StatusCode, header};
+use http::{Request, StatusCode, header};
 use http_server::Response;
-use httpdate::HttpDate;
 use std::alloc::{AllocError, Global};
-use std::time::Clock;
+
+/// What the service gives.
+#[derive(Clone, Copy)]
+pub enum Reply {
+    /// The form, with no field filled in.
+    Form,
+    /// What is said of a form that was sent.
+    SignUp,
+    /// The page of thanks.
+    Thanks,
+}
+
+/// The routes.
+const ROUTES: &[Route<Reply>] = &[
+    Route {
+        path: "/",
+        get: Some(Reply::Form),
+        post: Some(Post {
+            media: Media::WebForm,
+            answer: Reply::SignUp,
+        }),
+    },
+    Route {
+        path: "/thanks",
+        get: Some(Reply::Thanks),
+        post: None,
+    },
+];
 
 /// The media type of a page.
 const PAGE_TYPE: &str = "text/html; charset=utf-8";
@@ -212,103 +238,47 @@ fn put_thanks(
     Ok(())
 }
 
-/// Answers that no form is judged.
-fn put_refused(response: &mut Response, why: Rejected) -> Result<(), AllocError>
-    requires { IsBlank response.old }
-    ensures { OnOk result (Refuses why [] response.new) }
-{
-    put_text(response, why.status(), PAGE_TYPE, page_of(why))
-}
-
-/// Answers that no form is judged, and what there is in its place: the methods of the path, or the type
-/// or the coding of a body.
-fn put_offer(
-    response: &mut Response,
-    why: Rejected,
-    name: HeaderName,
-    offer: &'static str,
-) -> Result<(), AllocError>
-    requires blank { IsBlank response.old }
-    requires value { IsTrue (is_visible_text offer.now) }
-    ensures { OnOk result (Refuses why ((name, offer.now) ∷ []) response.new) }
-{
-    put_refused(response, why)?;
-    put_field(response, name, offer)
-}
-
-/// Answers a request for this.
-fn answer_route(
-    alloc: Global,
-    speech: &Speech<'_>,
-    route: Route,
-    request: &Request<Bytes>,
-    response: &mut Response,
-) -> Result<(), AllocError>
-    requires { IsBlank response.old }
-    ensures { OnOk result (AnswersRoute (λ words. (⟦<SignUp<'static> as SpelledUnder>⟧.spelled words).visits)
-        speech.now route (head_of request.now) (body_of request.now) response.new) }
-{
-    let (form, method) = (Rejected::UnsupportedMediaType, Rejected::MethodNotAllowed);
-    match route {
-        Route::Form => put_empty_form(alloc, speech, request, response),
-        Route::SignUp => judge_form(alloc, speech, request, response),
-        Route::OtherType => put_offer(response, form, header::ACCEPT, FORM_TYPE),
-        Route::Coded => put_offer(response, form, header::ACCEPT_ENCODING, IDENTITY),
-        Route::OtherOfForm => put_offer(response, method, header::ALLOW, "GET, HEAD, POST"),
-        Route::Thanks => put_thanks(alloc, speech, request, response),
-        Route::OtherOfThanks => put_offer(response, method, header::ALLOW, "GET, HEAD"),
-        Route::Elsewhere(why) => put_refused(response, why),
-    }
-}
-
-/// Fills a blank response with the answer to a request, at this date, in the language that the request
-/// asks for. It fails where memory runs out.
-pub fn answer(
-    alloc: Global,
-    speech: &Speech<'_>,
-    date: Option<HttpDate>,
-    request: &Request<Bytes>,
-    response: &mut Response,
-) -> Result<(), AllocError>
-    requires { IsBlank response.old }
-    ensures { OnOk result (IsAnswered (λ words. (⟦<SignUp<'static> as SpelledUnder>⟧.spelled words).visits)
-        speech.now date (head_of request.now) (body_of request.now) response.new) }
-{
-    let route = route_of(request);
-    answer_route(alloc, speech, route, request, response)?;
-    put_date(alloc, date, response);
-    Ok(())
-}
-
 /// Signs up who sends a form.
 #[derive(Drop)]
-pub struct SignUps<'a, C> {
+pub struct SignUps<'a> {
     pub alloc: Global,
-    /// Shows the dates of answers. Without one, they have none.
-    pub clock: Option<&'a C>,
     /// The languages in which it answers.
     pub speech: Speech<'a>,
 }
 
-impl<'a, C: Clock> Handler for SignUps<'a, C> {
-    ghost is_answered = { λ handler head body response.
-        IsPromised (λ words. (⟦<SignUp<'static> as SpelledUnder>⟧.spelled words).visits)
-        handler.speech head body response };
+impl<'a> Handler for SignUps<'a> {
+    type Answer = Reply;
 
-    ghost says = { λ handler request response.
-        Shows (λ words. (⟦<SignUp<'static> as SpelledUnder>⟧.spelled words).visits)
-        handler.speech request response };
+    ghost table = { λ _. routes };
+
+    ghost gives = { λ handler reply head body response.
+        Gives (λ words. (⟦<SignUp<'static> as SpelledUnder>⟧.spelled words).visits)
+        handler.speech reply head body response };
+
+    ghost is_free = { λ _ _. ⊥ };
 
     ghost rejects = { λ _ why. (codes "text/html; charset=utf-8", page_of why) };
 
-    fn answer(&self, request: &Request<Bytes>, response: &mut Response) -> Result<(), AllocError> {
-        answer(
-            self.alloc,
-            &self.speech,
-            date_of(self.clock),
-            request,
-            response,
-        )
+    // 303 answers each valid form and nothing else, and 422 each form with faults and nothing else.
+    ghost says = { λ handler request response.
+        Promises (judging (λ words. (⟦<SignUp<'static> as SpelledUnder>⟧.spelled words).visits)
+        handler.speech) (λ head. asked routes head ≡ asks.Answer replies.SignUp) request response };
+
+    fn routes(&self) -> &[Route<Reply>] {
+        ROUTES
+    }
+
+    fn give(
+        &self,
+        reply: Reply,
+        request: &Request<Bytes>,
+        response: &mut Response,
+    ) -> Result<(), AllocError> {
+        match reply {
+            Reply::Form => put_empty_form(self.alloc, &self.speech, request, response),
+            Reply::SignUp => judge_form(self.alloc, &self.speech, request, response),
+            Reply::Thanks => put_thanks(self.alloc, &self.speech, request, response),
+        }
     }
 
     fn rejected(&self, why: Rejected) -> Body {
@@ -318,11 +288,11 @@ impl<'a, C: Clock> Handler for SignUps<'a, C> {
         }
     }
 
-    ghost stays = { λ handler head body response promised.
-        never_upgrades (λ words. (⟦<SignUp<'static> as SpelledUnder>⟧.spelled words).visits)
-        handler.speech head body response promised };
+    ghost stays = { λ handler reply head body response given.
+        stays (λ words. (⟦<SignUp<'static> as SpelledUnder>⟧.spelled words).visits)
+        handler.speech reply head body response given };
 
     ghost told = { λ handler request response fits.
-        shown (λ words. (⟦<SignUp<'static> as SpelledUnder>⟧.spelled words).visits)
+        kept (λ words. (⟦<SignUp<'static> as SpelledUnder>⟧.spelled words).visits)
         handler.speech request response fits };
 }

@@ -1,0 +1,70 @@
+-- What a request asks of the routes of a service.
+use Rattle.std.specs.Prelude.{Bool, true, false, ◌||◌, List, [], ◌∷◌, ℕ, codes, Option, Some, None, if◌then◌else◌}
+use Rattle.std.specs.Str.{bytes_eq}
+use Rattle.http.specs.declared.request.Parts.{Parts}
+use Rattle.garde_service.specs.Asked.{elsewhere, has_coding, has_type, path_of}
+use Rattle.garde_service.specs.declared.rejected.Rejected.TheVariants.{MethodNotAllowed, UnsupportedMediaType}
+use Rattle.garde_service.specs.declared.routes.Asks.{Asks}
+use Rattle.garde_service.specs.declared.routes.Asks.TheVariants.{Answer, Rejection}
+use Rattle.garde_service.specs.declared.routes.Media.{Media}
+use Rattle.garde_service.specs.declared.routes.Media.TheVariants.{Json, WebForm}
+use Rattle.garde_service.specs.declared.asked.TheConstants.{IDENTITY}
+use Rattle.garde_service.specs.declared.routes.Offer.{Offer}
+use Rattle.garde_service.specs.declared.routes.Offer.TheVariants.{Coding, MediaType, Methods, Nothing}
+use Rattle.garde_service.specs.declared.routes.Post.{Post}
+use Rattle.garde_service.specs.declared.routes.Route.{Route}
+
+-- the media type, as fields name it
+abbrev pub media_text : Media → List ℕ
+media_text Json = codes "application/json"
+media_text WebForm = codes "application/x-www-form-urlencoded"
+
+-- a route: its path, what answers `GET` and `HEAD`, and what answers `POST`
+pub record Entry (E : Type 0) : Type 0 where
+  pub path : List ℕ
+  pub get : Option E
+  pub post : Option (Post E)
+
+abbrev pub entry_of : {E : Type 0} → Route E → Entry E
+entry_of route = record { path = route.path.now; get = route.get; post = route.post }
+
+abbrev is_there : {E : Type 0} → Option E → Bool
+is_there None = false
+is_there (Some it) = true
+
+-- what there is in place of what is asked for, as a field lists it
+abbrev pub offers : Offer → List ℕ
+offers Nothing = []
+offers (Methods true true) = codes "GET, HEAD, POST"
+offers (Methods true false) = codes "GET, HEAD"
+offers (Methods false true) = codes "POST"
+offers (Methods false false) = []
+offers (MediaType media) = media_text media
+offers Coding = IDENTITY.now
+
+-- another method than those of the path is asked for
+abbrev pub other_method : {E : Type 0} → Entry E → Asks E
+other_method route = Rejection MethodNotAllowed (Methods (is_there route.get) (is_there route.post))
+
+abbrev pub asked_by_get : {E : Type 0} → Entry E → Option E → Asks E
+asked_by_get route None = other_method route
+asked_by_get route (Some answer) = Answer answer
+
+abbrev pub asked_by_post : {E : Type 0} → Entry E → Parts → Option (Post E) → Asks E
+asked_by_post route head None = other_method route
+asked_by_post route head (Some post) =
+    if has_type head (media_text post.media)
+    then (if has_coding head then Rejection UnsupportedMediaType Coding else Answer post.answer)
+    else Rejection UnsupportedMediaType (MediaType post.media)
+
+-- what is asked of a route, by the method, and the type and the coding of the body
+abbrev pub asked_at : {E : Type 0} → Entry E → Parts → Asks E
+asked_at route head =
+    if bytes_eq head.method (codes "POST") then asked_by_post route head route.post
+    else if bytes_eq head.method (codes "GET") || bytes_eq head.method (codes "HEAD") then asked_by_get route route.get
+    else other_method route
+
+-- what is asked of the first route with the path
+abbrev pub asked : {E : Type 0} → List (Entry E) → Parts → Asks E
+asked [] head = Rejection (elsewhere head) Nothing
+asked (route ∷ rest) head = if bytes_eq (path_of head) route.path then asked_at route head else asked rest head

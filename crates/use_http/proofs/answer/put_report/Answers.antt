@@ -1,4 +1,0 @@
-use Rattle.use_http.proofs.answer.put_report.Goals as goal
-
-pub returns : goal.returns
-returns c = rw (c.as_str.ensures.value, c.in_ok-text.ensures) at c.put_in_language.ensures
