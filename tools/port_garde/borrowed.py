@@ -8,16 +8,16 @@ from .everyday import plain
 from .flattened import always_there, faults as faults_of_flattened, flat_part, held_part, names_of
 from .groups import is_flat, is_rest, others_of, own_rules, shared_rules
 from .holes import BY_IMPL, Hole, Holes, nothing, optional
-from .parsed import WAYS, parser_of, place_of
+from .kinds import LIFE, kind_of
+from .parsed import WAYS, place_of
 from .scope import SIGNED, UNSIGNED, is_option, is_path, is_text
 from .quoted import BESIDE_CONTEXT
 from .rules import Attributes
 from .source import Item, Param, Type, all_rules, is_ported, named_type, with_doc, with_fields
 from .tokens import Refusal, meant
 from .unions import Shapes, faults_of_tuple, is_other, is_tuple, is_unit, names_of as names_of_variant
-from .values import DECIMAL, KEPT, as_read, canonical, is_any, is_float
+from .values import DECIMAL, KEPT, canonical, is_any, is_float
 
-LIFE = "'t"
 # What each type that borrows has of the derives.
 HAS = {"TextRef": ("Debug", "PartialEq", "Eq"), "Items": ("Debug",), "Entries": ("Debug",), "Url": ("Debug", "PartialEq"), DECIMAL: ("Debug",), KEPT: ("Debug",)}
 AT_TYPE = ("rename", "rename_all", "rename_all_fields", "deny_unknown_fields", "tag", "content", "untagged", "default", "transparent")
@@ -140,7 +140,7 @@ class Borrowed:
         held = {it.name: it for it in self.source.items}
         nested = {name for name, it in self.items.items() if root and name != root and self.holds_itself(it, it, ())}
         self.items = {name: it for name, it in self.items.items() if name not in nested and not any(word in options(it) for word in BY_IMPL)}
-        reads = lambda kind: is_option(kind) or is_path(kind, "Vec", *UNSIGNED, *SIGNED, "bool", *self.items) or is_map(kind) or is_float(kind) or is_any(kind) or parser_of(kind, self.source) is not None
+        reads = lambda kind: is_option(kind) or is_path(kind, "Vec", *self.items) or is_map(kind) or kind_of(kind, self.source) is not None
         holes = Holes(held, reads, lambda it: is_rest(it) or flat_part(it, self.items), self.own, self.source.notes)
         turned, left = {}, [root] if root in self.items else list(self.items)
         while left:
@@ -250,13 +250,8 @@ class Borrowed:
 
     def type_of(self, kind):
         """A type as a form gives its values."""
-        if is_text(kind):
-            return named_type("TextRef", kind.line, lives=(LIFE,))
-        parser = parser_of(kind, self.source)
-        if parser:
-            return Type("path", parser.path[-1], kind.line, path=parser.path)
-        if is_float(kind) or is_any(kind):
-            return as_read(kind, LIFE)
+        if known := kind_of(kind, self.source):
+            return known.turned(kind)
         args = tuple(self.type_of(it) for it in kind.args)
         if is_path(kind, "Vec") and len(args) == 1:
             return named_type("Items", kind.line, *args)
@@ -424,7 +419,7 @@ class Borrowed:
                 yield from self.unread(it, item)
                 if it.name in self.items and asks(self.items[it.name]):
                     yield f"the type `{it.name}` within a tuple, whose rules its form asks: give the tuple a name, as `struct Row(..);`, with `dive` at its fields"
-        elif not is_path(kind, *UNSIGNED, *SIGNED, "bool", *self.items) and not is_float(kind) and not is_any(kind) and not parser_of(kind, self.source):
+        elif not is_path(kind, *self.items) and kind_of(kind, self.source) is None:
             way = WAYS.get(place_of(kind, self.source))
             told = f"the type `{kind.name}`" if kind.kind == "path" else "a tuple, an array or a reference"
             yield f"{told}, which no form of `--schema` reads: {way or READ_BY_HAND}"
@@ -438,7 +433,7 @@ class Borrowed:
             yield from self.unwritten(kind.args[0], (*within, kind.name))
         elif is_list or is_option(kind):
             yield f"`{kind.name}` within `{within[-1]}`" if within else f"the type `{kind.name}`"
-        elif is_path(kind, "u128", "i128") or is_map(kind) or is_float(kind) or is_any(kind):
+        elif is_map(kind) or (known := kind_of(kind, self.source)) and not known.is_written:
             yield f"the type `{kind.name}`"
         elif is_tuple(kind):
             yield "a tuple"

@@ -3,16 +3,11 @@ a type, and so is the key by which `unique_by` compares them."""
 import re
 
 from .expressions import ADDRESSES, CONTEXT, ITEM, VALUE, Expression, places_in, with_item
-from .layout import WIDTH, Chain, Word, holding, lifetimes_of, statement
+from .layout import Chain, Word, head_of_method, holding, statement
 from .scope import SIGNED, UNSIGNED, Place, Scope, is_option, is_path, is_text, spoken
+from .templates import fill
 from .tokens import Refusal
 
-IS_ADDRESS = """/// Whether a text is an address.
-fn is_address(text: &str) -> bool
-    ensures { result ≡ is_ipv4 text.now || is_ipv6 text.now }
-{
-    is_ipv4(text) || is_ipv6(text)
-}"""
 # What stands behind the name of a variant in a pattern that looks at nothing in it.
 SHAPES = {"unit": "", "tuple": "(..)", "named": " { .. }"}
 COMPARISONS = {
@@ -27,52 +22,24 @@ SIGNED_COMPARISONS = {
 # The types of the toolchain that are compared by their order, and the word that states each comparison.
 ORDERED = (("jiff", "civil", "Date"), ("jiff", "civil", "Time"), ("jiff", "civil", "DateTime"), ("jiff", "Timestamp"))
 ORDERS = {"<": "partial_lt", "<=": "partial_le", ">": "partial_gt", ">=": "partial_ge"}
-QUESTION = """/// What is asked of items in the field `{spot}` of `{item}`.
-#[derive(Clone, Copy)]
-struct {name}{life}{holds};
-
-impl{bound} Question<{kind}> for {name}{lives} {{
-{stated}
-
-    fn holds(&self, {binding}: &{kind}) -> bool {{
-{taken}{condition}
-    }}
-}}"""
-
-SAME = """/// Which items in the field `{spot}` of `{item}` are the same.
-#[derive(Clone, Copy)]
-struct {name};
-
-impl{bound} Same<{kind}> for {name} {{
-{stated}
-
-{head}
-{condition}
-    }}
-}}"""
-SAME_HEADS = (
-    "    fn are_same(&self, one: &{kind}, other: &{kind}) -> bool {{",
-    "    fn are_same(\n        &self,\n        one: &{kind},\n        other: &{kind},\n    ) -> bool {{",
-)
 
 
 class Conditions:
     """The conditions of `if`, as code and as they are stated."""
 
     def __init__(self, scope, writer):
-        self.scope, self.uses, self.writer = scope, writer.uses, writer
+        self.scope, self.uses, self.writer, self.say = scope, writer.uses, writer, writer.uses.say
 
     def of(self, it):
         """A condition that stands in a place where it needs brackets if it has parts."""
         readers = {
-            "place": self.flag, "not": self.negation, "call": self.method, "and": self.both, "or": self.both,
-            "matches": self.variants, "contains": self.contains, "address": self.address, "all": self.over_items, "any": self.over_items,
+            "place": self.flag, "not": self.negation, "call": self.method, "and": self.both, "or": self.both, "matches": self.variants,
+            "contains": self.contains, "address": self.address, "all": self.over_items, "any": self.over_items,
         }
         if it.kind in readers:
             return readers[it.kind](it)
         if it.kind == "bool":
-            self.uses.words.add(it.value)
-            return it.value, it.value
+            return it.value, self.say(it.value)
         if it.kind in ("==", "!=") and it.parts[1].kind in ("path", "text") and it.parts[0].kind == "place":
             return self.equality(it)
         if it.kind == "number":
@@ -91,8 +58,8 @@ class Conditions:
 
     def negation(self, it):
         code, spec = self.of(it.parts[0])
-        self.uses.words.add("not")
-        return f"!{self.grouped(it.parts[0], code)}", f"(not {spec})"
+        is_one = it.parts[0].kind in ("place", "call", "bool", "not", "matches", "contains", "address", "all", "any")
+        return f"!{code}" if is_one else f"!({code})", self.say("(not {})", spec)
 
     def both(self, it):
         """A condition of two parts; a part of another kind than the whole stands in brackets."""
@@ -101,50 +68,37 @@ class Conditions:
 
     def chain(self, it):
         """The same as the parts of its code."""
-        mark = "&&" if it.kind == "and" else "||"
+        mark, other = ("&&", "or") if it.kind == "and" else ("||", "and")
         self.uses.prelude.add(f"◌{mark}◌")
-        other, codes, specs = "or" if it.kind == "and" else "and", [], []
+        codes, specs = [], []
         for part in it.parts:
-            if part.kind == it.kind:
-                tree, spec = self.chain(part)
-                codes += tree.parts
-            else:
-                code, spec = self.of(part)
-                codes.append(f"({code})" if part.kind == other else code)
+            code, spec = (self.chain if part.kind == it.kind else self.of)(part)
+            codes += code.parts if part.kind == it.kind else [f"({code})" if part.kind == other else code]
             specs.append(spec)
         return Chain(mark, tuple(codes)), f"({f' {mark} '.join(specs)})"
-
-    def grouped(self, it, code):
-        return code if it.kind in ("place", "call", "bool", "not", "matches", "contains", "address", "all", "any") else f"({code})"
 
     def method(self, it):
         """`is_some` and `is_none` of an option."""
         code, spec, kind = self.scope.place(it.parts[0].value, it.line)
         if it.value not in ("is_some", "is_none") or (kind is not None and not is_option(kind)):
             raise Refusal(it.line, f"a condition with the method `{it.value}`, which the port cannot read there")
-        self.uses.prelude.add("is_some")
-        if it.value == "is_some":
-            return f"{code.lstrip('*')}.is_some()", f"(is_some {spec})"
-        self.uses.words.add("not")
-        return f"{code.lstrip('*')}.is_none()", f"(not (is_some {spec}))"
+        return f"{code.lstrip('*')}.{it.value}()", self.say("(is_some {})" if it.value == "is_some" else "(not (is_some {}))", spec)
 
     def equality(self, it):
         """Whether a value is a variant, or a text."""
         place, other = it.parts
-        if other.kind == "path" and self.writer.resolved(other).kind == "number":
+        is_variant = other.kind == "path"
+        if is_variant and self.writer.resolved(other).kind == "number":
             return self.comparison(it)
-        code, spec = self.variants(Expression("matches", it.line, (other.value,), (place,))) if other.kind == "path" else self.text(place, other)
-        if it.kind == "==":
-            return code, spec
-        self.uses.words.add("not")
-        return (f"!{code}" if other.kind == "path" else code.replace(" == ", " != ")), f"(not {spec})"
-
-    def text(self, place, other):
-        found = self.text_of(place)
-        if found is None:
-            raise Refusal(place.line, f"a comparison of `{spoken(place.value)}` with a text, which is neither a `String` nor a `&str` nor read by a form")
-        self.uses.words.add("text_is")
-        return f'{found[0]} == "{other.value}"', f'(text_is "{other.value}" {found[1]})'
+        if is_variant:
+            code, spec = self.variants(Expression("matches", it.line, (other.value,), (place,)))
+            denied = f"!{code}"
+        else:
+            told = "with a text, which is neither a `String` nor a `&str` nor read by a form"
+            code, spec = self.text_of(place, f"a comparison of `{spoken(place.value)}` {told}")
+            code, denied = (f'{code} {mark} "{other.value}"' for mark in ("==", "!="))
+            spec = self.say('(text_is "{}" {})', other.value, spec)
+        return (code, spec) if it.kind == "==" else (denied, self.say("(not {})", spec))
 
     def variants(self, it):
         """Whether a value is one of some variants of an enum of the file."""
@@ -159,77 +113,71 @@ class Conditions:
         for path in it.value:
             if path[:-1] not in ((item.name,), (item.known,)) or path[-1] not in known:
                 raise Refusal(it.line, f"`{'::'.join(path)}`, which is no variant of `{item.name}`")
-        self.uses.words |= {"Bool", "true"}
         self.uses.cited.add(item.name)
         names = list(dict.fromkeys(path[-1] for path in it.value))
-        rest = [] if len(names) == len(known) else ["_ ↦ false"]
-        self.uses.words |= {"false"} if rest else set()
-        cases = [f"{' '.join([known[name].word, *'_' * len(known[name].fields)])} ↦ true" for name in names]
+        cases = [self.say("{} ↦ true", " ".join([known[name].word, *"_" * len(known[name].fields)])) for name in names]
+        cases += [self.say("_ ↦ false")] if len(names) < len(known) else []
         patterns = " | ".join(f"{item.name}::{name}{SHAPES[known[name].shape]}" for name in names)
-        return f"matches!({code.lstrip('*')}, {patterns})", f"(elim {spec} as (λ _. Bool) [ {' | '.join([*cases, *rest])} ])"
+        return f"matches!({code.lstrip('*')}, {patterns})", self.say("(elim {} as (λ _. Bool) [ {} ])", spec, " | ".join(cases))
 
     def contains(self, it):
         """Whether a text has this part, or a list this item."""
-        place, asked = it.parts[0], it.value
-        code, spec, kind = self.scope.place(place.value, it.line)
+        asked, (code, spec, kind) = it.value, self.scope.place(it.parts[0].value, it.line)
         code = code.lstrip("*")
         if kind is not None and is_path(kind, "TextRef") and asked.kind == "text":
             self.uses.paths.add("Rattle.garde.specs.Words.{has_part}")
-            self.uses.words.add("codes")
             self.uses.others.add("garde::rules::contains")
-            return f'contains::Contains::validate_contains({code}, "{asked.value}")', f'(has_part (codes "{asked.value}") {spec})'
+            part = self.say('(codes "{}")', asked.value)
+            return f'contains::Contains::validate_contains({code}, "{asked.value}")', f"(has_part {part} {spec})"
         held = kind.args[0] if kind is not None and is_path(kind, "Vec", "Items") and kind.args else None
         if asked.kind == "path":
-            return self.contains_variant(it, code, spec, kind, held)
-        texts = held is not None and is_path(held, "TextRef") and asked.kind == "text"
-        if not texts and not (held is not None and is_path(held, *UNSIGNED) and asked.kind == "number" and asked.value >= 0):
-            told = f"`contains` of `{spoken(place.value)}`"
+            item, same, stated = self.listed_variant(it, held)
+        elif held is not None and is_path(held, "TextRef") and asked.kind == "text":
+            self.uses.others.add("garde_schema::TextRef")
+            item, same, stated = f'&TextRef::new("{asked.value}")', self.say("text_eq"), self.say('(codes "{}")', asked.value)
+        elif held is not None and is_path(held, *UNSIGNED) and asked.kind == "number" and asked.value >= 0:
+            item, same, stated = f"&{asked.value}", self.say("nat_eq"), asked.value
+        else:
+            told = f"`contains` of `{spoken(it.parts[0].value)}`"
             raise Refusal(it.line, f"{told}: it is written of texts and lists of texts that a form reads, and of lists of numbers without a sign")
         self.uses.fields |= {"includes", "Equal"}
-        self.uses.words |= {"includes"} | ({"text_eq", "codes"} if texts else {"nat_eq"})
-        self.uses.others |= {"garde_schema::TextRef"} if texts else set()
-        listed = self.listed(kind, spec)
-        item, same, stated = (f'&TextRef::new("{asked.value}")', "text_eq", f'(codes "{asked.value}")') if texts else (f"&{asked.value}", "nat_eq", asked.value)
-        return f"includes({code}.as_slice(), &Equal, {item})", f"(includes {same} {listed} {stated})"
+        return f"includes({code}.as_slice(), &Equal, {item})", self.say("(includes {} {} {})", same, self.listed(kind, spec), stated)
 
-    def contains_variant(self, it, code, spec, kind, held):
-        """Whether a list has this variant of an enum of the file, which derives `PartialEq`."""
+    def listed_variant(self, it, held):
+        """A variant that a list may have, of an enum of the file which derives `PartialEq`: as code, how such are compared, and as it is
+        stated."""
         item, path = self.writer.enum(held.name) if held is not None else None, it.value.value
         if item is None or path[:-1] != (item.name,) or path[-1] not in [one.name for one in item.variants if one.shape == "unit"]:
-            raise Refusal(it.line, f"`contains(&{'::'.join(path)})`, which is no variant without fields of what `{spoken(it.parts[0].value)}` lists")
+            told = f"`contains(&{'::'.join(path)})`, which is no variant without fields of what"
+            raise Refusal(it.line, f"{told} `{spoken(it.parts[0].value)}` lists")
         if "PartialEq" not in item.derives:
             raise Refusal(it.line, f"`contains` of a list of `{item.name}`: write `PartialEq` among its derives")
-        self.uses.fields |= {"includes", "Equal"}
-        self.uses.words.add("includes")
         self.uses.cited.add(item.name)
-        stated = f"(includes ⟦<{item.name} as PartialEq>⟧.eq {self.listed(kind, spec)} {path[-1]})"
-        return f"includes({code}.as_slice(), &Equal, &{'::'.join(path)})", stated
+        return f"&{'::'.join(path)}", f"⟦<{item.name} as PartialEq>⟧.eq", path[-1]
 
     def address(self, it):
-        found, names = self.text_of(it.parts[0]), ADDRESSES[it.value]
-        if found is None:
-            raise Refusal(it.line, f"`parse` of `{spoken(it.parts[0].value)}`, which is neither a `String` nor a `&str` nor read by a form")
-        self.uses.words |= {*names}
+        names, told = ADDRESSES[it.value], "which is neither a `String` nor a `&str` nor read by a form"
+        code, spec = self.text_of(it.parts[0], f"`parse` of `{spoken(it.parts[0].value)}`, {told}")
         self.uses.others |= {f"garde::rules::ip::{name}" for name in names}
-        code, stated = found[0].lstrip("*"), " || ".join(f"{name} {found[1]}" for name in names)
+        stated = f"({' || '.join(self.say(f'{name} {{}}', spec) for name in names)})"
         if not names[1:]:
-            return f"{names[0]}({code})", f"({stated})"
+            return f"{names[0]}({code.lstrip('*')})", stated
         self.uses.prelude |= {"◌||◌", "◌≡◌"}
-        self.writer.copied["is_address"] = IS_ADDRESS
-        return f"is_address({code})", f"({stated})"
+        self.writer.copied["is_address"] = fill("is_address")
+        return f"is_address({code.lstrip('*')})", stated
 
     def comparison(self, it):
         """A comparison of numbers, of two texts, or of two values of an enum."""
+        are_places = [self.writer.resolved(part).kind == "place" for part in it.parts]
         if it.kind in ("==", "!=") and all(part.kind == "place" for part in it.parts):
-            texts = [self.text_of(part) if self.writer.resolved(part).kind == "place" else None for part in it.parts]
+            texts = [self.text_at(part) if is_place else None for part, is_place in zip(it.parts, are_places)]
             if None not in texts:
-                self.uses.words.add("text_eq")
                 (one, like), (other, another) = texts
-                return self.equal(it, one, other, f"(text_eq {like} {another})")
-            same = self.same_values(it)
+                return self.equal(it, one, other, self.say("(text_eq {} {})", like, another))
+            same = self.same_values(it, are_places)
             if same:
                 return same
-        ordered = self.in_order(it)
+        ordered = self.in_order(it, are_places)
         if ordered:
             return ordered
         signed = any(map(self.is_signed, it.parts))
@@ -238,9 +186,10 @@ class Conditions:
         self.uses.words |= set(re.findall(r"\b(?:nat_eq|nat_lt|nat_le|int_eq|int_lt|not)\b", spec))
         return f"{left} {it.kind} {right}", f"({spec})"
 
-    def same_values(self, it):
+    def same_values(self, it, are_places):
         """Whether two places have the same value of an enum of the file, or nothing where they have none."""
-        (code, spec, kind), (other, like, another) = (self.scope.place(part.value, it.line) if self.writer.resolved(part).kind == "place" else (None,) * 3 for part in it.parts)
+        found = [self.scope.place(part.value, it.line) if is_place else (None,) * 3 for part, is_place in zip(it.parts, are_places)]
+        (code, spec, kind), (other, like, another) = found
         item = self.writer.enum(kind.name) if kind is not None and another is not None and kind.name == another.name else None
         if item is None or "PartialEq" not in item.derives:
             return None
@@ -248,21 +197,22 @@ class Conditions:
 
     def equal(self, it, code, other, stated):
         """That two values are equal, or that they are not."""
-        self.uses.words |= {"not"} if it.kind == "!=" else set()
-        return f"{code} {it.kind} {other}", stated if it.kind == "==" else f"(not {stated})"
+        return f"{code} {it.kind} {other}", stated if it.kind == "==" else self.say("(not {})", stated)
 
-    def in_order(self, it):
+    def in_order(self, it, are_places):
         """A comparison of two dates, two times or two moments, or nothing where a part is none."""
-        found = [self.scope.place(part.value, it.line) for part in it.parts if self.writer.resolved(part).kind == "place"]
+        found = [self.scope.place(part.value, it.line) for part, is_place in zip(it.parts, are_places) if is_place]
         kinds = {kind and kind.path for _, _, kind in found}
         if len(found) < 2 or len(kinds) > 1 or not kinds & set(ORDERED):
             return None
         (code, spec, kind), (other, like, _) = found
         name = self.writer.type_text(kind)
         if it.kind in ORDERS:
-            self.uses.state("std.specs.Ordering", ORDERS[it.kind])
-            return f"{code} {it.kind} {other}", f"({ORDERS[it.kind]} ⟦<{name} as PartialOrd>⟧.partial_cmp {spec} {like})"
+            word = self.uses.state("std.specs.Ordering", ORDERS[it.kind])
+            return f"{code} {it.kind} {other}", f"({word} ⟦<{name} as PartialOrd>⟧.partial_cmp {spec} {like})"
         return self.equal(it, code, other, f"(⟦<{name} as PartialEq>⟧.eq {spec} {like})")
+
+    # Numbers.
 
     def is_signed(self, it):
         it = self.writer.resolved(it)
@@ -275,9 +225,7 @@ class Conditions:
         """A number that is compared with one that has a sign."""
         it = self.writer.resolved(it)
         if it.kind == "number":
-            word = "minus" if it.value < 0 else "plus"
-            self.uses.words.add(word)
-            return str(it.value), f"({word} {abs(it.value)})"
+            return str(it.value), self.say("(minus {})" if it.value < 0 else "(plus {})", abs(it.value))
         if it.kind != "place" or not self.is_signed(it):
             raise Refusal(it.line, "a comparison of a number with a sign and one without, or of a sum of such: compare numbers of one type")
         return self.scope.place(it.value, it.line)[:2]
@@ -320,45 +268,6 @@ class Conditions:
         code, spec = self.number(it)
         return (code if it.kind == "number" else f"({code} as u128)"), spec
 
-    def text_of(self, it):
-        """A text at a place as code and as it is stated, or nothing where there is none."""
-        code, spec, kind = self.scope.place(it.value, it.line)
-        binding = code.lstrip("*")
-        if kind is not None and kind.kind == "ref" and is_text(kind):
-            return f"*{binding}", f"{spec}.now"
-        if kind is not None and kind.name == "String":
-            self.uses.words.add("str")
-            return f"{binding}.as_str()", f"(str {spec})"
-        return (f"{binding}.text()", spec) if kind is not None and kind.name == "TextRef" else None
-
-    def listed(self, kind, spec):
-        self.uses.words |= {"slice"} if kind.name == "Vec" else set()
-        return f"(slice {spec})" if kind.name == "Vec" else spec
-
-    def length(self, it):
-        """How many bytes a text has, or how many items a list or a map."""
-        place = it.parts[0]
-        text = self.text_of(place) if self.writer.resolved(place).kind == "place" else None
-        if text is not None:
-            self.uses.words.add("byte_count")
-            return f"{text[0].lstrip('*')}.len()", f"(byte_count {text[1]})"
-        code, spec, kind = self.scope.place(place.value, place.line)
-        code = code.lstrip("*")
-        if kind is None or not is_path(kind, "Vec", "Items", "Entries"):
-            raise Refusal(it.line, f"`len` of `{spoken(place.value)}`, which is neither a text nor a list nor a map that a form reads")
-        self.uses.words.add("length")
-        return f"{code}{'' if kind.name == 'Vec' else '.as_slice()'}.len()", f"(length {self.listed(kind, spec)})"
-
-    def division(self, it):
-        """What a division by a number gives, or leaves over."""
-        by = self.writer.resolved(it.parts[1])
-        if by.kind != "number" or by.value < 1:
-            raise Refusal(it.line, f"`{it.kind}` by what is no number from 1 on")
-        code, spec = self.number(it.parts[0])
-        word = "remainder" if it.kind == "%" else "quotient"
-        self.uses.words.add(word)
-        return f"{code} {it.kind} {by.value}", f"({word} {spec} {by.value})"
-
     def number(self, it):
         it = self.writer.resolved(it)
         if it.kind == "wide":
@@ -366,7 +275,12 @@ class Conditions:
         if it.kind == "number" and it.value >= 0:
             return str(it.value), str(it.value)
         if it.kind in ("%", "/"):
-            return self.division(it)
+            # what a division by a number gives, or leaves over
+            by = self.writer.resolved(it.parts[1])
+            if by.kind != "number" or by.value < 1:
+                raise Refusal(it.line, f"`{it.kind}` by what is no number from 1 on")
+            code, spec = self.number(it.parts[0])
+            return f"{code} {it.kind} {by.value}", self.say("(remainder {} {})" if it.kind == "%" else "(quotient {} {})", spec, by.value)
         if it.kind == "call" and it.value == "len":
             return self.length(it)
         if it.kind != "place":
@@ -376,23 +290,57 @@ class Conditions:
             raise Refusal(it.line, f"a comparison of `{spoken(it.value)}`, which is no number without a sign")
         return code, spec
 
+    def length(self, it):
+        """How many bytes a text has, or how many items a list or a map."""
+        place = it.parts[0]
+        text = self.text_at(place) if self.writer.resolved(place).kind == "place" else None
+        if text is not None:
+            return f"{text[0].lstrip('*')}.len()", self.say("(byte_count {})", text[1])
+        code, spec, kind = self.scope.place(place.value, place.line)
+        if kind is None or not is_path(kind, "Vec", "Items", "Entries"):
+            raise Refusal(it.line, f"`len` of `{spoken(place.value)}`, which is neither a text nor a list nor a map that a form reads")
+        method = ".len()" if kind.name == "Vec" else ".as_slice().len()"
+        return code.lstrip("*") + method, self.say("(length {})", self.listed(kind, spec))
+
+    # Texts and lists.
+
+    def text_at(self, it):
+        """A text at a place as code and as it is stated, or nothing where there is none."""
+        code, spec, kind = self.scope.place(it.value, it.line)
+        binding = code.lstrip("*")
+        if kind is not None and kind.kind == "ref" and is_text(kind):
+            return f"*{binding}", f"{spec}.now"
+        if kind is not None and kind.name == "String":
+            return f"{binding}.as_str()", self.say("(str {})", spec)
+        return (f"{binding}.text()", spec) if kind is not None and kind.name == "TextRef" else None
+
+    def text_of(self, it, told):
+        """The same, or a refusal that says this."""
+        found = self.text_at(it)
+        if found is None:
+            raise Refusal(it.line, told)
+        return found
+
+    def listed(self, kind, spec):
+        return self.say("(slice {})", spec) if kind.name == "Vec" else spec
+
     # Conditions of the items of a list.
 
     def over_items(self, it):
         """Whether the items of a list have what a closure asks."""
-        scope, uses, (place, condition) = self.scope, self.uses, it.parts
+        scope, (place, condition) = self.scope, it.parts
         code, spec, kind = scope.place(place.value, it.line)
         if kind is None or not is_path(kind, "Vec", "Items") or not kind.args:
             raise Refusal(it.line, f"`iter().{it.kind}` of what is no list: write it of a `Vec`")
         word = f"{it.kind}_of"
-        uses.fields |= {word, "Question"}
-        uses.words.add(word)
+        self.uses.fields |= {word, "Question"}
         given = self.question(it, kind.args[0])
         variable = "it" if not scope.items else f"it{len(scope.items) + 1}"
         inner = scope.with_item(ITEM + it.value, Place(it.value, variable, kind.args[0]), self.writer.fields_within(kind.args[0]))
         _, stated = Conditions(inner, self.writer).whole(condition)
         scope.bound |= inner.bound
-        return f"{word}({code.lstrip('*')}.as_slice(), {given})", f"({word} (λ {variable}. {stated}) {self.listed(kind, spec)})"
+        said = self.say(f"({word} (λ {{}}. {{}}) {{}})", variable, stated, self.listed(kind, spec))
+        return f"{word}({code.lstrip('*')}.as_slice(), {given})", said
 
     def question(self, it, kind):
         """Writes the type of what is asked of an item. Returns the value of it, which holds what the closure speaks of beside the item."""
@@ -403,14 +351,16 @@ class Conditions:
         inner = Scope(scope.context, fields, scope.params, scope.unit or CONTEXT not in places, places.get(VALUE), scope.fields)
         inner.add_item(ITEM + it.value, Place(it.value, it.value, kind), writer.fields_within(kind))
         code, stated = Conditions(inner, writer).whole(it.parts[1])
-        for place in (place for key, place, _ in held if key == CONTEXT):
-            stated = re.sub(rf"(?<![\w.]){scope.context}(?!\w)", place.name, stated)
+        if CONTEXT in places:
+            stated = re.sub(rf"(?<![\w.]){scope.context}(?!\w)", places[CONTEXT].name, stated)
         kinds = [(it.binding, it.type if isinstance(it.type, str) else writer.type_text(it.type)) for _, it, _ in held]
         text = writer.type_text(kind)
-        writer.write_once(name, it.line, QUESTION.format(
-            spot=writer.spot, item=writer.item.name, name=name, kind=text, binding=it.value, **holding(text, kinds),
+        writer.write_once(name, it.line, fill(
+            "type that is asked", docs=f"What is asked of items in the field `{writer.spot}` of `{writer.item.name}`.", name=name,
+            trait="Question", kind=text, **holding(text, kinds),
             stated=f"    ghost holds = {{ λ {'question' if held else '_'} {it.value}. {stated} }};",
-            condition=statement(code if isinstance(code, Chain) else Word(code), 8),
+            head=f"    fn holds(&self, {it.value}: &{text}) -> bool {{",
+            body=statement(code if isinstance(code, Chain) else Word(code), 8),
         ))
         return f"&{name}({', '.join(given for _, _, given in held)})" if held else f"&{name}"
 
@@ -453,11 +403,10 @@ def same_by(checks, rule, kind):
         return Conditions(scope, writer).of(Expression("==", rule.line, parts=both))
 
     code, stated = compared("one", "other")
-    head = SAME_HEADS[0].format(kind=text)
-    writer.write_once(name, rule.line, SAME.format(
-        spot=writer.spot, item=writer.item.name, name=name, bound=lifetimes_of(text), kind=text,
-        stated=f"    ghost same = {{ λ _ one other. {stated} }};", condition=f"        {code}",
-        head=head if len(head) <= WIDTH else SAME_HEADS[1].format(kind=text),
+    writer.write_once(name, rule.line, fill(
+        "type that is asked", docs=f"Which items in the field `{writer.spot}` of `{writer.item.name}` are the same.", name=name,
+        trait="Same", kind=text, **holding(text), stated=f"    ghost same = {{ λ _ one other. {stated} }};",
+        head=head_of_method("are_same", (f"one: &{text}", f"other: &{text}"), "bool"), body=f"        {code}",
     ))
     checks.uses.fields.add("Same")
     return Word(name), f"(λ x y. {compared('x', 'y')[1]})"

@@ -6,12 +6,13 @@ from dataclasses import dataclass, replace
 from .derives import options
 from .expressions import inside_of, number_of
 from .groups import own_rules
-from .layout import Method, Word, call, ghost, literal, statement
+from .layout import Method, Word, call, ghost, holding, literal, statement
 from .names import of_field, of_variant
 from .prelude import is_declared
 from .scope import SIGNED, UNSIGNED, is_option, is_path, is_text, range_of, resolved
-from .source import named_type, read_type
-from .tokens import Refusal, Refusals, Tokens, tokens_of
+from .source import Parser, named_type
+from .templates import fill
+from .tokens import Refusal, Refusals, tokens_of
 from .tried import holds
 
 COLLECTIONS = ("Vec", "BTreeMap", "HashMap", "IndexMap", "BTreeSet", "HashSet", "IndexSet", "VecDeque", "LinkedList")
@@ -28,17 +29,6 @@ SPANS = {"from_secs": 1, "from_millis": 10**3, "from_micros": 10**6, "from_nanos
 LONG = 60
 LAST = ("fn", "impl", "const")
 WAY = "write a constant, or read an `Option` and fill it in by your code"
-MAKER = """/// Makes the {told} of the field `{field}` of `{item}`.
-#[derive(Clone, Copy)]
-struct {name};
-
-impl{life} Makes<{kind}> for {name} {{
-{made}
-
-    fn make(&self, {alloc}: Global) -> {kind} {{
-{body}
-    }}
-}}"""
 
 
 class NoConstant(Exception):
@@ -105,7 +95,7 @@ class Constants:
 
     def of_constant(self, tokens):
         tokens.expect(":")
-        read_type(tokens)
+        tokens.read_type()
         tokens.expect("=")
         start = tokens.at
         while not tokens.ended() and not tokens.sees(";"):
@@ -116,14 +106,14 @@ class Constants:
         """The body of a function without arguments, or nothing."""
         if not tokens.opens("(") or not tokens.group().ended() or not tokens.takes("->"):
             return None
-        read_type(tokens)
+        tokens.read_type()
         return tokens.group() if tokens.opens("{") else None
 
     def of_impl(self, tokens, is_conditional):
         """The functions and the constants of an implementation of a type, or of `Default` for it."""
-        kind, trait = read_type(tokens), None
+        kind, trait = tokens.read_type(), None
         if tokens.takes("for"):
-            kind, trait = read_type(tokens), kind
+            kind, trait = tokens.read_type(), kind
         if not tokens.opens("{") or trait is not None and not self.is_default(trait.path):
             return
         inside = tokens.group()
@@ -146,7 +136,7 @@ class Constants:
 
     def value_of(self, text, kind):
         """The value of a text of the source, as one of a type."""
-        return Reader(self, Tokens(tokens_of(text), text, self.source.notes)).whole(kind)
+        return Reader(self, Parser(tokens_of(text), text, self.source.notes)).whole(kind)
 
     def of_type(self, kind):
         kind = stripped(kind)
@@ -467,7 +457,7 @@ class Defaults:
         if said is None or said.value is None:
             return self.constants.of_type(kind)
         try:
-            names = Tokens(tokens_of(said.value), said.value, self.source.notes).path("a path")
+            names = Parser(tokens_of(said.value), said.value, self.source.notes).path("a path")
         except (Refusal, Refusals) as refusal:
             raise NoConstant(f"`{said.value}` is no path of a function") from refusal
         return self.constants.called(names, kind, "")
@@ -507,16 +497,9 @@ class Defaults:
 
     def is_broken(self, found, rule):
         """Whether a text, a number or a list without an item breaks a rule."""
-        text = found.value
         if rule.name in ("range", "length", "multiple_of"):
             return self.is_beyond(found, rule)
-        if found.form != "text":
-            return False
-        tests = {
-            "ascii": text.isascii(), "alphanumeric": not text.isascii() or text == "" or text.isalnum(), "contains": (rule.text or "") in text,
-            "prefix": text.startswith(rule.text or ""), "suffix": text.endswith(rule.text or ""),
-        }
-        return not tests.get(rule.name, text != "" or rule.name not in ("ip", "ipv4", "ipv6", "url"))
+        return found.form == "text" and rule.known.is_kept is not None and not rule.known.is_kept(found.value, rule.text or "")
 
     def is_beyond(self, found, rule):
         bounds = {word: resolved(it, self.source.numbers) for word, it in rule.bounds.items()}
@@ -624,21 +607,19 @@ class Making:
         self.writer.uses.others.add("std::alloc::Global")
         kind, body = self.writer.type_text(self.borrowed.type_of(found.kind)), statement(self.code(found), 8)
         made = ghost("made", f"λ _. {self.stated(found)}", f" λ _. {self.laid(found, 4)}")
-        return MAKER.format(
-            told="value" if is_skipped(it) else "default", field=it.name, item=item.name, name=name, life="<'t>" if "'t" in kind else "",
-            kind=kind, made=made, alloc="alloc" if "make(alloc)" in body else "_alloc", body=body,
+        return fill(
+            "type that is asked", docs=f"Makes the {'value' if is_skipped(it) else 'default'} of the field `{it.name}` of `{item.name}`.",
+            name=name, trait="Makes", kind=kind, **holding(kind), stated=made, body=body,
+            head=f"    fn make(&self, {'alloc' if 'make(alloc)' in body else '_alloc'}: Global) -> {kind} {{",
         )
 
     def code(self, found):
-        match found.form:
-            case "number" | "bool":
-                return Word(str(found.value).lower())
-            case "text":
-                return call(f"{self.schema.use('TextRef')}::new", f'"{found.value}"')
-            case "none":
-                return Word("None")
-            case "empty":
-                return Method(Word(self.schema.use("Empty", "Makes")), "make", (Word("alloc"),))
+        if found.form in ("number", "bool", "none"):
+            return Word(str(found.value).lower() if found.form != "none" else "None")
+        if found.form == "text":
+            return call(f"{self.schema.use('TextRef')}::new", f'"{found.value}"')
+        if found.form == "empty":
+            return Method(Word(self.schema.use("Empty", "Makes")), "make", (Word("alloc"),))
         parts = [self.code(it) for it in found.parts]
         if found.form in ("some", "tuple"):
             return call("Some" if found.form == "some" else "", *parts)
@@ -650,25 +631,17 @@ class Making:
 
     def stated(self, found):
         uses = self.writer.uses
-        match found.form:
-            case "number" if found.kind.name in SIGNED:
-                word = "minus" if found.value < 0 else "plus"
-                uses.words.add(word)
-                return f"{word} {abs(found.value)}"
-            case "number":
-                return str(found.value)
-            case "bool":
-                uses.words.add(str(found.value).lower())
-                return str(found.value).lower()
-            case "text":
-                uses.words.add("codes")
-                return f'codes "{found.value}"'
-            case "none" | "some" | "empty":
-                word = {"none": "None", "some": "Some", "empty": "[]"}[found.form]
-                uses.prelude.add(word)
-                return " ".join([word, *map(self.bracketed, found.parts)])
-            case "tuple":
-                return f"({', '.join(map(self.stated, found.parts))})" if found.parts else "tt"
+        if found.form == "number" and found.kind.name in SIGNED:
+            return uses.say("minus {}" if found.value < 0 else "plus {}", abs(found.value))
+        if found.form in ("number", "bool", "text"):
+            text = str(found.value).lower()
+            return text if found.form == "number" else uses.say(text) if found.form == "bool" else uses.say('codes "{}"', found.value)
+        if found.form in ("none", "some", "empty"):
+            word = {"none": "None", "some": "Some", "empty": "[]"}[found.form]
+            uses.prelude.add(word)
+            return " ".join([word, *map(self.bracketed, found.parts)])
+        if found.form == "tuple":
+            return f"({', '.join(map(self.stated, found.parts))})" if found.parts else "tt"
         if found.item.kind == "enum":
             uses.cited.add(found.item.name)
             return " ".join([self.variant(found).word, *map(self.bracketed, found.parts)])

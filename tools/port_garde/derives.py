@@ -20,8 +20,14 @@ OPTIONS = {
     ),
     "field without a name": ("borrow",),
 }
-BY_HAND = ("with", "serialize_with", "deserialize_with")
-BY_IMPL = ("from", "try_from", "into")
+# Why others are read nowhere.
+NOWHERE = {
+    **dict.fromkeys(
+        ("with", "serialize_with", "deserialize_with"), "whose functions take other arguments here: take it out, and write it by hand"
+    ),
+    "bound": "which names parameters here, as `bound(T)`: take it out, and write it by hand",
+    **dict.fromkeys(("from", "try_from", "into"), "which asks for an `impl` that the port leaves out"),
+}
 CASES = ("lowercase", "UPPERCASE", "PascalCase", "camelCase", "snake_case", "SCREAMING_SNAKE_CASE", "kebab-case", "SCREAMING-KEBAB-CASE")
 # The types that serde does not read and write here, and those that no `default()` makes, since they allocate.
 UNREAD = ("Rc", "PhantomData", "Duration", "Result", "LinkedList", "BinaryHeap", "Regex")
@@ -160,12 +166,8 @@ class Derives:
         """The options that are not read at a place."""
         for said in options(it).values():
             word = said.word
-            if word in BY_HAND:
-                yield said.line, f"`{word}` of serde, whose functions take other arguments here: take it out, and write it by hand"
-            elif word == "bound":
-                yield said.line, "`bound` of serde, which names parameters here, as `bound(T)`: take it out, and write it by hand"
-            elif word in BY_IMPL:
-                yield said.line, f"`{word}` of serde, which asks for an `impl` that the port leaves out"
+            if word in NOWHERE:
+                yield said.line, f"`{word}` of serde, {NOWHERE[word]}"
             elif word not in OPTIONS[place]:
                 where = f" at a {place}" if any(word in words for words in OPTIONS.values()) else ""
                 yield said.line, f"`{word}` of serde, which the toolchain's serde has not{where}"

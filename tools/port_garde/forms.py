@@ -6,10 +6,9 @@ from .flattened import held_part, is_closed
 from .groups import Group, grouped, is_flat, is_rest, own_rules
 from .inputs import may_be_missing
 from .names import of_field
-from .parsed import parser_of
-from .scope import Seen, is_option, is_path, is_text
+from .kinds import WHOLE, kind_of
+from .scope import Seen, is_option, is_path
 from .unions import TESTS, Shapes, beside_units, is_list, is_other, is_tuple, is_unit, names_of, nested, paths_of, units_of
-from .values import is_any, is_float
 from .words import Checks
 
 
@@ -184,16 +183,14 @@ class Forms:
             return self.several(kind, rules)
         if kind.name in self.items:
             return self.ruled(self.of_item(kind), kind, beside_dive(rules))
-        if is_text(kind) or is_float(kind):
-            return self.make("Text" if is_text(kind) else "DecimalNumber", self.asked(kind, rules))
-        parser = parser_of(kind, self.writer.source)
-        if parser:
-            return self.ruled(self.parsed(parser), kind, rules)
-        if is_any(kind):
-            return self.ruled(self.kept(), kind, rules)
-        if is_path(kind, "bool"):
+        known = kind_of(kind, self.writer.source) or WHOLE
+        if known.form == "Whole":
+            return self.number(kind, rules)
+        if known.form in ("Text", "DecimalNumber"):
+            return self.make(known.form, self.asked(kind, rules))
+        if known.form == "Flag":
             return self.ruled(self.make("Flag") if is_json else self.written_flag(), kind, rules)
-        return self.number(kind, rules)
+        return self.ruled(self.kept() if known.form == "Kept" else self.parsed(known), kind, rules)
 
     def tuple(self, kind):
         """A tuple, whose items are under no rules, or `()`."""

@@ -10,8 +10,7 @@ from .holes import BY_FUNCTION
 from .names import of_field, reading
 from .prelude import declared
 from .scope import is_path
-from .source import Type, is_ported, named_type, with_doc, with_fields, with_variants
-from .tokens import Tokens
+from .source import Parser, Type, is_ported, named_type, with_doc, with_fields, with_variants
 
 STD = ("std", "core", "alloc")
 # The crates whose types the port knows by their last names alone.
@@ -259,8 +258,8 @@ class Front:
         context = item.attributes.context
         if context:
             line, tokens = context
-            names = [replace(it, text=self.other_name(it.text)) if it.kind == "name" else it for it in tokens.tokens]
-            context = (line, Tokens(names, tokens.text, tokens.notes))
+            names = [it._replace(text=self.other_name(it.text)) if it.kind == "name" else it for it in tokens.tokens]
+            context = (line, Parser(names, tokens.text, tokens.notes))
         return replace(
             item, name=self.other_name(item.name), variants=tuple(variants), docs=docs, renames=tuple(fields.items()),
             attributes=replace(item.attributes, context=context),

@@ -2,7 +2,8 @@
 function. With `--own` each is a hole: the module of one's own has the type, a form that reads it and what JSON spells of it. Under `flatten` it
 has a form of members."""
 import re
-from dataclasses import dataclass, replace
+from collections import namedtuple
+from dataclasses import replace
 
 from .defaults import is_skipped
 from .derives import all_options, options
@@ -26,105 +27,11 @@ IMPORTED = (
 # The rules of a value that are asked of an option as a whole.
 WITHIN = ("required", "custom", "inner")
 # The skeletons of a hole: each value passes, and is kept as it was.
-HOLE = """/// A value of the type `{name}`{why}.
-/// Every value passes here, and is kept as it was. Narrow it: write what it is made of in place of
-/// `KeptValue`, and the form of that in place of `Kept`.
-#[derive(Debug, Drop)]
-pub struct {name}<'t>(pub KeptValue<'t>);
-
-impl<'t> Spelled for {name}<'t> {{
-    // What JSON spells of it: the word of the form that reads it, for instance `a_text (λ v. none)`, and how it is made of that.
-    ghost spelled = {{ made (λ parts. record {{ 0 = parts }}) any_value }};
-}}
-
-/// How JSON has a value of the type `{name}`.
-#[derive(Clone, Copy)]
-pub struct {name}Form;
-
-impl<'a> Form<'a> for {name}Form {{
-    type Out = {name}<'a>;
-
-    ghost visits = {{ λ _ texts j. ⟦<{name}<'a> as Spelled>⟧.spelled.visits texts j }};
-
-    ghost value = {{ λ _ j. ⟦<{name}<'a> as Spelled>⟧.spelled.value j }};
-
-    ghost keeps = {{ λ _ _. Unit {{0}} }};
-
-    fn read<'t, H: I18n + FormI18n>(
-        &self,
-        tree: &Tree<'t, 'a>,
-        trail: &mut Trail<'a>,
-        report: &mut Report,
-        h: &H,
-    ) -> Result<Option<{name}<'a>>, AllocError> {{
-        // The form, for instance `Text(())`.
-        let form = Kept;
-        match form.read(tree, trail, report, h) {{
-            Ok(Some(parts)) => Ok(Some({name}(parts))),
-            Ok(None) => Ok(None),
-            Err(refused) => Err(refused),
-        }}
-    }}
-}}"""
-MEMBERS = """/// The members of the type `{name}`{why}.
-/// Any members pass here, and the object that they stand in is kept as it was, with its other members.
-/// Narrow it: write what they make in place of `KeptValue`, and which they are in place of `Kept`.
-#[derive(Debug, Drop)]
-pub struct {name}<'t>(pub KeptValue<'t>);
-
-/// How JSON has the members of the type `{name}`.
-#[derive(Clone, Copy)]
-pub struct {name}Members;
-
-impl<'a> Members<'a> for {name}Members {{
-    type Out = {name}<'a>;
-
-    ghost visits = {{ λ _ texts j. any_value.visits texts j }};
-
-    ghost value = {{ λ _ j. Some (record {{ 0 = j }}) }};
-
-    ghost keeps = {{ λ _ _. Unit {{0}} }};
-
-    // Which names are theirs: those are no further members for a map beside them.
-    ghost names = {{ λ _ name. false }};
-
-    fn read_members<'t, H: I18n + FormI18n>(
-        &self,
-        object: &Tree<'t, 'a>,
-        trail: &mut Trail<'a>,
-        report: &mut Report,
-        h: &H,
-    ) -> Result<Option<{name}<'a>>, AllocError> {{
-        // The members, for instance `Member("kind", Text(()))`, and `members.read_members(..)` below.
-        let members = Kept;
-        match members.read(object, trail, report, h) {{
-            Ok(Some(parts)) => Ok(Some({name}(parts))),
-            Ok(None) => Ok(None),
-            Err(refused) => Err(refused),
-        }}
-    }}
-
-    fn names(&self, _name: &str) -> bool
-        ensures {{ result ≡ false }}
-    {{
-        false
-    }}
-}}"""
 # What the members of such a type spell, as its form states it.
-SPELLED = """(record {{
-          value = λ j. ⟦<{name}Members as Members<'t>>⟧.value (record {{}}) j;
-          visits = λ texts j. ⟦<{name}Members as Members<'t>>⟧.visits (record {{}}) texts j;
-          names = λ name. ⟦<{name}Members as Members<'t>>⟧.names (record {{}}) name;
-        }})"""
 
 
-@dataclass(frozen=True)
-class Hole:
-    """What passes at a line though serde may reject it, with the name of the type of one's own that says what it is, if there is one."""
-
-    line: int
-    reason: str
-    name: str = ""
+# What passes at a line though serde may reject it, with the name of the type of one's own that says what it is, if there is one.
+Hole = namedtuple("Hole", "line reason name", defaults=("",))
 
 
 def optional(it):

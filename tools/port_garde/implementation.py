@@ -1,10 +1,13 @@
 """The implementations of `Stated` and of `Validate` for a type."""
 import re
 
+from .borrowed import RESERVED
 from .derives import fields_of, type_names
 from .layout import Method, Word, arm, call, ghost, literal, statement, wide_call
+from .rules import RULES
 from .scope import Place, Scope, Seen
-from .source import Param, all_rules, read_type
+from .source import Param, all_rules
+from .templates import fill
 from .tokens import Refusal
 from .words import Checks, together
 
@@ -14,20 +17,11 @@ LETTERS = "abcdefgijklmnopqrst"
 OWN = ("trail", "report", "h", "self")
 STATED = (
     "field item none is is_in_memory when if_some each_of_option each each_in_any_order each_value each_value_in_any_order "
-    "text_key index_part str slice range signed_range bytes chars graphemes utf16 items at_least at_most exactly between plus "
-    "asks asks_as all_of any_of length byte_count remainder quotient includes nat_eq nat_lt nat_le text_eq text_is "
-    "minus ascii alphanumeric contains prefix suffix pattern url ip required matches codes not reference_to yes no tt v x y z w u data "
-    "record deriving module where use mod pub package open as unfoldable abbrev axiom unfold unfolding ruleset mutual "
-    "infix infixl infixr elim let in do coe fcoe tcoe hcom com"
+    "text_key index_part str slice range signed_range bytes chars graphemes utf16 items at_least at_most exactly between plus minus codes "
+    "asks asks_as all_of any_of length byte_count remainder quotient includes nat_eq nat_lt nat_le text_eq text_is not reference_to "
+    "yes no tt v x y z w u"
 ).split()
-HEAD = """    fn validate_into<'a, H: I18n>(
-        &'a self,
-        {context},
-        trail: &mut Trail<'a>,
-        report: &mut Report,
-        h: &H,
-    ) -> Result<(), AllocError> {{
-"""
+STATED += [*RESERVED, *(it.word or name for name, it in RULES.items() if it.code)]
 
 
 class Implementation:
@@ -49,7 +43,7 @@ class Implementation:
         tokens = tokens.again()
         if tokens.opens("("):
             raise Refusal(line, "a context that is a tuple")
-        kind = read_type(tokens)
+        kind = tokens.read_type()
         name = tokens.name("the name of the context") if tokens.takes("as") else "ctx"
         if not tokens.ended():
             self.writer.notes.refuse(line, f"a context that the port cannot read, from `{tokens.first.text}` on: write `context(TYPE as NAME)`")
@@ -75,7 +69,7 @@ class Implementation:
         first = "\n".join([self.head("Stated"), f"    type Context = {context};", "", self.visits(stated), "}"])
         if not is_walked:
             return first
-        return f"{first}\n\n{self.head('Validate')}\n" + HEAD.format(context=f"{name}: &{context}") + body + "\n    }\n}"
+        return f"{first}\n\n{self.head('Validate')}\n" + fill("walk", context=f"{name}: &{context}") + f"\n{body}\n    }}\n}}"
 
     def head(self, trait):
         params, names = self.writer.params_text(self.params(trait), True), self.writer.params_text(self.item.params, False, True)
@@ -175,8 +169,8 @@ class Implementation:
                 code.append(entry)
                 stated.append(text)
         self.asks_context = self.asks_context or scope.asks_context
-        self.writer.uses.words |= {"none"} if not code else {"◌and◌"} if len(code) > 1 else set()
-        return code, stated or ["none"]
+        self.writer.uses.all_of(stated)
+        return code, stated or [self.writer.uses.say("none")]
 
     def field(self, it, at, name, check, said):
         """One field: under its name or its index, or where the whole stands."""

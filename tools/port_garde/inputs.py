@@ -1,6 +1,6 @@
 """What a form reads, where that is no body of a library: the function that reads it, with what it promises."""
 import textwrap
-from dataclasses import dataclass
+from collections import namedtuple
 
 from .defaults import is_skipped
 from .layout import WIDTH, Word, call, statement
@@ -8,120 +8,18 @@ from .names import of_field
 from .parsed import KNOWN
 from .scope import SIGNED, UNSIGNED, is_option, is_path, is_text
 from .source import is_ported
+from .templates import fill
 from .tokens import Refusal
 
-READ = """{constant}{docs}
-{tactic}{vis}fn read_{name}<{lives}, H: I18n + FormI18n>(
-{params}
-) -> Result<{made}, {error}>{clauses}{{
-{forms}
-{read}
-}}"""
 # What reads a type that holds no text and no map. The borrow checker wants the lifetime of the input in what a form makes, so the value
 # is read beside it, by a function of its own.
-UNBORROWED = """// A value of the type `{item}` beside the lifetime of its input.
-#[derive(Drop)]
-struct {item}Within<'t> {{
-    value: {item},
-    input: Option<TextRef<'t>>,
-}}
-
-impl<'t> FromParts for {item}Within<'t> {{
-    type Parts = {item};
-
-    ghost builds = {{ λ parts. record {{ value = parts; input = None }} }};
-
-    ghost parts_of = {{ λ v. v.value }};
-
-    ghost kept = {{ λ _. refl }};
-
-    fn from_parts(parts: Self::Parts) -> Self {{
-        {item}Within {{
-            value: parts,
-            input: None,
-        }}
-    }}
-}}
-
-// Reads such a value.
-#[tactic(auto, unfolding(garde::specs::Fields::Known))]
-fn read_{name}_within<'a, H: I18n + FormI18n>(
-{params}
-) -> Result<({made}, Option<TextRef<'a>>), {error}>{within_clauses}{{
-{forms}
-{form}
-    match {call} {{
-        Ok({item}Within {{ value, input }}) => Ok(({value}, input)),
-        Err(error) => Err(error),
-    }}
-}}
-
-{docs}
-{vis}fn read_{name}<H: I18n + FormI18n>(
-{free_params}
-) -> Result<{made}, {error}>{clauses}{{
-    match read_{name}_within({args}) {{
-        Ok((value, _)) => Ok(value),
-        Err(error) => Err(error),
-    }}
-}}"""
 TACTIC = "#[tactic(auto, unfolding(garde::specs::Fields::Known))]\n"
-VALID = """    match {call} {{
-        Ok(value) => Ok({value}),
-        Err(error) => Err(error),
-    }}"""
-LISTED = """/// The fields of the form that are sent once for each choice.
-fn listed() -> [&'static str; {count}]
-    ensures {{ map (λ name. name.now) result ≡ {names} }}
-{{
-    [{texts}]
-}}
-
-"""
 # The answers for the goals of what reads a web form: the lists that it was read by are those that the promise speaks of.
-ANSWERS = """use Rattle.std.proofs.Common.{{refl, sym}}
-use {module}.Goals as goal
-
-pub returns-in-Ok-clause-answer : goal.returns-in-Ok-clause-answer
-returns-in-Ok-clause-answer g c known = record {{
-  lists = c.listed-lists.result;
-  named = c.listed-lists.ensures;
-  is = c.in-Ok.ensures.answer (λ e. let q = e in cc);
-}}
-
-pub returns-in-Ok-clause-value : goal.returns-in-Ok-clause-value
-returns-in-Ok-clause-value g c = record {{
-  lists = c.listed-lists.result;
-  named = c.listed-lists.ensures;
-  is = rw c.known.ensures c.in-Ok.ensures.value;
-}}
-
-pub returns-in-Err-clause-answer : goal.returns-in-Err-clause-answer
-returns-in-Err-clause-answer g c known = record {{
-  lists = c.listed-lists.result;
-  named = c.listed-lists.ensures;
-  is = c.in-Err.ensures.answer (λ e. known (let q = e in cc));
-}}
-"""
 COLUMNS = "/// The columns of the table, which may stand in any order.\n"
 
 
-@dataclass(frozen=True)
-class Input:
-    """An input: how it is called, the parameters beside the handler, the call that reads it, its error, and what the call promises of the
-    spelling `S`."""
-
-    told: str
-    lives: str
-    params: tuple
-    call: str
-    error: str
-    answer: tuple
-    value: tuple
-    uses: tuple
-    ghosts: tuple
-
-
+# An input: how it is called, the parameters beside the handler, the call that reads it, its error, and what the call promises of the spelling `S`.
+Input = namedtuple("Input", "told lives params call error answer value uses ghosts")
 BYTES = ("bytes: &'a [u8]", "scratch: &'a mut Scratch")
 OF_BYTES = ("Rattle.garde_schema.specs.Forms.{forget}", "Rattle.garde_tape.specs.Input.{without_mark}")
 INPUTS = {
@@ -198,9 +96,10 @@ class Reader:
         if self.kind == "json" and item.name not in writer.borrowed.borrowing:
             return self.unborrowed(clauses, {**said, "value": value, "call": given.call.format(form="within_form")})
         reads = given.call.format(form=f"{name}_form")
-        return READ.format(
+        return fill(
+            "reader",
             **said, constant=self.constant() if spelling else "", tactic=TACTIC if is_valid else "", lives=given.lives, clauses=clauses,
-            read=VALID.format(call=reads, value=value) if is_valid else f"    {reads}",
+            read=fill("reads a valid value", call=reads, value=value) if is_valid else f"    {reads}",
         )
 
     def unborrowed(self, clauses, said):
@@ -211,7 +110,8 @@ class Reader:
         self.schema.use("Built", "FromParts", "TextRef")
         uses.others.add("std::marker::PhantomData")
         uses.prelude |= {"None", "refl"}
-        return UNBORROWED.format(
+        return fill(
+            "reader without the lifetime",
             **said, item=self.item.name, clauses=clauses, free_params=params.replace("&'a ", "&"),
             # what is read beside the lifetime is the first part of a result
             within_clauses=clauses.replace("Some v)", "Some v.0)"), args=", ".join(it.strip().partition(":")[0] for it in params.splitlines()),
@@ -243,7 +143,8 @@ class Reader:
         uses, (crate, *modules) = self.writer.uses, self.writer.module.split("::")
         uses.prelude |= {"◌≢◌", "Err", "codes", "map", "[]"} | ({"◌∷◌"} if self.lists() else set())
         uses.state("garde_form.specs.Spelling", "OfForm")
-        self.writer.answers = (f"read_{name}", ANSWERS.format(module=".".join(["Rattle", crate, "proofs", *modules, f"read_{name}"])))
+        path = ".".join(["Rattle", crate, "proofs", *modules, f"read_{name}"])
+        self.writer.answers = (f"read_{name}", fill("answers", module=path) + "\n")
         return "    let lists = listed();\n"
 
     def constant(self):
@@ -252,7 +153,8 @@ class Reader:
             return ""
         if self.kind == "web-form":
             names = self.lists()
-            return LISTED.format(count=len(names), names=self.stated().removeprefix("(").removesuffix(")"), texts=", ".join(names))
+            stated = self.stated().removeprefix("(").removesuffix(")")
+            return fill("lists of a web form", count=len(names), names=stated, texts=", ".join(names)) + "\n\n"
         names = self.names(self.item.variants[0].fields)
         line = f"{self.item.vis}const COLUMNS: [&str; {len(names)}] = [{', '.join(names)}];"
         if len(line) > WIDTH:

@@ -12,18 +12,16 @@ from .front import OF_CODE
 from .flattened import fields_among, flat_part, held_part, is_closed, own_part
 from .groups import is_flat, is_rest, own_rules, shared_rules
 from .names import of_field
-from .parsed import parser_of
+from .kinds import WHOLE, kind_of
+from .rules import END
 from .scope import SIGNED, is_option, is_path, is_text, range_of
 from .tokens import Refusal
 from .unions import Shapes, beside_units, is_list, is_other, is_tuple, is_unit, names_of, units_of
-from .values import is_any, is_float
 from .words import camel
 
 DRAFT = "https://json-schema.org/draft/2020-12/schema"
 COMMENT = "no member stands twice in an object; a whole number is written by digits alone, and is not -0; nothing nests deeper than 128"
 COUNTED = {"bytes": "bytes in UTF-8", "simple": "bytes in UTF-8", "graphemes": "extended grapheme clusters", "utf16": "code units of UTF-16"}
-# The end of a text, in every dialect of patterns.
-END = r"(?![\s\S])"
 TURNED = {"<": ">", "<=": ">=", ">": "<", ">=": "<=", "==": "==", "!=": "!="}
 COMPARED = {
     "<": ("exclusiveMaximum", operator.lt), "<=": ("maximum", operator.le), ">": ("exclusiveMinimum", operator.gt),
@@ -260,14 +258,11 @@ class JsonSchema:
             whole = {"type": "array", "items": held} if kind.name == "Vec" else {"type": "object", "additionalProperties": held}
         elif kind.name in self.items:
             whole, rules = {"$ref": "#" if kind.name == self.root else f"#/$defs/{kind.name}"}, beside_dive(rules)
-        elif is_text(kind):
-            whole = {"type": "string"}
-        elif parser := parser_of(kind, self.source):
-            whole = parser.schema
-        elif is_float(kind) or is_any(kind) or is_path(kind, "bool"):
-            whole = {} if is_any(kind) else {"type": "number" if is_float(kind) else "boolean"}
         else:
-            whole, rules = {"type": "integer", **self.bounds(kind, rules)}, [it for it in rules if it.name != "range"]
+            known = kind_of(kind, self.source) or WHOLE
+            whole = known.schema
+            if known.form == "Whole":
+                whole, rules = {**whole, **self.bounds(kind, rules)}, [it for it in rules if it.name != "range"]
         return joined([whole, *self.said(kind, rules)])
 
     def bounds(self, kind, rules):
@@ -305,11 +300,8 @@ class JsonSchema:
 
     def rule(self, kind, rule, is_ascii):
         """What a rule asks of a value that is no option."""
-        patterns = {"contains": "{}", "prefix": "^{}", "suffix": "{}" + END}
-        if rule.name in patterns:
-            return {"pattern": patterns[rule.name].format(literal(rule.text))}
-        if rule.name == "ascii":
-            return {"pattern": r"^[\x00-\x7f]*" + END}
+        if rule.known.pattern:
+            return {"pattern": rule.known.pattern.format(literal(rule.text or ""))}
         if rule.name == "alphanumeric" and is_ascii:
             return {"pattern": "^[0-9A-Za-z]*" + END}
         if rule.name == "length":
@@ -341,11 +333,7 @@ class JsonSchema:
             return f"the pattern `{rule.text}` of the crate `regex` matches"
         if rule.name == "custom":
             return f"the rule `{camel(rule.text) if rule.text else 'of a closure'}` holds"
-        words = {
-            "alphanumeric": "every character is a letter or a number", "url": "the text is an absolute URL", "ip": "the text is an IP address",
-            "ipv4": "the text is an IPv4 address", "ipv6": "the text is an IPv6 address",
-        }
-        return words.get(rule.name) or (f"it is the same as `{rule.text}`" if rule.name == "matches" else f"the rule `{rule.name}` holds")
+        return rule.known.told or (f"it is the same as `{rule.text}`" if rule.name == "matches" else f"the rule `{rule.name}` holds")
 
     def length(self, kind, rule, is_ascii):
         """How many items, members or characters there are."""

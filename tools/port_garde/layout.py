@@ -1,60 +1,20 @@
 """Rust code as a tree, and its layout, which is that of `rt fmt`."""
 import re
-from dataclasses import dataclass
+from collections import namedtuple
 
 WIDTH, USE_WIDTH, USE_ROW = 100, 98, 99
 # What fits between brackets on one line: the arguments of a call, the fields of a literal or a pattern, those of a variant.
 CALL, LITERAL, VARIANT = 60, 18, 35
 
 
-@dataclass(frozen=True)
-class Word:
-    """A piece of code without parts."""
-
-    text: str
-
-
-@dataclass(frozen=True)
-class Chain:
-    """Conditions that are joined by `&&`, or by `||`."""
-
-    mark: str
-    parts: tuple
-
-
-@dataclass(frozen=True)
-class Parts:
-    """Parts between brackets, which are so wide at most on one line: a call, a constructor or its pattern, a literal, or a type with its
-    arguments; with an empty head a tuple or a reference to an array."""
-
-    head: str
-    parts: tuple
-    width: int = CALL
-    brackets: tuple = ("(", ")")
-
-
-@dataclass(frozen=True)
-class Field:
-    """A part of a literal or of its pattern, of which a Word may say both by one name."""
-
-    name: str
-    value: object
-
-
-@dataclass(frozen=True)
-class Lent:
-    """A reference to what a piece of code says."""
-
-    part: object
-
-
-@dataclass(frozen=True)
-class Method:
-    """A call of a method."""
-
-    receiver: object
-    name: str
-    parts: tuple
+# A piece of code without parts, a reference to what a piece says, conditions that are joined by `&&` or by `||`, and a call of a method.
+Word, Lent, Chain = namedtuple("Word", "text"), namedtuple("Lent", "part"), namedtuple("Chain", "mark parts")
+Method = namedtuple("Method", "receiver name parts")
+# A part of a literal or of its pattern, of which a Word may say both by one name.
+Field = namedtuple("Field", "name value")
+# Parts between brackets, which are so wide at most on one line: a call, a constructor or its pattern, a literal, or a type with its arguments;
+# with an empty head a tuple or a reference to an array.
+Parts = namedtuple("Parts", "head parts width brackets", defaults=(CALL, ("(", ")")))
 
 
 def call(head, *parts):
@@ -80,17 +40,16 @@ def angles(head, parts):
 
 def flat(tree):
     """The code on one line."""
-    match tree:
-        case Word():
-            return tree.text
-        case Chain():
-            return f" {tree.mark} ".join(tree.parts)
-        case Lent():
-            return f"&{flat(tree.part)}"
-        case Field():
-            return tree.name if tree.value == Word(tree.name) else f"{tree.name}: {flat(tree.value)}"
-        case Method():
-            return f"{flat(tree.receiver)}.{tree.name}({commas(tree.parts)})"
+    if isinstance(tree, Word):
+        return tree.text
+    if isinstance(tree, Chain):
+        return f" {tree.mark} ".join(tree.parts)
+    if isinstance(tree, Lent):
+        return f"&{flat(tree.part)}"
+    if isinstance(tree, Field):
+        return tree.name if tree.value == Word(tree.name) else f"{tree.name}: {flat(tree.value)}"
+    if isinstance(tree, Method):
+        return f"{flat(tree.receiver)}.{tree.name}({commas(tree.parts)})"
     return commas(tree.parts).join([tree.head + tree.brackets[0], tree.brackets[1]])
 
 
@@ -100,34 +59,26 @@ def commas(parts):
 
 def may_be_flat(tree):
     """Whether nothing in the code is too wide for one line."""
-    match tree:
-        case Word() | Chain():
-            return True
-        case Lent():
-            return may_be_flat(tree.part)
-        case Field():
-            return may_be_flat(tree.value)
-        case Method():
-            return may_be_flat(tree.receiver)
-    return all(map(may_be_flat, tree.parts)) and len(commas(tree.parts)) <= tree.width
+    if isinstance(tree, Parts):
+        return all(map(may_be_flat, tree.parts)) and len(commas(tree.parts)) <= tree.width
+    within = {Lent: "part", Field: "value", Method: "receiver"}.get(type(tree))
+    return within is None or may_be_flat(getattr(tree, within))
 
 
 def lay(tree, column, indent, after=0):
     """The code from a column on, its further lines under an indent; `after` columns are wanted behind it."""
     if may_be_flat(tree) and column + len(flat(tree)) + after <= WIDTH:
         return flat(tree)
-    match tree:
-        case Word():
-            return tree.text
-        case Chain():
-            return f"\n{' ' * (indent + 4)}{tree.mark} ".join(tree.parts)
-        case Lent():
-            return "&" + lay(tree.part, column + 1, indent, after)
-        case Field():
-            name = tree.name
-            return name if tree.value == Word(name) else f"{name}: {lay(tree.value, column + len(name) + 2, indent, after)}"
-        case Method():
-            return lay_method(tree, column, indent)
+    if isinstance(tree, Word) or isinstance(tree, Field) and tree.value == Word(tree.name):
+        return flat(tree)
+    if isinstance(tree, Chain):
+        return f"\n{' ' * (indent + 4)}{tree.mark} ".join(tree.parts)
+    if isinstance(tree, Lent):
+        return "&" + lay(tree.part, column + 1, indent, after)
+    if isinstance(tree, Field):
+        return f"{tree.name}: {lay(tree.value, column + len(tree.name) + 2, indent, after)}"
+    if isinstance(tree, Method):
+        return lay_method(tree, column, indent)
     opening, closing = tree.brackets
     if opening == "(" and len(tree.parts) == 1 and tree.head and not isinstance(tree.parts[0], Word):
         return f"{tree.head}({lay(tree.parts[0], column + len(tree.head) + 1, indent, after + 1)})"
@@ -182,13 +133,20 @@ def use_line(path, names):
     return "\n".join([f"use {path}::{{", *lines, row, "};"])
 
 
+def head_of_method(name, params, result):
+    """The head of a method: on one line where it fits, or with a line for each parameter."""
+    line = f"    fn {name}(&self, {', '.join(params)}) -> {result} {{"
+    rows = "".join(f"        {it},\n" for it in ("&self", *params))
+    return line if len(line) <= WIDTH else f"    fn {name}(\n{rows}    ) -> {result} {{"
+
+
 def lifetimes_of(kind):
     """The lifetimes that a type's text names, as parameters."""
     found = sorted(set(re.findall(r"'\w+", kind)) - {"'static"})
     return f"<{', '.join(found)}>" if found else ""
 
 
-def holding(kind, held):
+def holding(kind, held=()):
     """The parts of a type that is asked of a value of another one, and that holds references to values: their names and types."""
     both = " ".join(text for _, text in held)
     return {

@@ -5,42 +5,10 @@ from dataclasses import replace
 from .borrowed import below
 from .groups import filled, grouped
 from .layout import WIDTH, Parts, Word, angles, arm, call, flat, ghost, literal, may_be_flat, statement, wide_call
+from .templates import fill
 from .unions import SIDES, along, paths_of, tree_of
 
-NESTED = """/// A value of the type `{name}` is made of what its form reads, and of such values.
-impl{life} FromNested for {made} {{
-{own}
-
-    ghost builds = {{ λ own below.
-        roll-{name} (record {{ {rows} }}) }};
-
-    ghost parts_of = {{ λ v.
-        {parts} }};
-
-    fn from_nested(own: Self::Own, below: Items<Self>) -> Self
-        ensures {{ result ≡ roll-{name}
-            (record {{ {clauses} }}) }}
-    {{
-{body}
-    }}
-
-    ghost kept = {{ λ _ _. Prim.search (rules, the_lemmas) }};
-}}"""
 KEPT = "    ghost kept = { λ _. refl };"
-MAKER = """/// A value of the type `{name}` is made of what its form reads.
-impl{life} FromParts for {made} {{
-{parts}
-
-{builds}
-
-{parts_of}
-
-{kept}
-
-    fn from_parts(parts: Self::Parts) -> Self {{
-{body}
-    }}
-}}"""
 
 
 def places(parts, name):
@@ -131,7 +99,7 @@ class Makers:
         self.writer.uses.prelude.add("refl")
         types, made = self.of_enum(item) if item.kind == "enum" else self.of_struct(item)
         head = {"name": item.name, "life": "<'t>" if item.params else "", "made": self.type_name(item)}
-        return MAKER.format(**{"kept": KEPT, **made}, **head, parts=statement(types, 4, "type Parts = ", ";"))
+        return fill("maker", **{"kept": KEPT, **made}, **head, parts=statement(types, 4, "type Parts = ", ";"))
 
     def nested(self, item):
         """How a value of a type that holds itself is made."""
@@ -148,7 +116,8 @@ class Makers:
         taken = [statement(wide(tuple_of(self.tree(own, names))), 8, "let ", " = own;")]
         made = ((it.name, Word("below" if it.name == held and held != "below" else it.name)) for it in variant.fields)
         given = tuple_text(self.tree(own, [f"(out-{item.name} v).{it}" for it in names]))
-        return NESTED.format(
+        return fill(
+            "maker of a nested type",
             name=item.name, life="<'t>" if item.params else "", made=self.type_name(item), own=statement(self.types(own), 4, "type Own = ", ";"),
             rows=rows("own", "below"), parts=f"({given}, (out-{item.name} v).{held})", clauses=rows("own.entry", "below.entry"),
             body="\n".join([*taken, statement(literal(item.name, made), 8)]),

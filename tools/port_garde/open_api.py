@@ -7,12 +7,7 @@ from .source import all_rules
 
 COMPONENTS = "#/components/schemas/"
 PROBLEM = "application/problem+json"
-# The codes of the rules, and those of the bounds of `length` and `range`.
-CODES = {
-    "pattern": "pattern_no_match", "contains": "contains_missing", "url": "url_invalid", "prefix": "prefix_missing", "suffix": "suffix_missing",
-    "ip": "ip_invalid", "ipv4": "ip_invalid", "ipv6": "ip_invalid", "matches": "matches_field_mismatch", "ascii": "ascii_invalid",
-    "alphanumeric": "alphanumeric_invalid", "required": "required_not_set", "multiple_of": "multiple_of_mismatch",
-}
+# The codes of the bounds of `length` and `range`.
 BOUNDS = {"min": ("lower_than",), "max": ("greater_than",), "equal": ("lower_than", "greater_than")}
 # The rules whose message is the author's, so that it has a code of the author's or none.
 OWN = ("custom", "unique")
@@ -81,6 +76,6 @@ def codes_of(items):
     names = {name for it in items for field in fields_of(it) for name in type_names(field.type)}
     found |= {"out_of_range"} if names & {*UNSIGNED, *SIGNED} else set()
     found |= {"not_a_number"} if names & {"f32", "f64"} else set()
-    found |= {CODES[it.name] for it in rules if it.name in CODES}
+    found |= {it.known.code for it in rules if it.known.code}
     found |= {f"{it.name}_{end}" for it in rules if it.name in ("length", "range") for word in it.bounds for end in BOUNDS[word]}
     return sorted(found), any(it.name in OWN for it in rules)

@@ -22,6 +22,11 @@ class Parser:
     layout: str = ""
     takes: bool = False
     crate: str = "garde_parsed"
+    form, is_written = "Parsed", True
+
+    def turned(self, kind):
+        """The type of its values."""
+        return Type("path", self.path[-1], kind.line, path=self.path)
 
 
 def text(told, **more):

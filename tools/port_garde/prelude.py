@@ -1,51 +1,18 @@
-"""Types of std and of other crates that a form reads as types of the file: how serde reads them, as they would be declared."""
+"""Types of std and of other crates that a form reads as types of the file, as declared.rs has them, or as numbers under a rule."""
+import pathlib
 from dataclasses import replace
 
 from .scope import SIGNED, UNSIGNED
 from .source import read_source
 
-DECLARED = """
-/// A `std::time::Duration`, as serde reads it.
-#[derive(Clone, Copy, Debug, Default, PartialEq, Eq, Deserialize)]
-#[serde(deny_unknown_fields)]
-pub struct Duration { pub secs: u64, pub nanos: u32 }
-
-/// A `std::time::SystemTime`, as serde reads it.
-#[derive(Clone, Copy, Debug, PartialEq, Eq, Deserialize)]
-#[serde(deny_unknown_fields)]
-pub struct SystemTime { pub secs_since_epoch: u64, pub nanos_since_epoch: u32 }
-
-/// A `std::ops::Range`.
-#[derive(Clone, Debug, Default, PartialEq, Eq, Deserialize)]
-#[serde(deny_unknown_fields)]
-pub struct Range<T> { pub start: T, pub end: T }
-
-/// A `std::ops::RangeInclusive`.
-#[derive(Clone, Debug, PartialEq, Eq, Deserialize)]
-#[serde(deny_unknown_fields)]
-pub struct RangeInclusive<T> { pub start: T, pub end: T }
-
-/// A `std::ops::Bound`.
-#[derive(Clone, Copy, Debug, PartialEq, Eq, Deserialize)]
-pub enum Bound<T> { Unbounded, Included(T), Excluded(T) }
-
-/// A `std::result::Result`.
-#[derive(Clone, Copy, Debug, PartialEq, Eq, Deserialize)]
-pub enum Result<T, E> { Ok(T), Err(E) }
-
-/// An `either::Either`.
-#[derive(Clone, Copy, Debug, PartialEq, Eq, Deserialize)]
-pub enum Either<L, R> { Left(L), Right(R) }
-"""
 # The crates and the modules that these types are of. Those without a module are there without an import.
 HOMES = {
     "Duration": ("std", "time"), "SystemTime": ("std", "time"), "Range": ("std", "ops"), "RangeInclusive": ("std", "ops"), "Bound": ("std", "ops", "collections"),
     "Result": ("std", "result", ""), "Either": ("either",),
 }
 # They stand nowhere in the text of a source.
+DECLARED = pathlib.Path(__file__).with_name("declared.rs").read_text(encoding="utf-8")
 ITEMS = {it.name: replace(it, start=0, end=0) for it in read_source(DECLARED).items}
-
-
 # The greatest number up to which a float holds each whole number.
 SAFE = 2**53 - 1
 # The numbers of other crates and of std: the type that serde reads, with the least and the greatest number. One with a sign that is not 0 has no

@@ -4,8 +4,8 @@ from dataclasses import replace
 
 from .derives import fields_of, type_names
 from .expressions import Expression
-from .source import all_rules, is_ported, with_fields
-from .tokens import Tokens, tokens_of
+from .source import Parser, all_rules, is_ported, with_fields
+from .tokens import tokens_of
 
 NAME = "patterns"
 BESIDE_CONTEXT = "a pattern in quotes under a context of one's own: add a field of type `Regex` to it, and write `pattern(ctx.FIELD)`"
@@ -48,7 +48,7 @@ class Quoted:
     def __init__(self, source, root, holders):
         self.source, self.holders, self.texts = source, holders, {}
         text = f"{root}Patterns as {NAME}"
-        self.context = Tokens(tokens_of(text), text, source.notes)
+        self.context = Parser(tokens_of(text), text, source.notes)
 
     def item(self, item):
         """A type in whose rules each pattern is a place of its context."""

@@ -3,22 +3,71 @@ import re
 from dataclasses import dataclass, field
 from fractions import Fraction
 
-from .expressions import Expression, inside_of, read_all, read_bound, read_expression, read_of_item, read_text
-from .own import WANTED, read_asks, read_closure
+from .expressions import Expression, inside_of
+from .own import WANTED, OwnRules
 from .tokens import Refusal, meant
 
-PLAIN = ("required", "ascii", "alphanumeric", "url", "ip", "ipv4", "ipv6")
-TEXTS = ("contains", "prefix", "suffix")
+# The end of a text, in every dialect of patterns.
+END = r"(?![\s\S])"
+
+
+@dataclass(frozen=True)
+class Known:
+    """What the port knows of a rule by its name: what is read behind that; whether it is asked of what is `inside` an option; the `code` of
+    its fault; the `pattern` by which a JSON Schema asks it of a text, in which `{}` is the text of the rule, or what is `told` there in its
+    place; of a default that is a text whether that has it, a function of the default and of the text of the rule; and the word that states
+    it, where that is not the name."""
+
+    reads: str = ""
+    inside: bool = True
+    code: str = ""
+    pattern: str = ""
+    told: str = ""
+    is_kept: object = None
+    word: str = ""
+
+
+def of_address(name, told, word=""):
+    return {name: Known(code=f"{word or name}_invalid", told=told, is_kept=lambda it, _: it != "", word=word)}
+
+
+def of_part(name, pattern, is_kept):
+    return {name: Known("a text", code=f"{name}_missing", pattern=pattern, is_kept=is_kept)}
+
+
+RULES = {
+    "required": Known(inside=False, code="required_not_set"),
+    "ascii": Known(code="ascii_invalid", pattern=r"^[\x00-\x7f]*" + END, is_kept=lambda it, _: it.isascii()),
+    "alphanumeric": Known(
+        code="alphanumeric_invalid", told="every character is a letter or a number",
+        is_kept=lambda it, _: not it.isascii() or it == "" or it.isalnum(),
+    ),
+    **of_address("url", "the text is an absolute URL"), **of_address("ip", "the text is an IP address"),
+    **of_address("ipv4", "the text is an IPv4 address", "ip"), **of_address("ipv6", "the text is an IPv6 address", "ip"),
+    **of_part("contains", "{}", lambda it, part: part in it),
+    **of_part("prefix", "^{}", str.startswith), **of_part("suffix", "{}" + END, str.endswith),
+    "length": Known("bounds"), "range": Known("bounds"),
+    "pattern": Known("a pattern", code="pattern_no_match"), "matches": Known("a field", inside=False, code="matches_field_mismatch"),
+    **dict.fromkeys(("inner", "if"), Known("rules", inside=False)), "dive": Known("a context", inside=False),
+    "custom": Known("a rule", inside=False),
+}
+PLAIN, TEXTS = ([name for name, it in RULES.items() if it.reads == reads] for reads in ("", "a text"))
+# Rules that the Rust crate does not have, within `custom`.
+OURS = {
+    **dict.fromkeys(("unique", "unique_by", "keys"), Known()), "multiple_of": Known("a number", code="multiple_of_mismatch"), "asks": Known(),
+}
 MODES = ("simple", "bytes", "chars", "graphemes", "utf16")
+OWN_TYPE = (
+    "the rule `{}` is not ported: give the number a type of its own that implements `{}`, "
+    "as docs/guide/own-rules.md#cards-and-phones has it"
+)
 NO_PORT = {
     "email": "the rule `email` is not ported: write `pattern(\"^[^@]+@[^@]+$\")` with the pattern that you want, or a rule of your own, by `custom`",
-    "credit_card": "the rule `credit_card` is not ported: give the number a type of its own that implements `CreditCard`, as docs/guide/own-rules.md#cards-and-phones has it",
-    "phone_number": "the rule `phone_number` is not ported: give the number a type of its own that implements `PhoneNumber`, as docs/guide/own-rules.md#cards-and-phones has it",
+    "credit_card": OWN_TYPE.format("credit_card", "CreditCard"), "phone_number": OWN_TYPE.format("phone_number", "PhoneNumber"),
 }
-# The words of an attribute, for one that is none of them.
-KNOWN = (*PLAIN, *TEXTS, "length", "range", "pattern", "matches", "inner", "if", "dive", "custom", "skip", "rename", "adapt", "context", "allow_unvalidated", "transparent")
-# Rules that the Rust crate does not have, within `custom`.
-OURS = ("unique", "unique_by", "keys", "multiple_of", "asks")
+# The words of an attribute that say something of the whole type or field, and all words, for one that is none of them.
+OF_WHOLE = ("skip", "rename", "adapt", "context", "allow_unvalidated", "transparent")
+KNOWN = (*RULES, *OF_WHOLE)
 # What is said of an item of a set that stands in it before.
 REPEATED = "repeated"
 
@@ -41,10 +90,13 @@ class Rule:
     code: str = None
     added: bool = False
 
+    @property
+    def known(self):
+        return RULES.get(self.name) or OURS.get(self.name) or Known()
+
     def asks(self):
         """The word of one's own rule that the port reads, with what it is given before the condition: as a value, and as it is stated."""
-        code = f'"{self.code}"' if self.code else None
-        return ("AsksAs", (code, f'"{self.message}"')) if code else ("Asks", (f'"{self.message}"',))
+        return ("AsksAs", (f'"{self.code}"', f'"{self.message}"')) if self.code else ("Asks", (f'"{self.message}"',))
 
 
 @dataclass(frozen=True)
@@ -67,190 +119,177 @@ def read_attributes(groups):
     found, rules = {"asked": True}, []
     for tokens in groups:
         before = len(tokens.notes.faults)
-        tokens.items(lambda it: read_attribute(it, found, rules))
+        tokens.items(lambda it: it.read_attribute(found, rules))
         found["faulty"] = found.get("faulty", False) or len(tokens.notes.faults) > before
     return Attributes(rules=tuple(rules), **found)
 
 
-def read_attribute(tokens, found, rules):
-    """Reads one attribute: a word about the whole type or field, or a rule."""
-    line, word = tokens.line, tokens.first.text
-    if word not in ("skip", "allow_unvalidated", "transparent", "rename", "adapt", "context"):
-        rules.append(read_rule(tokens))
-        return
-    tokens.take()
-    if word == "rename":
-        found[word] = read_text(tokens if tokens.takes("=") else argument(tokens, word), line)
-    elif word == "adapt":
-        found["adapter"] = (line, *read_names(argument(tokens, word), word))
-    else:
-        found[word] = (line, argument(tokens, word)) if word == "context" else True
+class Rules(OwnRules):
+    """Tokens of which rules are read."""
 
+    def read_attribute(self, found, rules):
+        """Reads one attribute: a word about the whole type or field, or a rule."""
+        line, word = self.line, self.first.text
+        if word not in OF_WHOLE:
+            rules.append(self.read_rule())
+            return
+        self.take()
+        if word == "rename":
+            found[word] = (self if self.takes("=") else self.argument(word)).read_text(line)
+        elif word == "adapt":
+            found["adapter"] = (line, *self.argument(word).read_function_path(word))
+        else:
+            found[word] = (line, self.argument(word)) if word == "context" else True
 
-def argument(tokens, word):
-    """What stands in brackets after a word."""
-    if not tokens.opens("("):
-        raise Refusal(tokens.line, f"`{word}` without its argument")
-    return tokens.group()
+    def argument(self, word):
+        """What stands in brackets after a word."""
+        if not self.opens("("):
+            raise Refusal(self.line, f"`{word}` without its argument")
+        return self.group()
 
+    def all_read(self, rule, word, line):
+        """A rule, behind which nothing is left."""
+        if not self.ended():
+            raise Refusal(line, f"`{word}` with more than the port reads, from `{self.first.text}` on")
+        return rule
 
-def read_rule(tokens):
-    line, word = tokens.line, tokens.name("a rule")
-    if word in NO_PORT:
-        raise Refusal(line, NO_PORT[word])
-    if word in PLAIN:
-        return Rule(word, line)
-    if word == "dive":
-        return Rule(word, line, place=read_context(tokens.group()) if tokens.opens("(") else None)
-    if word == "custom":
-        return read_custom(argument(tokens, word), line)
-    readers = {
-        **dict.fromkeys(("length", "range"), read_bounded), **dict.fromkeys((*TEXTS, "pattern"), read_pattern), "if": read_if,
-        "matches": lambda tokens, word, line: Rule(word, line, text=tokens.name("the name of a field")),
-        "inner": lambda tokens, word, line: Rule(word, line, rules=present(tokens.items(read_rule))),
-    }
-    if word not in readers:
-        raise Refusal(line, f"the attribute `{word}` is not known{f': write `custom({word})`' if word in OURS else meant(word, KNOWN)}")
-    inside = argument(tokens, word)
-    rule = readers[word](inside, word, line)
-    if not inside.ended():
-        raise Refusal(line, f"`{word}` with more than the port reads, from `{inside.first.text}` on")
-    return rule
+    def read_rules(self):
+        return present(self.items(Rules.read_rule))
 
+    def read_rule(self):
+        line, word = self.line, self.name("a rule")
+        if word in NO_PORT:
+            raise Refusal(line, NO_PORT[word])
+        if word in PLAIN:
+            return Rule(word, line)
+        if word == "dive":
+            return Rule(word, line, place=self.group().read_context() if self.opens("(") else None)
+        if word == "custom":
+            return self.argument(word).read_custom(line)
+        if word not in RULES:
+            raise Refusal(line, f"the attribute `{word}` is not known{f': write `custom({word})`' if word in OURS else meant(word, KNOWN)}")
+        inside = self.argument(word)
+        if RULES[word].reads == "bounds":
+            rule = inside.read_bounded(word, line)
+        elif RULES[word].reads in ("a text", "a pattern"):
+            rule = inside.read_pattern(word, line)
+        elif word == "if":
+            rule = inside.read_if(line)
+        else:
+            is_inner = word == "inner"
+            rule = Rule(word, line, rules=inside.read_rules()) if is_inner else Rule(word, line, text=inside.name("the name of a field"))
+        return inside.all_read(rule, word, line)
 
-def read_context(tokens):
-    """Reads the context of a part: a place, or `()`."""
-    line = tokens.line
-    tokens.takes("&")
-    if not tokens.opens("("):
-        return read_all(tokens)
-    if not tokens.group().ended():
-        raise Refusal(line, "a context that is a tuple")
-    return Expression("unit", line)
+    def read_context(self):
+        """Reads the context of a part: a place, or `()`."""
+        line = self.line
+        self.takes("&")
+        if not self.opens("("):
+            return self.read_all()
+        if not self.group().ended():
+            raise Refusal(line, "a context that is a tuple")
+        return Expression("unit", line)
 
+    def read_bounded(self, word, line):
+        """Reads bounds, before which a length may have a mode."""
+        mode, bounds = "simple" if word == "length" else "", {}
+        if mode and self.first.text in MODES:
+            mode = self.take().text
+            self.takes(",")
+        while not self.ended():
+            name = self.name("a bound")
+            if name not in ("min", "max", "equal") or name in bounds:
+                known = ("min", "max", "equal", *(MODES if word == "length" else ()))
+                raise Refusal(line, f"`{word}` with `{name}`, which is not read there{meant(name, known)}")
+            self.expect("=")
+            bounds[name] = self.read_bound()
+            if not self.ended() and not self.takes(","):
+                raise Refusal(line, f"a bound that the port cannot read, from `{self.first.text}` on")
+        if not bounds or ("equal" in bounds and len(bounds) > 1):
+            raise Refusal(line, f"`{word}` wants `min`, `max` or both, or `equal` alone")
+        low, high = bounds.get("min"), bounds.get("max")
+        if low and high and {low.kind, high.kind} <= {"number", "decimal"} and Fraction(low.value) > Fraction(high.value):
+            raise Refusal(line, f"the `min` of `{word}` is greater than its `max`")
+        return Rule(word, line, mode=mode, bounds=bounds)
 
-def read_bounded(tokens, word, line):
-    """Reads bounds, before which a length may have a mode."""
-    mode = "simple" if word == "length" else ""
-    if mode and tokens.first.text in MODES:
-        mode = tokens.take().text
-        tokens.takes(",")
-    return Rule(word, line, mode=mode, bounds=read_bounds(tokens, word, line))
+    def read_if(self, line):
+        """Reads `cond = ..` and the rules under it."""
+        if not self.takes("cond"):
+            raise Refusal(line, "`if` begins with `cond = `")
+        self.expect("=")
+        condition = self.read_expression()
+        self.takes(",")
+        return Rule("if", line, place=condition, rules=self.read_rules())
 
+    def read_pattern(self, word, line):
+        """Reads a text in quotes, or for a pattern the place of a compiled one."""
+        if self.first.kind in ("text", "raw"):
+            return Rule(word, line, text=self.read_text(line) if word != "pattern" else self.read_source())
+        place = self.read_expression()
+        if word != "pattern" or place.kind != "place":
+            raise Refusal(line, f"`{word}` wants a text in quotes")
+        return Rule(word, line, place=place)
 
-def read_bounds(tokens, word, line):
-    bounds = {}
-    while not tokens.ended():
-        name = tokens.name("a bound")
-        if name not in ("min", "max", "equal") or name in bounds:
-            known = ("min", "max", "equal", *(MODES if word == "length" else ()))
-            raise Refusal(line, f"`{word}` with `{name}`, which is not read there{meant(name, known)}")
-        tokens.expect("=")
-        bounds[name] = read_bound(tokens)
-        if not tokens.ended() and not tokens.takes(","):
-            raise Refusal(line, f"a bound that the port cannot read, from `{tokens.first.text}` on")
-    if not bounds or ("equal" in bounds and len(bounds) > 1):
-        raise Refusal(line, f"`{word}` wants `min`, `max` or both, or `equal` alone")
-    low, high = bounds.get("min"), bounds.get("max")
-    if low and high and {low.kind, high.kind} <= {"number", "decimal"} and Fraction(low.value) > Fraction(high.value):
-        raise Refusal(line, f"the `min` of `{word}` is greater than its `max`")
-    return bounds
+    def read_source(self):
+        """Reads the source of a pattern, as the pattern has it: its escapes are those of patterns."""
+        token = self.take()
+        text = inside_of(token)
+        if token.kind == "text":
+            text = re.sub(r"\\([\\\"'0])", lambda it: "\\x00" if it[1] == "0" else it[1], text)
+        if token.text.startswith("b") or not text.isprintable():
+            raise Refusal(token.line, "a pattern with a character in it that does not show, or of bytes")
+        return text
+
+    # Rules within `custom`.
+
+    def read_custom(self, line):
+        """Reads the path of a function, or a closure as it stands, with what it asks where the port reads that."""
+        if self.first.text in OURS and self.tokens[self.at + 1].text != "::":
+            return self.read_ours(line)
+        if not (self.opens("|") or self.sees("||") or self.sees("move")):
+            return Rule("custom", line, text="::".join(self.read_function_path("custom")))
+        source = self.source()
+        try:
+            message, place = self.read_closure()
+            return Rule("custom", line, source=source, message=message, place=place)
+        except Refusal as refusal:
+            if any(it.text == "self" for it in self.tokens):
+                told = "a closure that names `self`: a rule that is written by hand gets the value of its field alone, so"
+                raise Refusal(line, f"{told} {WANTED} ({refusal.reason})") from None
+        return Rule("custom", line, source=source)
+
+    def read_ours(self, line):
+        """Reads a rule that the Rust crate does not have: `unique` with its message, `unique_by` with a message and the key of an item,
+        which has a place as its list has, with the name of the item first, `keys` with rules, `multiple_of` with a number, `asks` with a
+        message and a condition."""
+        source, word = self.source(), self.take().text
+        if word == "unique" and self.ended():
+            return Rule(word, line, text="stands before")
+        inside = self.argument(word)
+        if word == "unique":
+            found = Rule(word, line, text=inside.read_text(line))
+        elif word == "unique_by":
+            message = inside.read_text(line)
+            inside.expect(",")
+            name, key = inside.read_of_item()
+            found = Rule("unique", line, text=message, source=source, place=Expression("key", line, name, (key,)))
+        elif word == "keys":
+            found = Rule(word, line, rules=inside.read_rules())
+        elif word == "asks":
+            code, message, place = inside.read_asks(line)
+            found = Rule("custom", line, source=source, code=code, message=message, place=place)
+        else:
+            found = Rule(word, line, bounds={"equal": inside.read_bound()})
+        return self.all_read(inside.all_read(found, word, line), word, line)
+
+    def read_function_path(self, word):
+        names = self.path("a path")
+        if not self.ended():
+            closure = " or a closure" if word == "custom" else ""
+            raise Refusal(self.line, f"`{word}` wants a path{closure}, and `{self.first.text}` stands there")
+        return tuple(names)
 
 
 def present(found):
     """What was read of a list."""
     return tuple(it for it in found if it is not None)
-
-
-def read_if(tokens, word, line):
-    """Reads `cond = ..` and the rules under it."""
-    if not tokens.takes("cond"):
-        raise Refusal(line, "`if` begins with `cond = `")
-    tokens.expect("=")
-    condition = read_expression(tokens)
-    tokens.takes(",")
-    return Rule(word, line, place=condition, rules=present(tokens.items(read_rule)))
-
-
-def read_pattern(tokens, word, line):
-    """Reads a text in quotes, or for a pattern the place of a compiled one."""
-    if tokens.first.kind in ("text", "raw"):
-        return Rule(word, line, text=read_text(tokens, line) if word != "pattern" else read_source(tokens))
-    place = read_expression(tokens)
-    if word != "pattern" or place.kind != "place":
-        raise Refusal(line, f"`{word}` wants a text in quotes")
-    return Rule(word, line, place=place)
-
-
-def read_custom(tokens, line):
-    """Reads the path of a function, or a closure as it stands."""
-    if tokens.opens("|") or tokens.sees("||") or tokens.sees("move"):
-        return read_own_closure(tokens, line)
-    if tokens.first.text in OURS and tokens.tokens[tokens.at + 1].text != "::":
-        return read_ours(tokens, line)
-    return Rule("custom", line, text="::".join(read_names(tokens, "custom")))
-
-
-def read_own_closure(tokens, line):
-    """Reads a closure as it stands, with what it asks where the port reads that. One that names `self` has to be read."""
-    source = tokens.source()
-    try:
-        message, place = read_closure(tokens)
-        return Rule("custom", line, source=source, message=message, place=place)
-    except Refusal as refusal:
-        if any(it.text == "self" for it in tokens.tokens):
-            told = "a closure that names `self`: a rule that is written by hand gets the value of its field alone, so"
-            raise Refusal(line, f"{told} {WANTED} ({refusal.reason})") from None
-    return Rule("custom", line, source=source)
-
-
-def read_ours(tokens, line):
-    """Reads a rule that the Rust crate does not have: `unique` with its message, `unique_by` with a message and the key of an item, `keys`
-    with rules, `multiple_of` with a number, `asks` with a message and a condition."""
-    source, word = tokens.source(), tokens.take().text
-    if word == "unique" and tokens.ended():
-        return Rule(word, line, text="stands before")
-    inside = argument(tokens, word)
-    match word:
-        case "unique":
-            found = Rule(word, line, text=read_text(inside, line))
-        case "unique_by":
-            found = read_unique_by(inside, source, line)
-        case "keys":
-            found = Rule(word, line, rules=present(inside.items(read_rule)))
-        case "asks":
-            code, message, place = read_asks(inside, line)
-            found = Rule("custom", line, source=source, code=code, message=message, place=place)
-        case _:
-            found = Rule(word, line, bounds={"equal": read_bound(inside)})
-    for it in (inside, tokens):
-        if not it.ended():
-            raise Refusal(line, f"`{word}` with more than the port reads, from `{it.first.text}` on")
-    return found
-
-
-def read_unique_by(tokens, source, line):
-    """Reads a message and a closure that gives the key of an item. The key has a place as its list has: the name of the item stands first."""
-    message = read_text(tokens, line)
-    tokens.expect(",")
-    name, key = read_of_item(tokens)
-    return Rule("unique", line, text=message, source=source, place=Expression("key", line, name, (key,)))
-
-
-def read_names(tokens, word):
-    names = tokens.path("a path")
-    if not tokens.ended():
-        closure = " or a closure" if word == "custom" else ""
-        raise Refusal(tokens.line, f"`{word}` wants a path{closure}, and `{tokens.first.text}` stands there")
-    return tuple(names)
-
-
-def read_source(tokens):
-    """Reads the source of a pattern, as the pattern has it: its escapes are those of patterns."""
-    token = tokens.take()
-    text = inside_of(token)
-    if token.kind == "text":
-        text = re.sub(r"\\([\\\"'0])", lambda it: "\\x00" if it[1] == "0" else it[1], text)
-    if token.text.startswith("b") or not text.isprintable():
-        raise Refusal(token.line, "a pattern with a character in it that does not show, or of bytes")
-    return text

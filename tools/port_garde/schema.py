@@ -9,38 +9,17 @@ from .derives import all_types, type_names
 from .flattened import fields_among, own_part, part_of
 from .forms import Forms
 from .groups import filled, grouped, groups_in, numbers_in, shared_rules
-from .layout import WIDTH, Method, Word, call, flat, ghost, rows as lent_rows, statement
+from .layout import WIDTH, Method, Word, call, flat, ghost, head_of_method, rows as lent_rows, statement
 from .makers import Makers, places, side_pattern, tuple_of, wide
 from .parsed import form as parsed_form
 from .names import of_field
 from .implementation import OWN
 from .inputs import Reader
 from .scope import Place, Seen
+from .templates import fill
 from .spelled import Spellings
 from .words import Checks, camel, together
 
-PARTS = """/// What rules of `{item}` are asked of together.
-{written}
-
-"""
-SHARED = """{parts}/// What the field `{field}` of `{item}` asks beside others.
-#[derive(Clone, Copy)]
-struct {name}{holds};
-
-impl{life} Rules<{kind}> for {name}{lives} {{
-{asks}
-
-    fn ask<'a, H: I18n>(
-        &self,
-        value: &{kind},
-        trail: &mut Trail<'a>,
-        report: &mut Report,
-        h: &H,
-    ) -> Result<(), AllocError> {{
-{taken}
-{asked}
-    }}
-}}"""
 
 
 def within_rule(stated, context):
@@ -144,28 +123,34 @@ class Schema(Forms):
         said = within_rule(said, scope.context) if scope.asks_context else said
         head = f"λ {held.pop('rule')} v."
         words = tuple(map(Word, (place.binding, "trail", "report", "h")))
-        taken = statement(wide(tuple_of(filled(group, bound))), 8, held.pop("let"), " = value;")
-        return SHARED.format(
-            **self.shared_type(it, group, variant, item), asks=ghost("asks", f"{head} {said}", f" {head}\n        {said}"), **held,
-            taken=taken, asked=statement(Method(code, "ask", words), 8),
+        parts, kind, name = self.shared_type(it, group, variant, item)
+        params = (f"value: &{kind}", "trail: &mut Trail<'a>", "report: &mut Report", "h: &H")
+        return parts + fill(
+            "type that is asked", docs=f"What the field `{it.name}` of `{item.name}` asks beside others.", name=name, trait="Rules",
+            kind=kind, bound="<'t>" if "'t" in kind else "", stated=ghost("asks", f"{head} {said}", f" {head}\n        {said}"),
+            head=head_of_method("ask<'a, H: I18n>", params, "Result<(), AllocError>"),
+            taken=statement(wide(tuple_of(filled(group, bound))), 8, held.pop("let"), " = value;") + "\n",
+            body=statement(Method(code, "ask", words), 8), **held,
         )
 
     def held_context(self, it, scope, variant, item):
         """What the rules of a field hold, where they ask the context."""
         if not scope.asks_context:
-            return {"holds": "", "lives": "", "rule": "_", "let": "let "}
+            return {"life": "", "holds": "", "lives": "", "rule": "_", "let": "let "}
         self.holding.add(self.name_at(it, variant, item, "Rules"))
-        return {"holds": f"<'c>(&'c {self.writer.context})", "lives": "<'_>", "rule": "rule", "let": f"let {scope.context} = self.0;\n        let "}
+        told = {"life": "<'c>", "holds": f"(&'c {self.writer.context})", "lives": "<'_>"}
+        return {**told, "rule": "rule", "let": f"let {scope.context} = self.0;\n        let "}
 
     def shared_type(self, it, group, variant, item):
-        """The names of what a field asks of a group, and of the type of that: the group has one where it does not fit into a line."""
+        """What is written of the parts of a group, which have a type where they do not fit into a line; their type; and the name of what a
+        field asks of them."""
         tree = tuple_of(filled(group, [self.writer.type_text(it.type) for it in variant.fields]))
         kind, name = flat(tree), self.name_at(it, variant, item, "Rules")
         life, parts, first = "<'t>" if "'t" in kind else "", "", variant.fields[group.asked[0]]
         if len(f"impl{life} Rules<{kind}> for {name} {{") > WIDTH:
             kind = f"{self.name_at(first, variant, item, 'Parts')}{life}"
-            parts = PARTS.format(item=item.name, written=statement(tree, 0, f"type {kind} = ", ";")) if it is first else ""
-        return {"field": it.name, "item": item.name, "parts": parts, "name": name, "life": life, "kind": kind}
+            parts = fill("parts", item=item.name, written=statement(tree, 0, f"type {kind} = ", ";")) + "\n\n" if it is first else ""
+        return parts, kind, name
 
     # Forms.
 

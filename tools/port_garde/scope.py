@@ -1,4 +1,5 @@
 """What rules may speak of: the value, its fields and its context."""
+import re
 from dataclasses import dataclass, field
 
 from .expressions import CONTEXT, ITEM, VALUE, Expression
@@ -10,6 +11,9 @@ SIGNED = ("i8", "i16", "i32", "i64", "i128", "isize")
 # What becomes of two constants.
 MADE_OF = {"+": int.__add__, "-": int.__sub__, "*": int.__mul__}
 VARIABLES = ("x", "y", "z", "w", "u")
+# The names in a piece of a statement, variables of one letter apart; those of them that are of the prelude, and words of the language.
+NAMES = re.compile(r"(?<![\w.])[A-Za-z]\w+")
+PRELUDE, LANGUAGE = {"is_some", "Some", "None", "IfOk"}, {"elim", "as", "record"}
 
 
 @dataclass
@@ -27,6 +31,18 @@ class Uses:
     cited: set = field(default_factory=set)
     paths: set = field(default_factory=set)
     stated: set = field(default_factory=set)
+
+    def say(self, text, *parts):
+        """A piece of a statement, in which `{}` stands for a part: the words that it names are imported."""
+        found = set(NAMES.findall(text))
+        self.prelude |= found & PRELUDE
+        self.words |= found - PRELUDE - LANGUAGE
+        return text.format(*parts)
+
+    def all_of(self, texts):
+        """What holds where all of these do, as it is stated."""
+        self.words |= {"◌and◌"} if texts[1:] else set()
+        return " and ".join(texts)
 
     def state(self, module, word):
         """Imports a word of the statements of a module, and gives it."""

@@ -1,14 +1,17 @@
 """The items of a Rust source file: structs, enums, constants, functions and imports."""
+from collections import namedtuple
 from dataclasses import dataclass, field, replace
 
 from .build import Build
 from .derives import read_option
 from .expressions import number_of
 from .own import at_field
-from .rules import Attributes, present, read_attributes
-from .tokens import OPEN, Notes, Refusal, Tokens, tokens_of
+from .rules import Attributes, Rules, present, read_attributes
+from .tokens import OPEN, Notes, Refusal, tokens_of
 
-
+# Where the derives and the attributes of the language are, which may stand there without a path.
+BUILT_IN = ([], ["core"], ["std"], ["core", "prelude", "v1"], ["std", "prelude", "v1"])
+SUMS = {"+": int.__add__, "-": int.__sub__, "*": int.__mul__}
 UNKNOWN_BUILD = "an attribute `cfg` or `cfg_attr`, which the port cannot judge"
 
 
@@ -63,25 +66,12 @@ class Variant:
         return self.stated or self.name
 
 
-@dataclass(frozen=True)
-class Param:
-    """A parameter of a type: its kind is `lifetime`, `type` or `const`, and a type may have a default."""
-
-    kind: str
-    name: str
-    bounds: str = ""
-    default: Type = None
+# A parameter of a type: its kind is `lifetime`, `type` or `const`, and a type may have a default.
+Param = namedtuple("Param", "kind name bounds default", defaults=("", None))
 
 
-@dataclass(frozen=True)
-class Alias:
-    """Another name of a type, with its parameters; or the reason why the port cannot read it."""
-
-    name: str
-    line: int
-    params: tuple = ()
-    type: Type = None
-    fault: str = ""
+# Another name of a type, with its parameters; or the reason why the port cannot read it.
+Alias = namedtuple("Alias", "name line params type fault", defaults=((), None, ""))
 
 
 @dataclass(frozen=True)
@@ -155,7 +145,7 @@ def read_source(text, features=None):
         text = " " * len(text.partition("\n")[0]) + text[len(text.partition("\n")[0]) :]
     source = Source(features=features)
     try:
-        tokens = Tokens(tokens_of(text), text, source.notes)
+        tokens = Parser(tokens_of(text), text, source.notes)
         source.notes.build = Build(tokens.tokens, features)
     except Refusal as refusal:
         source.notes.faults.append(refusal)
@@ -170,466 +160,426 @@ def read_source(text, features=None):
             if inside.sees("cfg") or inside.sees("cfg_attr"):
                 source.notes.refuse(mark.line, UNKNOWN_BUILD)
         else:
-            read_item(tokens, source, text)
-    read_sums(tokens, source)
-    return source
-
-
-def read_item(tokens, source, text):
-    """Reads an item; those that are neither ported nor asked for are passed over."""
-    begin, outer, at = tokens.first.at, Outer(), tokens.at
-    try:
-        outer = read_outer(tokens)
-        at = tokens.at
-        if not outer.absent:
-            read_known_item(tokens, source, text, outer, begin)
-            return
-    except Refusal as refusal:
-        source.notes.faults.append(refusal)
-        tokens.at = max(at, 1)
-    pass_over(tokens)
-    source.notes.told.append((begin, tokens.first.at))
-
-
-def read_known_item(tokens, source, text, outer, begin):
-    start, line, first = tokens.first.at, tokens.line, tokens.at
-    vis = read_vis(tokens)
-    before = tokens.at
-    while any(map(tokens.sees, ("unsafe", "async"))) or is_function(tokens):
-        tokens.take()
-    if tokens.sees("extern") and tokens.tokens[tokens.at + 1].kind in ("text", "name") and not tokens.sees("extern", "crate"):
-        tokens.take()
-        tokens.at += tokens.first.kind == "text"
-    word = tokens.take().text
-    if word in ("struct", "enum"):
-        read_type_item(tokens, source, outer, (word, vis, line, begin))
-    elif word == "use":
-        read_use(tokens, source)
-    elif word == "fn":
-        name = tokens.name("the name of a function")
-        pass_over(tokens)
-        source.functions[name] = text[start : tokens.tokens[tokens.at - 1].at + 1]
-    elif word == "const":
-        read_constant(tokens, source, bool(outer.condition))
-    elif word == "type":
-        read_alias(tokens, source, bool(outer.condition))
-    elif word != ";":
-        source.modules |= {tokens.first.text} if word == "mod" else set()
-        tokens.at = before
-        pass_over(tokens)
-    if word in ("fn", "const", "impl"):
-        source.parts.append((tokens.taken(first), bool(outer.condition)))
-
-
-def read_alias(tokens, source, conditional):
-    """Reads another name of a type. What cannot be read of it is told where a field has the type."""
-    line, notes = tokens.line, source.notes
-    faults, later = len(notes.faults), len(notes.later)
-    alias = Alias(tokens.name("the name of a type"), line, fault="which stands under a condition of the build" if conditional else "")
-    at = tokens.at
-    try:
-        params = read_angles(tokens, read_param)
-        tokens.expect("=")
-        alias = replace(alias, params=params, type=read_type(tokens))
-    except Refusal as refusal:
-        alias = replace(alias, fault=f"which cannot be read: {refusal.reason}")
-        tokens.at = at
-    del notes.faults[faults:], notes.later[later:]
-    source.aliases[alias.name] = alias if alias.name not in source.aliases else replace(alias, fault="which stands in the file twice")
-    pass_to_end(tokens)
-
-
-def read_type_item(tokens, source, outer, head):
-    """Reads a struct or an enum behind its keyword. Its faults are those of the type, which count where that is written."""
-    word, vis, line, begin = head
-    notes, faults, later = source.notes, len(source.notes.faults), len(source.notes.later)
-    unconditional(tokens, outer)
-    name, params, variants = (read_struct if word == "struct" else read_enum)(tokens)
-    lost = None in variants or any(None in it.fields for it in variants if it is not None)
-    variants = tuple(replace(it, fields=tuple(present(it.fields))) for it in present(variants))
-    others = [found for it in (*variants, *(field for it in variants for field in it.fields)) for found in it.others]
-    item = Item(word, name, params, variants, line, outer.attributes, outer.derives, outer.docs, vis, begin, tokens.first.at, known=name)
-    item = replace(item, said=outer.said, serde=outer.serde, others=outer.others + tuple(others))
-    notes.told += outer.conditions
-    asked = [outer.attributes.asked, *(it.attributes.asked for variant in variants for it in variant.fields)]
-    if not is_ported(item) and any(asked):
-        notes.refuse(line, f"`garde` attributes at `{name}`, which has no `Validate` among its derives")
-    notes.told += [(begin, item.end)] if lost or not is_ported(item) and any(asked) else []
-    item = replace(item, faults=tuple(notes.faults[faults:]), later=tuple(notes.later[later:]))
-    del notes.faults[faults:], notes.later[later:]
-    notes.read |= outer.read
-    source.items.append(item)
-
-
-def read_use(tokens, source):
-    """Reads imports. A derive under another name is refused."""
-    line, found = tokens.line, read_imports(tokens, ())
-    tokens.expect(";")
-    for path, name in found:
-        if path[0] == "garde" and path[-1] == "Validate" and name not in ("Validate", "_"):
-            source.notes.refuse(line, f"the derive `Validate` under the name `{name}`: import it under its own")
-    source.imports += found
-    source.globs += [(line, path) for path, name in found if name == "*"]
-
-
-def read_constant(tokens, source, conditional):
-    """Reads a constant, which is kept where it is a number, and is not one of several under conditions of the build."""
-    name = tokens.take().text
-    while not tokens.ended() and not tokens.sees("="):
-        tokens.group() if any(map(tokens.opens, OPEN)) else tokens.take()
-    tokens.takes("=")
-    if not conditional and name not in source.numbers:
-        source.sums[name] = tokens.at
-    else:
-        source.sums.pop(name, None)
-    source.numbers[name] = None
-    pass_to_end(tokens)
-
-
-def read_sums(tokens, source):
-    """Reads the values of the constants, each once those are known that it speaks of."""
+            tokens.read_item(source)
+    # the values of the constants, each once those are known that it speaks of
     known = None
     while known != source.numbers:
         known = dict(source.numbers)
         for name, tokens.at in source.sums.items():
-            value = read_sum(tokens, source.numbers)
+            value = tokens.read_constant_sum(source.numbers)
             source.numbers[name] = value if tokens.sees(";") else None
+    return source
 
 
-def read_sum(tokens, known):
-    """Reads numbers and constants, with `+`, `-` and `*`: the number that they make, or nothing."""
-    value = read_product(tokens, known)
-    while value is not None and (tokens.sees("+") or tokens.sees("-")):
-        sign, more = tokens.take().text, read_product(tokens, known)
-        value = None if more is None else value + more if sign == "+" else value - more
-    return value
+class Parser(Rules):
+    """Tokens of which the items of a file are read."""
 
-
-def read_product(tokens, known):
-    value = read_factor(tokens, known)
-    while value is not None and tokens.takes("*"):
-        more = read_factor(tokens, known)
-        value = None if more is None else value * more
-    return value
-
-
-def read_factor(tokens, known):
-    minus, token = tokens.takes("-"), tokens.take()
-    value = number_of(token) if token.kind == "number" else known.get(token.text) if token.kind == "name" else None
-    return -value if minus and value is not None else value
-
-
-def read_outer(tokens):
-    docs, asked, outer, notes, faulty = [], [], Outer(), tokens.notes, False
-    while tokens.first.kind in ("doc", "head") or tokens.opens("#"):
-        mark = tokens.take()
-        if mark.kind != "mark":
-            docs += [mark.text] if mark.kind == "doc" else []
-            continue
-        of_the_file = tokens.takes("!")
-        if not tokens.opens("["):
-            raise Refusal(mark.line, "`#` with no attribute behind it")
-        inside, place = tokens.group(), (mark.at, tokens.first.at)
+    def read_item(self, source):
+        """Reads an item; those that are neither ported nor asked for are passed over."""
+        begin, outer, at = self.first.at, Outer(), self.at
         try:
-            read_attribute_of(inside, outer, asked, mark, of_the_file)
-        except Refusal as refusal:
-            notes.faults.append(refusal)
-            notes.told.append(place)
-            faulty = True
-        outer.conditions = [it or place for it in outer.conditions]
-    outer.docs, outer.attributes = tuple(docs), read_attributes(asked) if asked else Attributes()
-    outer.attributes = replace(outer.attributes, faulty=outer.attributes.faulty or faulty)
-    return outer
-
-
-def read_attribute_of(inside, outer, asked, mark, of_the_file):
-    at, path = inside.first.at, inside.path("a path")
-    word = path[-1] if path[:-1] in ([], ["core"], ["std"], ["core", "prelude", "v1"], ["std", "prelude", "v1"]) else ""
-    if path[-1] == "garde" and (len(path) > 1 or of_the_file or not inside.opens("(")):
-        raise Refusal(mark.line, f"the attribute `{'::'.join(path)}`: at a type or a field write `#[garde(..)]`")
-    if word == "derive" and not inside.opens("("):
-        raise Refusal(mark.line, "`derive` with no list behind it")
-    if word == "derive":
-        outer.said += present(inside.group().items(lambda it: (it.line, tuple(it.path("a path")))))
-        outer.derives = tuple(path[-1] for _, path in outer.said)
-        outer.read.add(at)
-    elif word == "garde":
-        asked.append(inside.group())
-        outer.read.add(mark.at)
-        inside.notes.read.add(mark.at)
-    elif word in ("cfg", "cfg_attr"):
-        held = None if of_the_file or not inside.opens("(") else read_condition(word, inside.group(), outer, asked, mark)
-        outer.absent |= word == "cfg" and held is False
-        outer.condition = mark.line if held is None else outer.condition
-        outer.conditions += [None] if held is None else []
-    elif word == "serde" and inside.opens("("):
-        outer.serde += (present(inside.group().items(read_option)),)
-    else:
-        outer.others += ((mark.line, "::".join(path)),)
-
-
-def read_condition(word, tokens, outer, asked, mark):
-    """Whether the condition of a `cfg` or a `cfg_attr` holds, or nothing where the port cannot judge that. The attributes of a `cfg_attr` are
-    read where it holds; where that is not known none may speak of what is read or asked."""
-    held = tokens.notes.build.holds(tokens)
-    found = []
-    tokens.skip_to(",")
-    while tokens.takes(","):
-        start = tokens.at
-        tokens.skip_to(",")
-        if tokens.at > start:
-            found.append(tokens.taken(start))
-    for it in found if held else ():
-        read_attribute_of(it, outer, asked, mark, False)
-    words = {token.text for it in found for token in it.tokens}
-    is_silent = word == "cfg_attr" and not words & {"serde", "garde", "Deserialize", "Validate", "cfg_attr"}
-    return False if held is None and is_silent else held
-
-
-def unconditional(tokens, outer):
-    """Refuses what stands under a condition of the build."""
-    if outer.condition:
-        told = "" if tokens.notes.build.features is not None else ": say by `--features` which are on, as `--features std,json`, or `--features=` of none"
-        tokens.notes.refuse(outer.condition, UNKNOWN_BUILD + told)
-        tokens.notes.told += outer.conditions
-    return outer
-
-
-def read_vis(tokens):
-    if not tokens.takes("pub"):
-        return ""
-    if not tokens.opens("("):
-        return "pub "
-    inside = tokens.group()
-    path = "in " if inside.takes("in") else ""
-    return f"pub({path}{''.join(it.text for it in inside.tokens[inside.at:-1])}) "
-
-
-def pass_to_end(tokens, *opening):
-    """Passes over the rest of an item: to the end of a group of these brackets, or to `;`."""
-    while not tokens.ended():
-        if any(map(tokens.opens, OPEN)):
-            is_last = tokens.first.text in opening
-            tokens.group()
-            if is_last:
+            outer = self.read_outer()
+            at = self.at
+            if not outer.absent:
+                self.read_known_item(source, outer, begin)
                 return
-        elif tokens.take().text == ";":
-            return
+        except Refusal as refusal:
+            source.notes.faults.append(refusal)
+            self.at = max(at, 1)
+        self.pass_over()
+        source.notes.told.append((begin, self.first.at))
 
+    def read_known_item(self, source, outer, begin):
+        start, line, first = self.first.at, self.line, self.at
+        vis = self.read_vis()
+        before = self.at
+        while any(map(self.sees, ("unsafe", "async"))) or self.sees_function():
+            self.take()
+        if self.sees("extern") and self.tokens[self.at + 1].kind in ("text", "name") and not self.sees("extern", "crate"):
+            self.take()
+            self.at += self.first.kind == "text"
+        word = self.take().text
+        if word in ("struct", "enum"):
+            self.read_type_item(source, outer, (word, vis, line, begin))
+        elif word == "use":
+            self.read_use(source)
+        elif word == "fn":
+            name = self.name("the name of a function")
+            self.pass_over()
+            source.functions[name] = self.text[start : self.tokens[self.at - 1].at + 1]
+        elif word == "const":
+            self.read_constant(source, bool(outer.condition))
+        elif word == "type":
+            self.read_alias(source, bool(outer.condition))
+        elif word != ";":
+            source.modules |= {self.first.text} if word == "mod" else set()
+            self.at = before
+            self.pass_over()
+        if word in ("fn", "const", "impl"):
+            source.parts.append((self.taken(first), bool(outer.condition)))
 
-def pass_over(tokens):
-    """Passes over an item: up to its body or, of one that has none, to `;`."""
-    read_vis(tokens)
-    has_body = not any(map(tokens.sees, ("static", "type", "use"))) and (not tokens.sees("const") or is_function(tokens))
-    pass_to_end(tokens, *("{" if has_body else ""))
+    def read_alias(self, source, conditional):
+        """Reads another name of a type. What cannot be read of it is told where a field has the type."""
+        line, notes = self.line, source.notes
+        faults, later = len(notes.faults), len(notes.later)
+        alias = Alias(self.name("the name of a type"), line, fault="which stands under a condition of the build" if conditional else "")
+        at = self.at
+        try:
+            params = self.read_angles(Parser.read_param)
+            self.expect("=")
+            alias = alias._replace(params=params, type=self.read_type())
+        except Refusal as refusal:
+            alias = alias._replace(fault=f"which cannot be read: {refusal.reason}")
+            self.at = at
+        del notes.faults[faults:], notes.later[later:]
+        source.aliases[alias.name] = alias if alias.name not in source.aliases else alias._replace(fault="which stands in the file twice")
+        self.pass_to_end()
 
+    def read_type_item(self, source, outer, head):
+        """Reads a struct or an enum behind its keyword. Its faults are those of the type, which count where that is written."""
+        word, vis, line, begin = head
+        notes, faults, later = source.notes, len(source.notes.faults), len(source.notes.later)
+        self.unconditional(outer)
+        name, params, variants = self.read_struct() if word == "struct" else self.read_enum()
+        lost = None in variants or any(None in it.fields for it in variants if it is not None)
+        variants = tuple(replace(it, fields=tuple(present(it.fields))) for it in present(variants))
+        others = [found for it in (*variants, *(field for it in variants for field in it.fields)) for found in it.others]
+        item = Item(
+            word, name, params, variants, line, outer.attributes, outer.derives, outer.docs, vis, begin, self.first.at,
+            said=outer.said, serde=outer.serde, others=outer.others + tuple(others), known=name,
+        )
+        notes.told += outer.conditions
+        is_asked = any([outer.attributes.asked, *(it.attributes.asked for variant in variants for it in variant.fields)])
+        if not is_ported(item) and is_asked:
+            notes.refuse(line, f"`garde` attributes at `{name}`, which has no `Validate` among its derives")
+        notes.told += [(begin, item.end)] if lost or not is_ported(item) and is_asked else []
+        source.items.append(replace(item, faults=tuple(notes.faults[faults:]), later=tuple(notes.later[later:])))
+        del notes.faults[faults:], notes.later[later:]
+        notes.read |= outer.read
 
-def is_function(tokens):
-    """Whether a function comes next, behind `const`."""
-    return any(tokens.sees("const", it) for it in ("fn", "unsafe", "async", "extern"))
+    def read_use(self, source):
+        """Reads imports. A derive under another name is refused."""
+        line, found = self.line, self.read_imports(())
+        self.expect(";")
+        for path, name in found:
+            if path[0] == "garde" and path[-1] == "Validate" and name not in ("Validate", "_"):
+                source.notes.refuse(line, f"the derive `Validate` under the name `{name}`: import it under its own")
+        source.imports += found
+        source.globs += [(line, path) for path, name in found if name == "*"]
 
+    def read_constant(self, source, conditional):
+        """Reads a constant, which is kept where it is a number, and is not one of several under conditions of the build."""
+        name = self.take().text
+        while not self.ended() and not self.sees("="):
+            self.group() if any(map(self.opens, OPEN)) else self.take()
+        self.takes("=")
+        if not conditional and name not in source.numbers:
+            source.sums[name] = self.at
+        else:
+            source.sums.pop(name, None)
+        source.numbers[name] = None
+        self.pass_to_end()
 
-def read_imports(tokens, before):
-    """The imports of a `use` tree: each is a path with the name that it gets."""
-    path = before
-    while True:
-        if tokens.opens("{"):
-            trees = present(tokens.group().items(lambda it: read_imports(it, path)))
-            return [found for tree in trees for found in tree]
-        if tokens.takes("*"):
-            return [((*path, "*"), "*")]
-        tokens.takes("::")
-        if tokens.opens("{") or tokens.sees("*"):
-            continue
-        path = (*path, tokens.name("a path"))
-        path = path[:-1] if path[-1] == "self" and path[1:] else path
-        if tokens.takes("as"):
-            return [(path, tokens.name("a name"))]
-        if not tokens.sees("::"):
-            return [(path, path[-1])]
+    def read_constant_sum(self, known, marks=("+", "-")):
+        """Reads numbers and constants, with `+`, `-` and `*`: the number that they make, or nothing."""
+        if not marks:
+            minus, token = self.takes("-"), self.take()
+            value = number_of(token) if token.kind == "number" else known.get(token.text) if token.kind == "name" else None
+            return -value if minus and value is not None else value
+        below = ("*",) if "+" in marks else ()
+        value = self.read_constant_sum(known, below)
+        while value is not None and any(map(self.sees, marks)):
+            mark, more = self.take().text, self.read_constant_sum(known, below)
+            value = None if more is None else SUMS[mark](value, more)
+        return value
 
+    # Attributes, and what else stands around an item.
 
-def read_struct(tokens):
-    """Reads a struct after its keyword: its name, its parameters and its one variant."""
-    line, name = tokens.line, tokens.name("the name of a struct")
-    params = read_angles(tokens, read_param)
-    variant = read_variant_body(tokens, name, line, ())
-    if variant.shape != "named":
-        tokens.expect(";")
-    return name, params, (variant,)
+    def read_outer(self):
+        asked, outer, faulty = [], Outer(), False
+        while self.first.kind in ("doc", "head") or self.opens("#"):
+            mark = self.take()
+            if mark.kind != "mark":
+                outer.docs += (mark.text,) if mark.kind == "doc" else ()
+                continue
+            of_the_file = self.takes("!")
+            if not self.opens("["):
+                raise Refusal(mark.line, "`#` with no attribute behind it")
+            inside, place = self.group(), (mark.at, self.first.at)
+            try:
+                inside.read_attribute_of(outer, asked, mark, of_the_file)
+            except Refusal as refusal:
+                self.notes.faults.append(refusal)
+                self.notes.told.append(place)
+                faulty = True
+            outer.conditions = [it or place for it in outer.conditions]
+        found = read_attributes(asked) if asked else Attributes()
+        outer.attributes = replace(found, faulty=found.faulty or faulty)
+        return outer
 
+    def read_attribute_of(self, outer, asked, mark, of_the_file):
+        at, path = self.first.at, self.path("a path")
+        word = path[-1] if path[:-1] in BUILT_IN else ""
+        if path[-1] == "garde" and (len(path) > 1 or of_the_file or not self.opens("(")):
+            raise Refusal(mark.line, f"the attribute `{'::'.join(path)}`: at a type or a field write `#[garde(..)]`")
+        if word == "derive" and not self.opens("("):
+            raise Refusal(mark.line, "`derive` with no list behind it")
+        if word == "derive":
+            outer.said += present(self.group().items(lambda it: (it.line, tuple(it.path("a path")))))
+            outer.derives = tuple(path[-1] for _, path in outer.said)
+            outer.read.add(at)
+        elif word == "garde":
+            asked.append(self.group())
+            outer.read.add(mark.at)
+            self.notes.read.add(mark.at)
+        elif word in ("cfg", "cfg_attr"):
+            held = None if of_the_file or not self.opens("(") else self.group().read_condition(word, outer, asked, mark)
+            outer.absent |= word == "cfg" and held is False
+            outer.condition = mark.line if held is None else outer.condition
+            outer.conditions += [None] if held is None else []
+        elif word == "serde" and self.opens("("):
+            outer.serde += (present(self.group().items(read_option)),)
+        else:
+            outer.others += ((mark.line, "::".join(path)),)
 
-def read_enum(tokens):
-    name, params = tokens.name("the name of an enum"), read_angles(tokens, read_param)
-    no_where(tokens)
-    variants = read_parts(tokens, read_variant)
-    read = present(variants)
-    for it in (it for it in read if it.number and any(one.shape != "unit" for one in read)):
-        tokens.notes.refuse(it.line, f"the variant `{it.name}` with a number, beside variants with fields: take the number out")
-    return name, params, variants
+    def read_condition(self, word, outer, asked, mark):
+        """Whether the condition of a `cfg` or a `cfg_attr` holds, or nothing where the port cannot judge that. The attributes of a
+        `cfg_attr` are read where it holds; where that is not known none may speak of what is read or asked."""
+        held = self.notes.build.holds(self)
+        found = []
+        self.skip_to(",")
+        while self.takes(","):
+            start = self.at
+            self.skip_to(",")
+            found += [self.taken(start)] if self.at > start else []
+        for it in found if held else ():
+            it.read_attribute_of(outer, asked, mark, False)
+        words = {token.text for it in found for token in it.tokens}
+        is_silent = word == "cfg_attr" and not words & {"serde", "garde", "Deserialize", "Validate", "cfg_attr"}
+        return False if held is None and is_silent else held
 
+    def unconditional(self, outer):
+        """Refuses what stands under a condition of the build."""
+        if outer.condition:
+            way = ": say by `--features` which are on, as `--features std,json`, or `--features=` of none"
+            self.notes.refuse(outer.condition, UNKNOWN_BUILD + (way if self.notes.build.features is None else ""))
+            self.notes.told += outer.conditions
+        return outer
 
-def read_parts(tokens, read):
-    """Reads the variants or the fields of a group, but for those under a condition of the build that does not hold."""
+    def read_vis(self):
+        if not self.takes("pub"):
+            return ""
+        if not self.opens("("):
+            return "pub "
+        inside = self.group()
+        path = "in " if inside.takes("in") else ""
+        return f"pub({path}{''.join(it.text for it in inside.tokens[inside.at:-1])}) "
 
-    def read_part(tokens):
-        begin, outer = tokens.first.at, read_outer(tokens)
-        if outer.absent:
-            tokens.skip_to(",")
-            tokens.notes.absent.append((begin, tokens.first.at))
-            return outer
-        return read(tokens, unconditional(tokens, outer))
+    def pass_to_end(self, *opening):
+        """Passes over the rest of an item: to the end of a group of these brackets, or to `;`."""
+        while not self.ended():
+            if any(map(self.opens, OPEN)):
+                is_last = self.first.text in opening
+                self.group()
+                if is_last:
+                    return
+            elif self.take().text == ";":
+                return
 
-    return tuple(it for it in tokens.group().items(read_part) if not isinstance(it, Outer))
+    def pass_over(self):
+        """Passes over an item: up to its body or, of one that has none, to `;`."""
+        self.read_vis()
+        has_body = not any(map(self.sees, ("static", "type", "use"))) and (not self.sees("const") or self.sees_function())
+        self.pass_to_end(*("{" if has_body else ""))
 
+    def sees_function(self):
+        """Whether a function comes next, behind `const`."""
+        return any(self.sees("const", it) for it in ("fn", "unsafe", "async", "extern"))
 
-def read_variant(tokens, outer):
-    line, name = tokens.line, tokens.name("a variant")
-    if outer.attributes.asked:
-        tokens.notes.refuse(line, f"an attribute at the variant `{name}`: attributes stand at types and at fields")
-    variant = read_variant_body(tokens, name, line, outer.docs)
-    return replace(variant, serde=outer.serde, others=outer.others, number=read_discriminant(tokens, name) if tokens.takes("=") else "")
+    def read_imports(self, path):
+        """The imports of a `use` tree: each is a path with the name that it gets."""
+        while True:
+            if self.opens("{"):
+                trees = present(self.group().items(lambda it: it.read_imports(path)))
+                return [found for tree in trees for found in tree]
+            if self.takes("*"):
+                return [((*path, "*"), "*")]
+            self.takes("::")
+            if self.opens("{") or self.sees("*"):
+                continue
+            path = (*path, self.name("a path"))
+            path = path[:-1] if path[-1] == "self" and path[1:] else path
+            if self.takes("as"):
+                return [(path, self.name("a name"))]
+            if not self.sees("::"):
+                return [(path, path[-1])]
 
+    # Types, variants and fields.
 
-def read_discriminant(tokens, name):
-    """Reads the number of a variant, which stands there as it is."""
-    line, number = tokens.line, "-" * tokens.takes("-")
-    if tokens.first.kind == "number":
-        number += tokens.take().text
-    if not tokens.ended() and not tokens.sees(",") or number in ("", "-"):
-        tokens.notes.refuse_walk(line, f"the variant `{name}` whose number is computed: write the number itself")
-        tokens.skip_to(",")
-    return number
+    def read_struct(self):
+        """Reads a struct after its keyword: its name, its parameters and its one variant."""
+        line, name = self.line, self.name("the name of a struct")
+        params = self.read_angles(Parser.read_param)
+        variant = self.read_variant_body(name, line, ())
+        if variant.shape != "named":
+            self.expect(";")
+        return name, params, (variant,)
 
+    def read_enum(self):
+        name, params = self.name("the name of an enum"), self.read_angles(Parser.read_param)
+        self.no_where()
+        variants = self.read_parts(Parser.read_variant)
+        read = present(variants)
+        for it in (it for it in read if it.number and any(one.shape != "unit" for one in read)):
+            self.notes.refuse(it.line, f"the variant `{it.name}` with a number, beside variants with fields: take the number out")
+        return name, params, variants
 
-def read_variant_body(tokens, name, line, docs):
-    no_where(tokens)
-    shape = "named" if tokens.opens("{") else "tuple" if tokens.opens("(") else "unit"
-    fields = read_parts(tokens, lambda it, outer: read_field(it, outer, shape == "named")) if shape != "unit" else ()
-    if shape == "tuple":
-        no_where(tokens)
-    return Variant(name, shape, fields, line, docs)
+    def read_parts(self, read):
+        """Reads the variants or the fields of a group, but for those under a condition of the build that does not hold."""
 
+        def read_part(tokens):
+            begin, outer = tokens.first.at, tokens.read_outer()
+            if outer.absent:
+                tokens.skip_to(",")
+                tokens.notes.absent.append((begin, tokens.first.at))
+                return outer
+            return read(tokens, tokens.unconditional(outer))
 
-def no_where(tokens):
-    if tokens.sees("where"):
-        tokens.notes.refuse_walk(tokens.line, "a `where` clause: write the bounds at the parameters")
-        tokens.skip_to("{", ";")
+        return tuple(it for it in self.group().items(read_part) if not isinstance(it, Outer))
 
+    def read_variant(self, outer):
+        line, name = self.line, self.name("a variant")
+        if outer.attributes.asked:
+            self.notes.refuse(line, f"an attribute at the variant `{name}`: attributes stand at types and at fields")
+        variant = self.read_variant_body(name, line, outer.docs)
+        return replace(variant, serde=outer.serde, others=outer.others, number=self.read_discriminant(name) if self.takes("=") else "")
 
-def read_field(tokens, outer, is_named):
-    vis, line, name, attributes = read_vis(tokens), tokens.line, "", outer.attributes
-    if is_named:
-        name = tokens.name("the name of a field")
-        tokens.expect(":")
-        attributes = replace(attributes, rules=at_field(attributes.rules, name))
-    return Field(name, read_field_type(tokens), line, attributes, outer.docs, vis, outer.serde, outer.others)
+    def read_discriminant(self, name):
+        """Reads the number of a variant, which stands there as it is."""
+        line, number = self.line, "-" * self.takes("-")
+        if self.first.kind == "number":
+            number += self.take().text
+        if not self.ended() and not self.sees(",") or number in ("", "-"):
+            self.notes.refuse_walk(line, f"the variant `{name}` whose number is computed: write the number itself")
+            self.skip_to(",")
+        return number
 
+    def read_variant_body(self, name, line, docs):
+        self.no_where()
+        shape = "named" if self.opens("{") else "tuple" if self.opens("(") else "unit"
+        fields = self.read_parts(lambda it, outer: it.read_field(outer, shape == "named")) if shape != "unit" else ()
+        if shape == "tuple":
+            self.no_where()
+        return Variant(name, shape, fields, line, docs)
 
-def read_field_type(tokens):
-    """Reads the type of a field; one that the port cannot read is noted, and the field's attributes are still looked at."""
-    line, start = tokens.line, tokens.at
-    try:
-        kind = read_type(tokens)
-        if not tokens.ended() and not tokens.sees(","):
-            tokens.expect(",")
-        return kind
-    except Refusal as refusal:
-        tokens.notes.faults.append(refusal)
-        tokens.at = start
-        tokens.skip_to(",")
-        return Type("unread", "", line)
+    def no_where(self):
+        if self.sees("where"):
+            self.notes.refuse_walk(self.line, "a `where` clause: write the bounds at the parameters")
+            self.skip_to("{", ";")
 
+    def read_field(self, outer, is_named):
+        vis, line, name, attributes = self.read_vis(), self.line, "", outer.attributes
+        if is_named:
+            name = self.name("the name of a field")
+            self.expect(":")
+            attributes = replace(attributes, rules=at_field(attributes.rules, name))
+        return Field(name, self.read_field_type(), line, attributes, outer.docs, vis, outer.serde, outer.others)
 
-def read_angles(tokens, read):
-    """Reads what stands in angles, if such come next, each item by `read`."""
-    found = []
-    if not tokens.takes("<"):
-        return ()
-    while not tokens.takes(">"):
-        found.append(read(tokens))
-        if not tokens.sees(">"):
-            tokens.expect(",")
-    return tuple(found)
+    def read_field_type(self):
+        """Reads the type of a field; one that the port cannot read is noted, and the field's attributes are still looked at."""
+        line, start = self.line, self.at
+        try:
+            kind = self.read_type()
+            if not self.ended() and not self.sees(","):
+                self.expect(",")
+            return kind
+        except Refusal as refusal:
+            self.notes.faults.append(refusal)
+            self.at = start
+            self.skip_to(",")
+            return Type("unread", "", line)
 
+    def read_angles(self, read):
+        """Reads what stands in angles, if such come next, each item by `read`."""
+        found = []
+        if not self.takes("<"):
+            return ()
+        while not self.takes(">"):
+            found.append(read(self))
+            if not self.sees(">"):
+                self.expect(",")
+        return tuple(found)
 
-def read_param(tokens):
-    line, notes = tokens.line, tokens.notes
-    if tokens.first.kind == "lifetime":
-        name = tokens.take().text
-        if tokens.sees(":"):
-            notes.refuse_walk(line, f"the lifetime `{name}` has bounds")
-            tokens.skip_to(",", ">")
-        return Param("lifetime", name)
-    kind = "const" if tokens.takes("const") else "type"
-    line, name = tokens.line, tokens.name("a parameter")
-    if name == "H":
-        notes.refuse_walk(line, "a parameter of the name `H`, which the method has for the handler")
-    bounds = read_bounds(tokens) if tokens.takes(":") else ""
-    if not tokens.takes("="):
-        return Param(kind, name, bounds)
-    notes.refuse_walk(tokens.tokens[tokens.at - 1].line, f"the parameter `{name}` has a default")
-    at = tokens.at
-    try:
-        return Param(kind, name, bounds, read_argument(tokens))
-    except Refusal:
-        tokens.at = at
-        tokens.skip_to(",", ">")
-        return Param(kind, name, bounds)
+    def read_param(self):
+        line, notes = self.line, self.notes
+        if self.first.kind == "lifetime":
+            name = self.take().text
+            if self.sees(":"):
+                notes.refuse_walk(line, f"the lifetime `{name}` has bounds")
+                self.skip_to(",", ">")
+            return Param("lifetime", name)
+        kind = "const" if self.takes("const") else "type"
+        line, name = self.line, self.name("a parameter")
+        if name == "H":
+            notes.refuse_walk(line, "a parameter of the name `H`, which the method has for the handler")
+        bounds = self.read_bounds() if self.takes(":") else ""
+        if not self.takes("="):
+            return Param(kind, name, bounds)
+        notes.refuse_walk(self.tokens[self.at - 1].line, f"the parameter `{name}` has a default")
+        at = self.at
+        try:
+            return Param(kind, name, bounds, self.read_argument())
+        except Refusal:
+            self.at = at
+            self.skip_to(",", ">")
+            return Param(kind, name, bounds)
 
+    def read_bounds(self):
+        """Reads bounds as text, up to the `,` or the `>` that ends them."""
+        text, depth = "", 0
+        while depth or not any(map(self.sees, (",", ">", "="))):
+            if self.ended():
+                raise Refusal(self.line, "bounds that do not end")
+            word = self.take().text
+            depth += (word == "<") - (word == ">")
+            text += f" {word} " if word in ("=", "+") else f"{word} " if word == "," else word
+        return text
 
-def read_bounds(tokens):
-    """Reads bounds as text, up to the `,` or the `>` that ends them."""
-    text, depth = "", 0
-    while depth or not any(map(tokens.sees, (",", ">", "="))):
-        if tokens.ended():
-            raise Refusal(tokens.line, "bounds that do not end")
-        word = tokens.take().text
-        depth += (word == "<") - (word == ">")
-        text += f" {word} " if word in ("=", "+") else f"{word} " if word == "," else word
-    return text
+    def read_type(self):
+        line = self.line
+        self.takes("::")
+        if self.takes("&"):
+            lives = (self.take().text,) if self.first.kind == "lifetime" else ()
+            if self.sees("mut"):
+                raise Refusal(line, "a type with `&mut`")
+            return Type("ref", "&", line, args=(self.read_type(),), lives=lives)
+        if self.opens("("):
+            args = self.group().items(Parser.read_type)
+            if None in args:
+                raise Refusal(line, "a tuple with a type that the port cannot read")
+            return Type("tuple", "()", line, args=tuple(args))
+        if self.opens("["):
+            inside = self.group()
+            item = inside.read_type()
+            if inside.ended():
+                return Type("slice", "[]", line, args=(item,))
+            inside.expect(";")
+            start = inside.at
+            inside.skip_to(",")
+            return Type("array", "[;]", line, args=(item,), size=" ".join(it.text for it in inside.tokens[start : inside.at]))
+        if self.first.kind != "name" or self.first.text in ("dyn", "impl", "fn", "for"):
+            raise Refusal(line, f"a type that begins with `{self.first.text}`")
+        path, found = self.path("a type"), self.read_angles(Parser.read_argument)
+        lives = tuple(it for it in found if isinstance(it, str))
+        return Type("path", path[-1], line, path=tuple(path), args=tuple(it for it in found if not isinstance(it, str)), lives=lives)
 
-
-def read_type(tokens):
-    line = tokens.line
-    tokens.takes("::")
-    if tokens.takes("&"):
-        lives = (tokens.take().text,) if tokens.first.kind == "lifetime" else ()
-        if tokens.sees("mut"):
-            raise Refusal(line, "a type with `&mut`")
-        return Type("ref", "&", line, args=(read_type(tokens),), lives=lives)
-    if tokens.opens("("):
-        args = tokens.group().items(read_type)
-        if None in args:
-            raise Refusal(line, "a tuple with a type that the port cannot read")
-        return Type("tuple", "()", line, args=tuple(args))
-    if tokens.opens("["):
-        return read_slice(tokens.group(), line)
-    if tokens.first.kind != "name" or tokens.first.text in ("dyn", "impl", "fn", "for"):
-        raise Refusal(line, f"a type that begins with `{tokens.first.text}`")
-    path, found = tokens.path("a type"), read_angles(tokens, read_argument)
-    lives = tuple(it for it in found if isinstance(it, str))
-    return Type("path", path[-1], line, path=tuple(path), args=tuple(it for it in found if not isinstance(it, str)), lives=lives)
-
-
-def read_slice(tokens, line):
-    """Reads what stands within `[` and `]`: a slice's or an array's type."""
-    item = read_type(tokens)
-    if tokens.ended():
-        return Type("slice", "[]", line, args=(item,))
-    tokens.expect(";")
-    start = tokens.at
-    tokens.skip_to(",")
-    return Type("array", "[;]", line, args=(item,), size=" ".join(it.text for it in tokens.tokens[start : tokens.at]))
-
-
-def read_argument(tokens):
-    if tokens.first.kind == "lifetime":
-        return tokens.take().text
-    if tokens.first.kind == "number":
-        token = tokens.take()
-        return Type("const", str(number_of(token)), token.line)
-    return read_type(tokens)
+    def read_argument(self):
+        if self.first.kind == "lifetime":
+            return self.take().text
+        if self.first.kind == "number":
+            token = self.take()
+            return Type("const", str(number_of(token)), token.line)
+        return self.read_type()
 
 
 def is_ported(item):

@@ -1,12 +1,11 @@
 """What JSON spells of the types of a source, as `garde_schema` states it, and the implementations by which a static library checks
 the bytes of one of them."""
 import functools
-from dataclasses import dataclass
+from collections import namedtuple
 
 from .borrowed import is_named
 from .flattened import part_of
 from .forms import Forms
-from .holes import SPELLED
 from .groups import filled, numbers_in, shared_rules
 from .inputs import Reader
 from .layout import WIDTH
@@ -15,6 +14,7 @@ from .names import of_field
 from .parsed import stated
 from .scope import Place, Seen
 from .source import is_ported
+from .templates import fill
 from .tokens import Refusal
 from .unions import SIDES
 from .words import Checks
@@ -23,38 +23,10 @@ from .words import Checks
 NEXT = "\n" + " " * 8
 STATIC = "<'static>"
 SEVERAL = {2: "two", 3: "three", 4: "four", 5: "five", 6: "six"}
-LIBRARY = """/// The title of the problem details.
-pub const TITLE: &str = "the {words} has faults";
-
-/// What the library checks.
-pub type Body<'a> = {made};
-
-"""
-BODY = """#[tactic(auto, unfolding(garde::specs::Fields::Known))]
-impl<'a> ReadBody<'a> for {made} {{
-    fn read_body<H: I18n + FormI18n>(
-        alloc: Global,
-        bytes: &'a [u8],
-        scratch: &'a mut Scratch,
-        most: usize,
-        h: &H,
-    ) -> Result<{made}, FirstReadError> {{
-{forms}
-        match read_json_first(alloc, bytes, scratch, &{name}_form, most, h) {{
-            Ok(value) => Ok(Valid::known(value, &()).into_inner()),
-            Err(error) => Err(error),
-        }}
-    }}
-}}"""
 
 
-@dataclass(frozen=True)
-class Said:
-    """A word of the statement with what it is given. One that makes a value of its parts has the `rows` by which it does."""
-
-    head: str
-    parts: tuple = ()
-    rows: tuple = ()
+# A word of the statement with what it is given. One that makes a value of its parts has the `rows` by which it does.
+Said = namedtuple("Said", "head parts rows", defaults=((), ()))
 
 
 def said(head, *parts):
@@ -161,8 +133,8 @@ class Spellings(Forms):
         self.schema.use("read_json_first", "FormI18n", "FirstReadError", "ReadBody", "Scratch")
         self.writer.uses.others |= {"std::alloc::Global", "garde::I18n", "garde::Valid"}
         name, made = self.schema.names_of(item)
-        head = LIBRARY.format(words=name.replace("_", " "), made=made) if self.writer.is_library else ""
-        return head + BODY.format(made=made, name=name, forms=self.schema.forms(item, 8))
+        head = fill("head of a library", words=name.replace("_", " "), made=made) + "\n\n" if self.writer.is_library else ""
+        return head + fill("body", made=made, name=name, forms=self.schema.forms(item, 8))
 
     def statement(self, item):
         self.writer.item = item
@@ -206,7 +178,7 @@ class Spellings(Forms):
         part, whole = part_of(kind, self.items), self.writer.item
         if part is None:
             self.schema.use("Members")
-            return Said(SPELLED.format(name=kind.name))
+            return Said(fill("members of a hole", name=kind.name))
         self.writer.item = part
         members = self.members(part.variants[0], part)
         self.writer.item = whole

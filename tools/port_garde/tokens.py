@@ -2,6 +2,7 @@
 import difflib
 import re
 import textwrap
+from collections import namedtuple
 from dataclasses import dataclass, field
 
 
@@ -66,16 +67,8 @@ class Notes:
         self.later.append(Refusal(line, reason))
 
 
-@dataclass(frozen=True)
-class Token:
-    """A token: its kind (a key of PATTERNS, or `end`), its text, its line and its place in the source."""
-
-    kind: str
-    text: str
-    line: int
-    at: int
-
-
+# A token: its kind (a key of PATTERNS, or `end`), its text, its line and its place in the source.
+Token = namedtuple("Token", "kind text line at")
 PATTERNS = {
     "space": r"\s+",
     "doc": r"///(?!/)[^\n]*",
@@ -211,11 +204,11 @@ class Tokens:
 
     def within(self, start, stop, last):
         """The tokens between two places as tokens of their own, which end where this one stands."""
-        return Tokens([*self.tokens[start:stop], Token("end", last.text, last.line, last.at)], self.text, self.notes)
+        return type(self)([*self.tokens[start:stop], Token("end", last.text, last.line, last.at)], self.text, self.notes)
 
     def again(self):
         """The same tokens, none of which is taken."""
-        return Tokens(self.tokens, self.text, self.notes)
+        return type(self)(self.tokens, self.text, self.notes)
 
     def taken(self, start):
         """The tokens that were taken since this place, as tokens of their own."""

@@ -29,12 +29,6 @@ def is_made(kind, *names):
     return is_path(kind, *names) and kind.path == (kind.name,) and not kind.args and len(kind.lives) == 1
 
 
-def as_read(kind, life):
-    """The type of the value that a form makes of one of these."""
-    name = DECIMAL if is_float(kind) else KEPT
-    return named_type(name, kind.line, lives=(life,))
-
-
 def canonical(kind, imports):
     """A type of the source in which each value of any kind is `serde_json::Value`, each object of such a map, and each number of serde_json an
     `f64`. `imports` are those of the source, each a path with the name that it gets."""
@@ -83,7 +77,7 @@ def range_of(checks, rule, seen):
     end = "between" if len(texts) == 2 else ENDS[next(iter(texts))]
     given, stated = ", ".join(f'{name} = "{text}"' for name, text in texts.items()), " ".join(f'"{text}"' for text in texts.values())
     checks.uses.state("garde_schema.specs.Decimals", "decimal_range")
-    return Word(f"decimal_range!({given})"), f"decimal_range ({checks.word(end)} {stated}) {seen.name}"
+    return Word(f"decimal_range!({given})"), f"decimal_range ({checks.say(end)} {stated}) {seen.name}"
 
 
 def multiple_of(checks, rule, seen):

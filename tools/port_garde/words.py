@@ -5,7 +5,7 @@ from .conditions import Conditions, same_by
 from .derives import type_names
 from .expressions import CONTEXT, places_in
 from .layout import Lent, Word, call, literal
-from .rules import OURS, PLAIN, REPEATED, TEXTS
+from .rules import OURS, REPEATED, RULES
 from .scope import SIGNED, UNSIGNED, Place, Scope, Seen, is_option, is_path, is_text, range_of as whole_range
 from .source import named_type
 from .tokens import Refusal
@@ -27,11 +27,15 @@ KEYS = {"String": "text_key", "usize": "index_part"}
 BOUNDS = {"min": "at_least", "max": "at_most", "equal": "exactly", "between": "between"}
 IPS = {"ip": "Any", "ipv4": "V4", "ipv6": "V6"}
 # How two items of a list are compared.
+MATCHED = {
+    "String": "text_eq (str {}) (str {})", "Option<String>": "option_eq (λ x y. text_eq (str x) (str y)) {} {}",
+    "Option<TextRef<'t>>": "option_eq (λ x y. text_eq x y) {} {}", **dict.fromkeys(UNSIGNED, "nat_eq {} {}"),
+}
 SAME = {"String": "text_eq (str x) (str y)", "TextRef": "text_eq", **dict.fromkeys(UNSIGNED, "nat_eq")}
 # A text that a form reads.
 TEXT = named_type("TextRef", 0, lives=("'t",))
 # The rules that are asked of what an option holds.
-INSIDE = (*PLAIN[1:], *TEXTS, "length", "range", "pattern", *OURS)
+INSIDE = [name for name, it in {**RULES, **OURS}.items() if it.inside]
 # Types of one value, which do not validate themselves.
 SIMPLE = (*UNSIGNED, *SIGNED, "bool", "char", "str", "String")
 
@@ -45,21 +49,18 @@ class Checks:
     """The checks of a value, as code and as they are stated."""
 
     def __init__(self, scope, writer):
-        self.scope, self.uses, self.writer = scope, writer.uses, writer
+        self.scope, self.uses, self.writer, self.say = scope, writer.uses, writer, writer.uses.say
 
     def of(self, rules, seen, adapter=()):
-        """The check that these rules hold of a value, in turn."""
-        found = [self.tried(group, seen, adapter) for group in grouped(rules, seen.type, adapter)]
-        self.uses.words |= {"◌and◌"} if len(found) > 1 else set()
-        return together([code for code, _ in found]) if found else Word("()"), " and ".join(spec for _, spec in found)
-
-    def tried(self, group, seen, adapter):
-        """The check of a group of rules. A refusal is noted, and the next group follows."""
-        try:
-            return self.part(group, seen, adapter) if seen.type.kind != "unread" else (Word("()"), "none")
-        except Refusal as refusal:
-            self.writer.notes.faults.append(refusal)
-            return Word("()"), "none"
+        """The check that these rules hold of a value, in turn. A refusal is noted, and the next rules follow."""
+        found = []
+        for group in grouped(rules, seen.type, adapter):
+            found.append((Word("()"), "none"))
+            try:
+                found[-1] = self.part(group, seen, adapter) if seen.type.kind != "unread" else found[-1]
+            except Refusal as refusal:
+                self.writer.notes.faults.append(refusal)
+        return together([code for code, _ in found]) if found else Word("()"), self.uses.all_of([spec for _, spec in found])
 
     def part(self, group, seen, adapter):
         """The check of one rule, or of some that are asked of what an option holds."""
@@ -67,7 +68,7 @@ class Checks:
         if goes_inside(rule, seen.type, adapter):
             held = seen.part(seen.type.args[0])
             code, spec = self.of(group, held)
-            return call(self.field("IfSome"), code), f"{self.word('if_some')} (λ {held.name}. {spec}) {seen.name}"
+            return call(self.field("IfSome"), code), self.say("if_some (λ {}. {}) {}", held.name, spec, seen.name)
         parts = {"dive": self.dive, "inner": self.inner, "if": self.under, "custom": self.custom, "unique": self.unique, "keys": self.keys}
         ours = "asks" if rule.source.startswith("asks") else rule.name
         if ours in OURS and ours in self.writer.source.functions:
@@ -82,38 +83,37 @@ class Checks:
     def asked(self, value, fault, taking):
         """The check that a rule holds, which finds this: as code and as it is stated."""
         code = call(self.field("IsInMemory" if taking else "Is"), value)
-        return code, f"{self.word('is_in_memory' if taking else 'is')} ({fault})"
+        return code, self.say("is_in_memory ({})" if taking else "is ({})", fault)
 
     def field(self, name):
         self.uses.fields.add(name)
         return name
 
-    def word(self, name):
-        self.uses.words.add(name)
-        return name
-
     def under(self, rule, seen, adapter):
         condition, stated = Conditions(self.scope, self.writer).whole(rule.place)
         code, spec = self.of(rule.rules, seen, adapter)
-        return call(self.field("When"), condition, code), f"{self.word('when')} {stated} ({spec})"
+        return call(self.field("When"), condition, code), self.say("when {} ({})", stated, spec)
 
     def inner(self, rule, seen, adapter):
+        return self.each(rule, seen, rule.rules, adapter)
+
+    def each(self, rule, seen, rules, adapter):
         held, word, name = self.items_of(rule, seen)
-        code, spec = self.of(rule.rules, held, adapter)
+        code, spec = self.of(rules, held, adapter)
         return call(self.field("Each"), code), f"{word} (λ {held.name}. {spec}) {name}"
 
     def items_of(self, rule, seen):
         """The items of a collection: one of them, and the word for each with what it is given."""
         kind = seen.type
-        if kind.kind == "ref" and kind.args[0].kind == "slice":
-            return seen.part(kind.args[0].args[0]), self.word("each"), f"{seen.name}.now"
+        if is_lent_slice(kind):
+            return seen.part(kind.args[0].args[0]), self.say("each"), f"{seen.name}.now"
         if kind.name in EACH and kind.args:
-            return seen.part(kind.args[0]), self.word(EACH[kind.name]), self.held(kind, seen)
+            return seen.part(kind.args[0]), self.say(EACH[kind.name]), self.held(kind, seen)
         key = kind.args[0].name if len(kind.args) == 2 else ""
         if kind.name in EACH_VALUE and key in KEYS:
-            return seen.part(kind.args[1]), f"{self.word(EACH_VALUE[kind.name])} {self.word(KEYS[key])}", self.held(kind, seen)
+            return seen.part(kind.args[1]), self.say(f"{EACH_VALUE[kind.name]} {KEYS[key]}"), self.held(kind, seen)
         if kind.name == "Entries":
-            return seen.part(kind.args[0]), f"{self.word('each_value')} {self.word('key_part')}", seen.name
+            return seen.part(kind.args[0]), self.say("each_value key_part"), seen.name
         raise Refusal(rule.line, f"`{rule.name}` of the type `{self.writer.type_text(kind, True)}`, whose items the port does not know")
 
     def unique(self, rule, seen, adapter):
@@ -122,13 +122,12 @@ class Checks:
         item = kind.args[0] if is_path(kind, "Vec", "Items") and kind.args else None
         if kind.name == "Items":
             self.refuse_walk(rule)
-        self.word("unique")
         if rule.place is not None and item is not None:
             same, stated = same_by(self, rule, item)
         else:
             same, stated = self.field("Equal"), self.equality(rule, kind, item)
         code = call(self.field("Unique"), f'"{rule.text}"', same)
-        return code, f'unique "{rule.text}" {stated} {self.held(kind, seen)}'
+        return code, self.say('unique "{}" {} {}', rule.text, stated, self.held(kind, seen))
 
     def equality(self, rule, kind, item):
         same = SAME.get(item.name) if item is not None and item.kind == "path" else None
@@ -137,8 +136,7 @@ class Checks:
         if same is None:
             told = f"`unique` of the type `{self.writer.type_text(kind, True)}`"
             raise Refusal(rule.line, f"{told}: it is written of lists of texts, of numbers and of types of this file that derive `PartialEq`; of others write `custom(unique_by(..))`, or a rule of your own, by `custom`")
-        self.uses.words |= {same.split()[0]} | ({"str"} if "str" in same else set())
-        return f"(λ x y. {same})" if " " in same else same
+        return f"(λ x y. {self.say(same)})" if " " in same else self.say(same)
 
     def keys(self, rule, seen, adapter):
         """Rules of the names of a map, which stand around its form in `Keys`."""
@@ -159,19 +157,15 @@ class Checks:
 
     def held(self, kind, seen):
         """What a collection holds, as a list."""
-        if kind.name == "Vec":
-            self.word("slice")
-        return HELD.get(kind.name, "{}").format(seen.name)
+        return self.say(HELD.get(kind.name, "{}"), seen.name)
 
     def dive(self, rule, seen, adapter):
         """A value that validates itself, or a collection of such."""
         kind = seen.type
         if is_option(kind):
             return self.part([rule], seen, ())
-        if kind.name in (*EACH, *EACH_VALUE, "Entries") or (kind.kind == "ref" and kind.args[0].kind == "slice"):
-            held, word, name = self.items_of(rule, seen)
-            code, spec = self.of([rule], held)
-            return call(self.field("Each"), code), f"{word} (λ {held.name}. {spec}) {name}"
+        if kind.name in (*EACH, *EACH_VALUE, "Entries") or is_lent_slice(kind):
+            return self.each(rule, seen, [rule], ())
         lent, context = self.context_of(rule)
         name = seen.name
         while (is_path(kind, "Box", "Rc") and len(kind.args) == 1) or kind.kind == "ref":
@@ -206,7 +200,7 @@ class Checks:
         rule_value, life, record = Word(name), "", "{}"
         if not self.scope.unit:
             rule_value, life = call(name, self.scope.the_context()), "<'static>"
-            record = f"{{ 0 = {self.word('reference_to')} {self.scope.context} }}"
+            record = f"{{ 0 = {self.say('reference_to')} {self.scope.context} }}"
         return self.asked(rule_value, f"⟦<{name}{life} as garde::fields::Rule<{kind}>>⟧.finds (record {record}) {seen.name}", False)
 
     def name_of(self, rule):
@@ -235,7 +229,7 @@ class Checks:
         _, stated = Conditions(inner, self.writer).whole(rule.place)
         outer.bound |= inner.bound
         value = call(name, *(outer.places[it].binding if it in given else it for it in held)) if held else Word(name)
-        return self.asked(value, " ".join([self.word("asks_as" if rule.code else "asks"), *given, stated]), False)
+        return self.asked(value, " ".join([self.say("asks_as" if rule.code else "asks"), *given, stated]), False)
 
     def adapted(self, rule, seen, adapter):
         """A rule of a text that a view shows of the value."""
@@ -255,7 +249,7 @@ class Checks:
         if rule.name == "required":
             if not is_option(seen.type):
                 raise Refusal(rule.line, "`required` of a value that is no `Option`")
-            return Word(self.field("Required")), f"{self.word('required')} {seen.name}", False
+            return Word(self.field("Required")), self.say("required {}", seen.name), False
         if not is_text(seen.type):
             way = f"write `inner({rule.name})` for its items" if is_path(seen.type, *EACH, "Items") else "write a rule of your own, by `custom`"
             raise Refusal(rule.line, f"`{rule.name}` of the type `{self.writer.type_text(seen.type, True)}`, which is no text: {way}")
@@ -271,16 +265,14 @@ class Checks:
         return call(name, f'"{rule.text}"'), self.text(rule.name, seen, f'"{rule.text}"'), False
 
     def text(self, word, seen, *before):
-        return " ".join([self.word(word), *before, self.text_of(seen)])
+        return " ".join([self.say(word), *before, self.text_of(seen)])
 
     def text_of(self, seen):
         """A text as a rule is given it."""
-        if seen.type.kind == "ref":
-            return f"{seen.name}.now"
-        if is_path(seen.type, "TextRef"):
-            return seen.name
+        if seen.type.kind == "ref" or is_path(seen.type, "TextRef"):
+            return f"{seen.name}.now" if seen.type.kind == "ref" else seen.name
         if is_path(seen.type, "String"):
-            return f"({self.word('str')} {seen.name})"
+            return self.say("(str {})", seen.name)
         self.uses.cow = True
         return f"(cow_str_bytes {seen.name})"
 
@@ -296,17 +288,12 @@ class Checks:
     def equal(self, rule, seen, other):
         """How it is stated that a value equals that of another field: two texts, two options of texts, or two numbers."""
         kinds = [self.writer.type_text(it, True) for it in (seen.type, other.type)]
-        if is_path(seen.type, "TextRef") and is_path(other.type, "TextRef", ""):
-            self.uses.words |= {"matches", "text_eq"}
-            return f'matches "{rule.text}" (text_eq {seen.name} {other.name})'
-        if kinds[0] == "String" and kinds[1] in ("String", "_"):
-            return f'{self.word("matches")} "{rule.text}" ({self.word("text_eq")} {self.text_of(seen)} ({self.word("str")} {other.name}))'
-        same = {"Option<String>": "option_eq (λ x y. text_eq (str x) (str y))", "Option<TextRef<'t>>": "option_eq (λ x y. text_eq x y)", **dict.fromkeys(UNSIGNED, "nat_eq")}.get(kinds[0])
+        same = "text_eq {} {}" if is_path(seen.type, "TextRef") and is_path(other.type, "TextRef", "") else MATCHED.get(kinds[0])
         if same is None or kinds[1] not in (kinds[0], "_"):
             told = " and ".join(f"`{it}`" for it in dict.fromkeys(kinds))
-            raise Refusal(rule.line, f"`matches` of {told}: it is written of two texts, options of texts or numbers without a sign, each of one type, so compare others by a rule of your own, by `custom`")
-        self.uses.words |= {"matches", same.split()[0]} | {it for it in ("text_eq", "str") if it in same}
-        return f'matches "{rule.text}" ({same} {seen.name} {other.name})'
+            way = "each of one type, so compare others by a rule of your own, by `custom`"
+            raise Refusal(rule.line, f"`matches` of {told}: it is written of two texts, options of texts or numbers without a sign, {way}")
+        return self.say(f'matches "{{}}" ({same})', rule.text, seen.name, other.name)
 
     def whole_key(self, rule, seen):
         number = rule.mode[:1].upper() + rule.mode[1:]
@@ -334,13 +321,13 @@ class Checks:
         if is_text(kind):
             return code, self.text(COUNTS[rule.mode], seen, bounds)
         listed = self.held(kind, seen) if kind.kind == "path" and kind.name in HELD else None
-        if kind.kind == "ref" and kind.args[0].kind == "slice":
+        if is_lent_slice(kind):
             listed = f"{seen.name}.now"
         if rule.mode != "simple" or listed is None:
             mode = "" if rule.mode == "simple" else f" in `{rule.mode}`"
             told = f"the length{mode} of the type `{self.writer.type_text(kind, True)}`"
             raise Refusal(rule.line, f"{told}, which the port does not know: of a number write `range`, of others a rule of your own, by `custom`")
-        return code, f"{self.word('items')} {bounds} {listed}"
+        return code, self.say("items {} {}", bounds, listed)
 
     def range(self, rule, seen):
         kind = seen.type.name
@@ -353,7 +340,7 @@ class Checks:
         signed = kind in SIGNED
         self.refuse_bounds(rule, kind, signed)
         code = self.bounds_code(rule, signed)
-        return code, f"{self.word('signed_range' if signed else 'range')} {self.stated_bounds(rule, signed)} {seen.name}"
+        return code, self.say(("signed_" if signed else "") + "range {} {}", self.stated_bounds(rule, signed), seen.name)
 
     def multiple(self, rule, seen):
         """The rule that a number is a multiple of another one, by its type."""
@@ -367,13 +354,13 @@ class Checks:
             raise Refusal(rule.line, "`multiple_of` of what is no number from 1 on")
         self.refuse_bounds(rule, kind, signed)
         code, stated = self.bound(it, signed)
-        return call(self.field("MultipleOf"), code), f"{self.word('signed_multiple_of' if signed else 'multiple_of')} {stated} {seen.name}"
+        return call(self.field("MultipleOf"), code), self.say(("signed_" if signed else "") + "multiple_of {} {}", stated, seen.name)
 
     def stated_bounds(self, rule, signed):
         """The bounds of a rule as they are stated."""
         end = "between" if len(rule.bounds) == 2 else next(iter(rule.bounds))
         stated = [self.bound(rule.bounds[it], signed)[1] for it in ("min", "max", "equal") if it in rule.bounds]
-        return f"({' '.join([self.word(BOUNDS[end]), *stated])})"
+        return f"({' '.join([self.say(BOUNDS[end]), *stated])})"
 
     def refuse_bounds(self, rule, kind, signed):
         least, most = whole_range(kind)
@@ -388,8 +375,7 @@ class Checks:
         if it.kind == "number":
             if it.value < 0 and not signed:
                 raise Refusal(it.line, f"the bound {it.value} of what has no sign")
-            word = "minus" if it.value < 0 else "plus"
-            return str(it.value), f"({self.word(word)} {abs(it.value)})" if signed else str(it.value)
+            return str(it.value), self.say("(minus {})" if it.value < 0 else "(plus {})", abs(it.value)) if signed else str(it.value)
         if it.kind != "place":
             raise Refusal(it.line, "a bound that the port cannot read: it reads numbers and fields of `self` and of the context")
         code, spec, _ = self.scope.place(it.value, it.line)
@@ -401,6 +387,10 @@ class Checks:
         given = [rule.mode] if rule.mode not in ("", "simple") else []
         given += [f"{it} = {self.bound(rule.bounds[it], signed)[0]}" for it in ("min", "max", "equal") if it in rule.bounds]
         return Word(f"{rule.name}!({', '.join(given)})")
+
+
+def is_lent_slice(kind):
+    return kind.kind == "ref" and kind.args[0].kind == "slice"
 
 
 def goes_inside(rule, kind, adapter):

@@ -5,16 +5,16 @@ from dataclasses import replace
 from .borrowed import Borrowed, below, is_held, is_named
 from .derives import OWN as OWN_DERIVES, SERDE, Derives, all_types, fields_of, literal_function, named_function, options, serde_lines
 from .front import Front, place_named
-from .holes import HOLE, MEMBERS
 from .implementation import Implementation
-from .layout import CALL, VARIANT, WIDTH, Method, Word, call, ghost, holding, lifetimes_of, literal, statement, use_line
+from .layout import CALL, VARIANT, WIDTH, Method, Word, call, ghost, head_of_method, holding, lifetimes_of, literal, statement, use_line
 from .own import read_function
 from .parsed import KNOWN
 from .quoted import BESIDE_CONTEXT, turn as quoted_of
 from .schema import Schema, snake, within_rule
 from .scope import SIGNED, Scope, Uses, resolved
 from .second import faults_of_values, lost_of_names, lost_of_serde, passed_by
-from .source import all_rules, is_ported, read_source, read_type
+from .source import all_rules, is_ported, read_source
+from .templates import fill
 from .tokens import Refusal, Refusals
 from .words import camel
 
@@ -27,61 +27,8 @@ WRITTEN = ("std", "core", "alloc", "garde", "regex", "serde", "serde_derive")
 GARDE = {"I18n", "Report", "Stated", "Trail", "Validate", "AllocError", "Global", "Rule", "View", "RuleError"}
 # The modules whose words statements import last.
 LAST = (*(f"garde_schema.specs.{it}" for it in ("Spelling", "Unions", "Decimals", "Flattened")), "garde_form.specs.Spelling")
-RULE = """{docs}
-#[derive(Clone, Copy)]
-{vis}struct {name}{life}{holds};
-
-impl{bound} Rule<{kind}> for {name}{lives} {{
-    ghost finds = {{ λ rule value. todo }};
-
-    fn find<H: I18n>(&self, alloc: Global, value: &{kind}, _h: &H) -> Result<(), RuleError> {{
-        todo
-    }}
-}}"""
-OWN = """/// {docs}
-#[derive(Clone, Copy)]
-struct {name}{life}{holds};
-
-impl{bound} Rule<{kind}> for {name}{lives} {{
-{finds}
-
-{head}
-{taken}{asked}
-    }}
-}}"""
-FIND = """    fn find<H: I18n>(
-        &self,
-        alloc: Global,
-        value: &{kind},
-        h: &H,
-    ) -> Result<(), RuleError> {{"""
-VIEW = """{docs}
-#[derive(Clone, Copy)]
-{vis}struct {name};
-
-impl{bound} View<{kind}> for {name} {{
-    type Seen = String;
-
-    ghost seen = {{ λ _ value. todo }};
-
-    fn see<'v>(&self, value: &'v {kind}) -> &'v String {{
-        todo
-    }}
-}}"""
 
 
-PATTERNS = """/// The compiled patterns of `{of}`.
-#[derive(Drop)]
-{vis}struct {name} {{
-{fields}}}
-
-impl {name} {{
-    /// Compiles the patterns, or returns why one of them cannot be compiled.
-    {vis}fn new(alloc: Global) -> Result<{name}, PatternRefused>
-{clauses}    {{
-{lets}{made}
-    }}
-}}"""
 
 
 class Writer:
@@ -370,7 +317,7 @@ class Writer:
         self.uses.prelude |= {"◌≡◌", "IfOk"} if clauses else set()
         self.uses.words |= {"codes"} if clauses else set()
         made = statement(literal(name, ((it, Word(local(it))) for it in patterns)), 8, "Ok(", ")")
-        return PATTERNS.format(of=item.name, vis=item.vis, name=name, fields=fields, clauses=clauses, lets=lets, made=made)
+        return fill("patterns", of=item.name, vis=item.vis, name=name, fields=fields, clauses=clauses, lets=lets, made=made)
 
     def asks_patterns(self, name):
         """Whether the port makes a context of compiled patterns for a type of this file."""
@@ -398,7 +345,7 @@ class Writer:
             return None if any(it.kind == "type" for it in item.params) or self.asks_patterns(item.name) else "()"
         _, tokens = item.attributes.context
         try:
-            return read_type(tokens.again()).name
+            return tokens.again().read_type().name
         except Refusal:
             return None
 
@@ -427,7 +374,8 @@ class Writer:
         """A rule of one's own: its type is imported or, with no module for it, written as a beginning."""
         source = rule.source or self.source.functions.get(rule.text, f"fn {rule.text}")
         life, lives, holds = ("", "", "") if unit else ("<'c>", "<'_>", f"({self.item.vis}&'c {self.context})")
-        self.skeletons[name] = ("Rule", RULE.format(
+        self.skeletons[name] = ("Rule", fill(
+            "rule to be written",
             docs=begun("rule", source), vis=self.item.vis, name=name, kind=kind, bound=lifetimes_of(kind), life=life, lives=lives, holds=holds,
         ))
 
@@ -457,11 +405,10 @@ class Writer:
         said = " ".join(["asks_as" if rule.code else "asks", *given, stated])
         told = f"What the function `{rule.text}` asks of a value." if rule.text else f"What a rule of the field `{self.spot}` of `{self.item.name}` asks of its value."
         asked = Method(call(word, *given, condition), "find", tuple(map(Word, ("alloc", "value", "h"))))
-        find = f"    fn find<H: I18n>(&self, alloc: Global, value: &{kind}, h: &H) -> Result<(), RuleError> {{"
-        text = OWN.format(
-            docs=told, name=name, kind=kind, asked=statement(asked, 8), **holding(kind, held),
-            finds=ghost("finds", f"{head} {said}", f" {head}\n        {said}"),
-            head=find if len(find) <= WIDTH else FIND.format(kind=kind),
+        text = fill(
+            "type that is asked", docs=told, name=name, trait="Rule", kind=kind, **holding(kind, held),
+            stated=ghost("finds", f"{head} {said}", f" {head}\n        {said}"), body=statement(asked, 8),
+            head=head_of_method("find<H: I18n>", ("alloc: Global", f"value: &{kind}", "h: &H"), "Result<(), RuleError>"),
         )
         self.write_once(name, rule.line, text, rule.text)
 
@@ -474,13 +421,14 @@ class Writer:
 
     def own_view(self, name, path, kind):
         docs = f"/// A view to be written, in place of the module `{path}`: the text of which the rules are asked."
-        self.skeletons[name] = ("View", VIEW.format(docs=docs, vis=self.item.vis, name=name, kind=kind, bound=lifetimes_of(kind)))
+        text = fill("view to be written", docs=docs, vis=self.item.vis, name=name, kind=kind, bound=lifetimes_of(kind))
+        self.skeletons[name] = ("View", text)
 
     def hole(self, name, is_among=False):
         """The form of a type whose reading stands in the module of one's own, with the type itself; or that of its members, where they stand
         among those of another type."""
         form = name + ("Members" if is_among else "Form")
-        self.skeletons[name] = ("", (MEMBERS if is_among else HOLE).format(name=name, why=self.borrowed.holes[name]))
+        self.skeletons[name] = ("", fill("hole of members" if is_among else "hole", name=name, why=self.borrowed.holes[name]))
         self.skeletons[form] = ("", "")
         return form
 
