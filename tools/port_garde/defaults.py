@@ -88,22 +88,21 @@ class Constants:
                 self.of_impl(tokens, is_conditional)
             elif word in LAST:
                 name = tokens.name("a name")
-                body = (self.of_constant if word == "const" else self.of_function)(tokens)
+                body = self.body_of(tokens, word == "const")
                 self.bodies[owner, name] = None if is_conditional or (owner, name) in self.bodies else body
         except Refusal:
             return
 
-    def of_constant(self, tokens):
-        tokens.expect(":")
-        tokens.read_type()
-        tokens.expect("=")
-        start = tokens.at
-        while not tokens.ended() and not tokens.sees(";"):
-            tokens.take()
-        return tokens.taken(start)
-
-    def of_function(self, tokens):
-        """The body of a function without arguments, or nothing."""
+    def body_of(self, tokens, is_constant):
+        """What a constant is, or the body of a function without arguments, or nothing."""
+        if is_constant:
+            tokens.expect(":")
+            tokens.read_type()
+            tokens.expect("=")
+            start = tokens.at
+            while not tokens.ended() and not tokens.sees(";"):
+                tokens.take()
+            return tokens.taken(start)
         if not tokens.opens("(") or not tokens.group().ended() or not tokens.takes("->"):
             return None
         tokens.read_type()

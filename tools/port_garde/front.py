@@ -151,17 +151,20 @@ class Front:
     def expanded(self, kind, alias, item, params, is_form, seen):
         """What another name of a type stands for."""
         if alias.fault or alias.name in seen:
-            self.notes.refuse(kind.line, f"the type `{alias.name}`, {alias.fault or 'another name of a type, which stands for itself'}: write the type itself")
-            return Type("unread", "", kind.line)
+            told = alias.fault or "another name of a type, which stands for itself"
+            return self.unread(kind, f"the type `{alias.name}`, {told}: write the type itself")
         wanted = [it for it in alias.params if it.kind != "lifetime"]
         given = [*kind.args]
         given += [it.default for it in wanted[len(given) :] if it.default is not None]
         if len(given) != len(wanted):
-            self.notes.refuse(kind.line, f"the type `{alias.name}` with {len(given)} arguments, which has {len(wanted)}")
-            return Type("unread", "", kind.line)
+            return self.unread(kind, f"the type `{alias.name}` with {len(given)} arguments, which has {len(wanted)}")
         lives = zip((it.name for it in alias.params if it.kind == "lifetime"), kind.lives)
         values = {**dict(zip((it.name for it in wanted), given)), **dict(lives)}
         return self.type_of(substituted(alias.type, values), item, params, is_form, (*seen, alias.name))
+
+    def unread(self, kind, told):
+        self.notes.refuse(kind.line, told)
+        return Type("unread", "", kind.line)
 
     def of_path(self, kind, item, is_form):
         """A type by its path: one of the file, of the libraries, or of another crate or module, which has its path as its name."""
@@ -216,8 +219,7 @@ class Front:
         given += [self.type_of(it.default, item, set(), True) for it in wanted[len(given) :] if it.default is not None]
         if len(given) != len(wanted) or self.depth > DEEPEST:
             told = f"with {len(given)} arguments, which has {len(wanted)} parameters" if self.depth <= DEEPEST else "in itself with ever other arguments"
-            self.notes.refuse(kind.line, f"the type `{item.name}` {told}")
-            return Type("unread", "", kind.line)
+            return self.unread(kind, f"the type `{item.name}` {told}")
         key = (item.name, ", ".join(map(shown, given)))
         if key not in self.made:
             self.made[key] = self.free_name(name or f"{item.name}Of{'And'.join(map(camel_name, given))}", item)

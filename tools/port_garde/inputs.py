@@ -97,8 +97,8 @@ class Reader:
             return self.unborrowed(clauses, {**said, "value": value, "call": given.call.format(form="within_form")})
         reads = given.call.format(form=f"{name}_form")
         return fill(
-            "reader",
-            **said, constant=self.constant() if spelling else "", tactic=TACTIC if is_valid else "", lives=given.lives, clauses=clauses,
+            "reader", **said, constant=self.constant() if spelling else "", tactic=TACTIC if is_valid else "", lives=given.lives,
+            clauses=clauses,
             read=fill("reads a valid value", call=reads, value=value) if is_valid else f"    {reads}",
         )
 
@@ -111,8 +111,7 @@ class Reader:
         uses.others.add("std::marker::PhantomData")
         uses.prelude |= {"None", "refl"}
         return fill(
-            "reader without the lifetime",
-            **said, item=self.item.name, clauses=clauses, free_params=params.replace("&'a ", "&"),
+            "reader without the lifetime", **said, item=self.item.name, clauses=clauses, free_params=params.replace("&'a ", "&"),
             # what is read beside the lifetime is the first part of a result
             within_clauses=clauses.replace("Some v)", "Some v.0)"), args=", ".join(it.strip().partition(":")[0] for it in params.splitlines()),
             form=statement(call("Built", f"{name}_form", Word(f"PhantomData::<&{within}<'_>>")), 4, "let within_form = ", ";"),

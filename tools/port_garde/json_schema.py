@@ -289,14 +289,13 @@ class JsonSchema:
 
     def said(self, kind, rules):
         """What rules ask of a value, a schema each; what none says is a comment."""
-        is_ascii = any(it.name == "ascii" for it in rules)
-        return [self.tried(kind, it, is_ascii) for it in rules]
-
-    def tried(self, kind, rule, is_ascii):
-        try:
-            return self.rule(kind, rule, is_ascii)
-        except Unsaid as unsaid:
-            return {"$comment": str(unsaid)}
+        found, is_ascii = [], any(it.name == "ascii" for it in rules)
+        for it in rules:
+            try:
+                found.append(self.rule(kind, it, is_ascii))
+            except Unsaid as unsaid:
+                found.append({"$comment": str(unsaid)})
+        return found
 
     def rule(self, kind, rule, is_ascii):
         """What a rule asks of a value that is no option."""

@@ -117,8 +117,8 @@ class Makers:
         made = ((it.name, Word("below" if it.name == held and held != "below" else it.name)) for it in variant.fields)
         given = tuple_text(self.tree(own, [f"(out-{item.name} v).{it}" for it in names]))
         return fill(
-            "maker of a nested type",
-            name=item.name, life="<'t>" if item.params else "", made=self.type_name(item), own=statement(self.types(own), 4, "type Own = ", ";"),
+            "maker of a nested type", name=item.name, life="<'t>" if item.params else "", made=self.type_name(item),
+            own=statement(self.types(own), 4, "type Own = ", ";"),
             rows=rows("own", "below"), parts=f"({given}, (out-{item.name} v).{held})", clauses=rows("own.entry", "below.entry"),
             body="\n".join([*taken, statement(literal(item.name, made), 8)]),
         )

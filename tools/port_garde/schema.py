@@ -21,7 +21,6 @@ from .spelled import Spellings
 from .words import Checks, camel, together
 
 
-
 def within_rule(stated, context):
     """What is stated of a context, as that of the rule that holds it."""
     return re.sub(rf"(?<![\w.]){context}(?!\w)", "rule.0.now", stated)
@@ -87,11 +86,9 @@ class Schema(Forms):
 
     def order(self, item):
         """The types that a type holds, each behind those that it holds, and the type itself."""
-        return [self.items[name] for name in dict.fromkeys(self.names_before(item))]
-
-    def names_before(self, item):
-        held = [name for it in fields_of(item) for name in sorted(type_names(it.type)) if name in self.items and name != item.name]
-        return [*(found for name in held for found in self.names_before(self.items[name])), item.name]
+        names = [name for it in fields_of(item) for name in sorted(type_names(it.type)) if name in self.items and name != item.name]
+        found = [one for name in names for one in self.order(self.items[name])]
+        return [*{it.name: it for it in (*found, item)}.values()]
 
     # Rules that speak of several fields.
 

@@ -316,8 +316,7 @@ class Checks:
         return call(self.field("Pattern"), lent), self.text("pattern", seen, source)
 
     def length(self, rule, seen):
-        code = self.bounds_code(rule)
-        kind, bounds = seen.type, self.stated_bounds(rule, False)
+        kind, (code, bounds) = seen.type, self.bounds(rule)
         if is_text(kind):
             return code, self.text(COUNTS[rule.mode], seen, bounds)
         listed = self.held(kind, seen) if kind.kind == "path" and kind.name in HELD else None
@@ -339,8 +338,8 @@ class Checks:
             raise Refusal(rule.line, f"{told}: there are no bounds{floats} here")
         signed = kind in SIGNED
         self.refuse_bounds(rule, kind, signed)
-        code = self.bounds_code(rule, signed)
-        return code, self.say(("signed_" if signed else "") + "range {} {}", self.stated_bounds(rule, signed), seen.name)
+        code, bounds = self.bounds(rule, signed)
+        return code, self.say(("signed_" if signed else "") + "range {} {}", bounds, seen.name)
 
     def multiple(self, rule, seen):
         """The rule that a number is a multiple of another one, by its type."""
@@ -356,11 +355,14 @@ class Checks:
         code, stated = self.bound(it, signed)
         return call(self.field("MultipleOf"), code), self.say(("signed_" if signed else "") + "multiple_of {} {}", stated, seen.name)
 
-    def stated_bounds(self, rule, signed):
-        """The bounds of a rule as they are stated."""
-        end = "between" if len(rule.bounds) == 2 else next(iter(rule.bounds))
-        stated = [self.bound(rule.bounds[it], signed)[1] for it in ("min", "max", "equal") if it in rule.bounds]
-        return f"({' '.join([self.say(BOUNDS[end]), *stated])})"
+    def bounds(self, rule, signed=False):
+        """A rule with bounds, by the macro of its name, and the bounds as they are stated."""
+        self.uses.others.add(f"garde::{rule.name}")
+        ends = {it: self.bound(rule.bounds[it], signed) for it in ("min", "max", "equal") if it in rule.bounds}
+        given = [rule.mode] if rule.mode not in ("", "simple") else []
+        given += [f"{it} = {code}" for it, (code, _) in ends.items()]
+        word = self.say(BOUNDS["between" if len(ends) == 2 else next(iter(ends))])
+        return Word(f"{rule.name}!({', '.join(given)})"), f"({' '.join([word, *(spec for _, spec in ends.values())])})"
 
     def refuse_bounds(self, rule, kind, signed):
         least, most = whole_range(kind)
@@ -378,15 +380,7 @@ class Checks:
             return str(it.value), self.say("(minus {})" if it.value < 0 else "(plus {})", abs(it.value)) if signed else str(it.value)
         if it.kind != "place":
             raise Refusal(it.line, "a bound that the port cannot read: it reads numbers and fields of `self` and of the context")
-        code, spec, _ = self.scope.place(it.value, it.line)
-        return code, spec
-
-    def bounds_code(self, rule, signed=False):
-        """A rule with bounds, by the macro of its name."""
-        self.uses.others.add(f"garde::{rule.name}")
-        given = [rule.mode] if rule.mode not in ("", "simple") else []
-        given += [f"{it} = {self.bound(rule.bounds[it], signed)[0]}" for it in ("min", "max", "equal") if it in rule.bounds]
-        return Word(f"{rule.name}!({', '.join(given)})")
+        return self.scope.place(it.value, it.line)[:2]
 
 
 def is_lent_slice(kind):

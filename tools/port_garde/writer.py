@@ -29,8 +29,6 @@ GARDE = {"I18n", "Report", "Stated", "Trail", "Validate", "AllocError", "Global"
 LAST = (*(f"garde_schema.specs.{it}" for it in ("Spelling", "Unions", "Decimals", "Flattened")), "garde_form.specs.Spelling")
 
 
-
-
 class Writer:
     """Writes what stands for a source. `module` is the path of what is written, `own` that of the rules of one's own, and
     `leave_out` are the derives and attributes that are left out without a word. With `no_walk` types that a form reads have no walk.
@@ -375,8 +373,7 @@ class Writer:
         source = rule.source or self.source.functions.get(rule.text, f"fn {rule.text}")
         life, lives, holds = ("", "", "") if unit else ("<'c>", "<'_>", f"({self.item.vis}&'c {self.context})")
         self.skeletons[name] = ("Rule", fill(
-            "rule to be written",
-            docs=begun("rule", source), vis=self.item.vis, name=name, kind=kind, bound=lifetimes_of(kind), life=life, lives=lives, holds=holds,
+            "rule to be written", docs=begun("rule", source), vis=self.item.vis, name=name, kind=kind, bound=lifetimes_of(kind), life=life, lives=lives, holds=holds,
         ))
 
     def read_own(self, rule):
