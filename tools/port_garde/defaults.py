@@ -478,7 +478,10 @@ class Defaults:
         if rule.name == "dive" and found.form == "made":
             parts = zip(found.variant().fields, found.parts)
             return next((told for it, part in parts for told in [self.broken(part, own_rules(it))] if told), None)
-        return self.written(found, rule) if self.is_broken(found, rule) else None
+        if rule.name in ("range", "length", "multiple_of"):
+            return self.written(found, rule) if self.is_beyond(found, rule) else None
+        is_asked = found.form == "text" and rule.known.is_kept is not None
+        return self.written(found, rule) if is_asked and not rule.known.is_kept(found.value, rule.text or "") else None
 
     def written(self, found, rule):
         """A rule as it stands at a field, and the value that breaks it."""
@@ -494,13 +497,8 @@ class Defaults:
         known = {"number": found.value, "text": f'"{found.value}"', "bool": str(found.value).lower(), "made": found.value, "none": "`None`"}
         return known.get(found.form, "empty")
 
-    def is_broken(self, found, rule):
-        """Whether a text, a number or a list without an item breaks a rule."""
-        if rule.name in ("range", "length", "multiple_of"):
-            return self.is_beyond(found, rule)
-        return found.form == "text" and rule.known.is_kept is not None and not rule.known.is_kept(found.value, rule.text or "")
-
     def is_beyond(self, found, rule):
+        """Whether a number, or how long a text or a list without an item is, lies beyond the bounds of a rule."""
         bounds = {word: resolved(it, self.source.numbers) for word, it in rule.bounds.items()}
         size = found.value if found.form == "number" else self.size(found, rule.mode)
         if size is None or any(it.kind != "number" for it in bounds.values()):

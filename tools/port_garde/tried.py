@@ -36,14 +36,8 @@ def known(it, found, numbers):
         return it.value[-1]
     if it.kind == "place" and it.value == (VALUE,):
         return found.value if found.form in ("number", "bool", "text", "made") else None
-    if it.kind == "call" and it.parts[0].value == (VALUE,):
-        return of_method(it.value, found)
-    return None
-
-
-def of_method(name, found):
-    """What a method of a value returns, or nothing."""
-    if name == "len":
+    if it.kind != "call" or it.parts[0].value != (VALUE,):
+        return None
+    if it.value == "len":
         return len(found.value.encode()) if found.form == "text" else 0 if found.form == "empty" else None
-    is_some = {"some": True, "none": False}.get(found.form)
-    return None if is_some is None else is_some if name == "is_some" else not is_some
+    return (found.form == "some") == (it.value == "is_some") if found.form in ("some", "none") else None

@@ -200,9 +200,8 @@ class Shapes:
 
     def joined(self, shapes):
         objects = [it for it in shapes if "object" in it.kinds]
-        names = {name for it in objects for name in it.members}
         members = {}
-        for name in names:
+        for name in dict.fromkeys(name for it in objects for name in it.members):
             found = [it.members[name] for it in objects if name in it.members]
             members[name] = (len(found) == len(objects) and all(needed for needed, _ in found), anything())
         kinds, total = set().union(*(it.kinds for it in shapes)), set().union(*(it.total for it in shapes))

@@ -1,8 +1,6 @@
 """Numbers with a fraction, and JSON values of any kind, as the forms of `garde_schema` read them."""
 from dataclasses import replace
-from fractions import Fraction
 
-from .layout import Word, call
 from .scope import is_path, is_text
 from .source import Type, named_type
 from .tokens import Refusal
@@ -11,7 +9,6 @@ from .tokens import Refusal
 DECIMAL, KEPT = "Decimal", "KeptValue"
 # The crates whose values of any kind are read, with the paths behind them; the last name of an object's type is the other one.
 ANY = {"serde_json": ("Value", "Map"), "toml": ("Value", "Table")}
-ENDS = {"min": "at_least", "max": "at_most", "equal": "exactly"}
 
 
 def is_float(kind):
@@ -60,32 +57,8 @@ def crate_and_name(kind, imports):
     return (path[0], path[-1]) if len(path) > 1 else (None, path[-1])
 
 
-# The rules on decimals.
-
-
 def text_of(it):
     """The text of a number that stands in an attribute, as JSON writes it."""
     if it.kind not in ("number", "decimal"):
         raise Refusal(it.line, "a bound of a number with a fraction that is no number: write its digits, as `0.5`")
     return str(it.value)
-
-
-def range_of(checks, rule, seen):
-    """The rule that a decimal is within bounds: as code and as it is stated."""
-    checks.uses.others.add("garde_schema::decimal_range")
-    texts = {it: text_of(checks.writer.resolved(rule.bounds[it])) for it in ("min", "max", "equal") if it in rule.bounds}
-    end = "between" if len(texts) == 2 else ENDS[next(iter(texts))]
-    given, stated = ", ".join(f'{name} = "{text}"' for name, text in texts.items()), " ".join(f'"{text}"' for text in texts.values())
-    checks.uses.state("garde_schema.specs.Decimals", "decimal_range")
-    return Word(f"decimal_range!({given})"), f"decimal_range ({checks.say(end)} {stated}) {seen.name}"
-
-
-def multiple_of(checks, rule, seen):
-    """The rule that a decimal is a multiple of another one."""
-    it = checks.writer.resolved(rule.bounds["equal"])
-    text = text_of(it)
-    if Fraction(text) <= 0 or int(text.lower().partition("e")[0].replace(".", "")) >= 2**64:
-        raise Refusal(rule.line, f"`multiple_of({text})`: write a number above 0 whose digits fit 64 bits")
-    checks.uses.others.add("garde_schema::DecimalMultiple")
-    checks.uses.state("garde_schema.specs.Decimals", "decimal_multiple_of")
-    return call("DecimalMultiple", f'"{text}"'), f'decimal_multiple_of "{text}" {seen.name}'

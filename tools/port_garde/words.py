@@ -1,5 +1,6 @@
 """What a rule becomes: a value of `garde::fields` in the code, and a word of `garde.specs.Fields` in `visits`."""
 from dataclasses import replace
+from fractions import Fraction
 
 from .conditions import Conditions, same_by
 from .derives import type_names
@@ -9,7 +10,7 @@ from .rules import OURS, REPEATED, RULES
 from .scope import SIGNED, UNSIGNED, Place, Scope, Seen, is_option, is_path, is_text, range_of as whole_range
 from .source import named_type
 from .tokens import Refusal
-from .values import DECIMAL, KEPT, is_made, multiple_of, range_of
+from .values import DECIMAL, KEPT, is_made, text_of
 
 # The word for what a `length` counts of a text.
 COUNTS = {"simple": "bytes", "bytes": "bytes", "chars": "chars", "graphemes": "graphemes", "utf16": "utf16"}
@@ -243,7 +244,7 @@ class Checks:
 
     def value(self, rule, seen):
         """A rule as a value, what it finds, and whether it may take memory for its answer."""
-        own = {"length": self.length, "range": self.range, "multiple_of": self.multiple, "whole_key": self.whole_key, "matches": self.matches}
+        own = {"length": self.length, "range": self.number, "multiple_of": self.number, "whole_key": self.whole_key, "matches": self.matches}
         if rule.name in own:
             return (*own[rule.name](rule, seen), False)
         if rule.name == "required":
@@ -328,32 +329,43 @@ class Checks:
             raise Refusal(rule.line, f"{told}, which the port does not know: of a number write `range`, of others a rule of your own, by `custom`")
         return code, self.say("items {} {}", bounds, listed)
 
-    def range(self, rule, seen):
-        kind = seen.type.name
+    def number(self, rule, seen):
+        """The rule that a number is within bounds, or a multiple of another one, by its type."""
+        kind, signed = seen.type.name, "signed_" if seen.type.name in SIGNED else ""
         if is_made(seen.type, DECIMAL):
-            return range_of(self, rule, seen)
+            return self.decimal(rule, seen)
         if not is_path(seen.type, *UNSIGNED, *SIGNED):
             floats = " of floating-point numbers" if kind in ("f32", "f64") else ""
-            told = f"`range` of the type `{self.writer.type_text(seen.type, True)}`"
-            raise Refusal(rule.line, f"{told}: there are no bounds{floats} here")
-        signed = kind in SIGNED
-        self.refuse_bounds(rule, kind, signed)
-        code, bounds = self.bounds(rule, signed)
-        return code, self.say(("signed_" if signed else "") + "range {} {}", bounds, seen.name)
-
-    def multiple(self, rule, seen):
-        """The rule that a number is a multiple of another one, by its type."""
-        kind = seen.type.name
-        if is_made(seen.type, DECIMAL):
-            return multiple_of(self, rule, seen)
-        if not is_path(seen.type, *UNSIGNED, *SIGNED):
-            raise Refusal(rule.line, f"`multiple_of` of the type `{self.writer.type_text(seen.type, True)}`, which is no whole number")
-        it, signed = self.writer.resolved(rule.bounds["equal"]), kind in SIGNED
-        if it.kind != "number" or it.value < 1:
+            way = f": there are no bounds{floats} here" if rule.name == "range" else ", which is no whole number"
+            raise Refusal(rule.line, f"`{rule.name}` of the type `{self.writer.type_text(seen.type, True)}`{way}")
+        bounds = list(map(self.writer.resolved, rule.bounds.values()))
+        if rule.name == "multiple_of" and (bounds[0].kind != "number" or bounds[0].value < 1):
             raise Refusal(rule.line, "`multiple_of` of what is no number from 1 on")
-        self.refuse_bounds(rule, kind, signed)
-        code, stated = self.bound(it, signed)
-        return call(self.field("MultipleOf"), code), self.say(("signed_" if signed else "") + "multiple_of {} {}", stated, seen.name)
+        least, most = whole_range(kind)
+        for it in bounds:
+            if it.kind == "number" and (it.value > most or signed and it.value < least):
+                raise Refusal(it.line, f"the bound {it.value}, which is no `{kind}`")
+        if rule.name == "range":
+            code, stated = self.bounds(rule, signed)
+        else:
+            code, stated = self.bound(bounds[0], signed)
+            code = call(self.field("MultipleOf"), code)
+        return code, self.say(f"{signed}{rule.name} {{}} {{}}", stated, seen.name)
+
+    def decimal(self, rule, seen):
+        """The same of a number with a fraction, whose bounds are texts."""
+        texts = {it: f'"{text_of(self.writer.resolved(rule.bounds[it]))}"' for it in ("min", "max", "equal") if it in rule.bounds}
+        stated, word = " ".join(texts.values()), self.uses.state("garde_schema.specs.Decimals", f"decimal_{rule.name}")
+        if rule.name == "range":
+            self.uses.others.add("garde_schema::decimal_range")
+            end = self.say(BOUNDS["between" if len(texts) == 2 else next(iter(texts))])
+            given = ", ".join(f"{name} = {text}" for name, text in texts.items())
+            return Word(f"decimal_range!({given})"), f"{word} ({end} {stated}) {seen.name}"
+        text = stated.strip('"')
+        if Fraction(text) <= 0 or int(text.lower().partition("e")[0].replace(".", "")) >= 2**64:
+            raise Refusal(rule.line, f"`multiple_of({text})`: write a number above 0 whose digits fit 64 bits")
+        self.uses.others.add("garde_schema::DecimalMultiple")
+        return call("DecimalMultiple", stated), f"{word} {stated} {seen.name}"
 
     def bounds(self, rule, signed=False):
         """A rule with bounds, by the macro of its name, and the bounds as they are stated."""
