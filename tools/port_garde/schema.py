@@ -106,8 +106,10 @@ class Schema(Forms):
     def shared(self, it, group, variant, item):
         """What a field asks of a group of members, which are given as the form has them."""
         uses, numbers = self.writer.uses, numbers_in(group)
-        for taken in {self.name_at(it, variant, item, end) for end in ("Rules", "Parts")} & set(self.turned):
-            self.writer.notes.refuse(it.line, f"the field `{it.name}`, whose rules are a type `{taken}`: give that of the file another name")
+        for taken in (self.name_at(it, variant, item, end) for end in ("Parts", "Rules")):
+            if taken in self.turned:
+                told = f"the field `{it.name}`, whose rules are a type `{taken}`: give that of the file another name"
+                self.writer.notes.refuse(it.line, told)
         uses.others |= {"garde::fields::Rules", "garde::I18n", "garde::Report", "garde::Trail", "std::alloc::AllocError"}
         names = {at: f"the_{variant.fields[at].name}" if variant.fields[at].name in OWN else variant.fields[at].name for at in numbers}
         stated = dict(zip(numbers, places(filled(group, names), "v")))
