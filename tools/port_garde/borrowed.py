@@ -8,7 +8,7 @@ from .everyday import plain
 from .flattened import always_there, faults as faults_of_flattened, flat_part, held_part, names_of
 from .groups import is_flat, is_rest, others_of, own_rules, shared_rules
 from .holes import BY_IMPL, Hole, Holes, nothing, optional
-from .kinds import LIFE, kind_of
+from .kinds import DECIMAL, KEPT, LIFE, canonical, is_any, is_float, kind_of
 from .parsed import WAYS, place_of
 from .scope import SIGNED, UNSIGNED, is_option, is_path, is_text
 from .quoted import BESIDE_CONTEXT
@@ -16,7 +16,6 @@ from .rules import Attributes
 from .source import Item, Param, Type, all_rules, is_ported, named_type, with_doc, with_fields
 from .tokens import Refusal, meant
 from .unions import Shapes, faults_of_tuple, is_other, is_tuple, is_unit, names_of as names_of_variant
-from .values import DECIMAL, KEPT, canonical, is_any, is_float
 
 # What each type that borrows has of the derives.
 HAS = {"TextRef": ("Debug", "PartialEq", "Eq"), "Items": ("Debug",), "Entries": ("Debug",), "Url": ("Debug", "PartialEq"), DECIMAL: ("Debug",), KEPT: ("Debug",)}

@@ -5,12 +5,12 @@ from fractions import Fraction
 from .conditions import Conditions, same_by
 from .derives import type_names
 from .expressions import CONTEXT, places_in
+from .kinds import DECIMAL, KEPT, is_made, text_of
 from .layout import Lent, Word, call, literal
 from .rules import OURS, REPEATED, RULES
 from .scope import SIGNED, UNSIGNED, Place, Scope, Seen, is_option, is_path, is_text, range_of as whole_range
 from .source import named_type
 from .tokens import Refusal
-from .values import DECIMAL, KEPT, is_made, text_of
 
 # The word for what a `length` counts of a text.
 COUNTS = {"simple": "bytes", "bytes": "bytes", "chars": "chars", "graphemes": "graphemes", "utf16": "utf16"}
