@@ -7,6 +7,10 @@ import signal
 import subprocess
 import sys
 import tempfile
+import threading
+import time
+from functools import partial
+from http.server import SimpleHTTPRequestHandler, ThreadingHTTPServer
 
 NAMES = ("chromium", "chromium-headless-shell", "google-chrome")
 # Chromium has no sandbox as root, and little shared memory in a container.
@@ -137,3 +141,28 @@ class Browser:
         os.close(self.ask)
         os.close(self.answer)
         shutil.rmtree(self.room, ignore_errors=True)
+
+
+class Quiet(SimpleHTTPRequestHandler):
+    def log_message(self, *_):
+        pass
+
+
+def said_by(folder, script, seconds):
+    """The version of the browser, and the value of `said` that the script of this name leaves on a page. Both are in this folder, which
+    is served meanwhile."""
+    (folder / "page.html").write_text(f"<!DOCTYPE html><script type=module src={script}></script>", encoding="utf-8")
+    server = ThreadingHTTPServer(("127.0.0.1", 0), partial(Quiet, directory=folder))
+    threading.Thread(target=server.serve_forever, daemon=True).start()
+    try:
+        with Browser(found()) as browser:
+            browser.loaded("Page.navigate", url=f"http://127.0.0.1:{server.server_port}/page.html")
+            ends = time.monotonic() + seconds
+            while not (said := browser.value("globalThis.said")):
+                if time.monotonic() > ends:
+                    raise Refused(f"{script} says nothing for {seconds} seconds")
+                time.sleep(0.2)
+            return browser.call("Browser.getVersion")["product"], said
+    finally:
+        server.shutdown()
+        server.server_close()

@@ -19,10 +19,11 @@ def ran(*words, **how):
 
 
 def done(*words, **how):
-    """Runs a command that has to succeed."""
+    """Runs a command that has to succeed. Gives what it printed."""
     ended = ran(*words, **how)
     if ended.returncode:
         raise Wrong((ended.stdout + ended.stderr).decode(errors="replace").strip())
+    return ended
 
 
 def lack(tool):
@@ -62,10 +63,14 @@ def of_node(bound, prefix, room):
     return ["node", bound / "node" / "check.js"]
 
 
+def of_wasm(bound, prefix, room):
+    return ["node", bound / "wasm" / "check.js"]
+
+
 # How the program of a language is built, and the commands that build and run it.
 BUILDS = {
     "c": (of_c, ["cc"]), "go": (of_go, ["go", "cc"]), "node": (of_node, ["node", "npm", "cc"]), "python": (of_python, []),
-    "rust": (of_rust, ["cargo", "cc"]),
+    "rust": (of_rust, ["cargo", "cc"]), "wasm": (of_wasm, ["node"]),
 }
 
 

@@ -91,9 +91,25 @@ def build(crates, root=repository.ROOT):
         subprocess.run(["rt", "lib"], cwd=repository.folder(root) / name, check=True, stdout=subprocess.DEVNULL)
 
 
-def static_library(crate, made):
-    """Proves a crate and builds the static library of it, over the libraries as they were built last. Gives what is wrong, or an
-    empty text."""
-    words = [*command(crate, (), 1, verb="build"), "--crate-type", "staticlib", "--toolchain", kit() / "toolchain", "-o", made]
-    done = subprocess.run(list(map(str, words)), cwd=CRATES / crate, stdin=subprocess.DEVNULL, capture_output=True, text=True, errors="replace")
+def toolchain(folder, script):
+    """A folder with what the toolchain's has, but for clang: this script is in its place."""
+    real, made = kit() / "toolchain", folder / "bin" / "clang"
+    made.parent.mkdir(parents=True)
+    (folder / "lib").symlink_to(real / "lib")
+    for it in (real / "bin").iterdir():
+        if it.name != "clang":
+            (folder / "bin" / it.name).symlink_to(it)
+    made.write_text(script, encoding="utf-8")
+    made.chmod(0o755)
+    return folder
+
+
+def static_library(crate, made, root=repository.ROOT, tools=None, target="x86_64-unknown-linux-gnu"):
+    """Proves a crate and builds the static library of it, over the libraries as they were built last; with other tools over what
+    `rt lib` kept of the crate, too. Gives what is wrong, or an empty text."""
+    folder = repository.folder(root) / crate
+    words = [*command(crate, (), 1, root, "build"), "--crate-type", "staticlib", "--target", target]
+    words += ["--incremental", "out/incremental"] if tools and (folder / "out" / "incremental").is_dir() else []
+    words += ["--toolchain", tools or kit() / "toolchain", "-o", made]
+    done = subprocess.run(list(map(str, words)), cwd=folder, stdin=subprocess.DEVNULL, capture_output=True, text=True, errors="replace")
     return "" if done.returncode == 0 else (done.stdout + done.stderr).strip()[-2000:]

@@ -25,9 +25,9 @@ def ran(*words, cwd=None):
     return output
 
 
-def refuse_missing():
-    """Refuses a machine without the commands that `merge` runs."""
-    for command in ("cc", "objcopy", "ar", "nm"):
+def refuse_missing(*further):
+    """Refuses a machine without the commands that `merge` runs, and these further ones."""
+    for command in ("cc", "objcopy", "ar", "nm", *further):
         if not shutil.which(command):
             raise Refusal(f"there is no command `{command}`")
 
@@ -46,19 +46,20 @@ def built(crate, folder):
     return [pathlib.Path(folder) / f"lib{crate.name}.a", pathlib.Path(folder) / TOOLCHAIN]
 
 
-def merge(archives, exports, folder):
-    """Writes the static and the shared library of these archives into a folder. Nothing but the exports can be seen of them, so a
-    program can link several such libraries. Gives their paths."""
+def merge(archives, exports, folder, cross=""):
+    """Writes the static and the shared library of these archives into a folder, by the commands that this prefix has. Nothing but the
+    exports can be seen of them, so a program can link several such libraries. Gives their paths."""
+    cc = f"{cross}gcc" if cross else "cc"
     for it in archives:
         if not it.is_file():
             raise Refusal(f"there is no {it}")
     whole, static, shared = folder / OBJECT, folder / f"lib{exports.prefix}.a", folder / f"lib{exports.prefix}.so"
-    ran("cc", "-r", "-nostdlib", "-o", whole, "-Wl,--whole-archive", *archives, "-Wl,--no-whole-archive")
-    missing = set(exports.names()) - {line.split()[-1] for line in ran("nm", "--defined-only", "-g", whole).splitlines()}
+    ran(cc, "-r", "-nostdlib", "-o", whole, "-Wl,--whole-archive", *archives, "-Wl,--no-whole-archive")
+    missing = set(exports.names()) - {line.split()[-1] for line in ran(f"{cross}nm", "--defined-only", "-g", whole).splitlines()}
     if missing:
         raise Refusal(f"{archives[0]} has no function {', '.join(sorted(missing))}")
-    ran("objcopy", *(f"--keep-global-symbol={name}" for name in exports.names()), whole)
-    ran("ar", "rcsD", static, whole)
-    ran("cc", "-shared", "-Wl,-z,defs", f"-Wl,-soname,{shared.name}", "-o", shared, whole)
+    ran(f"{cross}objcopy", *(f"--keep-global-symbol={name}" for name in exports.names()), whole)
+    ran(f"{cross}ar", "rcsD", static, whole)
+    ran(cc, "-shared", "-Wl,-z,defs", f"-Wl,-soname,{shared.name}", "-o", shared, whole)
     whole.unlink()
     return static, shared

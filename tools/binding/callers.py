@@ -27,23 +27,26 @@ The commands are for a shell in this folder, and FOLDER stands for its path.
 @dataclass(frozen=True)
 class Language:
     """The caller of a language: the command that makes it, how a program uses that, and where it has the library: the header, the
-    archive, and the shared library."""
+    archive, and the shared library, these two for aarch64, and the WebAssembly modules. It is written where there are so many of them."""
 
     name: str
     command: str
     use: str
     places: tuple = ()
+    needs: int = 3
 
 
 LANGUAGES = {
     "c": Language("C", "cc -std=c11 -I . c/check.c liborder.a -o check", '`#include "order.h"`, and link `liborder.a`.'),
     "python": Language("Python", "pip install ./python", "Then `import order_check`.", (None, None, "src/order_check/liborder.so")),
     "rust": Language("Rust", "cargo build --manifest-path rust/Cargo.toml",
-                     "In your crate: `cargo add --path FOLDER/rust`, and `use order_check::check;`.", (None, "lib/liborder.a")),
+                     "In your crate: `cargo add --path FOLDER/rust`, and `use order_check::check;`.", (None, "lib/liborder.a", None, "lib/aarch64/liborder.a")),
     "go": Language("Go", "(cd go && go build ./...)",
                    "In your module: `go mod edit -require=example.com/order@v0.0.0 -replace=example.com/order=FOLDER/go`, and "
-                   '`import "example.com/order"`.', ("lib/order.h", "lib/liborder.a")),
+                   '`import "example.com/order"`.', ("lib/order.h", "lib/liborder.a", None, "lib/aarch64/liborder.a")),
     "node": Language("Node", "npm install ./node", "Then `require('order-check')`.", ("lib/order.h", "lib/liborder.a")),
+    "wasm": Language("JavaScript in a browser, a worker or Node", "npm install ./wasm", "Then `import { load } from 'order-wasm'`, or of "
+                     "`FOLDER/wasm/index.js` with no `npm`.", (*(None,) * 5, "order.wasm", "order.32.wasm"), 7),
 }
 
 
@@ -55,14 +58,14 @@ def renamed(text, prefix):
     return NAMES.sub(lambda found: names[found.group()], text)
 
 
-def sources():
-    """The files of the callers that git has, by their paths under callers/, but for what speaks of orders alone."""
+def sources(libraries):
+    """The files of the callers of so many libraries that git has, by their paths under callers/, but for what speaks of orders alone."""
     try:
         listed = subprocess.run(["git", "-C", CALLERS, "ls-files", "-z"], capture_output=True, check=True).stdout.decode()
     except (FileNotFoundError, subprocess.CalledProcessError):
         raise Refusal(f"{CALLERS} is in no clone of the repository, whose files git lists") from None
     paths = [pathlib.PurePath(path) for path in listed.split("\0")[:-1]]
-    kept = [path for path in paths if path.parts[0] in LANGUAGES and not is_left_out(path)]
+    kept = [path for path in paths if path.parts[0] in LANGUAGES and LANGUAGES[path.parts[0]].needs <= libraries and not is_left_out(path)]
     return {path: CALLERS / path for path in kept if (CALLERS / path).is_file()}
 
 
@@ -72,7 +75,7 @@ def is_left_out(path):
 
 def write_callers(prefix, folder, libraries):
     """Writes the callers of a library into a folder, each with its library in place, and the READMEs. Gives their languages."""
-    files, sections = sources(), [HEAD]
+    files, sections = sources(len(libraries)), [HEAD]
     for path, source in files.items():
         put(folder / renamed(str(path), prefix), renamed(source.read_text(encoding="utf-8"), prefix).encode())
         (folder / renamed(str(path), prefix)).chmod(source.stat().st_mode & 0o777)

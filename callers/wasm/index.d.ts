@@ -1,0 +1,69 @@
+/**
+ * Checks bodies in JSON by a library that was proved, as a WebAssembly module, and reports every fault. It runs in a browser, in a
+ * worker and in Node, wherever WebAssembly has vectors of 16 bytes: Chrome 91, Firefox 89, Safari 16.4, Node 18, or later.
+ */
+
+/** A fault of a body. */
+export interface Fault {
+  /** The JSON Pointer (RFC 6901) of the value with the fault; of a member that is missing, where it would be. */
+  readonly pointer: string;
+  /** A sentence in the language that was asked for. */
+  readonly detail: string;
+  /** The kind of the fault, the same in each language. */
+  readonly code: string;
+  /** What the sentence says of the rule, by name, as `{ min: '1' }`. */
+  readonly params: Readonly<Record<string, string>>;
+}
+
+/** The faults of a body, which are none where it is valid. */
+export interface Faults extends Array<Fault> {
+  /** Whether the body has more faults than were asked for. */
+  readonly more: boolean;
+}
+
+export interface Options {
+  /** How many faults are reported at most: all, where it is left out. A number less than 1 throws a `RangeError`. */
+  most?: number;
+  /** The tag of the language of the sentences. Where the library does not know it they are English. */
+  language?: string;
+}
+
+/** What is wrong with a body. */
+export interface Problem {
+  /** 1 where the body has faults, and 2 where it is no JSON text. */
+  readonly status: 1 | 2;
+  /** The status of an HTTP response with the details. */
+  readonly httpStatus: 422 | 400;
+  /** Problem details (RFC 9457): JSON of the media type `application/problem+json`, with a member for each fault in `errors`. */
+  readonly details: string;
+}
+
+/** The body is no JSON text. The message has the reason, with line and column. */
+export class NotJsonError extends SyntaxError {
+  /** Problem details (RFC 9457) that say so. */
+  readonly details: string;
+}
+
+/** A body: a text, of which half a surrogate pair is read as U+FFFD, or its bytes. */
+export type Body = string | Uint8Array;
+
+/**
+ * An instance of the module. Its functions throw an `Error` with the code `ERR_MEMORY_ALLOCATION_FAILED` where the memory that the
+ * module may have does not suffice, and can be called again then.
+ */
+export interface Instance {
+  /** The faults of a body. Throws a `NotJsonError` where it is no JSON text. */
+  check(body: Body, options?: Options): Faults;
+  /** What is wrong with a body, or null where it is valid. */
+  problem(body: Body, options?: Options): Problem | null;
+  /** Whether a body is valid. Reading ends at the first fault. */
+  isValid(body: Body): boolean;
+  /** How many bytes the module holds. After a call for which it took more than 16 MiB, a new instance with less takes its place soon. */
+  readonly held: number;
+}
+
+/**
+ * Loads the module of a URL, or the one beside this file, or takes its bytes, or one that is compiled. Of a URL the module with a
+ * memory of 64 bits is loaded where that runs, and else the one beside it whose name ends in `.32.wasm`.
+ */
+export function load(source?: string | URL | Uint8Array | ArrayBuffer | WebAssembly.Module): Promise<Instance>;

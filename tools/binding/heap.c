@@ -1,0 +1,124 @@
+/* The heap of the WebAssembly module, and the calls of its JavaScript.
+ *
+ * Each call begins with an empty heap, so none fails for what an earlier one left. Within a call a block that is freed serves the
+ * next one of its class, and the last block grows where it is. Sizes and addresses are doubles, the numbers of JavaScript. `version` is
+ * that of these calls. */
+typedef unsigned long size;
+typedef unsigned char byte;
+
+byte order_check(const byte *body, size body_len, size most, const byte *language, size language_len, byte *out, size out_len, size *len);
+byte order_is_valid(const byte *body, size body_len);
+
+#define PAGE 65536ul
+// No block has so many bytes.
+#define MOST (1ul << 40)
+enum { UNIT = 16, CLASSES = 256, OUT = 65536, MEMORY = 3 };
+
+// The head of a block of so many units of 16 bytes.
+typedef struct block { size units; struct block *next; } block;
+// What the library takes for a pointer that may lack.
+typedef struct { size is_there; void *at; } tried;
+
+extern byte __heap_base;
+static byte *top, *end, *input, *out;
+static size details_len;
+static block *freed[CLASSES];
+
+static byte *after(block *it) { return (byte *)(it + 1) + it->units * UNIT; }
+
+// The class of a size, and how many units its blocks have: 5 to 8 times a power of two, so that at most a fifth of one lies idle.
+static int class_of(size bytes, size *units) {
+  size last = bytes ? (bytes - 1) / UNIT : 0;
+  int shift = last < 8 ? 0 : 61 - __builtin_clzl(last);
+  *units = ((last >> shift) + 1) << shift;
+  return 4 * shift + (int)(last >> shift);
+}
+
+// Whether the memory reaches so far. It grows by a megabyte at least, where the module may have that.
+static int reaches(byte *to) {
+  if (to <= end) return 1;
+  size lacks = (size)(to - end + PAGE - 1) / PAGE;
+  for (size more = lacks < 16 ? 16 : lacks;; more = lacks) {
+    // A refusal is -1, or 2^32 - 1 where the memory was lowered to 32 bits.
+    if ((int)__builtin_wasm_memory_grow(0, more) != -1) {
+      end += more * PAGE;
+      return 1;
+    }
+    if (more == lacks) return 0;
+  }
+}
+
+static void *get(size bytes) {
+  size units;
+  if (bytes > MOST) return 0;
+  int class = class_of(bytes, &units);
+  block *it = freed[class];
+  if (it) {
+    freed[class] = it->next;
+    return it + 1;
+  }
+  it = (block *)top;
+  if (!reaches((byte *)(it + 1) + units * UNIT)) return 0;
+  it->units = units;
+  top = after(it);
+  return it + 1;
+}
+
+void rattle_dealloc(void *at) {
+  block *it = (block *)at - 1;
+  size units;
+  int class = class_of(it->units * UNIT, &units);
+  if (after(it) == top) {
+    top = (byte *)it;
+  } else {
+    it->next = freed[class];
+    freed[class] = it;
+  }
+}
+
+static tried given(void *at) { return (tried){at != 0, at ? at : &top}; }
+tried rattle_alloc(size bytes, size align) { return given(get(bytes)); }
+
+tried rattle_realloc(void *at, size old, size bytes, size align) {
+  block *it = (block *)at - 1;
+  size units, has = it->units * UNIT;
+  if (bytes <= has) return given(at);
+  class_of(bytes, &units);
+  if (bytes <= MOST && after(it) == top && reaches((byte *)at + units * UNIT)) {
+    it->units = units;
+    top = after(it);
+    return given(at);
+  }
+  void *to = get(bytes);
+  if (to) {
+    __builtin_memcpy(to, at, has);
+    rattle_dealloc(at);
+  }
+  return given(to);
+}
+
+// Empties the heap, and gives room for a body and the tag of a language behind it: its address, or 0.
+double begin(double bytes) {
+  top = (byte *)(((size)&__heap_base + UNIT - 1) / UNIT * UNIT);
+  end = (byte *)(__builtin_wasm_memory_size(0) * PAGE);
+  __builtin_memset(freed, 0, sizeof freed);
+  details_len = 0;
+  input = bytes <= MOST ? get((size)bytes) : 0;
+  return (double)(size)input;
+}
+
+// Checks what lies in the room, and returns a status. Where the details are longer than there was room for, it checks once more.
+int check(double body_len, double language_len, double most) {
+  size all = most < 0x1p63 ? (size)most : ~0ul;
+  for (size room = OUT;; room = details_len) {
+    out = get(room);
+    if (!out) return MEMORY;
+    int status = order_check(input, (size)body_len, all, input + (size)body_len, (size)language_len, out, room, &details_len);
+    if (details_len <= room) return status;
+  }
+}
+
+int is_valid(double body_len) { return order_is_valid(input, (size)body_len); }
+double details(void) { return (double)(size)out; }
+double length(void) { return (double)details_len; }
+int version(void) { return 1; }
