@@ -2,7 +2,8 @@ package order
 
 /*
 #cgo CFLAGS: -I${SRCDIR}/lib
-#cgo LDFLAGS: ${SRCDIR}/lib/liborder.a
+#cgo amd64 LDFLAGS: ${SRCDIR}/lib/liborder.a
+#cgo arm64 LDFLAGS: ${SRCDIR}/lib/aarch64/liborder.a
 #include "order.h"
 */
 import "C"

@@ -1,5 +1,5 @@
-//! Links `liborder.a` of the folder `lib` beside this file, or of the folder that ORDER_LIB_DIR
-//! names.
+//! Links `liborder.a` of the folder `lib` beside this file, for aarch64 of the one in it, or of the
+//! folder that ORDER_LIB_DIR names.
 use std::env;
 use std::path::PathBuf;
 
@@ -8,7 +8,11 @@ const LIBRARY: &str = "liborder.a";
 fn main() {
     println!("cargo::rerun-if-env-changed=ORDER_LIB_DIR");
     let here = PathBuf::from(env::var_os("CARGO_MANIFEST_DIR").expect("cargo sets it"));
-    let folder = here.join(env::var_os("ORDER_LIB_DIR").unwrap_or("lib".into()));
+    let of_platform = match env::var("CARGO_CFG_TARGET_ARCH").as_deref() {
+        Ok("aarch64") => "lib/aarch64",
+        _ => "lib",
+    };
+    let folder = here.join(env::var_os("ORDER_LIB_DIR").unwrap_or(of_platform.into()));
     let library = folder.join(LIBRARY);
     println!("cargo::rerun-if-changed={}", library.display());
     if library.is_file() {
