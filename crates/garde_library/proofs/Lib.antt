@@ -1,1 +1,2 @@
 mod Values
+pub mod Growing

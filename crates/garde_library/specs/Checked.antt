@@ -58,10 +58,10 @@ text_of title (Err (First report)) = first_faults_text title report
 text_of title (Err (Parse error)) = no_json_text (first_read_error_text (Parse error))
 text_of title (Err Memory) = []
 
--- The bytes are as they were, but that they begin with the text, or with as much of it as they have room for. The length is that of
--- the whole text.
-abbrev pub IsHanded : List ℕ → List ℕ → List ℕ → ℕ → Type 0
-IsHanded text old new len = (len ≡ length text) × (new ≡ take (length old) text ++ drop (length text) old)
+-- The items are as they were, but that they begin with those that are handed over, as the bytes of a text, or with as many of them as
+-- there is room for. The length is that of the whole.
+abbrev pub IsHanded : {A : Type 0} → List A → List A → List A → ℕ → Type 0
+IsHanded items old new len = (len ≡ length items) × (new ≡ take (length old) items ++ drop (length items) old)
 
 -- memory ran out: the bytes are as they were
 abbrev pub IsOutOfMemory : List ℕ → List ℕ → ℕ → Status → Type 0

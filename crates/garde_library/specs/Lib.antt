@@ -1,2 +1,4 @@
 pub mod Checked
+pub mod Nodes
 pub mod Room
+pub mod Value

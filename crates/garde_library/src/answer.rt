@@ -11,13 +11,14 @@ use garde::I18n;
 use garde_schema::{FirstReadError, Form, FormI18n, Scratch, read_json_first};
 use std::alloc::Global;
 
-/// Hands over a text: as much of it as there is room for, and how long it is.
-pub(crate) fn hand_over(text: &[u8], out: &mut [u8], len: &mut usize)
-    ensures { IsHanded text.now out.old out.new len.new }
+/// Hands over items, for example the bytes of a text: as many as there is room for, and how many they
+/// are.
+pub(crate) fn hand_over<T: Copy>(items: &[T], out: &mut [T], len: &mut usize)
+    ensures { IsHanded items.now out.old out.new len.new }
 {
-    *len = text.len();
-    let room = text.len().min(out.len());
-    out[..room].copy_from_slice(&text[..room]);
+    *len = items.len();
+    let room = items.len().min(out.len());
+    out[..room].copy_from_slice(&items[..room]);
 }
 
 /// Says that memory ran out, and hands over nothing.

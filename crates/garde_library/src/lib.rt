@@ -5,13 +5,19 @@
 mod answer;
 mod body;
 mod details;
+mod find;
 mod lines;
 mod loose;
+mod node;
 mod room;
 mod status;
 mod telling;
+mod value;
+mod walk;
 
 pub use answer::{check_json, is_valid_json, list_json, out_of_memory};
 pub use body::{check_body, is_valid_body, list_body};
+pub use node::Node;
 pub use room::Room;
 pub use status::Status;
+pub use value::{give_details, give_nothing, give_value};
