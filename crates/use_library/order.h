@@ -25,7 +25,7 @@ extern "C" {
 #endif
 
 /* The version of the interface that this header describes. */
-#define ORDER_VERSION 1u
+#define ORDER_VERSION 2u
 
 /* There is no fault. */
 #define ORDER_VALID 0
@@ -45,6 +45,38 @@ typedef struct {
 } order_checker;
 
 #define ORDER_CHECKER_EMPTY {NULL, false}
+
+/* `null`. */
+#define ORDER_NODE_NULL 0
+/* `false`. */
+#define ORDER_NODE_FALSE 1
+/* `true`. */
+#define ORDER_NODE_TRUE 2
+/* A whole number of at most 64 bits and no sign: `value` is the number. */
+#define ORDER_NODE_WHOLE 3
+/* A whole number below zero, of at most 64 bits with its sign: `value` is the number without it. */
+#define ORDER_NODE_NEGATIVE 4
+/* Any other number, which has a text. */
+#define ORDER_NODE_NUMBER 5
+/* A text, or the name of a member. */
+#define ORDER_NODE_TEXT 6
+/* A list: `value` says how many items follow. */
+#define ORDER_NODE_LIST 7
+/* An object: `value` says how many members follow, each a name and a value. */
+#define ORDER_NODE_OBJECT 8
+/* A node of a JSON value. The nodes of a value are in the order of its text, so that what is in a list
+ * or in an object comes right behind it.
+ */
+typedef struct {
+  /* What begins here. */
+  uint8_t kind;
+  /* Of a text: whether it lies in `texts`, and not in the body. */
+  bool in_texts;
+  /* Of a text: so many bytes. */
+  uint32_t len;
+  /* Of a text: where it begins. Else see the kind. */
+  uint64_t value;
+} order_node;
 
 /* The version of this interface: ORDER_VERSION, where the header belongs to the library. */
 uint32_t order_version(void);
@@ -105,6 +137,46 @@ uint8_t order_list_with(order_checker *checker,
                         uint8_t *out,
                         size_t out_len,
                         size_t *len);
+
+/* Returns what `order_is_valid` returns, and of ORDER_VALID hands over the JSON value that was judged: its
+ * nodes, in the order of the text, and in `texts` those of its texts that the body has with an escape. A
+ * text lies in `body` or in `texts`, as its node says.
+ *
+ * `nodes` and `texts` get as much as they have room for, and `nodes_used` and `texts_used` say how much it
+ * is as a whole: where that is more, call again with more room. Of any other status both are 0.
+ */
+uint8_t order_value_with(order_checker *checker,
+                         const uint8_t *body,
+                         size_t body_len,
+                         order_node *nodes,
+                         size_t nodes_len,
+                         size_t *nodes_used,
+                         uint8_t *texts,
+                         size_t texts_len,
+                         size_t *texts_used);
+
+/* Does what `order_check_with` does, and hands over the details as nodes too, as `order_value_with` does:
+ * their texts lie in `out` or in `texts`. The value is an object. Its last member is `errors`, a list with
+ * an object for each fault: `pointer`, `detail`, `code` and `params`, in this order.
+ *
+ * There are nodes only where `out` has room for the details as a whole. Where it has not, or where there
+ * are no details, `nodes_used` and `texts_used` are 0.
+ */
+uint8_t order_faults_with(order_checker *checker,
+                          const uint8_t *body,
+                          size_t body_len,
+                          size_t most,
+                          const uint8_t *language,
+                          size_t language_len,
+                          uint8_t *out,
+                          size_t out_len,
+                          size_t *len,
+                          order_node *nodes,
+                          size_t nodes_len,
+                          size_t *nodes_used,
+                          uint8_t *texts,
+                          size_t texts_len,
+                          size_t *texts_used);
 
 /* Frees the room of a checker, and leaves it as it began. A second call does nothing. */
 void order_free(order_checker *checker);

@@ -4,15 +4,18 @@ import re
 
 from .exports import Refusal
 
-STATUSES = pathlib.Path(__file__).resolve().parent.parent.parent / "crates" / "garde_library" / "src" / "status.rt"
+LIBRARY = pathlib.Path(__file__).resolve().parent.parent.parent / "crates" / "garde_library" / "src"
+STATUSES, NODES = LIBRARY / "status.rt", LIBRARY / "node.rt"
 TYPES = {
     "Global": [],
     "&[u8]": ["const uint8_t *{0}", "size_t {0}_len"],
     "&mut [u8]": ["uint8_t *{0}", "size_t {0}_len"],
     "&mut usize": ["size_t *{0}"],
     "&mut Room": ["{prefix}_checker *{0}"],
+    "&mut [Node]": ["{prefix}_node *{0}", "size_t {0}_len"],
     "usize": ["size_t {0}"], "u8": ["uint8_t {0}"], "u32": ["uint32_t {0}"],
 }
+FIELDS = {"u8": "uint8_t", "bool": "bool", "u32": "uint32_t", "u64": "uint64_t"}
 RESULTS = {"": "void", "u8": "uint8_t", "u32": "uint32_t"}
 CHECKER = """/* Room that is kept from one call to the next. Begin with {PREFIX}_CHECKER_EMPTY, or with all bytes 0. */
 typedef struct {{
@@ -45,6 +48,18 @@ def statuses(prefix):
     """A line of the preprocessor for each status, under its comment."""
     found = re.findall(r"((?:^ +///.*\n)+) +(\w+) = (\d+),", STATUSES.read_text(encoding="utf-8"), re.M)
     return "\n".join(f"{comment(lines_of(said, '///'))}\n#define {prefix}_{snake(name)} {number}" for said, name, number in found)
+
+
+def node(prefix):
+    """What a node may be, a line of the preprocessor each, and its struct."""
+    source = NODES.read_text(encoding="utf-8")
+    kinds = re.findall(r"((?:^///.*\n)+)pub const (\w+): u8 = (\d+);", source, re.M)
+    head, fields = re.search(r"((?:^///.*\n)+)(?:^#.*\n)*^pub struct Node {\n([^}]*)}", source, re.M).groups()
+    lines = [f"{comment(lines_of(said, '///'))}\n#define {prefix.upper()}_NODE_{name} {number}" for said, name, number in kinds]
+    lines += [comment(lines_of(head, "///")), "typedef struct {"]
+    for said, name, kind in re.findall(r"((?:^ +///.*\n)+) +pub (\w+): (\w+),", fields, re.M):
+        lines += [f"  /* {' '.join(lines_of(said, '/// '))} */", f"  {FIELDS[kind]} {name};"]
+    return "\n".join([*lines, f"}} {prefix}_node;"])
 
 
 def parameters(function, prefix):
@@ -89,6 +104,7 @@ def header_of(exports):
         f"/* The version of the interface that this header describes. */\n#define {upper}_VERSION {exports.version}u",
         statuses(upper),
         *[CHECKER.format(prefix=prefix, PREFIX=upper)] * ("&mut Room" in exports.source),
+        *[node(prefix)] * ("&mut [Node]" in exports.source),
         *[declaration(it, prefix) for it in exports.functions],
         "#ifdef __cplusplus\n}\n#endif",
         "#endif",

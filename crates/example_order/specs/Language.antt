@@ -1,5 +1,5 @@
 -- Languages, the messages in each, and what is answered to the bytes of an order.
-use Rattle.std.specs.Prelude.{◌≡◌, ℕ, List, codes, if◌then◌else◌}
+use Rattle.std.specs.Prelude.{◌≡◌, ◌⊎◌, ℕ, List, codes, if◌then◌else◌}
 use Rattle.std.specs.Str.{bytes_eq}
 use Rattle.garde.specs.Handlers.{Datum, default_text}
 use Rattle.garde.specs.Fields.{Visits}
@@ -8,8 +8,10 @@ use Rattle.garde_schema.specs.Forms.{FormTexts}
 use Rattle.garde_schema.specs.FormCode.{form_message}
 use Rattle.garde_schema.specs.FormText.{default_form_text}
 use Rattle.garde_library.specs.declared.status.Status.{Status}
-use Rattle.garde_library.specs.declared.status.Status.TheVariants.{Valid}
+use Rattle.garde_library.specs.declared.node.Node.{Node}
+use Rattle.garde_library.specs.declared.status.Status.TheVariants.{Valid, Memory}
 use Rattle.garde_library.specs.Checked.{IsChecked, IsListed, IsVerdict}
+use Rattle.garde_library.specs.Value.{AreDetails, IsGivenAs, IsNotGiven}
 use Rattle.garde_schema.specs.Spelling.{Spelling, SpellsValid}
 use Rattle.example_order.specs.declared.language.Language.{Language}
 use Rattle.example_order.specs.declared.language.Language.TheVariants.{English, Czech}
@@ -54,3 +56,18 @@ IsListedIn spelling rules language most body old new len status =
 abbrev pub IsOrder : {A C : Type 0} → Spelling A → (A → C → Visits) → List ℕ → Status → Type 0
 IsOrder spelling rules body status =
     IsVerdict (λ j. spelling.visits default_form_text j) default_text body status × (status ≡ Valid → SpellsValid spelling rules body)
+
+-- It was judged whether the bytes are those of a body without a fault. If they are, these nodes and texts were handed over, and they spell
+-- the JSON value of the bytes. Else, and where memory ran out, none were.
+abbrev pub IsValueOf : {A C : Type 0} → Spelling A → (A → C → Visits) → List ℕ → List Node → List Node → ℕ → List ℕ → List ℕ → ℕ → Status → Type 0
+IsValueOf spelling rules body old new count old' new' len status =
+    ((judged : Status) × IsOrder spelling rules body judged × IsGivenAs judged body old new count old' new' len status)
+    ⊎ ((status ≡ Memory) × IsNotGiven old new count old' new' len)
+
+-- These bytes were handed the answer to the bytes of a body, and the details of the answer were handed over as nodes too; or memory ran
+-- out, and no nodes were.
+abbrev pub AreFaultsIn : {A C : Type 0} → Spelling A → (A → C → Visits) → Language → ℕ → List ℕ → List ℕ → List ℕ → ℕ
+    → List Node → List Node → ℕ → List ℕ → List ℕ → ℕ → Status → Type 0
+AreFaultsIn spelling rules language most body out out' size old new count old' new' len status =
+    (IsCheckedIn spelling rules language most body out out' size status × AreDetails out' size old new count old' new' len)
+    ⊎ ((status ≡ Memory) × IsNotGiven old new count old' new' len)

@@ -1,11 +1,11 @@
 //! What is answered to the bytes of an order, in the language that is asked for.
-ghost use Rattle.example_order.specs.Language.{IsCheckedIn, IsListedIn, IsOrder};
+ghost use Rattle.example_order.specs.Language.{AreFaultsIn, IsCheckedIn, IsListedIn, IsOrder, IsValueOf};
 
 use crate::body::{Body, TITLE};
 use crate::czech::Czech;
 use crate::language::Language;
 use garde::{DefaultI18n, Stated};
-use garde_library::{Status, check_body, is_valid_body, list_body};
+use garde_library::{Node, Status, check_body, give_details, give_value, is_valid_body, list_body};
 use garde_problem::WithCodes;
 use garde_schema::{Scratch, Spelled};
 use std::alloc::Global;
@@ -68,4 +68,50 @@ pub fn is_order(alloc: Global, body: &[u8], scratch: &mut Scratch) -> Status
         body.now result }
 {
     is_valid_body::<Body<'_>, _>(alloc, body, scratch, &DefaultI18n)
+}
+
+/// Does what `check_order` does, and hands over the details as nodes too: `garde_library::give_details` says
+/// more.
+pub fn faults_of_order(
+    alloc: Global,
+    body: &[u8],
+    scratch: &mut Scratch,
+    most: usize,
+    language: Language,
+    out: &mut [u8],
+    len: &mut usize,
+    nodes: &mut [Node],
+    nodes_used: &mut usize,
+    texts: &mut [u8],
+    texts_used: &mut usize,
+) -> Status
+    ensures { AreFaultsIn ⟦<Body<'static> as Spelled>⟧.spelled ⟦<Body<'static> as Stated>⟧.visits
+        language most body.now out.old out.new len.new
+        nodes.old nodes.new nodes_used.new texts.old texts.new texts_used.new result }
+{
+    let status = check_order(alloc, body, scratch, most, language, out, len);
+    let given = give_details(
+        alloc, out, *len, scratch, nodes, nodes_used, texts, texts_used,
+    );
+    if given { status } else { Status::Memory }
+}
+
+/// Whether the bytes are those of an order without a fault, as `is_order` says, and then their JSON value:
+/// `garde_library::give_value` says more.
+pub fn value_of_order(
+    alloc: Global,
+    body: &[u8],
+    scratch: &mut Scratch,
+    nodes: &mut [Node],
+    nodes_used: &mut usize,
+    texts: &mut [u8],
+    texts_used: &mut usize,
+) -> Status
+    ensures { IsValueOf ⟦<Body<'static> as Spelled>⟧.spelled ⟦<Body<'static> as Stated>⟧.visits
+        body.now nodes.old nodes.new nodes_used.new texts.old texts.new texts_used.new result }
+{
+    let judged = is_order(alloc, body, scratch);
+    give_value(
+        alloc, judged, body, scratch, nodes, nodes_used, texts, texts_used,
+    )
 }

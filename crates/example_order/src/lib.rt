@@ -8,6 +8,6 @@ mod czech;
 mod language;
 
 pub use body::Body;
-pub use check::{check_order, is_order, list_order};
+pub use check::{check_order, faults_of_order, is_order, list_order, value_of_order};
 pub use czech::Czech;
 pub use language::Language;

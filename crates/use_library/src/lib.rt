@@ -14,22 +14,24 @@
 #![tactic(auto)]
 
 ghost use Rattle.std.specs.Prelude.{◌≡◌, ◌⊎◌};
-ghost use Rattle.example_order.specs.Language.{IsCheckedIn, IsListedIn, IsOrder, language_of};
+ghost use Rattle.example_order.specs.Language.{AreFaultsIn, IsCheckedIn, IsListedIn, IsOrder, IsValueOf, language_of};
 ghost use Rattle.garde_library.specs.declared.status.Status.TheVariants.{Memory, Valid};
 ghost use Rattle.use_library.specs.Codes.{IsCode};
 
-use example_order::{Body, Language, check_order, is_order, list_order};
+use example_order::{
+    Body, Language, check_order, faults_of_order, is_order, list_order, value_of_order,
+};
 use garde::Stated;
-use garde_library::{Room, Status, out_of_memory};
+use garde_library::{Node, Room, Status, give_nothing, out_of_memory};
 use garde_schema::{Scratch, Spelled};
 use std::alloc::Global;
 
 /// The version of this interface: ORDER_VERSION, where the header belongs to the library.
 #[unsafe(no_mangle)]
 pub extern "C" fn order_version() -> u32
-    ensures { result ≡ 1 }
+    ensures { result ≡ 2 }
 {
-    1
+    2
 }
 
 /// Checks the bytes of an order, and returns a status. `out` gets the problem details of what is
@@ -132,6 +134,90 @@ pub extern "C" fn order_list_with(
         return out_of_memory(out, len) as u8;
     };
     let status = list_order(alloc, body, &mut scratch, most, language, out, len);
+    checker.put(alloc, scratch);
+    status as u8
+}
+
+/// Returns what `order_is_valid` returns, and of ORDER_VALID hands over the JSON value that was judged: its
+/// nodes, in the order of the text, and in `texts` those of its texts that the body has with an escape. A
+/// text lies in `body` or in `texts`, as its node says.
+///
+/// `nodes` and `texts` get as much as they have room for, and `nodes_used` and `texts_used` say how much it
+/// is as a whole: where that is more, call again with more room. Of any other status both are 0.
+#[unsafe(no_mangle)]
+pub extern "C" fn order_value_with(
+    alloc: Global,
+    checker: &mut Room,
+    body: &[u8],
+    nodes: &mut [Node],
+    nodes_used: &mut usize,
+    texts: &mut [u8],
+    texts_used: &mut usize,
+) -> u8
+    ensures { IsCode (λ s. IsValueOf
+        ⟦<Body<'static> as Spelled>⟧.spelled ⟦<Body<'static> as Stated>⟧.visits
+        body.now nodes.old nodes.new nodes_used.new texts.old texts.new texts_used.new s) result }
+{
+    let Ok(mut scratch) = checker.take_or_new(alloc) else {
+        give_nothing(nodes, nodes_used, texts, texts_used);
+        return Status::Memory as u8;
+    };
+    let status = value_of_order(
+        alloc,
+        body,
+        &mut scratch,
+        nodes,
+        nodes_used,
+        texts,
+        texts_used,
+    );
+    checker.put(alloc, scratch);
+    status as u8
+}
+
+/// Does what `order_check_with` does, and hands over the details as nodes too, as `order_value_with` does:
+/// their texts lie in `out` or in `texts`. The value is an object. Its last member is `errors`, a list with
+/// an object for each fault: `pointer`, `detail`, `code` and `params`, in this order.
+///
+/// There are nodes only where `out` has room for the details as a whole. Where it has not, or where there
+/// are no details, `nodes_used` and `texts_used` are 0.
+#[unsafe(no_mangle)]
+pub extern "C" fn order_faults_with(
+    alloc: Global,
+    checker: &mut Room,
+    body: &[u8],
+    most: usize,
+    language: &[u8],
+    out: &mut [u8],
+    len: &mut usize,
+    nodes: &mut [Node],
+    nodes_used: &mut usize,
+    texts: &mut [u8],
+    texts_used: &mut usize,
+) -> u8
+    ensures { IsCode (λ s. AreFaultsIn
+        ⟦<Body<'static> as Spelled>⟧.spelled ⟦<Body<'static> as Stated>⟧.visits
+        (language_of language.now) most body.now out.old out.new len.new
+        nodes.old nodes.new nodes_used.new texts.old texts.new texts_used.new s) result }
+{
+    let language = Language::of(language);
+    let Ok(mut scratch) = checker.take_or_new(alloc) else {
+        give_nothing(nodes, nodes_used, texts, texts_used);
+        return out_of_memory(out, len) as u8;
+    };
+    let status = faults_of_order(
+        alloc,
+        body,
+        &mut scratch,
+        most,
+        language,
+        out,
+        len,
+        nodes,
+        nodes_used,
+        texts,
+        texts_used,
+    );
     checker.put(alloc, scratch);
     status as u8
 }
