@@ -6,7 +6,7 @@ use std::alloc::{AllocError, Global};
 use std::borrow::CowStr;
 
 /// A handler whose texts are empty, so that none allocates.
-#[derive(Drop)]
+#[derive(Debug, Drop)]
 pub struct NoText;
 
 impl Texts for NoText {

@@ -4,7 +4,7 @@ use std::marker::Model;
 use std::ops::Deref;
 
 /// A value with the context under which it has no fault. A contract sees the value and the context.
-#[derive(Drop)]
+#[derive(Debug, Drop)]
 pub struct ValidUnder<'c, T: Stated> {
     value: T,
     context: &'c T::Context,

@@ -41,6 +41,13 @@ pub struct Regex {
     compiled: regex::Regex,
 }
 
+/// The text that the pattern was compiled from, as `Regex("a+")`.
+impl fmt::Debug for Regex {
+    fn fmt<W: fmt::Write>(&self, f: &mut fmt::Formatter<W>) -> fmt::Result {
+        f.debug_tuple("Regex").field(&self.as_str()).finish()
+    }
+}
+
 // Contracts see a pattern as its text, since that decides what the pattern matches.
 impl Model for Regex {
     ghost use Rattle.std.specs.Prelude.{ℕ, List};
@@ -111,6 +118,13 @@ impl Regex {
 pub struct Searcher<'r> {
     regex: &'r Regex,
     ready: RefCell<Ready<'r>>,
+}
+
+/// The pattern, as `Searcher("a+")`.
+impl fmt::Debug for Searcher<'_> {
+    fn fmt<W: fmt::Write>(&self, f: &mut fmt::Formatter<W>) -> fmt::Result {
+        f.debug_tuple("Searcher").field(&self.as_str()).finish()
+    }
 }
 
 // Contracts see a searcher as the text of its pattern.

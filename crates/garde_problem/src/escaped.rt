@@ -18,7 +18,7 @@ use std::fmt;
 /// So a report prints exactly one line for each fault, and a key of a hostile body can neither
 /// forge a line nor send codes to a terminal. `to_string(alloc)` makes a `String` of it. A path of
 /// more than 8 components allocates while it prints.
-#[derive(Clone, Copy)]
+#[derive(Clone, Copy, Debug)]
 pub struct Escaped<'a, T>(pub Global, pub &'a T);
 
 impl fmt::Display for Escaped<'_, Path> {

@@ -16,7 +16,7 @@ use std::fmt;
 /// Two paths print the same exactly where their components have the same texts, whatever bytes the
 /// texts have. `to_string(alloc)` makes a `String` of it. A path of more than 8 components allocates
 /// while it prints.
-#[derive(Clone, Copy)]
+#[derive(Clone, Copy, Debug)]
 pub struct JsonPointer<'a>(pub Global, pub &'a Path);
 
 impl fmt::Display for JsonPointer<'_> {

@@ -6,6 +6,7 @@ use std::alloc::{AllocError, Global};
 use std::marker::Model;
 
 /// A stack of components that allocates only if it has more than 8 of them.
+#[derive(Debug)]
 pub(crate) struct Way<'a> {
     depth: usize,
     // The first items, of which the first `depth` count.

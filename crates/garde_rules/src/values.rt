@@ -155,7 +155,7 @@ impl<T: required::Required> Rule<T> for Required {
 }
 
 /// The rule as a value: the value is an IP address of this kind.
-#[derive(Clone, Copy)]
+#[derive(Clone, Copy, Debug)]
 pub struct Ip(pub IpKind);
 
 impl<T: ip::Ip> Rule<T> for Ip {

@@ -4,6 +4,7 @@ ghost use Rattle.json.specs.Scratch.{tape_room};
 
 use bumpalo::Bump;
 use std::alloc::{AllocError, Global};
+use std::fmt;
 
 /// The room that reading a JSON text takes, kept from one read to the next: a text that is no longer
 /// than one before it, and of no more tokens, is read without an allocation.
@@ -11,6 +12,13 @@ use std::alloc::{AllocError, Global};
 pub struct Scratch {
     pub(crate) texts: json::Scratch,
     pub(crate) nodes: Bump,
+}
+
+/// The name alone: the room has no content of its own.
+impl fmt::Debug for Scratch {
+    fn fmt<W: fmt::Write>(&self, f: &mut fmt::Formatter<W>) -> fmt::Result {
+        f.write_str("Scratch { .. }")
+    }
 }
 
 impl Scratch {

@@ -7,7 +7,7 @@ use json::Node;
 use std::marker::Model;
 
 /// The items of a list that are left, in the order of the text.
-#[derive(Drop)]
+#[derive(Debug, Drop)]
 pub(crate) struct TapeItems<'t, 'a> {
     pub(crate) nodes: &'t [Node<'a>],
     pub(crate) at: usize,

@@ -8,7 +8,7 @@ use std::marker::Model;
 
 /// The members of an object that are left, in the order of the text. A name that comes twice is
 /// there twice.
-#[derive(Drop)]
+#[derive(Debug, Drop)]
 pub(crate) struct TapeMembers<'t, 'a> {
     pub(crate) nodes: &'t [Node<'a>],
     pub(crate) at: usize,

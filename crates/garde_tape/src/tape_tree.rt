@@ -16,7 +16,7 @@ use json::Node;
 use std::marker::Model;
 
 // The whole value of a JSON text, or one inside it.
-#[derive(Drop)]
+#[derive(Debug, Drop)]
 pub(crate) struct TapeTree<'t, 'a> {
     pub(crate) nodes: &'t [Node<'a>],
     pub(crate) at: usize,

@@ -22,7 +22,7 @@ use std::marker::Model;
 
 /// A JSON value that borrows what it is read from: a JSON text, or texts that stand by themselves. A
 /// contract sees the JSON value itself.
-#[derive(Drop)]
+#[derive(Debug, Drop)]
 pub struct Tree<'t, 'a> {
     pub(crate) source: Source<'t, 'a>,
 }

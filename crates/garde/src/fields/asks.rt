@@ -11,7 +11,7 @@ use std::alloc::Global;
 ///
 /// It asks nothing of the value of the field, so the condition may be of any fields: that one of
 /// two is given, or that one is greater than another.
-#[derive(Clone, Copy)]
+#[derive(Clone, Copy, Debug)]
 pub struct Asks<'m>(pub &'m str, pub bool);
 
 impl<T> Rule<T> for Asks<'_> {
@@ -34,7 +34,7 @@ impl<T> Rule<T> for Asks<'_> {
 /// The rule that a condition holds, which is computed before, with a code: the code, the sentence in
 /// English, and the condition. Where it does not hold, the handler is asked for the text of the code,
 /// so it may be in the language of the reader.
-#[derive(Clone, Copy)]
+#[derive(Clone, Copy, Debug)]
 pub struct AsksAs<'m>(pub &'static str, pub &'m str, pub bool);
 
 impl<T> Rule<T> for AsksAs<'_> {

@@ -67,7 +67,7 @@ impl<'a, T, R: MemoryRule<T>> Check<'a, T> for IsInMemory<R> {
 }
 
 /// The check that the value, under this context, is valid by its own `Validate`.
-#[derive(Clone, Copy)]
+#[derive(Clone, Copy, Debug)]
 pub struct Dive<'c, C>(pub &'c C);
 
 impl<'a, 'c, T: Validate> Check<'a, T> for Dive<'c, T::Context> {

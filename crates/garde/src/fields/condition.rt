@@ -8,7 +8,7 @@ use garde_report::{Report, Trail};
 use std::alloc::AllocError;
 
 /// The rules or the check, where the condition holds, and else none.
-#[derive(Clone, Copy)]
+#[derive(Clone, Copy, Debug)]
 pub struct When<C>(pub bool, pub C);
 
 impl<'a, T, C: Check<'a, T>> Check<'a, T> for When<C> {

@@ -17,7 +17,7 @@ use std::alloc::AllocError;
 /// The rules or the check of each item of a value in turn: the items of a sequence, a set or a heap under their
 /// indexes, the values of a map under their keys, and what an option holds under the component
 /// without a name.
-#[derive(Clone, Copy)]
+#[derive(Clone, Copy, Debug)]
 pub struct Each<C>(pub C);
 
 /// What the option holds, under the component without a name; nothing of none.

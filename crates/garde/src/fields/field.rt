@@ -43,7 +43,7 @@ pub trait Fields<'a> {
 }
 
 /// A field: its name, its value, and what is checked of it.
-#[derive(Clone, Copy)]
+#[derive(Clone, Copy, Debug)]
 pub struct Field<'a, T, C>(pub &'a str, pub &'a T, pub C);
 
 impl<'a, T, C: Check<'a, T>> Fields<'a> for Field<'a, T, C> {
@@ -61,7 +61,7 @@ impl<'a, T, C: Check<'a, T>> Fields<'a> for Field<'a, T, C> {
 }
 
 /// A field of a tuple: its index, its value, and what is checked of it.
-#[derive(Clone, Copy)]
+#[derive(Clone, Copy, Debug)]
 pub struct Item<'a, T, C>(pub usize, pub &'a T, pub C);
 
 impl<'a, T, C: Check<'a, T>> Fields<'a> for Item<'a, T, C> {
@@ -80,7 +80,7 @@ impl<'a, T, C: Check<'a, T>> Fields<'a> for Item<'a, T, C> {
 
 /// A value that is checked with no component of its own: its faults stand where those of the whole do.
 /// In a derive of the Rust crate the attribute `transparent` asks for this.
-#[derive(Clone, Copy)]
+#[derive(Clone, Copy, Debug)]
 pub struct Transparent<'a, T, C>(pub &'a T, pub C);
 
 impl<'a, T, C: Check<'a, T>> Fields<'a> for Transparent<'a, T, C> {

@@ -9,7 +9,7 @@ use std::alloc::AllocError;
 
 /// The rules or the check of what an option holds, with no component of its own. An option without a value
 /// passes.
-#[derive(Clone, Copy)]
+#[derive(Clone, Copy, Debug)]
 pub struct IfSome<C>(pub C);
 
 #[tactic(auto, unfolding(crate::specs::Visits::optional))]

@@ -42,7 +42,7 @@ impl<T> Listed for Vec<T> {
 }
 
 /// That a question holds of each item.
-#[derive(Clone, Copy)]
+#[derive(Clone, Copy, Debug)]
 pub struct AllOf<Q>(pub Q);
 
 impl<L: Listed, Q: Question<L::Item>> Question<L> for AllOf<Q> {
@@ -54,7 +54,7 @@ impl<L: Listed, Q: Question<L::Item>> Question<L> for AllOf<Q> {
 }
 
 /// That a question holds of at least one item.
-#[derive(Clone, Copy)]
+#[derive(Clone, Copy, Debug)]
 pub struct AnyOf<Q>(pub Q);
 
 impl<L: Listed, Q: Question<L::Item>> Question<L> for AnyOf<Q> {
@@ -66,7 +66,7 @@ impl<L: Listed, Q: Question<L::Item>> Question<L> for AnyOf<Q> {
 }
 
 /// That an item is equal to this value.
-#[derive(Clone, Copy)]
+#[derive(Clone, Copy, Debug)]
 pub struct Includes<T>(pub T);
 
 impl<L: Listed> Question<L> for Includes<L::Item>
@@ -81,7 +81,7 @@ where
 }
 
 /// That no two items are the same.
-#[derive(Clone, Copy)]
+#[derive(Clone, Copy, Debug)]
 pub struct Distinct<S>(pub S);
 
 impl<L: Listed, S: Same<L::Item>> Question<L> for Distinct<S> {

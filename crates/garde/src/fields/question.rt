@@ -22,7 +22,7 @@ pub trait Question<T> {
 
 /// The rule that a question holds of the value: a message and the question. Where it does not hold,
 /// this message is reported, which no handler changes.
-#[derive(Clone, Copy)]
+#[derive(Clone, Copy, Debug)]
 pub struct Asked<'m, Q>(pub &'m str, pub Q);
 
 impl<T, Q: Question<T>> Rule<T> for Asked<'_, Q> {

@@ -8,7 +8,7 @@ use garde_rules::values::Required;
 use std::alloc::Global;
 
 /// The rule that an option has a value, where this condition holds.
-#[derive(Clone, Copy)]
+#[derive(Clone, Copy, Debug)]
 pub struct RequiredIf(pub bool);
 
 impl<T> Rule<Option<T>> for RequiredIf {

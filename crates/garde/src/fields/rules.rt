@@ -51,7 +51,7 @@ impl<T> Rules<T> for () {
 }
 
 /// That a rule holds of the value.
-#[derive(Clone, Copy)]
+#[derive(Clone, Copy, Debug)]
 pub struct Is<R>(pub R);
 
 impl<T, R: Rule<T>> Rules<T> for Is<R> {
@@ -92,7 +92,7 @@ fn put_found<'a, T, R: Rule<T>, H: I18n>(
 
 /// That a rule holds of the value which may allocate for its answer, as that of a pattern or of a
 /// URL.
-#[derive(Clone, Copy)]
+#[derive(Clone, Copy, Debug)]
 pub struct IsInMemory<R>(pub R);
 
 impl<T, R: MemoryRule<T>> Rules<T> for IsInMemory<R> {

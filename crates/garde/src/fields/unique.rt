@@ -21,7 +21,7 @@ pub trait Same<T> {
 }
 
 /// That two values are equal.
-#[derive(Clone, Copy, Default)]
+#[derive(Clone, Copy, Debug, Default)]
 pub struct Equal;
 
 impl<T: PartialEq> Same<T> for Equal {
@@ -37,7 +37,7 @@ impl<T: PartialEq> Same<T> for Equal {
 ///
 /// The comparison allocates nothing. Each item is compared with those before it, so a list of 1,000
 /// items takes up to 499,500 comparisons.
-#[derive(Clone, Copy)]
+#[derive(Clone, Copy, Debug)]
 pub struct Unique<'m, S>(pub &'m str, pub S);
 
 impl<'s, T, S: Same<T>> Rules<&'s [T]> for Unique<'_, S> {

@@ -10,7 +10,7 @@ use std::marker::Model;
 
 /// The kinds and texts of the components of a path, from the last to the first. By its other end
 /// it gives them from the first on.
-#[derive(Drop)]
+#[derive(Debug, Drop)]
 pub struct PathIter<'a> {
     components: IntoIter<(Kind, &'a str), 8>,
 }

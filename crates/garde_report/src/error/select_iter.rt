@@ -9,7 +9,7 @@ use std::marker::Model;
 
 /// The errors that `select` gives, in order. A contract sees the list of the messages that are
 /// left.
-#[derive(Drop)]
+#[derive(Debug, Drop)]
 pub struct Select<'a> {
     errors: ReportIter<'a>,
     way: &'a [&'a str],

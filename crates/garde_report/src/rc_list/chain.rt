@@ -8,12 +8,13 @@ use std::rc::Rc;
 /// Items, each in a node that leads to the one before it. Nothing changes a node that another
 /// chain may share.
 #[cycle(chain)]
+#[derive(Debug)]
 pub(super) struct Chain<T> {
     last: Option<Rc<Node<T>>>,
 }
 
 #[cycle(chain)]
-#[derive(Drop)]
+#[derive(Debug, Drop)]
 struct Node<T> {
     before: Chain<T>,
     value: T,

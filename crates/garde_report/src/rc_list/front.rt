@@ -5,7 +5,7 @@ use super::chain::Chain;
 use std::marker::Model;
 
 /// The first items of a list, whose nodes it borrows.
-#[derive(Drop)]
+#[derive(Debug, Drop)]
 pub(crate) struct Front<'a, T> {
     chain: &'a Chain<T>,
     count: usize,

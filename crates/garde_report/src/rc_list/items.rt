@@ -7,7 +7,7 @@ use super::front::Front;
 use std::marker::Model;
 
 /// The items of a list, from the last to the first. A contract sees the list of those that are left.
-#[derive(Drop)]
+#[derive(Debug, Drop)]
 pub struct Iter<'a, T> {
     rest: Front<'a, T>,
 }
