@@ -34,7 +34,7 @@ pub trait FromParts: Drop {
 /// by `PhantomData::<&Line<'_>>`. No fault is added. What the rules ask is known of the parts of the
 /// value. Around members, as in `Built((Member(..), Member(..)), PhantomData)`, it stands among those of
 /// another object, as the members of a field under `flatten` do.
-#[derive(Clone, Copy)]
+#[derive(Clone, Copy, Debug)]
 pub struct Built<'a, F, T>(pub F, pub PhantomData<&'a T>);
 
 impl<'a, T: FromParts, F: Form<'a, Out = T::Parts>> Form<'a> for Built<'a, F, T> {

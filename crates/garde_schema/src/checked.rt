@@ -20,7 +20,7 @@ use std::alloc::AllocError;
 /// form none is. Their faults stand where the form stands, or under a member's name by `Under`.
 /// Around a few members, as in `Object((Checked((a, b), rules), c))`, the rules are asked where these
 /// members have their form, whatever the others have.
-#[derive(Clone, Copy)]
+#[derive(Clone, Copy, Debug)]
 pub struct Checked<F, R>(pub F, pub R);
 
 // Asks the rules of the value, where there is one.
@@ -94,7 +94,7 @@ impl<'a, M: Members<'a>, R: Rules<M::Out>> Members<'a> for Checked<M, R> {
 
 /// These rules, whose faults stand under this name: `Checked(form, Under("confirm", rules))` reports
 /// at the member `confirm` what the rules find in the whole.
-#[derive(Clone, Copy)]
+#[derive(Clone, Copy, Debug)]
 pub struct Under<R>(pub &'static str, pub R);
 
 impl<T, R: Rules<T>> Rules<T> for Under<R> {

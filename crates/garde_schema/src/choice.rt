@@ -18,7 +18,7 @@ use std::alloc::AllocError;
 /// So an enum is read that is `untagged` for serde, for instance
 /// `Choice(Kind::List, List(Text(())), Text(()))`: many texts or one. Serde tries one variant after the
 /// other; here the test chooses the variant, and what does not fit it is a fault.
-#[derive(Clone, Copy)]
+#[derive(Clone, Copy, Debug)]
 pub struct Choice<T, A, B>(pub T, pub A, pub B);
 
 // The first where the test holds, and else the second.

@@ -13,7 +13,7 @@ use std::alloc::AllocError;
 
 /// These members and no other: each that is not named is a fault under its name, after the faults of
 /// the named, in the order of the tree.
-#[derive(Clone, Copy)]
+#[derive(Clone, Copy, Debug)]
 pub struct Closed<M>(pub M);
 
 // Puts a fault under the name of a member that is not named.

@@ -56,7 +56,7 @@ fn decimal_of<'a>(tree: &Tree<'_, 'a>) -> Option<Decimal<'a>>
 ///
 /// A value that is no number is `not a number`, and so is one whose exponent's digits do not fit 64
 /// bits.
-#[derive(Clone, Copy)]
+#[derive(Clone, Copy, Debug)]
 pub struct DecimalNumber<R>(pub R);
 
 impl<'a, R: Rules<Decimal<'a>>> Form<'a> for DecimalNumber<R> {

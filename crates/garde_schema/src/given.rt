@@ -15,7 +15,7 @@ use std::marker::PhantomData;
 ///
 /// Where the compiler does not find the type of the value from the use, name it by
 /// `PhantomData::<&Items<TextRef<'_>>>`. `Closed` does not know a member of the field's name.
-#[derive(Clone, Copy)]
+#[derive(Clone, Copy, Debug)]
 pub struct Given<'a, M, T>(pub M, pub PhantomData<&'a T>);
 
 impl<'a, T: Drop, M: Makes<T>> Members<'a> for Given<'a, M, T> {

@@ -17,7 +17,7 @@ use std::alloc::AllocError;
 ///
 /// The value is `None` where no member of the object has a name that is asked for. Where one has, all
 /// are read, and one that is missing or has another form is a fault. `serde` reads `None` there.
-#[derive(Clone, Copy)]
+#[derive(Clone, Copy, Debug)]
 pub struct IfAny<M>(pub M);
 
 // Whether none of these members is asked for.

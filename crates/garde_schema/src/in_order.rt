@@ -46,7 +46,7 @@ fn item_in<'t, 'a>(tree: &Tree<'t, 'a>, index: usize) -> Found<'t, 'a>
 }
 
 /// An item that must be there, in an `InOrder`: its index and its form.
-#[derive(Clone, Copy)]
+#[derive(Clone, Copy, Debug)]
 pub struct Nth<F>(pub usize, pub F);
 
 #[tactic(auto, unfolding(garde::specs::Visits::Known))]
@@ -131,7 +131,7 @@ fn check_count<'t, 'a, H: I18n + FormI18n>(
 ///
 /// An item that is missing is a fault under its index. Of a list with more items there is one fault,
 /// under the index of the first that is not known.
-#[derive(Clone, Copy)]
+#[derive(Clone, Copy, Debug)]
 pub struct InOrder<M>(pub usize, pub M);
 
 // Reads these items, which are those of the tree.

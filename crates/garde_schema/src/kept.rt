@@ -77,7 +77,7 @@ fn put_memory<'a, H: I18n>(
 
 /// Whatever there is. It is kept as a `KeptValue`, which allocates for each list and each object that
 /// is not empty. `Any` reads nothing.
-#[derive(Clone, Copy)]
+#[derive(Clone, Copy, Debug)]
 pub struct Kept;
 
 impl<'a> Form<'a> for Kept {

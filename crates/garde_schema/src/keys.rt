@@ -22,7 +22,7 @@ use std::alloc::AllocError;
 /// The rules are asked after all of the map, and only where it has its form: no value has another
 /// form, and no name is repeated. What they find in a name is under that name, as the faults of its
 /// value are.
-#[derive(Clone, Copy)]
+#[derive(Clone, Copy, Debug)]
 pub struct Keys<C, F, R>(pub MapUnder<C, F>, pub R);
 
 // Asks the rules of each name, under itself.

@@ -92,7 +92,7 @@ pub(crate) fn read_items<'t, 'a, F: Form<'a>, H: I18n + FormI18n>(
 
 /// A list whose items have this form. The value is the list of theirs. An item of another form is a
 /// fault under its index, and the other items are read.
-#[derive(Clone, Copy)]
+#[derive(Clone, Copy, Debug)]
 pub struct List<F>(pub F);
 
 impl<'a, F: Form<'a>> Form<'a> for List<F> {

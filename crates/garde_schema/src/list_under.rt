@@ -49,7 +49,7 @@ fn read_counted<'t, 'a, R: Rules<Count>, F: Form<'a>, H: I18n + FormI18n>(
 ///
 /// The rules are asked before the items are read, also where an item has another form. Rules of the
 /// values (`Unique`, `Each`) stand around the list, in `Checked`.
-#[derive(Clone, Copy)]
+#[derive(Clone, Copy, Debug)]
 pub struct ListUnder<R, F>(pub R, pub F);
 
 impl<'a, R: Rules<Count>, F: Form<'a>> Form<'a> for ListUnder<R, F> {

@@ -37,7 +37,7 @@ impl<'a> Makes<TextRef<'a>> for &'a str {
 }
 
 /// Makes the `Items` without a value and the `Entries` without a member.
-#[derive(Clone, Copy)]
+#[derive(Clone, Copy, Debug)]
 pub struct Empty;
 
 impl<T> Makes<Items<T>> for Empty {

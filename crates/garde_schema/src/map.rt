@@ -109,7 +109,7 @@ pub(crate) fn read_entries<'t, 'a, F: Form<'a>, H: I18n + FormI18n>(
 /// An object with any members, whose values have this form. The value is the list of their names and
 /// values, in the order of the text. Where a name came before it is a fault under that name, each
 /// time, and the value there is not read.
-#[derive(Clone, Copy)]
+#[derive(Clone, Copy, Debug)]
 pub struct Map<F>(pub F);
 
 impl<'a, F: Form<'a>> Form<'a> for Map<F> {

@@ -52,7 +52,7 @@ fn read_counted<'t, 'a, R: Rules<Count>, F: Form<'a>, H: I18n + FormI18n>(
 ///
 /// The rules are asked before the values are read, also where a value has another form or a name is
 /// repeated. Rules of the names (`Keys`) stand around the map.
-#[derive(Clone, Copy)]
+#[derive(Clone, Copy, Debug)]
 pub struct MapUnder<R, F>(pub R, pub F);
 
 impl<'a, R: Rules<Count>, F: Form<'a>> Form<'a> for MapUnder<R, F> {

@@ -38,7 +38,7 @@ pub(crate) fn read_found<'t, 'a, F: Form<'a>, H: I18n + FormI18n>(
 }
 
 /// A member that must be there: its name and its form.
-#[derive(Clone, Copy)]
+#[derive(Clone, Copy, Debug)]
 pub struct Member<'a, F>(pub &'a str, pub F);
 
 #[tactic(auto, unfolding(garde::specs::Visits::Known))]

@@ -49,7 +49,7 @@ pub trait FromNested: Drop {
 /// in, at any level.
 ///
 /// It is read by calls as deep as the objects nest. A text that nests deeper than 128 is not parsed.
-#[derive(Clone, Copy)]
+#[derive(Clone, Copy, Debug)]
 pub struct Nested<'a, M, T>(pub &'a str, pub M, pub PhantomData<&'a T>);
 
 // Reads an object of the form, closed or not.

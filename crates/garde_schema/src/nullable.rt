@@ -11,7 +11,7 @@ use garde_tape::Tree;
 use std::alloc::AllocError;
 
 /// A value of this form, or `null`. The value is an option, and `None` where `null` stands.
-#[derive(Clone, Copy)]
+#[derive(Clone, Copy, Debug)]
 pub struct Nullable<F>(pub F);
 
 impl<'a, F: Form<'a>> Form<'a> for Nullable<F> {

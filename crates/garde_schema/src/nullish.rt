@@ -16,7 +16,7 @@ use std::alloc::AllocError;
 
 /// A member that may be null or missing: its name and its form. The value is an option, and `None`
 /// in both cases, as a field of the type `Option` has it in serde.
-#[derive(Clone, Copy)]
+#[derive(Clone, Copy, Debug)]
 pub struct Nullish<'a, F>(pub &'a str, pub F);
 
 // What was found, where a member that is null counts as missing.

@@ -15,7 +15,7 @@ use garde_tape::Tree;
 use std::alloc::AllocError;
 
 /// An object with these members. The value is theirs.
-#[derive(Clone, Copy)]
+#[derive(Clone, Copy, Debug)]
 pub struct Object<M>(pub M);
 
 impl<'a, M: Members<'a>> Form<'a> for Object<M> {

@@ -23,7 +23,7 @@ use std::marker::PhantomData;
 ///
 /// A name of no variant is a fault under it, and its value is not looked at. An object with no member
 /// or with several is a fault, as is a value that is no object. The value is that of the variant.
-#[derive(Clone, Copy)]
+#[derive(Clone, Copy, Debug)]
 pub struct OneMember<'a, V>(pub V, pub PhantomData<&'a str>);
 
 // The name of the only member, or what is wrong with a tree that has none or several.

@@ -19,7 +19,7 @@ use std::alloc::AllocError;
 /// `OneOf(&[("post", Delivery::Post), ("counter", Delivery::Counter)])`.
 ///
 /// Of a text that stands there twice the first value counts. A text that is not there is a fault.
-#[derive(Clone, Copy)]
+#[derive(Clone, Copy, Debug)]
 pub struct OneOf<'n, V>(pub &'n [(&'n str, V)]);
 
 // The value that stands beside this text.
@@ -82,7 +82,7 @@ impl<'a, 'n, V: Copy + Drop> Form<'a> for OneOf<'n, V> {
 /// `OneOfOr(&[("post", Delivery::Post)], Delivery::Unknown)`.
 ///
 /// Of a text that stands there twice the first value counts. What is no text is a fault.
-#[derive(Clone, Copy)]
+#[derive(Clone, Copy, Debug)]
 pub struct OneOfOr<'n, V>(pub &'n [(&'n str, V)], pub V);
 
 // The value that the text of a tree stands for, and this one for another text.

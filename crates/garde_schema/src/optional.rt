@@ -18,7 +18,7 @@ use std::alloc::AllocError;
 
 /// A member that may be missing: its name and its form. The value is an option, and `None` where the
 /// member is missing. `null` is no missing member.
-#[derive(Clone, Copy)]
+#[derive(Clone, Copy, Debug)]
 pub struct Optional<'a, F>(pub &'a str, pub F);
 
 // The value, as one that is there.

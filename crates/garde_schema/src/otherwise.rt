@@ -10,7 +10,7 @@ use std::alloc::AllocError;
 
 /// A variant of every name, with these members. It stands behind those that have one, as serde reads a
 /// variant with `#[serde(other)]`: `Tagged("kind", (Variant("card", card), Otherwise(Member("kind", Any))))`.
-#[derive(Clone, Copy)]
+#[derive(Clone, Copy, Debug)]
 pub struct Otherwise<M>(pub M);
 
 impl<'a, M: Members<'a>> Variants<'a> for Otherwise<M> {

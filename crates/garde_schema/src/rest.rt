@@ -23,7 +23,7 @@ use std::alloc::AllocError;
 ///
 /// The value is that of the members beside the names and values of the others, in the order of the
 /// text. Where a name of these came before it is a fault under that name, each time, as in `Map`.
-#[derive(Clone, Copy)]
+#[derive(Clone, Copy, Debug)]
 pub struct Rest<M, F>(pub M, pub F);
 
 // The next member whose name is not asked for.

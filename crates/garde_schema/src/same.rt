@@ -13,7 +13,7 @@ use std::alloc::AllocError;
 /// The first of two variants that has the name, where both have a value of the same type. So a variant
 /// is read under a further name, as serde reads one with an `alias`:
 /// `Same(Member("card", card), Member("credit", card))`.
-#[derive(Clone, Copy)]
+#[derive(Clone, Copy, Debug)]
 pub struct Same<A, B>(pub A, pub B);
 
 impl<'a, A: Variants<'a>, B: Variants<'a, Out = A::Out>> Variants<'a> for Same<A, B> {

@@ -16,7 +16,7 @@ use garde_tape::Tree;
 use std::alloc::AllocError;
 
 /// `true` or `false`.
-#[derive(Clone, Copy)]
+#[derive(Clone, Copy, Debug)]
 pub struct Flag;
 
 impl<'a> Form<'a> for Flag {
@@ -42,7 +42,7 @@ impl<'a> Form<'a> for Flag {
 }
 
 /// `null`.
-#[derive(Clone, Copy)]
+#[derive(Clone, Copy, Debug)]
 pub struct Null;
 
 // The value of `null`.
@@ -76,7 +76,7 @@ impl<'a> Form<'a> for Null {
 }
 
 /// Whatever there is. It is not read.
-#[derive(Clone, Copy)]
+#[derive(Clone, Copy, Debug)]
 pub struct Any;
 
 impl<'a> Form<'a> for Any {

@@ -23,7 +23,7 @@ use std::alloc::AllocError;
 ///
 /// A tag that is missing, repeated, no text or no name of a variant is a fault under its name. Then
 /// nothing else is asked of the object. The value is that of the variant.
-#[derive(Clone, Copy)]
+#[derive(Clone, Copy, Debug)]
 pub struct Tagged<'a, V>(pub &'a str, pub V);
 
 // The variant of this name, or this fault.

@@ -44,7 +44,7 @@ impl<'n, V: Copy> Test for OneOf<'n, V> {
 }
 
 /// The value is a whole number of any size, written by digits alone, perhaps behind a minus.
-#[derive(Clone, Copy)]
+#[derive(Clone, Copy, Debug)]
 pub struct IsWhole;
 
 impl Test for IsWhole {
@@ -56,7 +56,7 @@ impl Test for IsWhole {
 }
 
 /// The value is a whole number without a sign that a `u64` holds.
-#[derive(Clone, Copy)]
+#[derive(Clone, Copy, Debug)]
 pub struct IsUnsigned;
 
 impl Test for IsUnsigned {
@@ -68,7 +68,7 @@ impl Test for IsUnsigned {
 }
 
 /// The value is an object with a member of this name, once or more often.
-#[derive(Clone, Copy)]
+#[derive(Clone, Copy, Debug)]
 pub struct Has<'n>(pub &'n str);
 
 impl<'n> Test for Has<'n> {
@@ -81,7 +81,7 @@ impl<'n> Test for Has<'n> {
 
 /// The value is an object with a member of this name, of whose value the test holds. Of several such
 /// members the last is asked.
-#[derive(Clone, Copy)]
+#[derive(Clone, Copy, Debug)]
 pub struct HasWith<'n, T>(pub &'n str, pub T);
 
 impl<'n, T: Test> Test for HasWith<'n, T> {
@@ -105,7 +105,7 @@ impl<A: Test, B: Test> Test for (A, B) {
 }
 
 /// One of two tests holds, or both.
-#[derive(Clone, Copy)]
+#[derive(Clone, Copy, Debug)]
 pub struct AnyOf<A, B>(pub A, pub B);
 
 impl<A: Test, B: Test> Test for AnyOf<A, B> {
@@ -117,7 +117,7 @@ impl<A: Test, B: Test> Test for AnyOf<A, B> {
 }
 
 /// The test does not hold.
-#[derive(Clone, Copy)]
+#[derive(Clone, Copy, Debug)]
 pub struct Not<T>(pub T);
 
 impl<T: Test> Test for Not<T> {

@@ -26,7 +26,7 @@ fn text_of<'a>(tree: &Tree<'_, 'a>) -> Option<TextRef<'a>>
 }
 
 /// A text under these rules.
-#[derive(Clone, Copy)]
+#[derive(Clone, Copy, Debug)]
 pub struct Text<R>(pub R);
 
 impl<'a, R: Rules<TextRef<'a>>> Form<'a> for Text<R> {

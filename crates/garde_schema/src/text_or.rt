@@ -16,7 +16,7 @@ use std::alloc::AllocError;
 /// So an enum is read of which some variants have fields and others have none, as serde writes it by
 /// default: `"cash"` or `{"card": {..}}` by
 /// `TextOr(OneOf(&[("cash", Payment::Cash)]), OneMember(Member("card", card), PhantomData))`.
-#[derive(Clone, Copy)]
+#[derive(Clone, Copy, Debug)]
 pub struct TextOr<A, B>(pub A, pub B);
 
 // The first where the tree is a text, and else the second.

@@ -70,7 +70,7 @@ pub trait Variants<'a> {
 }
 
 /// A variant: its name, and the members of an object that has it.
-#[derive(Clone, Copy)]
+#[derive(Clone, Copy, Debug)]
 pub struct Variant<'n, M>(pub &'n str, pub M);
 
 impl<'a, 'n, M: Members<'a>> Variants<'a> for Variant<'n, M> {

@@ -84,7 +84,7 @@ fn put_other<'t, 'a, N: WholeType, R: NumberRules<N::Number>, H: I18n + FormI18n
 /// It is written by digits alone, perhaps behind a minus: `18.0`, `1e2` and `-0` are no whole numbers.
 /// Of a number that the type does not hold, the first bound of the rules that it is beyond is
 /// reported, as `lower than 18` of -1. Where it is beyond none, `out of range: 0 to 255` is.
-#[derive(Clone, Copy)]
+#[derive(Clone, Copy, Debug)]
 pub struct Whole<N, R>(pub N, pub R);
 
 impl<'a, N: WholeType, R: NumberRules<N::Number>> Form<'a> for Whole<N, R> {

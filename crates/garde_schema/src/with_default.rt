@@ -21,7 +21,7 @@ use std::alloc::{AllocError, Global};
 ///
 /// No rule is asked of that value. A member that is there and has another form is a fault, also where
 /// it is `null`.
-#[derive(Clone, Copy)]
+#[derive(Clone, Copy, Debug)]
 pub struct WithDefault<'a, F, M>(pub &'a str, pub F, pub M);
 
 // The value that was read, and the default where none was there.

@@ -8,7 +8,7 @@ use crate::fault::Integer;
 use garde_tape::Tree;
 
 /// `i8`.
-#[derive(Clone, Copy)]
+#[derive(Clone, Copy, Debug)]
 pub struct I8;
 
 impl WholeType for I8 {
@@ -34,7 +34,7 @@ impl WholeType for I8 {
 }
 
 /// `i16`.
-#[derive(Clone, Copy)]
+#[derive(Clone, Copy, Debug)]
 pub struct I16;
 
 impl WholeType for I16 {
@@ -60,7 +60,7 @@ impl WholeType for I16 {
 }
 
 /// `i32`.
-#[derive(Clone, Copy)]
+#[derive(Clone, Copy, Debug)]
 pub struct I32;
 
 impl WholeType for I32 {
@@ -86,7 +86,7 @@ impl WholeType for I32 {
 }
 
 /// `i64`.
-#[derive(Clone, Copy)]
+#[derive(Clone, Copy, Debug)]
 pub struct I64;
 
 impl WholeType for I64 {
@@ -112,7 +112,7 @@ impl WholeType for I64 {
 }
 
 /// `isize`.
-#[derive(Clone, Copy)]
+#[derive(Clone, Copy, Debug)]
 pub struct Isize;
 
 impl WholeType for Isize {

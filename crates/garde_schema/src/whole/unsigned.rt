@@ -8,7 +8,7 @@ use crate::fault::Integer;
 use garde_tape::Tree;
 
 /// `u8`.
-#[derive(Clone, Copy)]
+#[derive(Clone, Copy, Debug)]
 pub struct U8;
 
 impl WholeType for U8 {
@@ -34,7 +34,7 @@ impl WholeType for U8 {
 }
 
 /// `u16`.
-#[derive(Clone, Copy)]
+#[derive(Clone, Copy, Debug)]
 pub struct U16;
 
 impl WholeType for U16 {
@@ -60,7 +60,7 @@ impl WholeType for U16 {
 }
 
 /// `u32`.
-#[derive(Clone, Copy)]
+#[derive(Clone, Copy, Debug)]
 pub struct U32;
 
 impl WholeType for U32 {
@@ -86,7 +86,7 @@ impl WholeType for U32 {
 }
 
 /// `u64`.
-#[derive(Clone, Copy)]
+#[derive(Clone, Copy, Debug)]
 pub struct U64;
 
 impl WholeType for U64 {
@@ -112,7 +112,7 @@ impl WholeType for U64 {
 }
 
 /// `usize`.
-#[derive(Clone, Copy)]
+#[derive(Clone, Copy, Debug)]
 pub struct Usize;
 
 impl WholeType for Usize {

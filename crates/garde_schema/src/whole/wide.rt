@@ -116,7 +116,7 @@ fn signed(text: &[u8]) -> Option<i128>
 }
 
 /// `u128`.
-#[derive(Clone, Copy)]
+#[derive(Clone, Copy, Debug)]
 pub struct U128;
 
 impl WholeType for U128 {
@@ -142,7 +142,7 @@ impl WholeType for U128 {
 }
 
 /// `i128`.
-#[derive(Clone, Copy)]
+#[derive(Clone, Copy, Debug)]
 pub struct I128;
 
 impl WholeType for I128 {
