@@ -20,7 +20,7 @@ use std::alloc::{AllocError, Global};
 ///
 /// The handler is asked for the text of what is wrong, by a code without a parameter:
 /// `template_place_unknown`, `template_place_missing` or `template_brace_stray`.
-#[derive(Clone, Copy)]
+#[derive(Clone, Copy, Debug)]
 pub struct IsTextOf(pub Key);
 
 impl<'a> Rule<TextRef<'a>> for IsTextOf {
@@ -39,7 +39,7 @@ impl<'a> Rule<TextRef<'a>> for IsTextOf {
 ///
 /// `Object(Closed(TableTexts::all()))` is the form of a whole table, in which each other name is a
 /// fault too.
-#[derive(Clone, Copy)]
+#[derive(Clone, Copy, Debug)]
 pub struct TableTexts {
     /// Whether a key may be missing.
     pub may_lack: bool,

@@ -83,7 +83,7 @@ fn first_place(text: &str) -> Result<Option<(&str, &str, &str)>, TemplateFault>
 }
 
 /// What was seen of the places of a text.
-#[derive(Clone, Copy)]
+#[derive(Clone, Copy, Debug)]
 pub struct Seen {
     all_known: bool,
     has_first: bool,
@@ -179,7 +179,7 @@ fn push_value(whole: &mut String, value: Value<'_>) -> Result<(), AllocError>
 }
 
 /// What is put in the places of a template.
-#[derive(Clone, Copy)]
+#[derive(Clone, Copy, Debug)]
 pub enum Put<'v, 'o> {
     /// This, in each place.
     One(Value<'v>),

@@ -9,7 +9,7 @@ use std::alloc::Global;
 use std::io::Read;
 
 /// A source, and the bytes that were read of it and not yet given.
-#[derive(Drop)]
+#[derive(Debug, Drop)]
 pub(crate) struct Bytes<R> {
     pub(crate) source: R,
     pub(crate) buffer: Box<[u8; 8192]>,

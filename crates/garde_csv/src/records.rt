@@ -66,7 +66,7 @@ fn finished(walk: Walk, raw: ByteRecord, cells: &mut StringRecord) -> Next
 /// The records of a list in CSV, one after the other. Cells are parted by commas. A record ends with
 /// a line feed, a carriage return, both, or the list. Empty lines are no records, and a byte order
 /// mark at the beginning of the list belongs to no cell.
-#[derive(Drop)]
+#[derive(Debug, Drop)]
 pub struct Records<R> {
     alloc: Global,
     bytes: Bytes<R>,

@@ -8,7 +8,7 @@ use crate::text_type::{TextKind, TextType};
 use garde_schema::Wanted;
 
 /// A text of one character, as `str::parse` reads a `char`: `Parsed(Character, ())`.
-#[derive(Clone, Copy)]
+#[derive(Clone, Copy, Debug)]
 pub struct Character;
 
 impl TextType for Character {

@@ -12,7 +12,7 @@ use std::alloc::AllocError;
 
 /// A value of this form, or the empty text, as a browser sends a field that is not filled in. The
 /// value is an option, and `None` where the empty text stands.
-#[derive(Clone, Copy)]
+#[derive(Clone, Copy, Debug)]
 pub struct OrEmpty<F>(pub F);
 
 // Whether a tree is the empty text.

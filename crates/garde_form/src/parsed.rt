@@ -23,7 +23,7 @@ use std::alloc::{AllocError, Global};
 ///
 /// Of a number that the type does not hold, the first bound of the rules that it is beyond is reported,
 /// as `lower than 18` of -1. Where it is beyond none, `out of range: 0 to 255` is.
-#[derive(Clone, Copy)]
+#[derive(Clone, Copy, Debug)]
 pub struct Parsed<P, R>(pub P, pub R);
 
 // The text that a tree is.

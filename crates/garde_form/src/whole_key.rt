@@ -12,7 +12,7 @@ use std::alloc::Global;
 /// The rule that a text is a whole number of this type, as serde reads the name of a member: it has no
 /// plus, and no zero in front. So two names of a map are two numbers. Of another text this message is
 /// reported, which no handler changes: `Keys(map, Is(WholeKey("not a whole number from 0 to 255", U8)))`.
-#[derive(Clone, Copy)]
+#[derive(Clone, Copy, Debug)]
 pub struct WholeKey<'m, P>(pub &'m str, pub P);
 
 // Whether a text begins as JSON writes whole numbers.

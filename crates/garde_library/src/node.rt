@@ -22,7 +22,7 @@ pub const OBJECT: u8 = 8;
 /// A node of a JSON value. The nodes of a value are in the order of its text, so that what is in a list
 /// or in an object comes right behind it.
 #[repr(C)]
-#[derive(Clone, Copy, Drop)]
+#[derive(Clone, Copy, Debug, Drop)]
 pub struct Node {
     /// What begins here.
     pub kind: u8,

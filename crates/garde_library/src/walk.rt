@@ -12,7 +12,7 @@ use garde_tape::{Tape, Tree, TreeItems, TreeMembers};
 use std::alloc::{AllocError, Global};
 
 /// The nodes of a value, and the room for its texts with an escape.
-#[derive(Drop)]
+#[derive(Debug, Drop)]
 pub struct Nodes {
     pub nodes: Vec<Node>,
     pub room: Vec<u8>,

@@ -10,7 +10,7 @@ use garde_schema::Wanted;
 /// A text that writes a date and a time of day, as `jiff::civil::DateTime` reads it:
 /// `2026-11-25T22:15:30`. Without a time it is midnight. An offset other than `Z` and a time
 /// zone in brackets are read and left out.
-#[derive(Clone, Copy)]
+#[derive(Clone, Copy, Debug)]
 pub struct DateTime;
 
 impl TextType for DateTime {

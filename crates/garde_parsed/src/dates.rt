@@ -10,7 +10,7 @@ use garde_schema::Wanted;
 /// A text that writes a date, as `jiff::civil::Date` reads it: `2026-11-25`. A time of day may
 /// follow, with an offset other than `Z` and a time zone in brackets: they are read and left
 /// out.
-#[derive(Clone, Copy)]
+#[derive(Clone, Copy, Debug)]
 pub struct Date;
 
 impl TextType for Date {

@@ -12,7 +12,7 @@ use std::borrow::CowStr;
 ///
 /// It reads no bare value. So it reads in JSON what serde reads there: with `Layout::Any` the texts of
 /// the types of `jiff`, and with the others some of those of `chrono` and `time`, and no other text.
-#[derive(Clone, Copy)]
+#[derive(Clone, Copy, Debug)]
 pub struct InText<P>(pub P, pub Layout);
 
 impl<P: Parse> Parse for InText<P> {

@@ -14,7 +14,7 @@ use std::net::IpAddr;
 
 /// A text that writes an IP address of either version, as `std::net::IpAddr` reads it. Of another text
 /// with a colon it says that it is no IPv6 address, and of one without that it is no IPv4 address.
-#[derive(Clone, Copy)]
+#[derive(Clone, Copy, Debug)]
 pub struct Ip;
 
 // Whether a text has a colon.

@@ -10,7 +10,7 @@ use std::net::Ipv4Addr;
 
 /// A text that writes an IPv4 address, as `std::net::Ipv4Addr` reads it: four decimal numbers
 /// below 256 without leading zeros, and dots between them.
-#[derive(Clone, Copy)]
+#[derive(Clone, Copy, Debug)]
 pub struct Ipv4;
 
 impl TextType for Ipv4 {

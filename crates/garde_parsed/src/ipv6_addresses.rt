@@ -10,7 +10,7 @@ use std::net::Ipv6Addr;
 
 /// A text that writes an IPv6 address, as `std::net::Ipv6Addr` reads it: eight groups of
 /// hexadecimal digits, of which `::` may stand for some (RFC 4291, section 2.2).
-#[derive(Clone, Copy)]
+#[derive(Clone, Copy, Debug)]
 pub struct Ipv6;
 
 impl TextType for Ipv6 {

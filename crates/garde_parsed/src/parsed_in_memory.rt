@@ -14,7 +14,7 @@ use std::borrow::CowStr;
 
 /// A text that this parser reads, and these rules on the value, for instance
 /// `ParsedInMemory(Url, ())`. It may allocate, whatever the text is.
-#[derive(Clone, Copy)]
+#[derive(Clone, Copy, Debug)]
 pub struct ParsedInMemory<P, R>(pub P, pub R);
 
 // Reads no value of any text, and says of each what this parser says.

@@ -10,7 +10,7 @@ use garde_schema::Wanted;
 /// A text that writes a time of day, as `jiff::civil::Time` reads it: `22:15` or `22:15:30.5`.
 /// A date may stand before it, and an offset other than `Z` and a time zone in brackets behind
 /// it: they are read and left out.
-#[derive(Clone, Copy)]
+#[derive(Clone, Copy, Debug)]
 pub struct Time;
 
 impl TextType for Time {

@@ -9,7 +9,7 @@ use garde_schema::Wanted;
 
 /// A text that writes a moment, as `jiff::Timestamp` reads it: a date, a time of day and an
 /// offset from UTC, as `2026-11-25T22:15:30Z` (RFC 3339).
-#[derive(Clone, Copy)]
+#[derive(Clone, Copy, Debug)]
 pub struct Timestamp;
 
 impl TextType for Timestamp {

@@ -11,7 +11,7 @@ use std::alloc::{AllocError, Global};
 use std::borrow::CowStr;
 
 /// A text that writes an absolute URL, as `url::Url` reads it by the URL Standard, section 4.4.
-#[derive(Clone, Copy)]
+#[derive(Clone, Copy, Debug)]
 pub struct Url;
 
 impl ParseInMemory for Url {

@@ -9,7 +9,7 @@ use garde_schema::Wanted;
 
 /// A text that writes a UUID, as the crate `uuid` reads it: 32 hexadecimal digits, alone or
 /// with hyphens (RFC 9562, section 4); these with hyphens in braces, or behind `urn:uuid:`.
-#[derive(Clone, Copy)]
+#[derive(Clone, Copy, Debug)]
 pub struct Uuid;
 
 impl TextType for Uuid {

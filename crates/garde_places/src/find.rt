@@ -34,7 +34,7 @@ fn is_array(nodes: &[Node<'_>], at: usize) -> bool
 }
 
 /// An item of an array that was found before: walks to later items begin at it.
-#[derive(Clone, Copy, Drop)]
+#[derive(Clone, Copy, Debug, Drop)]
 pub(crate) struct Mark {
     /// The node of the first item.
     pub(crate) first: usize,

@@ -18,7 +18,7 @@ use std::fmt;
 /// The name of the file has the escapes of a property, as `%0A` for a line feed, and then those of
 /// `Escaped` of `garde_problem`. Path and message are those of `Short`, with the escapes of a message:
 /// `%25` for a percent sign. Printing allocates.
-#[derive(Clone, Copy)]
+#[derive(Clone, Copy, Debug)]
 pub struct GitHub<'a, 'r>(pub Global, pub &'a str, pub &'a Fault<'r>);
 
 impl fmt::Display for GitHub<'_, '_> {

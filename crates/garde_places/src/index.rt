@@ -19,7 +19,7 @@ const FEW: usize = 4;
 
 /// The names of the wide objects that were looked into, each with the value of its last member. They
 /// stand by the node of the first name of their object.
-#[derive(Drop)]
+#[derive(Debug, Drop)]
 pub(crate) struct Index<'a> {
     alloc: Global,
     /// How many look-ups walked along a wide object, up to `FEW`.

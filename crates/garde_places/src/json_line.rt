@@ -23,7 +23,7 @@ use std::fmt;
 /// `path` is the path as `Short` prints it, and `pointer` is a JSON Pointer (RFC 6901). The other texts
 /// are as they are, so a program reads them without loss. JSON writes no line feed, so each fault is one
 /// line. Printing allocates.
-#[derive(Clone, Copy)]
+#[derive(Clone, Copy, Debug)]
 pub struct JsonLine<'a, 'r>(pub Global, pub &'a str, pub &'a Fault<'r>);
 
 impl fmt::Display for JsonLine<'_, '_> {

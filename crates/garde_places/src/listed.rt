@@ -19,7 +19,7 @@ use std::marker::Model;
 
 /// The places of the values of a text in another format, as TOML, that was written as JSON. Whoever
 /// wrote it lists a place for each token of the JSON text. A contract sees the JSON text and the list.
-#[derive(Drop)]
+#[derive(Debug, Drop)]
 pub struct ListedPlaces<'t, 'a> {
     json: &'a str,
     nodes: &'t [Node<'a>],

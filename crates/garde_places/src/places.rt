@@ -14,7 +14,7 @@ use std::alloc::{AllocError, Global};
 use std::marker::Model;
 
 /// The places of the values of a JSON text. A contract sees the text.
-#[derive(Drop)]
+#[derive(Debug, Drop)]
 pub struct Places<'t, 'a> {
     // The list has the place of each token of the text itself.
     listed: ListedPlaces<'t, 'a>,

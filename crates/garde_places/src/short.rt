@@ -18,7 +18,7 @@ use std::fmt;
 /// Path and message are escaped as `Escaped` of `garde_problem` escapes them, and so is the name of the
 /// file, with a colon as `\u{3a}`. So each fault is one line, and a name can forge no place. Printing
 /// allocates.
-#[derive(Clone, Copy)]
+#[derive(Clone, Copy, Debug)]
 pub struct Short<'a, 'r>(pub Global, pub &'a str, pub &'a Fault<'r>);
 
 impl fmt::Display for Short<'_, '_> {

@@ -12,7 +12,7 @@ use std::alloc::Global;
 use std::marker::Model;
 
 /// The columns of a table, in the order of its header. A contract sees their names.
-#[derive(Drop)]
+#[derive(Debug, Drop)]
 pub struct Columns<'a> {
     pub(crate) header: &'a StringRecord,
 }

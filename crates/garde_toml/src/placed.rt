@@ -10,7 +10,7 @@ use std::alloc::Global;
 use toml_parser::ParseError;
 
 /// A TOML text as the text of a JSON document, and where in the TOML text its tokens stand.
-#[derive(Drop)]
+#[derive(Debug, Drop)]
 pub struct Placed {
     /// The JSON document.
     pub json: String,
