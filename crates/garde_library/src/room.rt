@@ -9,7 +9,6 @@ use std::{mem, ptr};
 /// pointer and a `bool`, which begins with all bytes 0: then there is no room yet, and the first check
 /// makes it. It is not `Drop`: `free` frees what it holds.
 #[repr(C)]
-#[derive(Debug)]
 pub struct Room {
     at: *mut (),
     full: bool,
