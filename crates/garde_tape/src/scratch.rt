@@ -1,8 +1,9 @@
 //! The room for reading a JSON text.
-ghost use Rattle.std.specs.Prelude.{◌≡◌, ◌+◌, ◌<◌, ◌≤◌, OnErr, OnOk};
+ghost use Rattle.std.specs.Prelude.{◌≡◌, ◌+◌, ◌<◌, ◌≤◌, IfOk, OnErr, OnOk};
 ghost use Rattle.json.specs.Scratch.{tape_room};
 
 use bumpalo::Bump;
+use json::Node;
 use std::alloc::{AllocError, Global};
 use std::fmt;
 
@@ -28,6 +29,20 @@ impl Scratch {
             texts: json::Scratch::new(alloc),
             nodes: Bump::new(alloc),
         }
+    }
+
+    /// Room for texts of so many bytes and for their tokens: none of them takes an allocation to be read.
+    pub fn with_room(alloc: Global, len: u32) -> Result<Scratch, AllocError>
+        ensures { IfOk result (λ scratch. len + 64 ≤ tape_room scratch.texts) }
+    {
+        // A list of tokens has room for four at least.
+        let tokens = (len as usize + 1).max(4);
+        let mut scratch = Scratch {
+            texts: json::Scratch::new(alloc),
+            nodes: Bump::try_with_capacity(alloc, tokens * size_of::<Node<'static>>())?,
+        };
+        scratch.reserve_tape(len)?;
+        Ok(scratch)
     }
 
     // The room for tokens, none of which is in use. An arena gives back the room of its last block where
