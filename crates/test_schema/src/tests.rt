@@ -31,6 +31,7 @@ mod own_texts;
 mod own_type;
 mod parsed;
 mod ported_forms;
+mod prepared;
 mod rows;
 mod signup;
 mod sizes;
