@@ -1,5 +1,5 @@
 -- How the bytes of a list are given, and what that leaves.
-use Rattle.std.proofs.Common.{◌≡◌, ◌<◌, ℕ, List, [], ◌∷◌, ◌++◌, take, drop, length, Option, Some, None, get_or, refl, sym, ◌∙◌, arith, true, false, ◌≤◌}
+use Rattle.std.proofs.Common.{◌≡◌, ◌<◌, ℕ, List, [], ◌∷◌, ◌++◌, take, drop, length, Option, Some, None, get_or, refl, sym, arith, true, false, ◌≤◌}
 use Rattle.std.proofs.lemmas.List.{append-nil, length-take}
 use borrow.Author.Tests.{eqb-true}
 use Rattle.std.specs.Prelude.{◌==◌, option_map, ⊤, if◌then◌else◌}
@@ -12,13 +12,6 @@ use Rattle.garde_csv.specs.Quotes.{Seen, seen_in}
 pub none-left : (left part : List ℕ) → part ≡ left → (length part == 0) ≡ true → left ≡ []
 none-left left [] e t = sym e
 none-left left (c ∷ rest) e t = let none : length (c ∷ rest) ≡ 0 = eqb-true (length (c ∷ rest)) 0 t in absurd (omega arith)
-
--- bytes that stay twice
-pub keeps-both : (a b c : Option (List ℕ)) → Keeps a b → Keeps b c → Keeps a c
-keeps-both None b c p q = tt
-keeps-both (Some x) None c p q = absurd p
-keeps-both (Some x) (Some y) None p q = absurd q
-keeps-both (Some x) (Some y) (Some z) p q = q ∙ p
 
 -- three bytes that are a byte order mark
 pub head-marked : (buf : List ℕ) → 3 ≤ length buf → is_bom (get_or buf 0 0) (get_or buf 1 0) (get_or buf 2 0) ≡ true
@@ -73,7 +66,3 @@ abbrev pub SeesOn : Seen → Option (List ℕ) → Seen → Option (List ℕ) �
 SeesOn a None b now = ⊤
 SeesOn a (Some xs) b None = ⊥
 SeesOn a (Some xs) b (Some ys) = seen_in a xs ≡ seen_in b ys
-
-pub sees-start : (a : Seen) (p : Option (List ℕ)) → SeesOn a p a p
-sees-start a None = tt
-sees-start a (Some xs) = refl

@@ -161,9 +161,6 @@ pub reads-both : (a b c : Seen) (f g h : List (List ℕ)) (x y z xs ys zs : List
 reads-both a b c f g h x y z xs ys zs true p q = λ rest. ((p rest).0 ∙ (q rest).0, (p rest).1 ∙ (q rest).1)
 reads-both a b c f g h x y z xs ys zs false p q = λ rest. ((p rest).0 ∙ (q rest).0, (p rest).1 ∙ (q rest).1)
 
-pub reads-start : (a : Seen) (f : List (List ℕ)) (x xs : List ℕ) → Reads a f x xs a f x xs false
-reads-start a f x xs = λ rest. (refl, refl)
-
 -- a run of bytes that only join the cell
 run-joins : (run : List ℕ) (s : Seen) (fields : List (List ℕ)) (field ys : List ℕ) → joins s.state ≡ true
     → ((k : ℕ) → k < length run → may_follow (get_or run k 0) ≡ false)

@@ -1,7 +1,7 @@
 -- How the reading of a record follows the bytes of its list.
 use Rattle.std.proofs.Common.{◌≡◌, ℕ, List, [], ◌∷◌, ◌++◌, Option, Some, None, refl, ap, ◌∙◌, true, false}
 use Rattle.std.specs.Prelude.{IfOk, MatchOption, Result, Ok, Err}
-use Rattle.std.specs.Io.KnownBytes.{IsAtEnd, Keeps, prepend_known}
+use Rattle.std.specs.Io.KnownBytes.{IsAtEnd, Keeps}
 use Rattle.csv.proofs.ReadFacts.{Tracks}
 use Rattle.csv.specs.Machine.{Read, ends_at_end, next_record}
 use Rattle.csv.specs.Reading.{default_config}
@@ -10,7 +10,6 @@ use Rattle.garde_csv.proofs.Feeding.{SeesOn}
 use Rattle.garde_csv.specs.Lists.{Gives, GivesNext, IsAnswer, TakesAt, TakesNext, list_state, next_line}
 use Rattle.garde_csv.specs.Places.{state_of}
 use Rattle.garde_csv.specs.Quotes.{Seen, seen_at_end, seen_in, seen_of, unbegun}
-use Rattle.garde_csv.specs.Steps.{Reads}
 use Rattle.garde_csv.specs.declared.list_error.ListError.{ListError}
 use Rattle.garde_csv.specs.declared.place.Place.{Place}
 use Rattle.garde_csv.specs.declared.records.Next.{Next}
@@ -21,31 +20,6 @@ use Rattle.garde_csv.specs.declared.walk.Walk.{Walk}
 -- the reading of the record that was begun at p, where q is left: what `csv` reads from here on, and what is seen from here on
 abbrev pub Follows : Seen → Option (List ℕ) → Seen → List (List ℕ) → List ℕ → Option (List ℕ) → Type 0
 Follows a p b fields field q = Tracks default_config a.state p b.state fields field q × SeesOn a p b q
-
--- reading on changes nothing
-pub follows-keep : (a b : Seen) (fields : List (List ℕ)) (field : List ℕ) (p q k : Option (List ℕ))
-    → Follows a p b fields field q → Keeps q k → Follows a p b fields field k
-follows-keep a b fields field None q k t h = (tt, tt)
-follows-keep a b fields field (Some xs) None k t h = absurd t.0
-follows-keep a b fields field (Some xs) (Some ys) None t h = absurd h
-follows-keep a b fields field (Some xs) (Some ys) (Some zs) t h = rw h t
-
--- a part of the text that does not end the record
-pub follows-part : (a b c : Seen) (fields fields2 : List (List ℕ)) (field field2 xs ys : List ℕ) (p k : Option (List ℕ))
-    → Follows a p b fields field (prepend_known xs k) → Reads b fields field xs c fields2 field2 ys false
-    → Follows a p c fields2 field2 (prepend_known ys k)
-follows-part a b c fields fields2 field field2 xs ys None k t h = (tt, tt)
-follows-part a b c fields fields2 field field2 xs ys (Some text) None t h = absurd t.0
-follows-part a b c fields fields2 field field2 xs ys (Some text) (Some rest) t h = (t.0 ∙ (h rest).0, t.1 ∙ (h rest).1)
-
--- a part of the text that ends the record
-pub follows-record : (a b : Seen) (w : Walk) (fields fields2 : List (List ℕ)) (field field2 xs ys : List ℕ) (p k : Option (List ℕ))
-    → Follows a p b fields field (prepend_known xs k) → Reads b fields field xs (seen_of w) fields2 field2 ys true
-    → TakesNext a p (prepend_known ys k) fields2 (Some w)
-follows-record a b w fields fields2 field field2 xs ys None k t h = tt
-follows-record a b w fields fields2 field field2 xs ys (Some text) None t h = absurd t.0
-follows-record a b w fields fields2 field field2 xs ys (Some text) (Some rest) t h =
-    rw (t.0 ∙ (h rest).0, t.1 ∙ (h rest).1) (refl, refl, refl, refl)
 
 -- the end of the list, which ends a record
 pub follows-last : (a b : Seen) (w : Walk) (fields fields2 : List (List ℕ)) (field : List ℕ) (p q k : Option (List ℕ))
