@@ -38,10 +38,6 @@ faults_stand_in_the_summary fields before e after = (once fields before e after,
 
 -- ---- beside a field
 
--- the pieces of one message
-message_pieces : List ℕ → List Written
-message_pieces message = markup plain.MESSAGE.now ∷ text message ∷ markup plain.MESSAGE_END.now ∷ []
-
 -- the message of a fault under the name is one of these
 abbrev IsListed : List ℕ → List (List ℕ) → Entry → Type 0
 IsListed name messages e = begins_with (name ∷ []) e.0 ≡ true → Contains (messages_pieces messages) (text e.1)

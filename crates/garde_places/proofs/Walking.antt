@@ -162,10 +162,6 @@ item_there (suc n) (item j js) rest i e =
     let later = item_there n js rest i e in
     (later.0, ap (drop (length (json_tokens j) + before_item n js)) (append_assoc (json_tokens j) (items_tokens js) rest) ∙ drop-append-add (json_tokens j) (items_tokens js ++ rest) (before_item n js) ∙ later.1)
 
-abbrev MemberThere : List ℕ → Members → List Token → Option Json → Type 0
-MemberThere name ms rest None = Unit {0}
-MemberThere name ms rest (Some i) = Spells (drop (before_member name ms) (members_tokens ms ++ rest)) i
-
 member_here : (c : Bool) (k : List ℕ) (j i : Json) (more : List Token) → cond c (Some j) None ≡ Some i → Spells (drop 1 (key k ∷ (json_tokens j ++ more))) i
 member_here true k j i more e = (more, drop_zero _ ∙ ap (λ v. json_tokens v ++ more) (Some_inj j i e))
 member_here false k j i more e = not_found i e
