@@ -1,8 +1,9 @@
 -- The readers of whole texts agree with the grammar of addresses.
-use Rattle.std.proofs.Common.{◌≡◌, refl, [], ◌∷◌, length, Some, None, option_map, sym, subst, ◌∙◌, append-nil, ne_eqb, arith, lit≤}
+use Rattle.std.proofs.Common.{◌≡◌, ◌↔◌, ℕ, List, refl, [], ◌∷◌, length, Option, Some, None, Result, Ok, Err, option_map, sym, subst, ◌∙◌, append-nil, ne_eqb, arith, lit≤}
 use Rattle.std.proofs.lemmas.Option.{none-some}
-use Rattle.garde_parsed.proofs.Options.{in_some}
-use Rattle.std.specs.Net.Grammar.{IsDotted, IsColonHex, IsIpv4Text, IsIpv6Text}
+use Rattle.std.specs.Result.{result_ok}
+use Rattle.garde_parsed.proofs.Options.{in_some, none_of}
+use Rattle.std.specs.Net.Grammar.{IsDotted, IsColonHex, IsIpv4Text, IsIpv6Text, Parses}
 use Rattle.std.specs.Net.Reader.{Read, whole_value, read_ipv4, read_ipv6}
 use Rattle.std.proofs.NetLemmas.Ipv4.{read_ipv4_sound, read_ipv4_complete}
 use Rattle.std.proofs.NetLemmas.Ipv6.{read_ipv6_sound, read_ipv6_complete, EndsGroups-nil}
@@ -30,3 +31,8 @@ ipv6_law text a = (
       (read_ipv6 text) refl a,
   λ spells. rw (rw append-nil at (read_ipv6_complete text _ [] spells EndsGroups-nil)),
 )
+
+-- the address that the standard library reads in a text, where a law says what each text spells
+pub read_by : {A E : Type 0} (Spells : List ℕ → A → Type 0) (of : List ℕ → Option A) → ((text : List ℕ) (a : A) → (of text ≡ Some a) ↔ Spells text a) → (text : List ℕ) (r : Result A E) → Parses Spells text r → result_ok r ≡ of text
+read_by Spells of law text (Ok a) is = sym ((law text a).1 is)
+read_by Spells of law text (Err e) never = none_of _ (λ a is. never a ((law text a).0 is))

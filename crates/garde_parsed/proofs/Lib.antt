@@ -2,9 +2,6 @@ mod Options
 mod AddressLaws
 mod InMemory
 mod Parts
-mod DateLaw
-mod TimeLaw
-mod DateTimeLaw
-mod TimestampLaw
+mod MomentLaws
 mod Colons
 mod Layouts

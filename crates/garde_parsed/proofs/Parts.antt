@@ -3,7 +3,7 @@ use Rattle.std.proofs.Common.{◌≡◌, ◌↔◌, ℕ, List, Bool, true, false
 use Rattle.std.specs.Prelude.{option_and_then}
 use Rattle.std.proofs.lemmas.Option.{none-some}
 use Rattle.std.proofs.lemmas.Bool.{true≢false}
-use Rattle.std.specs.Result.{result_map_both}
+use Rattle.std.specs.Result.{result_map_both, result_ok}
 use Rattle.garde_parsed.specs.Parts.{ok_of, where_true, value_of, PartsLaw}
 use Rattle.garde_parsed.proofs.Options.{in_some}
 
@@ -27,9 +27,7 @@ module _ {A B E : Type 0} (from : B → Option A) (parts : A → B) (parse : Lis
       by (Ok b) = (λ is. ap Ok (sym (these b a is)), λ is. ap (λ r. option_and_then from (ok_of r)) is ∙ back a)
       by (Err e) = (λ is. absurd (none-some a is), λ is. absurd (none-some a (ap (λ r. ok_of r) (ap (result_map_both (λ _. a) (λ e. e)) is))))
 
-  -- what a parser returned, which shows these parts
-  pub parsed_ok : PartsLaw from parts parse → (text : List ℕ) (a : A) → Ok (parts a) ≡ parse text → Some a ≡ value_of from parse text
-  parsed_ok law text a is = sym ((law text a).1 (sym is))
-
-  pub parsed_err : PartsLaw from parts parse → (text : List ℕ) (e : E) → Err e ≡ parse text → None ≡ value_of from parse text
-  parsed_err law text e is = ap (λ r. option_and_then from (ok_of r)) is
+  -- the value that a parser returned, which shows these parts
+  pub parsed : ((a : A) → from (parts a) ≡ Some a) → {F : Type 0} (text : List ℕ) (r : Result A F) (like : F → E) → result_map_both parts like r ≡ parse text → result_ok r ≡ value_of from parse text
+  parsed back text (Ok a) like is = sym (back a) ∙ ap (λ r. option_and_then from (ok_of r)) is
+  parsed back text (Err e) like is = ap (λ r. option_and_then from (ok_of r)) is

@@ -2,9 +2,6 @@ pub mod Addresses
 pub mod InMemory
 pub mod Urls
 pub mod Parts
-pub mod Dates
-pub mod Times
-pub mod DateTimes
-pub mod Timestamps
+pub mod Moments
 pub mod Layouts
 pub mod Spelling

@@ -18,12 +18,9 @@ use Rattle.garde_schema.specs.Whole.{number_visits}
 use Rattle.garde_form.specs.Parsed.{a_parsed}
 use Rattle.garde_form.specs.Texts.{unread}
 use Rattle.garde_parsed.specs.Addresses.{ip_of, ip_wanted, ipv4_of, ipv6_of}
-use Rattle.garde_parsed.specs.Dates.{date_of}
-use Rattle.garde_parsed.specs.DateTimes.{datetime_of}
 use Rattle.garde_parsed.specs.InMemory.{text_visits}
 use Rattle.garde_parsed.specs.Layouts.{laid_out}
-use Rattle.garde_parsed.specs.Times.{time_of}
-use Rattle.garde_parsed.specs.Timestamps.{timestamp_of}
+use Rattle.garde_parsed.specs.Moments.{date_of, datetime_of, time_of, timestamp_of}
 use Rattle.garde_parsed.specs.Urls.{url_of}
 use Rattle.garde_parsed.specs.declared.layout.Layout.{Layout}
 

@@ -2,10 +2,7 @@
 //!
 //! Each function does nothing. Its contract is the law, of every text and every value.
 ghost use Rattle.garde_parsed.specs.Addresses.{Ipv4Law, Ipv6Law};
-ghost use Rattle.garde_parsed.specs.DateTimes.{DateTimeLaw};
-ghost use Rattle.garde_parsed.specs.Dates.{DateLaw};
-ghost use Rattle.garde_parsed.specs.Times.{TimeLaw};
-ghost use Rattle.garde_parsed.specs.Timestamps.{TimestampLaw};
+ghost use Rattle.garde_parsed.specs.Moments.{DateLaw, DateTimeLaw, TimeLaw, TimestampLaw};
 
 /// `Ipv4` reads an address in a text exactly if the standard library's grammar says that the text
 /// writes this address.

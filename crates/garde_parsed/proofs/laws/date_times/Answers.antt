@@ -1,4 +1,4 @@
-use Rattle.garde_parsed.proofs.DateTimeLaw.{datetime_law}
+use Rattle.garde_parsed.proofs.MomentLaws.{datetime_law}
 use Rattle.garde_parsed.proofs.laws.date_times.Goals as goal
 
 pub returns : goal.returns

@@ -1,4 +1,4 @@
-use Rattle.garde_parsed.proofs.TimeLaw.{time_law}
+use Rattle.garde_parsed.proofs.MomentLaws.{time_law}
 use Rattle.garde_parsed.proofs.laws.times.Goals as goal
 
 pub returns : goal.returns

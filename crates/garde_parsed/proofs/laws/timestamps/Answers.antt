@@ -1,4 +1,4 @@
-use Rattle.garde_parsed.proofs.TimestampLaw.{timestamp_law}
+use Rattle.garde_parsed.proofs.MomentLaws.{timestamp_law}
 use Rattle.garde_parsed.proofs.laws.timestamps.Goals as goal
 
 pub returns : goal.returns
