@@ -1,16 +1,14 @@
 -- Lemmas on the reading of members of any names.
-use Rattle.std.proofs.Common.{◌≡◌, ℕ, ◌+◌, ◌<◌, ◌≤◌, Bool, true, false, List, [], ◌∷◌, length, map, drop, slice_index_or, Option, Some, None, Result, Ok, Err, refl, ap, sym, subst, ◌∙◌, arith, ⊎_elim}
-use Rattle.std.proofs.lemmas.Bool.{false≢true, cases_Bool}
+use Rattle.std.proofs.Common.{◌≡◌, ℕ, ◌+◌, ◌<◌, ◌≤◌, Bool, true, false, List, [], ◌∷◌, length, map, drop, slice_index_or, Option, Some, None, Result, Ok, Err, refl, ap, sym, subst, ◌∙◌, arith}
+use Rattle.std.proofs.lemmas.Bool.{false≢true}
 use Rattle.std.proofs.lemmas.List.{at_drop_more, drop_all, get_or-map, length-map}
 use Rattle.std.proofs.lemmas.List.Elements.{All-nil, All-head, All-tail}
-use Rattle.std.specs.BTreeSet.{BTreeSet, IsEmpty}
-use Rattle.std.specs.BTreeMap.{is_at}
+use Rattle.std.specs.BTreeSet.{BTreeSet}
 use Rattle.std.specs.Borrow.{Bor}
 use Rattle.std.specs.Cmp.Lexicographic.{slice_cmp}
-use Rattle.std.specs.List.{All, list_any}
+use Rattle.std.specs.List.{All}
 use Rattle.std.specs.Ordering.{nat_cmp, is_eq}
 use Rattle.std.proofs.lemmas.Map.Text.{is_eq-slice_cmp}
-use Rattle.std.proofs.lemmas.Slice.Eq.{bytes_eq-Decides}
 use Rattle.std.specs.Prelude.{IfOk, IfSome, bytes_eq, cond, ◌||◌, option_map}
 use Rattle.std.specs.Result.{IsErr, IsOk}
 use Rattle.garde_i18n.specs.Datum.{Datum}
@@ -24,7 +22,7 @@ use Rattle.garde.proofs.Author.{visited_stop, visited_as}
 use Rattle.garde_schema.specs.declared.fault.FormFault.TheVariants as faults
 use Rattle.garde_schema.specs.Forms.{FormTexts, forget, formed, refused, Sound}
 use Rattle.garde_schema.specs.Lists.{all_values, with_last}
-use Rattle.garde_schema.specs.Maps.{is_among, is_in_set, with_name, when_new, first_of_names, members_first, each_entry, entry_value, names_of}
+use Rattle.garde_schema.specs.Maps.{is_in_set, with_name, when_new, first_of_names, members_first, each_entry, entry_value, names_of}
 use Rattle.garde_schema.proofs.Lemmas.{refused_is_fault, told_as}
 use Rattle.garde_schema.proofs.Lists.{values_length, sound_first, refused_memory, more_memory, item_kept, item_refused, entry_then, entry_stop, entry_none}
 
@@ -43,25 +41,6 @@ names_end came left end = ap (λ l. first_of_names came l) end
 -- before the first member no name came
 pub names_first : (came : List ℕ → Bool) (ms : List (List ℕ × Json)) → ((name : List ℕ) → came name ≡ false) → first_of_names came ms ≡ members_first ms
 names_first came ms none = ap (λ f. first_of_names f ms) (λ i other. none other i)
-
--- no name is in an empty set
-pub not_in_empty : (names : BTreeSet (Bor (List ℕ))) (name : List ℕ) → IsEmpty names → is_in_set names name ≡ false
-not_in_empty names name empty = ap (λ s. list_any (is_at (λ k. slice_cmp nat_cmp name k.now)) s) empty
-
--- a name is among the few
-pub name_came : (name other : List ℕ) (few : List (Bor (List ℕ))) (others : Bool) → is_among few name ≡ true → (is_among few other || others) ≡ cond (bytes_eq name other) true (is_among few other || others)
-name_came name other few others came =
-    ⊎_elim
-    (λ same. rw (same) (ap (λ n. is_among few n || others) (sym ((bytes_eq-Decides name other).0 same)) ∙ ap (λ b. b || others) came))
-    (λ differs. rw (differs) refl)
-    (cases_Bool (bytes_eq name other))
-
--- a name is one more of the few
-pub name_new : (among is others : Bool) → ((among || (is || false)) || others) ≡ cond is true (among || others)
-name_new true true others = refl
-name_new true false others = refl
-name_new false true others = refl
-name_new false false others = refl
 
 -- a name was added to a set
 pub name_added : (name other : List ℕ) (among here : Bool) (old : BTreeSet (Bor (List ℕ))) → here ≡ cond (is_eq (slice_cmp nat_cmp name other)) true (is_in_set old other) → (among || here) ≡ cond (bytes_eq name other) true (among || is_in_set old other)
