@@ -14,31 +14,24 @@ from .scope import SIGNED, UNSIGNED, is_option, is_path, is_text
 from .quoted import BESIDE_CONTEXT
 from .rules import Attributes
 from .source import Item, Param, Type, all_rules, is_ported, named_type, with_doc, with_fields
+from .templates import TABLES, names
 from .tokens import Refusal, meant
 from .unions import Shapes, faults_of_tuple, is_other, is_tuple, is_unit, names_of as names_of_variant
 
 # What each type that borrows has of the derives.
 HAS = {"TextRef": ("Debug", "PartialEq", "Eq"), "Items": ("Debug",), "Entries": ("Debug",), "Url": ("Debug", "PartialEq"), DECIMAL: ("Debug",), KEPT: ("Debug",)}
-AT_TYPE = ("rename", "rename_all", "rename_all_fields", "deny_unknown_fields", "tag", "content", "untagged", "default", "transparent")
-AT_VARIANT = ("rename", "rename_all", "alias", "other", "skip_serializing")
-AT_FIELD = ("rename", "default", "flatten", "skip", "skip_deserializing", "skip_serializing", "skip_serializing_if", "borrow")
+AT = names("options of serde that a form reads")
 # Those of fields that a form of one's own reads.
 AT_OWN = ("alias", "with", "deserialize_with")
 # The attributes of serde that say nothing to what reads: how a value is written, bounds of an implementation, and a text of serde's own.
-SILENT = {
-    "type": ("into", "bound", "crate", "expecting"), "variant": ("serialize_with", "bound", "borrow"),
-    "field": ("serialize_with", "bound", "getter"), "": ("skip_serializing", "skip_serializing_if", "serialize_with", "bound", "rename", "borrow"),
-}
-WORDS_OF_SERDE = sorted({*AT_TYPE, *AT_VARIANT, *AT_FIELD, *(word for words in OPTIONS.values() for word in words)})
+SILENT = names("options of serde that say nothing to a form")
+WORDS_OF_SERDE = sorted({word for words in (*AT.values(), *OPTIONS.values()) for word in words})
 # What a derive asks for besides.
 ASKS = {"Copy": ("Clone",), "Eq": ("PartialEq",), "PartialOrd": ("PartialEq",), "Ord": ("Eq", "PartialOrd"), "Hash": ("Eq",)}
 # The attributes that change what a type is read of, whoever derives it.
 TURNING = ("serde_as", "serde_inline_default", "serde_conv")
 READ_BY_HAND = "see docs/guide/attributes.md#types-that-no-form-reads"
-RESERVED = (
-    "data record deriving module where use mod pub package open as unfoldable abbrev axiom unfold unfolding ruleset mutual infix "
-    "infixl infixr elim let in do coe fcoe tcoe hcom com"
-).split()
+RESERVED = TABLES["words of statements"].split()
 
 
 def is_read(item):
@@ -294,11 +287,11 @@ class Borrowed:
 
     def of_serde(self, item):
         """The attributes of serde that no form has."""
-        parts = [(item, "type", AT_TYPE)] + [(it, "variant", AT_VARIANT) for it in item.variants if item.kind == "enum"]
-        parts += [(it, *(("field", AT_FIELD) if it.name else ("", ()))) for it in fields_of(item)]
-        for part, place, known in parts:
+        parts = [(item, "type")] + [(it, "variant") for it in item.variants if item.kind == "enum"]
+        parts += [(it, "field" if it.name else "field without a name") for it in fields_of(item)]
+        for part, place in parts:
             for said in options(part).values():
-                if said.word not in (*known, *SILENT[place]):
+                if said.word not in (*AT.get(place, ()), *SILENT[place]):
                     way = ": say `--own` for a form of your own" if said.word in AT_OWN and place == "field" else meant(said.word, WORDS_OF_SERDE)
                     yield said.line, f"`{said.word}` of serde, of which `--schema` writes no form{way}"
                 elif said.word.startswith("rename_all") and reading_case(said) not in CASES:

@@ -1,4 +1,5 @@
 """Conditions of the build: whether what stands under `cfg` or `cfg_attr` is there."""
+from .tokens import Tokens
 
 # What holds for tests and for docs alone.
 NEVER = ("test", "doc", "doctest", "docsrs", "miri")
@@ -34,11 +35,8 @@ class Build:
 
 def deriving(tokens, at):
     """The features that a `cfg_attr` at this place names, where it derives `Deserialize`."""
-    depth, end = 0, at + 1
-    while end < len(tokens) - 1 and (depth or end == at + 1):
-        depth += {"(": 1, ")": -1}.get(tokens[end].text, 0) if tokens[end].kind == "mark" else 0
-        end += 1
-    words = [it.text for it in tokens[at:end]]
+    behind = Tokens(tokens[at + 1 :], "", None)
+    words = [it.text for it in behind.group().tokens] if behind.opens("(") else []
     if "Deserialize" not in words or "not" in words:
         return set()
     return {words[it + 2].strip('"') for it, word in enumerate(words[:-2]) if word == "feature" and words[it + 1] == "="}

@@ -5,19 +5,12 @@ import re
 from .expressions import ADDRESSES, CONTEXT, ITEM, VALUE, Expression, places_in, with_item
 from .layout import Chain, Word, head_of_method, holding, statement
 from .scope import SIGNED, UNSIGNED, Place, Scope, is_option, is_path, is_text, spoken
-from .templates import fill
+from .templates import fill, rows
 from .tokens import Refusal
 
 # What stands behind the name of a variant in a pattern that looks at nothing in it.
 SHAPES = {"unit": "", "tuple": "(..)", "named": " { .. }"}
-COMPARISONS = {
-    "==": "nat_eq {0} {1}", "!=": "not (nat_eq {0} {1})", "<": "nat_lt {0} {1}", "<=": "nat_le {0} {1}",
-    ">": "nat_lt {1} {0}", ">=": "nat_le {1} {0}",
-}
-SIGNED_COMPARISONS = {
-    "==": "int_eq {0} {1}", "!=": "not (int_eq {0} {1})", "<": "int_lt {0} {1}", "<=": "not (int_lt {1} {0})",
-    ">": "int_lt {1} {0}", ">=": "not (int_lt {0} {1})",
-}
+COMPARISONS = {mark: words.split(" | ") for mark, words in rows("comparisons of numbers, without a sign and with one").items()}
 
 # The types of the toolchain that are compared by their order, and the word that states each comparison.
 ORDERED = (("jiff", "civil", "Date"), ("jiff", "civil", "Time"), ("jiff", "civil", "DateTime"), ("jiff", "Timestamp"))
@@ -182,7 +175,7 @@ class Conditions:
             return ordered
         signed = any(map(self.is_signed, it.parts))
         (left, low), (right, high) = map(self.signed if signed else self.number, self.widened(it.parts))
-        spec = (SIGNED_COMPARISONS if signed else COMPARISONS)[it.kind].format(low, high)
+        spec = COMPARISONS[it.kind][signed].format(low, high)
         self.uses.words |= set(re.findall(r"\b(?:nat_eq|nat_lt|nat_le|int_eq|int_lt|not)\b", spec))
         return f"{left} {it.kind} {right}", f"({spec})"
 

@@ -2,6 +2,7 @@
 import re
 from dataclasses import dataclass
 
+from .templates import names, rows
 from .tokens import Refusal
 
 OWN = ("Clone", "Copy", "Debug", "Default", "Eq", "Hash", "Ord", "PartialEq", "PartialOrd")
@@ -9,25 +10,9 @@ SERDE = ("Deserialize", "Serialize")
 # The attributes that say nothing of values.
 SILENT = ("allow", "warn", "deny", "forbid", "expect", "must_use", "deprecated", "doc", "non_exhaustive", "repr", "rustfmt", "clippy", "diagnostic")
 # What the toolchain's serde reads at each place.
-OPTIONS = {
-    "type": (
-        "rename", "rename_all", "rename_all_fields", "deny_unknown_fields", "tag", "content", "untagged", "default",
-        "transparent", "expecting",
-    ),
-    "variant": ("rename", "alias", "rename_all", "skip", "skip_serializing", "skip_deserializing", "other"),
-    "field": (
-        "rename", "alias", "default", "flatten", "skip", "skip_serializing", "skip_deserializing", "skip_serializing_if", "borrow",
-    ),
-    "field without a name": ("borrow",),
-}
+OPTIONS = names("options of serde")
 # Why others are read nowhere.
-NOWHERE = {
-    **dict.fromkeys(
-        ("with", "serialize_with", "deserialize_with"), "whose functions take other arguments here: take it out, and write it by hand"
-    ),
-    "bound": "which names parameters here, as `bound(T)`: take it out, and write it by hand",
-    **dict.fromkeys(("from", "try_from", "into"), "which asks for an `impl` that the port leaves out"),
-}
+NOWHERE = rows("options of serde that are read nowhere")
 CASES = ("lowercase", "UPPERCASE", "PascalCase", "camelCase", "snake_case", "SCREAMING_SNAKE_CASE", "kebab-case", "SCREAMING-KEBAB-CASE")
 # The types that serde does not read and write here, and those that no `default()` makes, since they allocate.
 UNREAD = ("Rc", "PhantomData", "Duration", "Result", "LinkedList", "BinaryHeap", "Regex")

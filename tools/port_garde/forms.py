@@ -1,4 +1,6 @@
 """The walk of the types of a source by which their forms are written: as code, and as they are stated."""
+import functools
+
 from .borrowed import is_map, of_whole, within_option
 from .defaults import is_skipped
 from .derives import options
@@ -88,10 +90,7 @@ class Forms:
 
     def paired(self, name, forms):
         """Forms in pairs, of which the last holds those that are left."""
-        *front, whole = forms
-        for it in reversed(front):
-            whole = self.make(name, it, whole)
-        return whole
+        return nested(forms, functools.partial(self.make, name))
 
     def of_untagged(self, item):
         """A union whose variants are told apart by tests."""

@@ -11,31 +11,20 @@ from .names import of_field, reading
 from .prelude import declared
 from .scope import is_path
 from .source import Parser, Type, is_ported, named_type, with_doc, with_fields, with_variants
+from .templates import TABLES, names
 
 STD = ("std", "core", "alloc")
 # The crates whose types the port knows by their last names alone.
 LIBRARY = (*STD, "garde", "serde", "serde_derive", "regex")
 OWN_CRATE = ("crate", "self", "super")
 # Types of other crates that the port knows.
-KNOWN = {
-    "serde_json": ("Value", "Map", "Number", "RawValue"), "toml": ("Value", "Table", "Datetime"), "indexmap": ("IndexMap", "IndexSet"),
-    "linked_hash_map": ("LinkedHashMap",), "hashlink": ("LinkedHashMap", "LinkedHashSet"), "hashbrown": ("HashMap", "HashSet"),
-    "rustc_hash": ("FxHashMap", "FxHashSet"), "fxhash": ("FxHashMap", "FxHashSet"), "ahash": ("AHashMap", "AHashSet"),
-    "smallvec": ("SmallVec",), "thin_vec": ("ThinVec",), "smol_str": ("SmolStr",), "compact_str": ("CompactString",), "ecow": ("EcoString",),
-    "arcstr": ("ArcStr",), "bytestring": ("ByteString",), "uuid": ("Uuid",), "url": ("Url",), "semver": ("Version", "VersionReq"),
-    "http": ("Uri",), "camino": ("Utf8PathBuf", "Utf8Path"), "chrono": ("NaiveDate", "NaiveTime", "NaiveDateTime", "DateTime", "Utc", "FixedOffset", "Local", "Duration"),
-    "time": ("Date", "Time", "PrimitiveDateTime", "OffsetDateTime", "Duration"), "ordered_float": ("OrderedFloat", "NotNan"), "js_int": ("UInt", "Int"),
-    "arrayvec": ("ArrayVec", "ArrayString"),
-    "jiff": ("Date", "Time", "DateTime", "Timestamp", "Zoned", "Span", "SignedDuration"),
-}
+KNOWN = names("types of other crates")
 # The types that are read as what they hold.
 HOLDERS = ("Box", "Rc", "Arc", "Cow", "Cell", "RefCell", "Mutex", "RwLock", "Wrapping", "Saturating", "Reverse", "OrderedFloat", "NotNan")
 # The types that are read as another one, with so many arguments.
-LISTS, TEXTS = ("VecDeque", "LinkedList", "BinaryHeap", "ThinVec"), ("SmolStr", "CompactString", "EcoString", "ArcStr", "ByteString")
 ALIKE = {
-    **dict.fromkeys(("IndexMap", "LinkedHashMap", "FxHashMap", "AHashMap", "HashMap"), ("HashMap", 2)), "BTreeMap": ("BTreeMap", 2),
-    **dict.fromkeys(("IndexSet", "LinkedHashSet", "FxHashSet", "AHashSet", "HashSet"), ("HashSet", 1)), **dict.fromkeys(LISTS, ("Vec", 1)),
-    **dict.fromkeys(TEXTS, ("String", 0)),
+    name: (other.split()[0], int(other.split()[1]))
+    for other, alike in names("types that are read as another one, with so many arguments").items() for name in alike
 }
 BORROWED = {"Path": "PathBuf", "Utf8Path": "Utf8PathBuf", "str": "String"}
 # The types of std and of a form that the port goes by the names of: one of the file that has such a name gets another one.
@@ -43,11 +32,7 @@ BY_NAME = {
     "String", "Vec", "Option", "Cow", "Box", "Rc", "BTreeMap", "HashMap", "BTreeSet", "HashSet", "VecDeque", "LinkedList", "TextRef", "Items",
     "Entries",
 }
-KEYWORDS = frozenset(
-    "as break const continue crate else enum extern false fn for if impl in let loop match mod move mut pub ref return self Self static struct "
-    "super trait true type unsafe use where while async await dyn abstract become box do final macro override priv typeof unsized virtual "
-    "yield try gen ghost requires ensures".split()
-)
+KEYWORDS = frozenset(TABLES["keywords"].split())
 # The further names that no field has in a statement; behind them those that no variable of a pattern has.
 WORDS = KEYWORDS.union(RESERVED, ("Type",))
 OF_PATTERNS = WORDS.union(("yes", "no", "tt", "refl"))

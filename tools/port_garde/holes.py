@@ -10,6 +10,7 @@ from .derives import all_options, options
 from .rules import Rule
 from .scope import is_option, is_path, is_text
 from .source import Type, named_type, with_variants
+from .templates import TABLES
 from .tokens import Notes
 from .words import camel
 
@@ -18,16 +19,9 @@ PRIMITIVE = re.compile(r"[iu](?:8|16|32|64|128|size)|f32|f64|bool|char|str")
 BY_FUNCTION = ("with", "deserialize_with")
 BY_IMPL = ("from", "try_from", "remote")
 # The names that modules import, and that no hole has.
-IMPORTED = (
-    "AllocError Any AnyOf Asks AsksAs Built Checked Choice Closed Decimal DecimalMultiple DecimalNumber Dive Each Either Empty Entries Field FirstReadError Flag "
-    "Form FormI18n FromParts Given Global Has HasWith I18n IfAny IfSome InOrder Is IsUnsigned IsWhole Item Items Kept KeptValue Keys List ListUnder Makes Map "
-    "MapUnder Member Members Not Nth Null Nullable Nullish Object OneMember OneOf OneOfOr Otherwise ReadBody Report Rest Rule RuleError Rules Same Scratch Spelled "
-    "Stated Tagged Text TextOr TextRef Trail Tree Under Unique Valid Variant When Whole WithDefault"
-).split()
+IMPORTED = TABLES["names that modules import"].split()
 # The rules of a value that are asked of an option as a whole.
 WITHIN = ("required", "custom", "inner")
-# The skeletons of a hole: each value passes, and is kept as it was.
-# What the members of such a type spell, as its form states it.
 
 
 # What passes at a line though serde may reject it, with the name of the type of one's own that says what it is, if there is one.

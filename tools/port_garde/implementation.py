@@ -7,7 +7,7 @@ from .layout import Method, Word, arm, call, ghost, literal, statement, wide_cal
 from .rules import RULES
 from .scope import Place, Scope, Seen
 from .source import Param, all_rules
-from .templates import fill
+from .templates import TABLES, fill
 from .tokens import Refusal
 from .words import Checks, together
 
@@ -15,13 +15,7 @@ ORDINALS = ("first", "second", "third", "fourth", "fifth", "sixth")
 LETTERS = "abcdefgijklmnopqrst"
 # Names of the method's own, and words of the statements and of their language, which no binding may hide.
 OWN = ("trail", "report", "h", "self")
-STATED = (
-    "field item none is is_in_memory when if_some each_of_option each each_in_any_order each_value each_value_in_any_order "
-    "text_key index_part str slice range signed_range bytes chars graphemes utf16 items at_least at_most exactly between plus minus codes "
-    "asks asks_as all_of any_of length byte_count remainder quotient includes nat_eq nat_lt nat_le text_eq text_is not reference_to "
-    "yes no tt v x y z w u"
-).split()
-STATED += [*RESERVED, *(it.word or name for name, it in RULES.items() if it.code)]
+STATED = [*TABLES["words of what a walk states"].split(), *RESERVED, *(it.word or name for name, it in RULES.items() if it.code)]
 
 
 class Implementation:

@@ -8,7 +8,7 @@ from .names import of_field
 from .parsed import KNOWN
 from .scope import SIGNED, UNSIGNED, is_option, is_path, is_text
 from .source import is_ported
-from .templates import fill
+from .templates import fill, rows
 from .tokens import Refusal
 
 # What reads a type that holds no text and no map. The borrow checker wants the lifetime of the input in what a form makes, so the value
@@ -20,48 +20,11 @@ COLUMNS = "/// The columns of the table, which may stand in any order.\n"
 
 # An input: how it is called, the parameters beside the handler, the call that reads it, its error, and what the call promises of the spelling `S`.
 Input = namedtuple("Input", "told lives params call error answer value uses ghosts")
-BYTES = ("bytes: &'a [u8]", "scratch: &'a mut Scratch")
-OF_BYTES = ("Rattle.garde_schema.specs.Forms.{forget}", "Rattle.garde_tape.specs.Input.{without_mark}")
-INPUTS = {
-    "json": Input(
-        "in JSON", "'a", BYTES, "read_json(alloc, bytes, scratch, &{form}, h)", "ReadError",
-        ("AnswersBytes", "(λ j. {S}.visits (H.form_text h.now) j)", "(H.text h.now) (without_mark bytes.now) (forget result)"),
-        ("OfDocument (without_mark bytes.now)", "(λ j. {S}.value j ≡ Some v)"),
-        ("garde_schema::read_json", "garde_schema::ReadError", "garde_schema::Scratch"),
-        (*OF_BYTES, "Rattle.garde_schema.specs.Bytes.{AnswersBytes, OfDocument}"),
-    ),
-    "first of json": Input(
-        "in JSON", "'a", (*BYTES, "most: usize"), "read_json_first(alloc, bytes, scratch, &{form}, most, h)", "FirstReadError",
-        ("AnswersFirstBytes", "(λ j. {S}.visits (H.form_text h.now) j)", "(H.text h.now) most (without_mark bytes.now) (forget result)"),
-        ("OfDocument (without_mark bytes.now)", "(λ j. {S}.value j ≡ Some v)"),
-        ("garde_schema::read_json_first", "garde_schema::FirstReadError", "garde_schema::Scratch"),
-        (*OF_BYTES, "Rattle.garde_schema.specs.Bytes.{OfDocument}", "Rattle.garde_schema.specs.FirstRead.{AnswersFirstBytes}"),
-    ),
-    "web-form": Input(
-        "from the fields of a web form", "'a", ("fields: &'a [FormField<'_>]",), "read_form(alloc, fields, &lists, &{form}, h)", "ValidateError",
-        ("result ≢ Err ValidateError.Memory → OfForm {L} (field_texts fields.now)", "(λ j. Answers ({S}.visits (H.form_text h.now) j) (H.text h.now) (forget result))"),
-        ("OfForm {L} (field_texts fields.now)", "(λ j. {S}.value j ≡ Some v)"),
-        ("garde_form::read_form", "garde_form::FormField", "garde::ValidateError"),
-        (
-            "Rattle.garde.specs.Answers.{Answers}", "Rattle.garde_form.specs.WebForm.{field_texts}",
-            "Rattle.garde_schema.specs.Forms.{forget}",
-        ),
-    ),
-    "rows": Input(
-        "from a row of a table", "'a, 'c: 'a", ("index: usize", "columns: &Columns<'c>", "cells: &'a StringRecord"),
-        "garde_rows::read_row(alloc, index, columns, cells, &{form}, h)", "ValidateError",
-        (
-            "AnswersRow columns.now (row_visits index (H.form_text h.now)", "(λ j. {S}.visits (H.form_text h.now) j) columns.now (fields_of cells.now))",
-            "(H.text h.now) (forget result)",
-        ),
-        ("{S}.value (row_json columns.now (fields_of cells.now))", "≡ Some v"),
-        ("garde_rows::Columns", "csv::StringRecord", "garde::ValidateError"),
-        (
-            "Rattle.csv.specs.Records.{fields_of}", "Rattle.garde_rows.specs.Rows.{AnswersRow, row_json, row_visits}",
-            "Rattle.garde_schema.specs.Forms.{forget}",
-        ),
-    ),
-}
+PARTS = ("params", "answer", "value", "uses", "ghosts")
+
+
+def input_of(kind):
+    return Input(**{name: text.split(" | ") if name in PARTS else text for name, text in rows(f"input {kind}").items()})
 
 
 def may_be_missing(kind, input):
@@ -78,7 +41,7 @@ class Reader:
     def __init__(self, schema, item):
         self.schema, self.writer, self.item = schema, schema.writer, item
         self.kind = self.writer.input
-        self.input = INPUTS["first of json" if self.kind == "json" and self.writer.first else self.kind]
+        self.input = input_of("first of json" if self.kind == "json" and self.writer.first else self.kind)
 
     def text(self, spelling=None, context=None):
         """The function, of a spelling as it is stated, where it is, under a context: its type and its name, or nothing."""

@@ -7,11 +7,10 @@ WIDTH, USE_WIDTH, USE_ROW = 100, 98, 99
 CALL, LITERAL, VARIANT = 60, 18, 35
 
 
-# A piece of code without parts, a reference to what a piece says, conditions that are joined by `&&` or by `||`, and a call of a method.
-Word, Lent, Chain = namedtuple("Word", "text"), namedtuple("Lent", "part"), namedtuple("Chain", "mark parts")
+# A piece of code without parts, one behind a text as `&` or the name of a field, conditions that are joined by `&&` or by `||`, and a call of
+# a method.
+Word, Behind, Chain = namedtuple("Word", "text"), namedtuple("Behind", "text part"), namedtuple("Chain", "mark parts")
 Method = namedtuple("Method", "receiver name parts")
-# A part of a literal or of its pattern, of which a Word may say both by one name.
-Field = namedtuple("Field", "name value")
 # Parts between brackets, which are so wide at most on one line: a call, a constructor or its pattern, a literal, or a type with its arguments;
 # with an empty head a tuple or a reference to an array.
 Parts = namedtuple("Parts", "head parts width brackets", defaults=(CALL, ("(", ")")))
@@ -27,7 +26,9 @@ def wide_call(head, *parts):
 
 
 def literal(head, fields):
-    return Parts(head, tuple(Field(name, value) for name, value in fields), LITERAL, (" { ", " }"))
+    """A literal of a struct or its pattern, in which a field and its value may have one name."""
+    parts = (value if value == Word(name) else Behind(f"{name}: ", value) for name, value in fields)
+    return Parts(head, tuple(parts), LITERAL, (" { ", " }"))
 
 
 def rows(parts):
@@ -44,10 +45,8 @@ def flat(tree):
         return tree.text
     if isinstance(tree, Chain):
         return f" {tree.mark} ".join(tree.parts)
-    if isinstance(tree, Lent):
-        return f"&{flat(tree.part)}"
-    if isinstance(tree, Field):
-        return tree.name if tree.value == Word(tree.name) else f"{tree.name}: {flat(tree.value)}"
+    if isinstance(tree, Behind):
+        return tree.text + flat(tree.part)
     if isinstance(tree, Method):
         return f"{flat(tree.receiver)}.{tree.name}({commas(tree.parts)})"
     return commas(tree.parts).join([tree.head + tree.brackets[0], tree.brackets[1]])
@@ -61,22 +60,19 @@ def may_be_flat(tree):
     """Whether nothing in the code is too wide for one line."""
     if isinstance(tree, Parts):
         return all(map(may_be_flat, tree.parts)) and len(commas(tree.parts)) <= tree.width
-    within = {Lent: "part", Field: "value", Method: "receiver"}.get(type(tree))
-    return within is None or may_be_flat(getattr(tree, within))
+    return isinstance(tree, (Word, Chain)) or may_be_flat(tree.part if isinstance(tree, Behind) else tree.receiver)
 
 
 def lay(tree, column, indent, after=0):
     """The code from a column on, its further lines under an indent; `after` columns are wanted behind it."""
     if may_be_flat(tree) and column + len(flat(tree)) + after <= WIDTH:
         return flat(tree)
-    if isinstance(tree, Word) or isinstance(tree, Field) and tree.value == Word(tree.name):
-        return flat(tree)
+    if isinstance(tree, Word):
+        return tree.text
     if isinstance(tree, Chain):
         return f"\n{' ' * (indent + 4)}{tree.mark} ".join(tree.parts)
-    if isinstance(tree, Lent):
-        return "&" + lay(tree.part, column + 1, indent, after)
-    if isinstance(tree, Field):
-        return f"{tree.name}: {lay(tree.value, column + len(tree.name) + 2, indent, after)}"
+    if isinstance(tree, Behind):
+        return tree.text + lay(tree.part, column + len(tree.text), indent, after)
     if isinstance(tree, Method):
         return lay_method(tree, column, indent)
     opening, closing = tree.brackets

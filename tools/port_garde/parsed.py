@@ -1,4 +1,5 @@
 """The types that a form reads from texts by a parser: which parser of `garde_form` or `garde_parsed` reads them, and as what."""
+import json
 from dataclasses import dataclass, replace
 
 from .derives import options
@@ -6,6 +7,7 @@ from .layout import Word, call
 from .prelude import NOTHING, NUMBERS
 from .scope import is_option, is_path
 from .source import Type
+from .templates import rows
 
 RFC3339 = ("time::serde::rfc3339", "time::serde::iso8601")
 
@@ -19,9 +21,9 @@ class Parser:
     path: tuple
     word: str
     schema: dict
-    layout: str = ""
-    takes: bool = False
-    crate: str = "garde_parsed"
+    layout: str
+    takes: bool
+    crate: str
     form, is_written = "Parsed", True
 
     def turned(self, kind):
@@ -29,54 +31,15 @@ class Parser:
         return Type("path", self.path[-1], kind.line, path=self.path)
 
 
-def text(told, **more):
-    return {"type": "string", **more, "$comment": f"the text is {told}"}
+def of_row(row):
+    name, path, word, layout, crate, takes, schema = row.split(" | ")
+    return Parser(name, tuple(path.split("::")), word, json.loads(schema), layout, bool(takes), crate)
 
 
-def times(layouts, told, **formats):
-    """The parsers of dates and times, for texts of these layouts."""
-    date, time, both, moment = layouts
-    return (
-        Parser("Date", ("jiff", "civil", "Date"), "a_date", text(f"a date {told}", **formats.get("date", {})), date),
-        Parser("Time", ("jiff", "civil", "Time"), "a_time", text(f"a time of day {told}"), time),
-        Parser("DateTime", ("jiff", "civil", "DateTime"), "a_date_time", text(f"a date and a time {told}"), both),
-        Parser("Timestamp", ("jiff", "Timestamp"), "a_timestamp", text(f"a date, a time and an offset {told}", **formats.get("moment", {})), moment),
-    )
-
-
-DATE, TIME, BOTH, MOMENT = times(("Any",) * 4, "of ISO 8601")
-FORMATS = {"date": {"format": "date"}, "moment": {"format": "date-time"}}
-DATE3339, TIME3339, BOTH3339, MOMENT3339 = times(("Date", "Time", "DateTime", "Timestamp"), "of RFC 3339, and no second is 60", **FORMATS)
 # By the crate and the name of a type.
-KNOWN = {
-    ("", "char"): Parser("Character", ("char",), "a_character", {"type": "string", "minLength": 1, "maxLength": 1}, crate="garde_form"),
-    ("std", "Ipv4Addr"): Parser("Ipv4", ("std", "net", "Ipv4Addr"), "an_ipv4", {"type": "string", "format": "ipv4"}),
-    ("std", "Ipv6Addr"): Parser("Ipv6", ("std", "net", "Ipv6Addr"), "an_ipv6", {"type": "string", "format": "ipv6"}),
-    ("std", "IpAddr"): Parser("Ip", ("std", "net", "IpAddr"), "an_ip", {"type": "string", "anyOf": [{"format": "ipv4"}, {"format": "ipv6"}]}),
-    ("uuid", "Uuid"): Parser("Uuid", ("uuid", "Uuid"), "a_uuid", text("a UUID")),
-    ("url", "Url"): Parser("Url", ("url", "Url"), "a_url", text("an absolute URL"), takes=True),
-    ("chrono", "NaiveDate"): DATE3339,
-    ("chrono", "NaiveTime"): TIME3339,
-    ("chrono", "NaiveDateTime"): BOTH3339,
-    ("chrono", "DateTime"): MOMENT3339,
-    ("jiff", "Date"): DATE,
-    ("jiff", "Time"): TIME,
-    ("jiff", "DateTime"): BOTH,
-    ("jiff", "Timestamp"): MOMENT,
-}
+KNOWN = {tuple(name.split("::")): of_row(row) for name, row in rows("types that a parser reads").items()}
 # What is said of types that are texts in JSON, and that no parser reads, with the way out.
-WAYS = {
-    ("semver", "Version"): "write a `String` with a rule of yours, as `custom(is_version)`",
-    ("semver", "VersionReq"): "write a `String` with a rule of yours, as `custom(is_requirement)`",
-    ("http", "Uri"): "write `url::Url` of an absolute one, or a `String` with a rule of yours",
-    ("std", "SocketAddr"): "write a `String` with a rule of yours, or two fields: an `IpAddr` and a `u16`",
-    ("std", "OsString"): "serde reads it as an object, so write a `String`",
-    ("jiff", "Zoned"): "its text is read over a database of zones, so write `jiff::Timestamp`",
-    ("time", "OffsetDateTime"): "write `#[serde(with = \"time::serde::rfc3339\")]` at the field, since without it serde reads a list of numbers",
-    ("time", "PrimitiveDateTime"): "serde reads a list of numbers or a text of `time`'s own, so write `chrono::NaiveDateTime` or `jiff::civil::DateTime`",
-    ("time", "Date"): "serde reads a list of numbers or a text of `time`'s own, so write `chrono::NaiveDate` or `jiff::civil::Date`",
-    ("time", "Time"): "serde reads a list of numbers or a text of `time`'s own, so write `chrono::NaiveTime` or `jiff::civil::Time`",
-}
+WAYS = {tuple(name.split("::")): way for name, way in rows("texts that no parser reads").items()}
 # The modules of the toolchain's crates that have these types.
 CRATES = {"std": "std", "core": "std", "alloc": "std", **dict.fromkeys(("uuid", "url", "chrono", "jiff", "time", "semver", "http", "js_int"), "")}
 

@@ -4,12 +4,10 @@ from dataclasses import replace
 
 from .scope import SIGNED, UNSIGNED
 from .source import read_source
+from .templates import names
 
-# The crates and the modules that these types are of. Those without a module are there without an import.
-HOMES = {
-    "Duration": ("std", "time"), "SystemTime": ("std", "time"), "Range": ("std", "ops"), "RangeInclusive": ("std", "ops"), "Bound": ("std", "ops", "collections"),
-    "Result": ("std", "result", ""), "Either": ("either",),
-}
+# The crates and the modules that these types are of. Those that have `-` too are there without an import.
+HOMES = names("modules of declared types")
 # They stand nowhere in the text of a source.
 DECLARED = pathlib.Path(__file__).with_name("declared.rs").read_text(encoding="utf-8")
 ITEMS = {it.name: replace(it, start=0, end=0) for it in read_source(DECLARED).items}
@@ -34,5 +32,5 @@ def declared(path):
     """The type that a whole path names, as it would be declared, or nothing."""
     home, *modules = HOMES.get(path[-1], ("",))
     crate = "std" if path[0] in ("core", "alloc") else path[0]
-    is_there = path[:-1] == () and "" in modules or crate == home and (not modules or path[-2] in modules)
+    is_there = path[:-1] == () and "-" in modules or crate == home and (not modules or path[-2] in modules)
     return ITEMS[path[-1]] if is_there else None

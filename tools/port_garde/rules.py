@@ -5,6 +5,7 @@ from fractions import Fraction
 
 from .expressions import Expression, inside_of
 from .own import WANTED, OwnRules
+from .templates import rows
 from .tokens import Refusal, meant
 
 # The end of a text, in every dialect of patterns.
@@ -57,14 +58,7 @@ OURS = {
     **dict.fromkeys(("unique", "unique_by", "keys"), Known()), "multiple_of": Known("a number", code="multiple_of_mismatch"), "asks": Known(),
 }
 MODES = ("simple", "bytes", "chars", "graphemes", "utf16")
-OWN_TYPE = (
-    "the rule `{}` is not ported: give the number a type of its own that implements `{}`, "
-    "as docs/guide/own-rules.md#cards-and-phones has it"
-)
-NO_PORT = {
-    "email": "the rule `email` is not ported: write `pattern(\"^[^@]+@[^@]+$\")` with the pattern that you want, or a rule of your own, by `custom`",
-    "credit_card": OWN_TYPE.format("credit_card", "CreditCard"), "phone_number": OWN_TYPE.format("phone_number", "PhoneNumber"),
-}
+NO_PORT = rows("rules that are not ported")
 # The words of an attribute that say something of the whole type or field, and all words, for one that is none of them.
 OF_WHOLE = ("skip", "rename", "adapt", "context", "allow_unvalidated", "transparent")
 KNOWN = (*RULES, *OF_WHOLE)

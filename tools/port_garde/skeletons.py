@@ -4,6 +4,7 @@ import re
 from .kept import WRITTEN, put
 from .layout import use_line
 from .missing import SKIPPED, lacking_of
+from .templates import names
 from .tokens import shown
 
 HEAD = "//! What is read elsewhere: its types, and how JSON has them.\n"
@@ -11,15 +12,11 @@ DOCS = re.compile(r"(?:(?://!|#!\[)[^\n]*\n|\n)*")
 IMPORT = re.compile(r"^(?:ghost )?use [^;]*;", re.M)
 MADE = re.compile(r"^pub struct (\w+)", re.M)
 # Where the words of skeletons are imported from: those of statements, and those of the code.
-STATED = {
-    **{name: "Rattle.std.specs.Prelude" for name in ("◌≡◌", "Some", "false")}, "any_value": "Rattle.garde_schema.specs.Kept",
-    "made": "Rattle.garde_schema.specs.Spelling",
-}
+STATED, CODE = (
+    {name: module for module, listed in names(f"imports of the {part} of skeletons").items() for name in listed}
+    for part in ("statements", "code")
+)
 NAME = re.compile(r"◌≡◌|\w+")
-CODE = {
-    **{name: "garde" for name in ("I18n", "Report", "Trail")}, "Tree": "garde_tape", "AllocError": "std::alloc",
-    **{name: "garde_schema" for name in ("Form", "FormI18n", "Kept", "KeptValue", "Members", "Spelled")},
-}
 
 
 def add(crate, written):

@@ -14,7 +14,7 @@ from .names import of_field
 from .parsed import stated
 from .scope import Place, Seen
 from .source import is_ported
-from .templates import fill
+from .templates import fill, names
 from .tokens import Refusal
 from .unions import SIDES
 from .words import Checks
@@ -68,28 +68,8 @@ def lay_bracketed(tree, column, after):
     return f"({lay(tree, column + 1, after + 1)})" if tree.parts else tree.head
 
 
-# The words that state forms, by the module of `garde_schema` that has them.
-WORDS = {
-    "Spelling": {
-        "Made": "made", "Object": "an_object", "Closed": "closed", "Member": "member", "WithDefault": "with_default", "Nullish": "nullish",
-        "Nullable": "or_null", "OneOf": "a_name", "Text": "a_text", "Flag": "a_flag", "Whole": "a_number", "List": "a_list", "Map": "a_map",
-        "ListUnder": "a_list_of", "MapUnder": "a_map_of", "Checked": "a_ruled", "Keys": "a_ruled", "CheckedMembers": "ruled",
-    },
-    "Unions": {
-        "OneOfOr": "a_name_or", "ClosedVariants": "closed_variants", "EitherOf": "either_of", "Tagged": "tagged", "OneMember": "one_member",
-        "TextOr": "text_or", "Choice": "choice", "Variant": "variant", "VariantMember": "variant_member", "Any": "anything",
-        "Otherwise": "otherwise", "Same": "same_of", "Among": "is_among", "Has": "has_member", "HasWith": "has_member_with",
-        "AnyOf": "any_holds", "Both": "both_hold", "Not": "fails", "IsUnsigned": "is_unsigned", "IsWhole": "is_whole",
-    },
-    "Decimals": {"DecimalNumber": "a_decimal"},
-    "Flattened": {"Rest": "with_rest", "IfAny": "if_any", "MadeOf": "made_of"},
-    "InOrder": {"InOrder": "in_order", "Nth": "nth"},
-    "Empty": {"Null": "a_null", "Nothing": "no_members"},
-}
-STATED = {name: (f"garde_schema.specs.{module}", word) for module, words in WORDS.items() for name, word in words.items()}
-# Those of what a text writes.
-WRITTEN = {"Optional": "optional", "OrEmpty": "or_empty", "WrittenFlag": "a_written_flag", "Written": "a_written"}
-STATED.update({name: ("garde_form.specs.Spelling", word) for name, word in WRITTEN.items()})
+# The module and the word that state each form.
+STATED = names("forms as they are stated")
 KINDS = {"Text": "is_text", "Number": "is_number", "Boolean": "is_boolean", "Null": "is_nothing", "List": "is_list", "Object": "is_object"}
 
 

@@ -1,4 +1,5 @@
 """Enums with fields: how the value of a form holds their variants, and what tells the variants of an `untagged` one apart."""
+import functools
 from dataclasses import dataclass, field
 
 from .derives import all_options, options
@@ -13,6 +14,8 @@ WORDS = {"null": "Null", "boolean": "Boolean", "text": "Text", "list": "List", "
 # The forms by which tests are made.
 TESTS = {"has": "Has", "has_with": "HasWith", "any": "AnyOf", "both": "Both", "not": "Not", "unsigned": "IsUnsigned", "whole": "IsWhole"}
 SIDES = {"l": "Left", "r": "Right"}
+# How two tests are joined.
+ANY, BOTH = (lambda it, rest: ("any", it, rest)), (lambda it, rest: ("both", it, rest))
 # A tuple of more items is a tuple in a tuple, whose value is another one.
 MOST_ITEMS = 6
 
@@ -59,12 +62,9 @@ def beside_units(item):
     return [it for it in item.variants if it not in units]
 
 
-def nested(parts):
+def nested(parts, join=lambda it, rest: (it, rest)):
     """Parts in pairs, of which the last holds those that are left."""
-    *front, whole = parts
-    for it in reversed(front):
-        whole = (it, whole)
-    return whole
+    return functools.reduce(lambda rest, it: join(it, rest), reversed(parts))
 
 
 def tree_of(item):
@@ -256,14 +256,7 @@ def told_apart(shape, others, is_strict=False):
         if test is None:
             return None
         tests.append(test)
-    return chained("any", tests)
-
-
-def chained(word, tests):
-    *front, whole = tests
-    for it in reversed(front):
-        whole = (word, it, whole)
-    return whole
+    return nested(tests, ANY)
 
 
 def finer(kind, shape, rivals, is_strict):
@@ -274,7 +267,7 @@ def finer(kind, shape, rivals, is_strict):
     if kind != "object":
         return None
     found = [apart(shape, it) for it in rivals]
-    return None if None in found else chained("both", list(dict.fromkeys(found)))
+    return None if None in found else nested(list(dict.fromkeys(found)), BOTH)
 
 
 def apart(shape, other):
@@ -291,7 +284,7 @@ def apart(shape, other):
         if not other.members[name][0]:
             return ("has", name)
     if shape.one_of and not set(shape.one_of) & (set(other.members) | set(other.one_of)):
-        return chained("any", [("has", name) for name in shape.one_of])
+        return nested([("has", name) for name in shape.one_of], ANY)
     known = set(shape.members) | set(shape.one_of)
     beyond = [name for name, (is_needed, _) in other.members.items() if is_needed and name not in known]
     return ("not", ("has", beyond[0])) if shape.is_closed and beyond else None

@@ -6,7 +6,7 @@ from .conditions import Conditions, same_by
 from .derives import type_names
 from .expressions import CONTEXT, places_in
 from .kinds import DECIMAL, KEPT, is_made, text_of
-from .layout import Lent, Word, call, literal
+from .layout import Behind, Word, call, literal
 from .rules import OURS, REPEATED, RULES
 from .scope import SIGNED, UNSIGNED, Place, Scope, Seen, is_option, is_path, is_text, range_of as whole_range
 from .source import named_type
@@ -313,7 +313,7 @@ class Checks:
                 raise Refusal(rule.line, f"the pattern `{'.'.join(place)}` is no part of the context: write its text in quotes, as `pattern(\"..\")`")
             self.scope.the_context()
         source = ".".join(place)
-        lent = Lent(Word(source)) if "." in source else Word(source)
+        lent = Behind("&", Word(source)) if "." in source else Word(source)
         return call(self.field("Pattern"), lent), self.text("pattern", seen, source)
 
     def length(self, rule, seen):
@@ -375,12 +375,6 @@ class Checks:
         given += [f"{it} = {code}" for it, (code, _) in ends.items()]
         word = self.say(BOUNDS["between" if len(ends) == 2 else next(iter(ends))])
         return Word(f"{rule.name}!({', '.join(given)})"), f"({' '.join([word, *(spec for _, spec in ends.values())])})"
-
-    def refuse_bounds(self, rule, kind, signed):
-        least, most = whole_range(kind)
-        for it in map(self.writer.resolved, rule.bounds.values()):
-            if it.kind == "number" and (it.value > most or signed and it.value < least):
-                raise Refusal(it.line, f"the bound {it.value}, which is no `{kind}`")
 
     def bound(self, it, signed):
         it = self.writer.resolved(it)
