@@ -11,6 +11,7 @@ from port_garde.derives import type_names
 from port_garde.kept import NAME
 from port_garde.missing import crates_named
 from port_garde.source import read_source
+from port_garde.templates import sections
 from port_garde.tokens import Refusals
 
 from .origin import Refusal
@@ -26,52 +27,13 @@ DOCS = re.compile(r"(?://!.*\n)*")
 BODY = re.compile(r"^impl(?:<'a>)? ReadBody<'a> for (\w+)(<'a>)? \{", re.M)
 READ = re.compile(r"^pub fn (read_\w+)<(?:'a, )?H: I18n \+ FormI18n>\([^)]*most: usize,\s*(?:patterns: &(\w+Patterns),\s*)?h: &H,?\s*\) -> Result<(.+), FirstReadError>", re.M)
 IN_CONTEXT = re.compile(r"^pub fn read_\w+<[^>]*>\([^)]*most: usize,\s*\w+: &[^)]*\s*h: &H,?\s*\) -> Result<(?:\w+<)?(\w+)", re.M)
-RELY = """//! What is read, and what is done with it where it is valid.
-
-use crate::{module}::{kind};
-use anyhow::{result};
-{imports}use std::process::ExitCode;
-
-{read}
-
-/// What is done with a valid value.
-pub fn accept(rt: &impl Print, _value: {value}) -> Result<ExitCode> {{
-    println!(rt; "valid")?;
-    Ok(ExitCode::SUCCESS)
-}}
-"""
-READ_BODY = """/// Reads a value of the type `{kind}`, or reports so many faults at most.
-pub fn read_input<'a, H: I18n + FormI18n>(
-    alloc: Global,
-    body: &'a [u8],
-    scratch: &'a mut Scratch,
-    most: usize,
-    h: &H,
-) -> Result<Valid<{kind}{life}>, FirstReadError> {{
-    match {kind}::read_body(alloc, body, scratch, most, h) {{
-        Ok(value) => Ok(Valid::known(value, &())),
-        Err(error) => Err(error),
-    }}
-}}"""
-PATTERNS = """{read}
-
-/// The compiled patterns of what is read.
-pub fn patterns(alloc: Global) -> Result<{patterns}> {{
-    match {patterns}::new(alloc) {{
-        Ok(patterns) => Ok(patterns),
-        Err(error) => bail!("a pattern is not compiled: {{error}}"),
-    }}
-}}"""
+RELY, READ_BODY, PATTERNS, OF_BODY = sections(pathlib.Path(__file__).with_name("begun.txt")).values()
 # What the program says otherwise of a type with patterns.
 WITH_PATTERNS = (
     (b"use crate::rely::{accept, read_input};", b"use crate::rely::{accept, patterns, read_input};"),
     (b"    let mut scratch = Scratch::new(rt.alloc());\n", b"    let patterns = patterns(rt.alloc())?;\n    let mut scratch = Scratch::new(rt.alloc());\n"),
     (b"options.most, h)", b"options.most, &patterns, h)"),
 )
-OF_BODY = """use garde::{I18n, Valid};
-use garde_schema::{FirstReadError, FormI18n, ReadBody, Scratch};
-use std::alloc::Global;
-"""
 
 
 def rely_of(written, module):
@@ -80,7 +42,7 @@ def rely_of(written, module):
     if found := BODY.search(written):
         kind, life = found[1], found[2] or ""
         read = READ_BODY.format(kind=kind, life=life)
-        value, imports = f"Valid<{kind}{life}>", OF_BODY
+        value, imports = f"Valid<{kind}{life}>", f"{OF_BODY}\n"
     elif found := READ.search(written):
         name, patterns, value = found.groups()
         kind = re.search(r"\w+(?=<'a>|>*$)", value)[0]
@@ -91,7 +53,7 @@ def rely_of(written, module):
     else:
         return None
     kinds = f"{{{kind}, {patterns}}}" if result != "Result" else kind
-    return RELY.format(module=module, kind=kinds, result=result, imports=imports, read=read, value=value.replace("'a", "'_")), kind
+    return RELY.format(module=module, kind=kinds, result=result, imports=imports, read=read, value=value.replace("'a", "'_")) + "\n", kind
 
 
 @dataclass(frozen=True)

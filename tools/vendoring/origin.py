@@ -1,7 +1,9 @@
 """The repository that is copied, as its last commit has it."""
+import io
 import os
 import re
 import subprocess
+import tarfile
 from dataclasses import dataclass
 
 # The product, and the examples that programs to copy stand on as they are.
@@ -99,23 +101,17 @@ class Origin:
 
     def read(self):
         """The paths of what may be copied, each with what the file holds, or None of what is no plain file."""
-        rows = [it.partition("\t") for it in self.git("ls-tree", "-rz", self.commit).split("\0")]
-        found = {path: head.split() for head, _, path in rows if path.startswith(READ)}
-        plain = {path: mark for path, (mode, _, mark) in found.items() if mode.startswith("100")}
-        yield from ((path, None) for path in found if path not in plain)
-        output, at = self.git("cat-file", "--batch", binary=True, given="\n".join([*plain.values(), ""]).encode()), 0
-        for path in plain:
-            start = output.index(b"\n", at) + 1
-            end = start + int(output[at:start].split()[2])
-            yield path, output[start:end]
-            at = end + 1
+        with tarfile.open(fileobj=io.BytesIO(self.git("-c", "core.autocrlf=false", "archive", self.commit, binary=True))) as archive:
+            for it in archive:
+                if it.name.startswith(READ) and not it.isdir():
+                    yield it.name, archive.extractfile(it).read() if it.isfile() else None
 
-    def git(self, *words, binary=False, given=b""):
-        """The output of a git command, which is given some bytes."""
+    def git(self, *words, binary=False):
+        """The output of a git command."""
         kept = {name: value for name, value in os.environ.items() if not name.startswith("GIT_")}
         try:
             env = {**kept, "LC_ALL": "C"}
-            ended = subprocess.run(["git", "-C", self.root, *words], input=given, capture_output=True, env=env, check=False)
+            ended = subprocess.run(["git", "-C", self.root, *words], stdin=subprocess.DEVNULL, capture_output=True, env=env, check=False)
         except FileNotFoundError:
             raise Refusal("there is no command `git`") from None
         if ended.returncode:
