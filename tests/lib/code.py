@@ -17,17 +17,23 @@ def blanked(text, start, end):
     return text[:start] + source.spaces(text[start:end]) + text[end:]
 
 
+def without_ghosts(text, left):
+    """What is left of a source without clauses and ghost items."""
+    for found in WITH_CLAUSE.finditer(text.blank):
+        left = blanked(left, found.start(), text.close(found.end()))
+    for found in re.finditer(r"\bghost\b", text.blank):
+        left = blanked(left, found.start(), text.ending(found.start(), len(text.blank))[1])
+    return left
+
+
 def lines_without(text, kinds, clauses=False):
     """The lines of a source without comments, without items of some kinds, and without clauses: the number of each, where it
     begins, and what is left of it."""
-    left = source.SKIPPED.sub(lambda it: source.spaces(it.group()) if it.group()[0] == "/" else it.group(), text.text)
+    left = source.without_comments(text.text)
     for item in text.all_items():
         if item.kind in kinds and (item.kind != "use" or clauses or item.is_public):
             left = blanked(left, item.start, item.end)
-    for found in WITH_CLAUSE.finditer(text.blank) if clauses else ():
-        left = blanked(left, found.start(), text.close(found.end()))
-    for found in re.finditer(r"\bghost\b", text.blank) if clauses else ():
-        left = blanked(left, found.start(), text.ending(found.start(), len(text.blank))[1])
+    left = without_ghosts(text, left) if clauses else left
     for number, line in enumerate(left.split("\n"), 1):
         if line.strip():
             yield number, text.lines[number - 1] + len(line) - len(line.lstrip()), line

@@ -3,8 +3,11 @@ import difflib
 import functools
 
 from lib import paths, repository, source
+from lib.planting import lines_of
 
 OPEN = "refused"
+# The keys of lines about the whole edit.
+OF_WHOLE = ("fn", "alone", "seldom", "expects")
 
 
 def source_of(crate, path):
@@ -19,11 +22,14 @@ class Edit:
     """
 
     def __init__(self, file, crate):
-        self.title, self.crate, self.function, self.expects = file.stem, crate, "", OPEN
-        self.is_alone, self.is_seldom, self.fault, self.spans, self.places = False, False, "", [], set()
+        lines = lines_of(file)
+        said = dict(lines)
+        self.title, self.crate, self.expects = file.stem, crate, said.get("expects", OPEN)
+        self.function = f"{crate}::{said['fn'].strip()}" if "fn" in said else ""
+        self.is_alone, self.is_seldom, self.fault, self.spans, self.places = "alone" in said, "seldom" in said, "", [], set()
         # the goals whose answers are left out, since they do not fit what the edit makes of the function
         self.unanswered = set()
-        for path, text in self.read(file.read_text(encoding="utf-8").splitlines()).items():
+        for path, text in self.read(lines).items():
             self.find(path, source_of(crate, path), text)
         if not self.fault and not (self.function and self.spans):
             self.fault = "it names no function, or changes nothing"
@@ -31,26 +37,17 @@ class Edit:
     def read(self, lines):
         """The files that it changes, each with its text then."""
         path, where, old, texts = "", "", "", {}
-        for line in lines:
-            key, _, text = line.partition(": ")
-            if key == "fn":
-                self.function = f"{self.crate}::{text.strip()}"
-            elif key == "alone":
-                self.is_alone = True
-            elif key == "seldom":
-                self.is_seldom = True
-            elif key == "expects":
-                self.expects = text
-            elif key == "file":
+        for key, text in lines:
+            if key == "file":
                 path, where = text.strip(), ""
             elif key == "in":
                 where = text.strip()
             elif key == "old":
                 old = text
-            elif line.startswith("new:"):
+            elif key == "new":
                 texts[path] = self.changed(path, texts.get(path) or source_of(self.crate, path), where, old, text)
-            else:
-                self.fault = f"it has a line that says nothing: {line}"
+            elif key not in OF_WHOLE:
+                self.fault = f"it has a line that says nothing: {key}"
         return texts
 
     def changed(self, path, text, where, old, new):

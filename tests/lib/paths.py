@@ -76,16 +76,20 @@ def name_of_argument(text, parameters):
     return (module[1][:1].upper() + module[1][1:] if module else "") + name_of_type(text, parameters)
 
 
+def head_of(text, block):
+    """The parameters of an impl block, its trait, which is empty where it is of none, and its type."""
+    header = " ".join(text.header(block).split()).removeprefix("unsafe ").removeprefix("impl")
+    inner, header = behind_brackets(header)
+    trait, _, of = header.partition(" where ")[0].rpartition(" for ")
+    return {found[1] for found in (re.search(r"(?:\bconst )?('?\w+)\s*(?::|=|$)", it) for it in split(inner)) if found}, trait, of
+
+
 def name_of_block(text, block):
     """The name that the prover gives an impl block, a trait, or what else functions stand in."""
     if block.kind != "impl":
         return block.name
-    header = " ".join(text.header(block).split()).removeprefix("unsafe ").removeprefix("impl")
-    inner, header = behind_brackets(header)
-    parameters = {re.match(r"(?:const )?('?\w+)", it).group(1) for it in split(inner)}
-    trait, found, of = header.partition(" where ")[0].rpartition(" for ")
-    name = name_of_type(of, parameters) or "Any"
-    return name + (name_of_type(trait, parameters) if found else "")
+    parameters, trait, of = head_of(text, block)
+    return (name_of_type(of, parameters) or "Any") + (name_of_type(trait, parameters) if trait else "")
 
 
 def inner_path(text, item):

@@ -1,7 +1,7 @@
 """Edits that are planted in a copy of files of the repository, to see that a test finds them.
 
 An edit has a line `file:`, and below it `old:` and `new:`, one line each, where the text of `old:` stands once in the file; further
-pairs apply to what the earlier ones made.
+pairs apply to what the earlier ones made. Without `old:` the line is added to the end of the file, which is made if it is not there.
 """
 
 
@@ -15,28 +15,21 @@ def lines_of(edit):
     return [(key, text.removeprefix(" ")) for key, _, text in lines]
 
 
-def changed(lines, text_of):
-    """The files that the lines of an edit change, with their texts then. Before, `text_of` gives them."""
-    texts, file, old = {}, None, None
-    for key, text in lines:
-        if key == "file":
-            file = text
-            texts.setdefault(file, text_of(file))
-        elif key == "old":
-            old = text
-        elif key == "new":
-            if texts[file].count(old) != 1:
-                raise Unplanted(f"{old} stands {texts[file].count(old)} times in {file}")
-            texts[file] = texts[file].replace(old, text)
-    return texts
+def values(edit, key):
+    """The texts of an edit behind a key."""
+    return [text for other, text in lines_of(edit) if other == key]
 
 
 def plant(edit, room):
     """Changes the files of an edit in a copy."""
-    for file, text in changed(lines_of(edit), lambda it: (room / it).read_text(encoding="utf-8")).items():
-        (room / file).write_text(text, encoding="utf-8")
-
-
-def part_of(edit):
-    """The part of a test that an edit names by a line `by:`, if it names one."""
-    return [text for key, text in lines_of(edit) if key == "by"]
+    file, old = None, None
+    for key, text in lines_of(edit):
+        if key == "file":
+            file, old = room / text, None
+        elif key == "old":
+            old = text
+        elif key == "new":
+            before = file.read_text(encoding="utf-8") if file.exists() else ""
+            if old is not None and before.count(old) != 1:
+                raise Unplanted(f"{old} stands {before.count(old)} times in {file.relative_to(room)}")
+            file.write_text(f"{before}{text}\n" if old is None else before.replace(old, text), encoding="utf-8")

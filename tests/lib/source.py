@@ -33,6 +33,11 @@ def spaces(text):
     return "\n".join(" " * len(line) for line in text.split("\n"))
 
 
+def without_comments(text):
+    """A source with spaces for its comments."""
+    return SKIPPED.sub(lambda found: spaces(found.group()) if found.group()[0] == "/" else found.group(), text)
+
+
 @dataclass
 class Item:
     """An item: where its comments and attributes begin, where its words do, where its body or its `;` stands, and its end."""

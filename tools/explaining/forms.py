@@ -4,9 +4,11 @@ from dataclasses import dataclass
 
 from lib import paths
 
-from .spans import Span, texts
+from .spans import texts
 
 NAME = re.compile(r"(?:\w+\s*::\s*)*(\w+)(!?)\s*(?:::\s*<([^;{}]*)>)?\s*")
+# What stands before an expression, and says nothing of its type.
+BEFORE = re.compile(r"[\s&*!]*")
 # Words of forms by what they read, where `F` is what the form within reads and its number among what is given.
 WITHIN = {
     "Member": ("F", 1), "WithDefault": ("F", 1), "Object": ("F", 0), "Closed": ("F", 0), "Checked": ("F", 0), "Keys": ("F", 0), "List": ("Items", 0),
@@ -42,21 +44,19 @@ class Kind:
         return f"({inside})" if not self.name else f"{self.name}<{inside}>" if inside else self.name
 
 
-def code_of(span):
-    """The expression of a piece."""
-    while span.blank[:1] and span.blank[0] in "&*!":
-        span = span.part(1, len(span.blank))
-    inner = span.inside()
-    if inner is not None:
-        parts = tuple(map(code_of, given(inner)))
-        return parts[0] if len(parts) == 1 and not inner.blank.endswith(",") else Code("", parts, span.start)
-    found = NAME.match(span.blank)
-    rest = span.part(found.end(), len(span.blank)) if found else span
-    inner = rest.inside()
-    if not found or (rest.blank and inner is None):
-        return Code("_", (), span.start)
-    parts = tuple(map(code_of, given(inner))) if inner else ()
-    return Code(found[1] + found[2], parts, span.start, found[3] or "")
+def code_of(plain, start, end):
+    """The expression between two places."""
+    start = BEFORE.match(plain.kept, start, end).end()
+    found = NAME.match(plain.blank, start, end)
+    at = found.end() if found else start
+    pieces = plain.within(at, end)
+    if pieces is None and (not found or plain.kept[at:end].strip()):
+        return Code("_", (), start)
+    parts = tuple(code_of(plain, *it) for it in pieces or ())
+    if found:
+        return Code(found[1] + found[2], parts, start, found[3] or "")
+    is_tuple = len(parts) != 1 or plain.kept[at:end].rstrip()[:-1].rstrip().endswith(",")
+    return Code("", parts, start) if is_tuple else parts[0]
 
 
 def built(code):
@@ -64,16 +64,6 @@ def built(code):
     kind = code.parts[1].kind if code.head == "Built" and len(code.parts) == 2 else ""
     found = re.search(r"&\s*(?:'\w+\s*)?(?:\w+\s*::\s*)*(\w+)", kind)
     return found and found[1]
-
-
-def given(inner):
-    """The parts between commas, but for those in `<..>`."""
-    parts = []
-    for it in inner.split():
-        if parts and parts[-1].blank.count("<") != parts[-1].blank.count(">"):
-            it = Span(it.plain, parts.pop().start, it.end)
-        parts.append(it)
-    return parts
 
 
 def read_kind(text):
@@ -96,7 +86,7 @@ class File:
     def made(self):
         """The forms that make values, each with the name of the type."""
         for it in re.finditer(r"\bBuilt\s*\(", self.plain.blank):
-            code = code_of(Span(self.plain, it.start(), self.plain.items.close(it.end() - 1)))
+            code = code_of(self.plain, it.start(), self.plain.items.close(it.end() - 1))
             if name := built(code):
                 yield code.parts[0], name
 
@@ -106,7 +96,7 @@ class File:
         for start in (end for known, end in reversed(self.lets) if known == name and end <= at):
             end = self.plain.items.ending(start, len(self.plain.blank))[0]
             if end <= at:
-                return code_of(Span(self.plain, start, end).part(0, end - start))
+                return code_of(self.plain, start, end)
         return None
 
     def solved(self, code):
@@ -190,4 +180,4 @@ def differences(folder):
             wanted, other, at = parts[name]
             where = f"(line {other.plain.line_of(at)}{'' if other is file else f' of {other.plain.file}'})"
             for start, said in file.differing(code, wanted, name):
-                yield Span(file.plain, start, start).said(f"{said} {where}")
+                yield file.plain.said(start, f"{said} {where}")

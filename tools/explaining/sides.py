@@ -3,6 +3,7 @@
 Where the names agree, the prover says which field differs, under a proof file with a line for each: it stops at the line of the
 first one that it does not accept.
 """
+import pathlib
 import re
 from dataclasses import dataclass
 
@@ -13,16 +14,7 @@ from .spans import texts
 STATED = re.compile(r'\bfield\s+(?:"(\w+)"|\(\s*(?:\w+\.)?codes\s+"(\w+)"\s*\))|\bitem\s+(\d+)')
 CODED = re.compile(r'\b(?:Field|Component::key)\s*\(\s*(?:[\w:]+\s*\(\s*)?"(\w+)"|\b(?:Item|Component::index)\s*\(\s*(\d+)')
 CALL = re.compile(r"\.\s*(visit|visit_of)\s*\((?!.*\.\s*visit)", re.S)
-PARTS = """\
-use Rattle.std.proofs.Common.{{rules}}
-use Rattle.garde.proofs.Author.{{as_stated, part, ◌also◌}}
-use {module}.Goals as goal
-
-pub returns : goal.returns
-returns g c = as_stated c.{call}.ensures (
-    {rows}
-    )
-"""
+PARTS = pathlib.Path(__file__).with_name("parts.txt").read_text(encoding="utf-8")
 
 
 @dataclass(frozen=True)

@@ -2,13 +2,11 @@
 import functools
 import re
 
-from lib import paths, source
-from lib.code import WITH_CLAUSE, blanked
+from lib import code, paths, source
 from lib.paths import imports, way_of
 
 NAME = re.compile(r"[A-Za-z_]\w*")
 PATH = re.compile(r"(?<![\w'$])(?<!(?<!\.)\.)(?<!\bfn )(?:\$crate|[A-Za-z_]\w*)(?:\s*::\s*[A-Za-z_]\w*)*")
-GHOST = re.compile(r"\bghost\b")
 IMPORT = re.compile(r"(?:pub(?:\s*\([^)]*\))?\s+)?use\s+")
 CALL = re.compile(r"((?:(?:\$crate|\w+)\s*::\s*)*\b\w+)!\s*[(\[{]\s*(\w*)")
 
@@ -16,12 +14,7 @@ CALL = re.compile(r"((?:(?:\$crate|\w+)\s*::\s*)*\b\w+)!\s*[(\[{]\s*(\w*)")
 @functools.lru_cache(maxsize=4096)
 def without_ghosts(text):
     """A source without comments, texts, clauses and ghost items: what is compiled of it."""
-    left = text.blank
-    for found in WITH_CLAUSE.finditer(text.blank):
-        left = blanked(left, found.start(), text.close(found.end()))
-    for found in GHOST.finditer(text.blank):
-        left = blanked(left, found.start(), text.ending(found.start(), len(text.blank))[1])
-    return left
+    return code.without_ghosts(text, text.blank)
 
 
 @functools.cache
@@ -47,16 +40,9 @@ class Node:
         self.module, self.item, self.owner = module, item, owner
         self.members, self.trait, self.of, self.parameters = [], "", "", set()
         if item.kind == "impl":
-            self.read_header()
-
-    def read_header(self):
-        """Reads for what type an impl block is, and of what trait, if it is of one."""
-        header = " ".join(self.module.source.header(self.item).split()).removeprefix("unsafe ").removeprefix("impl")
-        inner, header = paths.behind_brackets(header)
-        self.parameters = {found[1] for found in (re.search(r"(?:\bconst )?('?\w+)\s*(?::|=|$)", it) for it in paths.split(inner)) if found}
-        self.trait, _, self.of = header.partition(" where ")[0].rpartition(" for ")
-        if not self.trait:
-            self.members = [Node(self.module, it, self) for it in self.item.members if it.kind == "fn"]
+            self.parameters, self.trait, self.of = paths.head_of(module.source, item)
+        if self.is_own_block:
+            self.members = [Node(module, it, self) for it in item.members if it.kind == "fn"]
 
     @property
     def is_own_block(self):
