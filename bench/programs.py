@@ -12,17 +12,7 @@ from lib import prover, repository  # noqa: E402
 from lib.prover import CRATES, kit  # noqa: E402, F401
 
 # What each lists, as crates.txt says it of the others.
-LISTED = {
-    "bodies": ("garde", "garde_json", "garde_schema", "anyhow", "hex"),
-    "callers/signup": ("garde", "garde_library", "garde_problem", "garde_schema", "json"),
-    "cases": ("garde", "garde_json", "serde_json"),
-    "deep": ("garde", "garde_json", "serde_json"),
-    "derived": ("garde", "anyhow", "serde", "serde_json"),
-    "messages": ("garde_i18n", "garde_catalog"),
-    "placed_cost": ("garde_places", "garde_report", "garde_tape", "anyhow"),
-    "request": ("garde", "garde_schema", "memchr"),
-    "urls": ("garde_i18n", "garde_engines"),
-}
+LISTED = {name: uses.split() for name, uses in (it.split(": ") for it in (HERE / "programs.txt").read_text().splitlines())}
 
 
 def run(words, room):

@@ -1,24 +1,14 @@
 """The form of use_signup in Flask with WTForms: signup_flask.py BODY COUNT answers so many posts of this body, and prints the last status.
 It has the same fields and rules, and a page with each message in a list above the form and beside its field."""
 import io
+import pathlib
 import sys
 
 from flask import Flask, render_template_string, redirect, request
 from wtforms import BooleanField, Form, IntegerField, PasswordField, SelectMultipleField, StringField, ValidationError, validators
 
 app = Flask(__name__)
-PAGE = """<!DOCTYPE html>
-<html lang="en" dir="ltr">
-<head><meta charset="utf-8"><title>{% if form.errors %}Please correct: {% endif %}Sign up</title></head>
-<body><main><h1>Sign up</h1>
-{% if form.errors %}<div class="summary" role="alert"><h2>Please correct</h2><ul>
-{% for name, messages in form.errors.items() %}{% for it in messages %}<li><a href="#{{ name }}">{{ form[name].label.text }}: {{ it }}</a></li>
-{% endfor %}{% endfor %}</ul></div>{% endif %}
-<form method="post" novalidate>
-{% for field in form %}<div class="field">{{ field.label }}{{ field(**({"aria-invalid": "true"} if field.errors else {})) }}
-{% if field.errors %}<ul class="faults">{% for it in field.errors %}<li>{{ it }}</li>{% endfor %}</ul>{% endif %}</div>
-{% endfor %}<button>Sign up</button></form></main></body></html>
-"""
+PAGE = pathlib.Path(__file__).with_suffix(".html").read_text(encoding="utf-8")
 
 
 def begins_with_plus(_form, field):

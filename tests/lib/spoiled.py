@@ -5,16 +5,13 @@ A value is one of `json_values`, in which a `Raw` stands for what is written as 
 import codecs
 import json
 
+from lib import tables
 from lib.form import NUMBERS, TEXTS
 from lib.json_values import Number, Pairs, parts_of
 
-NO_NUMBERS = "+1 01 -01 1. .5 1e 1e+ - -- 0x1 1_000 NaN Infinity -Infinity 1.e2 00 ١".split()
-NO_WORDS = ["nul", "True", "undefined", "'a'", "[,]", "[1,]", '{"a":1,}', "{,}", '{"a"}', "{a:1}", '{"a":}', "[1 2]", "]", "}", "/**/1"]
-NO_WORDS += ['"a', '"\\x"', '"\\u12g4"', '"\t"', '"\n"', '"\\ud800"', '"\\udc00\\ud800"']
-NAMES = ["", "a", "Name", "name ", "a.b", "lines[0]", "[0]", "a/b", "m~n", "~1", "__proto__", "\0", "a\nb", "é", "\U0001f600", "]", '"']
-NAMES += ["name", "code", "port", "\u202e", "\x1b[2K"]
-PIECES = [b"\xff", b"\xc0\x80", b"\xed\xa0\x80", b"\xe2\x82", b"\xf4\x90\x80\x80", b"\xf0\x9f\x98", b"\x80", b"\xef\xbb\xbf", b"\x00"]
-PIECES += [b"\r\n", b"\xc2\xa0", b"{}", b" null", b"//", b"=", b"&", b"%", b"+", b"'", b'"', b",", b"#"]
+LISTED = tables.lists("random")
+NO_NUMBERS, NO_WORDS, NAMES = ([it.decode() for it in LISTED[title]] for title in ("no numbers", "no words", "names"))
+PIECES = LISTED["pieces"]
 # Writers of JSON, with the characters beyond ASCII as escapes or as they are.
 IN_ASCII, IN_UNICODE = json.JSONEncoder(), json.JSONEncoder(ensure_ascii=False)
 SPACES = ("", "", "", " ", "\t", "\r ", "\n")

@@ -31,6 +31,11 @@ def plain(text):
     return text.encode().decode("unicode_escape").encode("latin-1")
 
 
+def lists(name):
+    """The lists of a table, by their titles: of each line the bytes that it stands for."""
+    return {it.title: [plain(line) for line in it.text.split("\n")[:-1]] for it in cases(name)}
+
+
 def text_of(name):
     return (FOLDER / name).read_text(encoding="utf-8")
 

@@ -22,7 +22,7 @@ from lib.faults import REQUIRED, Rule, between, items, length, matches, suffix
 from lib.form import Checked, Closed, MapUnder, Member, Nullish, Object, OneOf, Text, Under, Whole, read
 from lib.json_values import DEEPEST, NoJson, Number, Pairs, depth, is_text, of_bytes
 from lib.reports import lines
-from lib.spoiled import Raw, json_text, many, missing, renamed, repeated, some_bytes, some_json, some_of, unknown, wrong_type
+from lib.spoiled import LISTED, Raw, json_text, many, missing, renamed, repeated, some_bytes, some_json, some_of, unknown, wrong_type
 from lib.urls import Unsaid
 
 try:
@@ -59,13 +59,11 @@ CONFIG = Object(Closed(Member("server", SERVER), Member("logging", LOGGING), Mem
 
 # ---- random settings in TOML
 
-NUMBERS = "0 1 3 64 65 65535 65536 -1 +7 1_000 0x41 0o17 0b1 9223372036854775807 -9223372036854775808 1.0 -0.5 2e3 inf -inf nan".split()
-BARE = "1979-05-27 07:32:00 1979-05-27T07:32:00 1979-05-27T07:32:00Z 1979-05-27T07:32:00.25+01:30 inf -inf +inf nan -nan +nan".split()
-BAD = ["2023-02-29", "24:00:00", "007", "1__0", "9223372036854775808", "'a", '"\\q"', "[1", "{", "{a = 1", "", "tru", "+-1", "0x", "1979-13-01", "1."]
+NUMBERS, BARE, BAD = ([it.decode() for it in LISTED[f"{title} of TOML"]] for title in ("numbers", "bare values", "no values"))
 OTHERS = ["", "a", "A", "a.b", "::1", "256.1.1.1", "a.pem", "debug", "Info", "é" * 127, "é" * 128, "\n", "\x1b[2K", '"', "\\", "𝄞", True, False]
 OTHERS += [[], [Number(1)], ["a", Pairs()], Pairs(), Pairs([("min", Number(2)), ("max", Number(1))])]
 WAYS = (missing, repeated, wrong_type, wrong_type, unknown, renamed, many)
-PIECES = [b"=", b'"', b"]", b"0", b"\x00", b"\t", b".", b"#", b"'", b"\xff"]
+PIECES = LISTED["pieces of TOML"]
 
 MORE = ("[[more]]", "min = 1", "[more.b]", "[[ more ]]", "a.b = { c = 1 }")
 

@@ -9,7 +9,7 @@ from lib.faults import ALPHANUMERIC, URL, URLS, between, chars, fault, prefix
 from lib.form import Closed, Member, Object, OrEmpty, Parsed, Text, read
 from lib.json_values import Pairs
 from lib.reports import lines
-from lib.spoiled import cut
+from lib.spoiled import LISTED, cut
 
 CODES = ("P1", "P200", "Pé", "Q1", "p1", "", "P", "P 1", "P-1", "P１", "PP\n")
 ROW = Object(
@@ -23,7 +23,7 @@ GREATEST = 2**64 - 1
 COLUMNS = ["code", "name", "quantity", "price", "page"]
 OTHERS = ["note", "Code", "code ", "", "prices", "\x1b[0m", "a\nb", "\\", "\u202e"]
 HEADER = Closed(*(Member(name, Text()) for name in COLUMNS))
-PIECES = [b'"', b'"', b'""', b",", b",,", b"\n", b"\r\n", b"\r", b"x", b" ", b"\0", b'\n"', b',"', b'",', b"\xff", b"\xef\xbb\xbf"]
+PIECES = LISTED["pieces of a list"]
 WORDS = ((), (), (), ("--lines",), ("--lines",), ("1",), ("3",), ("--first-row", "7"), ("--no-header",), ("--no-header", "--lines", "2"))
 
 

@@ -9,7 +9,7 @@ from lib.form import Checked, Closed, ListUnder, Member, Nullish, Object, OneOf,
 from lib.json_values import NoJson, of_bytes
 from lib.positions import spots_of
 from lib.reports import lines, quoted
-from lib.spoiled import some_json
+from lib.spoiled import LISTED, some_json
 
 ADDRESS_BY_POST = Under("address", lambda it: REQUIRED.find(it["address"]) if it["delivery"] == "post" else None)
 FEW_AT_THE_COUNTER = Under("lines", lambda it: items(0, 3).find(len(it["lines"])) if it["delivery"] == "counter" else None)
@@ -31,10 +31,7 @@ PAGE = Object(Closed(
     Member("entries", ListUnder([items(0, 20)], ORDER)),
 ))
 # Pieces of texts that are mostly no JSON.
-PIECES = (
-    *'{}[],:"\\01-.eE+ \n\t\r\x00\x7fx', "\\u", "\\ud83d", "\\ude00", "\\udc00", "dbff", "\\n", "\\q", "true", "false", "null", "nul",
-    '"a"', '"a":', '{"a":1}', "[1]", "\u00e9", "\U0001f600", "\ufeff",
-)
+PIECES = [it.decode() for it in LISTED["pieces of texts in JSON"]]
 VALUES = ("0", "[]", "[1, {}]", '"\u00e9"', '{"k1": 1, "k1": 2}', "null")
 
 

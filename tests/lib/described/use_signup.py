@@ -12,7 +12,7 @@ from lib.json_values import Pairs
 from lib.reports import lines, quoted
 from lib.requests import bytes_of, requests_of
 from lib.sign_up_service import SAID
-from lib.spoiled import many, missing, renamed, repeated, some_bytes, some_of, unknown, wrong_type
+from lib.spoiled import LISTED, many, missing, renamed, repeated, some_bytes, some_of, unknown, wrong_type
 
 PASSWORDS = ("analytical engine", "é" * 128, "a+b=c&d%e f?")
 REPEATED = Under("password_again", lambda it: None if it["password_again"] == it["password"] else fault("matches_field_mismatch", field="password"))
@@ -32,10 +32,9 @@ WORDS = {it[0]: it[1:] for it in re.findall(r"^\| `(\w+)` \| ([^|]+) \| ([^|]+) 
 NAMES = ("name", "username", "password", "password_again", "age", "phone", "topics", "terms")
 KINDS = {"password": "password", "password_again": "password", "phone": "tel"}
 SERVE = ("--serve", "--no-date")
-TEXTS = ["", "a", "on", "On", "off", "news", "sport", "36", "\0", 'q"\\\n', "a b", "a+b", "é" * 41, "漢字½", "x" * 129, "\x1b[2K", '"><script>alert(1)</script>', "'&amp;&#60;"]
+TEXTS = [it.decode() for it in LISTED["texts of a web form"]]
 # Pieces of bodies as no browser sends them.
-PIECES = [b"%", b"%4", b"%zz", b"%%41", b"%00", b"%FF", b"\xff", b"%C3", b"\xc3", b"%F0%9F%98", b"+", b"&", b"&&", b"=", b";", b"#", b"\n", b"&\n"]
-PIECES += [b"\xef\xbb\xbf", b"%E2%80%AE", b"\r\n", b" \t"]
+PIECES = LISTED["pieces of a web form"]
 
 
 def large():
