@@ -3,7 +3,7 @@ from dataclasses import dataclass
 
 from lib import repository
 
-from . import clauses, notes, promised
+from . import notes, promised
 
 PAGE = "out/docs/promises.md"
 COLUMNS = "| function | what it promises | clauses | tests | mutants |\n|---|---|---|---|---|\n"
@@ -44,10 +44,10 @@ def line(crate, name):
     """The line of a public function."""
     function, mutants = promised.of(crate)[name], notes.mutants(crate)[0][name]
     said = " ".join(filter(None, [promised.docs(function), *notes.besides(name)])).replace("|", r"\|")
-    stated = clauses.shown(function) or ("`Valid`" if promised.gives_valid(function) else "safe")
+    stated = promised.shown(function) or ("`Valid`" if promised.gives_valid(function) else "safe")
     why = reason(crate, function, stated)
     tests = quoted(notes.tests()[name]) or ("C" if crate in THROUGH_C else "run" if crate in THROUGH_RUNS else why)
-    return Line(name, said, ", ".join(filter(None, [stated, clauses.asked(function)])), tests, quoted(mutants) or why)
+    return Line(name, said, ", ".join(filter(None, [stated, promised.asked(function)])), tests, quoted(mutants) or why)
 
 
 def lines(crate):
