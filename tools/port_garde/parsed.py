@@ -32,6 +32,7 @@ class Parser:
 
 
 def of_row(row):
+    """The parser of a row, whose cells are these."""
     name, path, word, layout, crate, takes, schema = row.split(" | ")
     return Parser(name, tuple(path.split("::")), word, json.loads(schema), layout, bool(takes), crate)
 

@@ -3,7 +3,6 @@ import pathlib
 import re
 import string
 
-
 HERE = pathlib.Path(__file__).resolve().parent
 
 
