@@ -44,11 +44,6 @@ def lines_at(form, file, place, walk, language=ENGLISH):
     return "".join(line(form, file, place, path, it.text(language), *it.coded()) + "\n" for path, it in walk)
 
 
-def stop(form, file, text, code):
-    """The line of a text that is no JSON, as a pattern: the place where it stops, and some words."""
-    return re.escape(line(form, file, positions.stop_of(text), (), "WHY", code, {})).replace("WHY", "[^\\n]+") + "\n"
-
-
 def stop_anywhere(form, file, code):
     """The line of a text that stops somewhere, as a pattern."""
     text = re.escape(line(form, file, (1111, 2222), (), "WHY", code, {})) + "\n"
@@ -58,10 +53,11 @@ def stop_anywhere(form, file, code):
 
 
 def stops_at(form, file, body, code):
-    """The line of bytes that are no JSON, as a pattern; of bytes that are not UTF-8 exactly."""
+    """The line of bytes that are no JSON, as a pattern: the place where they stop, and some words; of bytes that are not UTF-8 exactly."""
     body = body.removeprefix(b"\xef\xbb\xbf")
     try:
-        return re.compile(stop(form, file, body.decode(), code).encode(), re.DOTALL)
+        text = re.escape(line(form, file, positions.stop_of(body.decode()), (), "WHY", code, {})).replace("WHY", "[^\\n]+")
+        return re.compile(f"{text}\n".encode(), re.DOTALL)
     except UnicodeDecodeError as error:
         place = positions.end_of(body[: error.start].decode())
         return (line(form, file, place, (), "not UTF-8", code, {}) + "\n").encode()
