@@ -1,2 +1,3 @@
 mod Values
 pub mod Growing
+pub mod Placed

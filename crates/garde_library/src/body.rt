@@ -3,10 +3,13 @@ ghost use Rattle.std.specs.Prelude.{◌≡◌, IfOk};
 ghost use Rattle.garde_tape.specs.Input.{without_mark};
 ghost use Rattle.garde_schema.specs.FirstRead.{AnswersFirstBytes};
 ghost use Rattle.garde_library.specs.Checked.{IsChecked, IsListed, IsVerdict};
+ghost use Rattle.garde_library.specs.Places.{IsCheckedWithPlaces};
 ghost use Rattle.garde_schema.specs.Spelling.{SpellsValid};
 ghost use Rattle.garde_library.specs.declared.status.Status.TheVariants.{Valid};
 
-use crate::answer::{hand_over, status_of, tell};
+use crate::answer::{hand_over, out_of_memory, status_of, tell};
+use crate::place::Place;
+use crate::places::{find_places, hand_over_places};
 use crate::status::Status;
 use crate::telling::Telling;
 use garde::I18n;
@@ -53,6 +56,40 @@ pub fn check_body<'a, B: ReadBody<'a>, H: I18n + FormI18n>(
     }
     let read = read::<B, H>(alloc, bytes, scratch, most, h);
     tell(alloc, Telling::Details(title), &read, out, len)
+}
+
+/// Checks the bytes of a body, as `check_body` does, and hands over the place of each fault in them, in
+/// the order of the details: as many places as there is room for, and how many they are. With room for
+/// none it looks for none, and hands over none.
+pub fn check_body_with_places<'a, B: ReadBody<'a>, H: I18n + FormI18n>(
+    alloc: Global,
+    bytes: &'a [u8],
+    scratch: &'a mut Scratch,
+    most: usize,
+    h: &H,
+    title: &str,
+    out: &mut [u8],
+    len: &mut usize,
+    places: &mut [Place],
+    count: &mut usize,
+) -> Status
+    ensures answer { IsCheckedWithPlaces (λ j. B.spelled.visits (H.form_text h.now) j) (H.text h.now)
+        most title.now bytes.now out.old out.new len.new places.old places.new count.new result }
+    ensures valid { result ≡ Valid → SpellsValid B.spelled B.visits bytes.now }
+{
+    if most == 0 {
+        hand_over(b"", out, len);
+        hand_over(&[], places, count);
+        return Status::WrongArgument;
+    }
+    let read = read::<B, H>(alloc, bytes, scratch, most, h);
+    let Ok(found) = find_places(alloc, bytes, &read, places.len()) else {
+        hand_over(&[], places, count);
+        return out_of_memory(out, len);
+    };
+    let status = tell(alloc, Telling::Details(title), &read, out, len);
+    hand_over_places(status, found.as_slice(), places, count);
+    status
 }
 
 /// Checks the bytes of a body, and reports what is wrong in lines. It answers as `list_json` does, and
