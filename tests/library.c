@@ -88,53 +88,7 @@ static void try_lines(void) {
   order_free(&checker);
 }
 
-/* A valid order as nodes: its texts lie in the body, but for one with an escape. Of a faulty one there are none. */
-static void try_nodes(void) {
-  const char *body = "{\"customer\":\"A\\u0064a\",\"lines\":[{\"code\":\"P1\",\"count\":7}]}";
-  const struct { uint8_t kind; uint64_t value; const char *text; } wanted[] = {
-    {ORDER_NODE_OBJECT, 2, NULL}, {ORDER_NODE_TEXT, 2, "customer"}, {ORDER_NODE_TEXT, 0, "Ada"}, {ORDER_NODE_TEXT, 24, "lines"},
-    {ORDER_NODE_LIST, 1, NULL}, {ORDER_NODE_OBJECT, 2, NULL}, {ORDER_NODE_TEXT, 34, "code"}, {ORDER_NODE_TEXT, 41, "P1"},
-    {ORDER_NODE_TEXT, 46, "count"}, {ORDER_NODE_WHOLE, 7, NULL}};
-  order_checker checker = ORDER_CHECKER_EMPTY;
-  for (size_t room = 0; room <= 11; room++) {
-    order_node nodes[11];
-    uint8_t texts[8];
-    size_t used = 99, texts_used = 99;
-    memset(nodes, '#', sizeof nodes);
-    int status = order_value_with(&checker, (const uint8_t *)body, strlen(body), nodes, room, &used, texts, sizeof texts, &texts_used);
-    expect(status == ORDER_VALID && used == 10 && texts_used == 3, "a value has its nodes and its texts");
-    for (size_t i = 0; i < 10 && i < room; i++) {
-      bool is_text = wanted[i].text != NULL;
-      expect(nodes[i].kind == wanted[i].kind && nodes[i].value == wanted[i].value, "a node is that of the value");
-      expect(!is_text || nodes[i].len == strlen(wanted[i].text), "a text has its length");
-      expect(!is_text || !memcmp((nodes[i].in_texts ? (const char *)texts : body) + nodes[i].value, wanted[i].text, nodes[i].len),
-             "a text lies where its node says");
-    }
-    expect(room > 10 || nodes[room].kind == '#', "no node is behind the room");
-    status = order_value_with(&checker, (const uint8_t *)BAD, strlen(BAD), nodes, room, &used, texts, sizeof texts, &texts_used);
-    expect(status == ORDER_FAULTS && used == 0 && texts_used == 0, "a faulty body has no nodes");
-  }
-  order_free(&checker);
-}
-
-/* The details of a faulty order as nodes, where `out` has room for all of them. */
-static void try_fault_nodes(void) {
-  answer whole = checked(NULL, BAD, SIZE_MAX);
-  order_checker checker = ORDER_CHECKER_EMPTY;
-  order_node nodes[128];
-  uint8_t out[2048], texts[256];
-  size_t len = 0, used = 0, texts_used = 0;
-  for (size_t room = whole.len - 1; room <= whole.len; room++) {
-    int status = order_faults_with(&checker, (const uint8_t *)BAD, strlen(BAD), SIZE_MAX, (const uint8_t *)"", 0, out, room, &len,
-                                   nodes, 128, &used, texts, sizeof texts, &texts_used);
-    expect(status == ORDER_FAULTS && len == whole.len && !memcmp(out, whole.text, room), "the details are those of order_check");
-    expect((used > 0) == (room == whole.len), "there are nodes where the details fit");
-  }
-  expect(nodes[0].kind == ORDER_NODE_OBJECT && nodes[0].value == 3, "the details have three members");
-  expect(nodes[4].kind == ORDER_NODE_WHOLE && nodes[4].value == 422, "the details have their status");
-  expect(nodes[6].kind == ORDER_NODE_LIST && nodes[6].value == 4, "the details have four faults");
-  order_free(&checker);
-}
+#include "library-nodes.c"
 
 /* The details are cut at each room that is too small, and what is behind the room stays. */
 static void try_room(void) {
@@ -284,6 +238,8 @@ int main(int count, char **words) {
   try_lines();
   try_nodes();
   try_fault_nodes();
+  try_places();
+  try_places_memory();
   try_size();
   for (int kept = 0; kept < 2; kept++) {
     try_memory(GOOD, kept);

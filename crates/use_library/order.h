@@ -25,7 +25,7 @@ extern "C" {
 #endif
 
 /* The version of the interface that this header describes. */
-#define ORDER_VERSION 2u
+#define ORDER_VERSION 3u
 
 /* There is no fault. */
 #define ORDER_VALID 0
@@ -77,6 +77,16 @@ typedef struct {
   /* Of a text: where it begins. Else see the kind. */
   uint64_t value;
 } order_node;
+
+/* Where a fault is in a body: of an unknown or a repeated member its name, and else its value. A byte
+ * order mark is not counted.
+ */
+typedef struct {
+  /* The line, from 1 on. */
+  uint64_t line;
+  /* The column, in characters from 1 on. */
+  uint64_t column;
+} order_place;
 
 /* The version of this interface: ORDER_VERSION, where the header belongs to the library. */
 uint32_t order_version(void);
@@ -161,6 +171,10 @@ uint8_t order_value_with(order_checker *checker,
  *
  * There are nodes only where `out` has room for the details as a whole. Where it has not, or where there
  * are no details, `nodes_used` and `texts_used` are 0.
+ *
+ * Of ORDER_FAULTS `places` gets where in the body each fault is, in the order of `errors`, as far as it has
+ * room, and `places_used` says how many faults there are. Give `places_len` 0 if you do not ask: then
+ * nothing is looked for, and `places_used` is 0.
  */
 uint8_t order_faults_with(order_checker *checker,
                           const uint8_t *body,
@@ -176,7 +190,10 @@ uint8_t order_faults_with(order_checker *checker,
                           size_t *nodes_used,
                           uint8_t *texts,
                           size_t texts_len,
-                          size_t *texts_used);
+                          size_t *texts_used,
+                          order_place *places,
+                          size_t places_len,
+                          size_t *places_used);
 
 /* Frees the room of a checker, and leaves it as it began. A second call does nothing. */
 void order_free(order_checker *checker);

@@ -33,8 +33,10 @@ uint8_t order_value_with(order_checker *checker, const uint8_t *body, size_t bod
 
 uint8_t order_faults_with(order_checker *checker, const uint8_t *body, size_t body_len, size_t most, const uint8_t *language,
                           size_t language_len, uint8_t *out, size_t out_len, size_t *len, order_node *nodes, size_t nodes_len,
-                          size_t *nodes_used, uint8_t *texts, size_t texts_len, size_t *texts_used) {
+                          size_t *nodes_used, uint8_t *texts, size_t texts_len, size_t *texts_used, order_place *places,
+                          size_t places_len, size_t *places_used) {
   order_value_with(checker, body, body_len, nodes, nodes_len, nodes_used, texts, texts_len, texts_used);
+  *places_used = places_len + (size_t)places[0].line;
   return order_check_with(checker, body, body_len, most, language, language_len, out, out_len, len);
 }
 

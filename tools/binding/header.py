@@ -5,7 +5,7 @@ import re
 from .exports import Refusal
 
 LIBRARY = pathlib.Path(__file__).resolve().parent.parent.parent / "crates" / "garde_library" / "src"
-STATUSES, NODES = LIBRARY / "status.rt", LIBRARY / "node.rt"
+STATUSES, NODES, PLACES = LIBRARY / "status.rt", LIBRARY / "node.rt", LIBRARY / "place.rt"
 TYPES = {
     "Global": [],
     "&[u8]": ["const uint8_t *{0}", "size_t {0}_len"],
@@ -13,6 +13,7 @@ TYPES = {
     "&mut usize": ["size_t *{0}"],
     "&mut Room": ["{prefix}_checker *{0}"],
     "&mut [Node]": ["{prefix}_node *{0}", "size_t {0}_len"],
+    "&mut [Place]": ["{prefix}_place *{0}", "size_t {0}_len"],
     "usize": ["size_t {0}"], "u8": ["uint8_t {0}"], "u32": ["uint32_t {0}"],
 }
 FIELDS = {"u8": "uint8_t", "bool": "bool", "u32": "uint32_t", "u64": "uint64_t"}
@@ -50,16 +51,20 @@ def statuses(prefix):
     return "\n".join(f"{comment(lines_of(said, '///'))}\n#define {prefix}_{snake(name)} {number}" for said, name, number in found)
 
 
+def struct(path, name):
+    """The struct that a file has, under its comment."""
+    head, fields = re.search(r"((?:^///.*\n)+)(?:^#.*\n)*^pub struct \w+ {\n([^}]*)}", path.read_text(encoding="utf-8"), re.M).groups()
+    lines = [comment(lines_of(head, "///")), "typedef struct {"]
+    for said, field, kind in re.findall(r"((?:^ +///.*\n)+) +pub (\w+): (\w+),", fields, re.M):
+        lines += [f"  /* {' '.join(lines_of(said, '/// '))} */", f"  {FIELDS[kind]} {field};"]
+    return "\n".join([*lines, f"}} {name};"])
+
+
 def node(prefix):
     """What a node may be, a line of the preprocessor each, and its struct."""
-    source = NODES.read_text(encoding="utf-8")
-    kinds = re.findall(r"((?:^///.*\n)+)pub const (\w+): u8 = (\d+);", source, re.M)
-    head, fields = re.search(r"((?:^///.*\n)+)(?:^#.*\n)*^pub struct Node {\n([^}]*)}", source, re.M).groups()
+    kinds = re.findall(r"((?:^///.*\n)+)pub const (\w+): u8 = (\d+);", NODES.read_text(encoding="utf-8"), re.M)
     lines = [f"{comment(lines_of(said, '///'))}\n#define {prefix.upper()}_NODE_{name} {number}" for said, name, number in kinds]
-    lines += [comment(lines_of(head, "///")), "typedef struct {"]
-    for said, name, kind in re.findall(r"((?:^ +///.*\n)+) +pub (\w+): (\w+),", fields, re.M):
-        lines += [f"  /* {' '.join(lines_of(said, '/// '))} */", f"  {FIELDS[kind]} {name};"]
-    return "\n".join([*lines, f"}} {prefix}_node;"])
+    return "\n".join([*lines, struct(NODES, f"{prefix}_node")])
 
 
 def parameters(function, prefix):
@@ -105,6 +110,7 @@ def header_of(exports):
         statuses(upper),
         *[CHECKER.format(prefix=prefix, PREFIX=upper)] * ("&mut Room" in exports.source),
         *[node(prefix)] * ("&mut [Node]" in exports.source),
+        *[struct(PLACES, f"{prefix}_place")] * ("&mut [Place]" in exports.source),
         *[declaration(it, prefix) for it in exports.functions],
         "#ifdef __cplusplus\n}\n#endif",
         "#endif",

@@ -3,7 +3,7 @@ use std::ffi::c_void;
 use std::ptr;
 
 /// The version of the interface that is declared here.
-pub const VERSION: u32 = 2;
+pub const VERSION: u32 = 3;
 
 pub const VALID: u8 = 0;
 pub const FAULTS: u8 = 1;

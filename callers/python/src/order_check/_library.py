@@ -5,7 +5,7 @@ from __future__ import annotations
 import ctypes
 import pathlib
 
-VERSION = 2
+VERSION = 3
 VALID, FAULTS, NO_JSON, MEMORY = range(4)
 SIZE_MAX = ctypes.c_size_t(-1).value
 
