@@ -3,11 +3,12 @@
  * file `stream`, one for each 1,000. tests/everywhere puts all of it into one folder.
  */
 const encoder = new TextEncoder();
+const decoder = new TextDecoder();
 const GOOD = '{"customer":"Ada","lines":[{"code":"P1","count":1}]}';
 const BAD = '{"customer":"","lines":[{"code":"X","count":0}],"x":1}';
 const EMPTY = Uint8Array.of(0, 97, 115, 109, 1, 0, 0, 0);
-// Exports `version`, which returns 2.
-const OTHER = Uint8Array.of(...EMPTY, 1, 5, 1, 96, 0, 1, 127, 3, 2, 1, 0, 7, 11, 1, 7, ...encoder.encode('version'), 0, 0, 10, 6, 1, 4, 0, 65, 2, 11);
+// Exports `version`, which returns 1.
+const OTHER = Uint8Array.of(...EMPTY, 1, 5, 1, 96, 0, 1, 127, 3, 2, 1, 0, 7, 11, 1, 7, ...encoder.encode('version'), 0, 0, 10, 6, 1, 4, 0, 65, 1, 11);
 
 /** The bodies of a stream: each has its length, the most faults and the length of a tag before it. */
 function* bodies(stream) {
@@ -24,13 +25,19 @@ async function hash(pieces) {
   return Array.from(new Uint8Array(found), (it) => it.toString(16).padStart(2, '0')).join('');
 }
 
-/** The hashes of the answers: of each the status, the length of the details, and these. */
+/** The value of a valid body as a text, which is that of `JSON.parse` too, and the same where the body is given as a string. */
+function valueText(order, body) {
+  const [said, other, wanted] = [order.value(body), order.value(decoder.decode(body)), JSON.parse(decoder.decode(body))].map((it) => JSON.stringify(it));
+  return said === wanted && other === wanted ? said : `${said} is not ${wanted}`;
+}
+
+/** The hashes of the answers: of each the status, a length, and the details or the value. */
 async function hashes(order, stream) {
   const found = [];
   let pieces = [];
   for (const [body, options] of bodies(stream)) {
     const it = order.problem(body, options);
-    const details = encoder.encode(it?.details ?? '');
+    const details = encoder.encode(it === null ? valueText(order, body) : it.details);
     pieces.push(Uint32Array.of(it?.status ?? 0, details.length), details);
     if (pieces.length === 2000) found.push(await hash(pieces.splice(0)));
   }
@@ -57,21 +64,27 @@ const later = (milliseconds) => new Promise((resolve) => { setTimeout(resolve, m
 const lines = (count, line) => `{"customer":"Ada","lines":[${Array(count).fill(line).join(',')}]}`;
 
 /** Calls with bad input: of each a name, what came, and what is wanted. */
-async function* rows({ load, NotJsonError }, module) {
+async function* rows({ load, FaultsError, NotJsonError }, module) {
   const order = await load(module);
   const small = await load(bounded(module));
   yield ['valid', [order.check(GOOD), order.problem(GOOD), order.isValid(GOOD), order.isValid(BAD)], [[], null, true, false]];
   yield ['faults', order.check(BAD, { most: 1 }).concat(order.check(BAD, { most: 1 }).more), [
     { pointer: '/customer', detail: 'length is lower than 1', code: 'length_lower_than', params: { min: '1' } }, true]];
+  yield ['a value', [order.value(GOOD), order.value(encoder.encode(GOOD.replace('Ada', '\ufeffA\\u0064\\"č')))], [
+    JSON.parse(GOOD), { ...JSON.parse(GOOD), customer: '\ufeffAd"č' }]];
+  for (const [body, name] of [[BAD, 'FaultsError'], ['{', 'NotJsonError'], [null, 'TypeError']]) yield ['no value', thrown(() => order.value(body)), name];
+  const told = new FaultsError(order.check(BAD));
+  yield ['the first fault', [told.message, told.faults.length], ['/customer: length is lower than 1', 4]];
   const big = 'x'.repeat(50e6);
   for (const body of [big, encoder.encode(big)]) {
-    yield ['50 MB in 16 MiB', [thrown(() => small.check(body)), thrown(() => small.isValid(body)), small.check(GOOD), small.held <= 2 ** 24],
-      ['ERR_MEMORY_ALLOCATION_FAILED', 'ERR_MEMORY_ALLOCATION_FAILED', [], true]];
+    yield ['50 MB in 16 MiB', [small.check, small.isValid, small.value].map((call) => thrown(() => call(body))), Array(3).fill('ERR_MEMORY_ALLOCATION_FAILED')];
+    yield ['after 50 MB', [small.check(GOOD), small.value(GOOD), small.held <= 2 ** 24], [[], JSON.parse(GOOD), true]];
   }
   yield ['details of more than the memory', [thrown(() => small.check(lines(2e5, '1'))), small.check(BAD).length], ['ERR_MEMORY_ALLOCATION_FAILED', 4]];
   const held = small.held;
   for (let n = 0; n < 1e5; n++) {
     small.check(n % 2 ? GOOD : BAD);
+    small.value(GOOD);
     if (n % 5000 === 0) await later(0);
   }
   yield ['100,000 calls', small.held, held];
@@ -91,6 +104,18 @@ async function* rows({ load, NotJsonError }, module) {
   yield ['no more stack', order.check(BAD).length, 4];
   const failed = await Promise.all([module.slice(0, 9999), EMPTY, OTHER].map((it) => load(it).catch((error) => error.name + error.message.slice(0, 24))));
   yield ['other modules', failed.map((it) => it.slice(0, 9)), ['CompileEr', 'Errorthe ', 'Errorthe ']];
+}
+
+/** Nodes by hand, of which an order has none: each a kind, a length, and the two halves of a number. */
+function* nodes({ valueOf, textsOf }) {
+  const made = (texts, ...rows) => valueOf(Uint32Array.from(rows.flat()), textsOf(encoder.encode(texts)), textsOf(encoder.encode('č"')));
+  const text = (it) => (typeof it === 'bigint' ? `${it}n` : it);
+  for (const [row, wanted] of [[[0, 0, 0, 0], null], [[1, 0, 0, 0], false], [[2, 0, 0, 0], true], [[3, 0, 7, 0], 7], [[4, 0, 7, 0], -7],
+    [[3, 0, 0xffffffff, 0x1fffff], 2 ** 53 - 1], [[3, 0, 0, 0x200000], '9007199254740992n'], [[3, 0, 0xffffffff, 0xffffffff], '18446744073709551615n'],
+    [[4, 0, 0, 0x80000000], '-9223372036854775808n'], [[5, 3, 0, 0], 1.5], [[5, 20, 3, 0], '-1234567890123456789n'], [[6, 3, 0, 0], '1.5'],
+    [[0xabcd0106, 3, 0, 0], 'č"'], [[6, 0, 9, 0], '']]) yield [`node ${row}`, text(made('1.5-1234567890123456789', row)), wanted];
+  const object = made('__proto__', [8, 0, 1, 0], [6, 9, 0, 0], [7, 0, 2, 0], [0, 0, 0, 0], [7, 0, 0, 0]);
+  yield ['a member __proto__', [Object.keys(object), Object.getPrototypeOf(object) === Object.prototype, JSON.stringify(object)], [['__proto__'], true, '{"__proto__":[null,[]]}']];
 }
 
 const isNode = typeof process === 'object';
@@ -121,6 +146,7 @@ async function tried(library, stream, some) {
     for await (const [what, ...both] of rows(library, module)) compare(`${name}: ${what}`, ...both);
     found.hashes[name] = await hashes(await library.load(module), stream);
   }
+  for (const [what, ...both] of nodes(await import(new URL('wasm/nodes.js', import.meta.url)))) compare(what, ...both);
   const validate = WebAssembly.validate;
   WebAssembly.validate = () => false;
   compare('no memory64', (await library.load(new URL('wasm/order.wasm?1', import.meta.url))).check(BAD).length, 4);

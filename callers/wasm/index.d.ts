@@ -44,6 +44,11 @@ export class NotJsonError extends SyntaxError {
   readonly details: string;
 }
 
+/** The body has faults, so it has no value. The message has the first one. */
+export class FaultsError extends Error {
+  readonly faults: Faults;
+}
+
 /** A body: a text, of which half a surrogate pair is read as U+FFFD, or its bytes. */
 export type Body = string | Uint8Array;
 
@@ -56,6 +61,11 @@ export interface Instance {
   check(body: Body, options?: Options): Faults;
   /** What is wrong with a body, or null where it is valid. */
   problem(body: Body, options?: Options): Problem | null;
+  /** The value of a valid body, as `JSON.parse` makes it, but for whole numbers that a `number` does not hold: those are of the type
+   * `bigint`. So no second reader is needed. Throws a `FaultsError` where the body has faults, and a `NotJsonError` where it is no JSON
+   * text. `T` is what you state of your type: nothing compares it with what the library checks.
+   */
+  value<T = unknown>(body: Body, options?: Options): T;
   /** Whether a body is valid. Reading ends at the first fault. */
   isValid(body: Body): boolean;
   /** How many bytes the module holds. After a call for which it took more than 16 MiB, a new instance with less takes its place soon. */

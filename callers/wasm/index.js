@@ -2,7 +2,10 @@
  * Checks bodies in JSON by a library that was proved, as a WebAssembly module, and reports every fault. `index.d.ts` says what each
  * function does.
  */
-const VERSION = 1;
+import { textsOf, valueOf } from './nodes.js';
+
+const VERSION = 2;
+const VALID = 0;
 const FAULTS = 1;
 const NO_JSON = 2;
 const MEMORY = 3;
@@ -27,20 +30,29 @@ export class NotJsonError extends SyntaxError {
   }
 }
 
-/** The bytes of a module that is beside others, of which the one is taken that this machine runs. */
-async function read(url) {
-  const it = new URL(url);
-  if (!WebAssembly.validate(WIDE)) it.pathname = it.pathname.replace(/(\.32)?\.wasm$/, '.32.wasm');
-  if (it.protocol === 'file:') return (await import('node:fs/promises')).readFile(it);
-  const answer = await fetch(it);
-  if (!answer.ok) throw new Error(`${it}: status ${answer.status}`);
-  return answer.arrayBuffer();
+/** The body has faults, so it has no value. The message is the first one. */
+export class FaultsError extends Error {
+  constructor(faults) {
+    super(`${faults[0].pointer}: ${faults[0].detail}`);
+    this.name = 'FaultsError';
+    this.faults = faults;
+  }
 }
 
-async function compiled(source) {
+/** A module that is beside others, of which the one is taken that this machine runs. It is compiled while it comes. */
+async function fetched(url) {
+  if (!WebAssembly.validate(WIDE)) url.pathname = url.pathname.replace(/(\.32)?\.wasm$/, '.32.wasm');
+  if (url.protocol === 'file:') return WebAssembly.compile(await (await import('node:fs/promises')).readFile(url));
+  const answer = await fetch(url);
+  if (!answer.ok) throw new Error(`${url}: status ${answer.status}`);
+  const isNamed = answer.headers.get('content-type') === 'application/wasm';
+  return isNamed ? WebAssembly.compileStreaming(answer) : WebAssembly.compile(await answer.arrayBuffer());
+}
+
+function compiled(source) {
   if (source instanceof WebAssembly.Module) return source;
   if (typeof source !== 'string' && !(source instanceof URL)) return WebAssembly.compile(source);
-  return WebAssembly.compile(await read(new URL(source, globalThis.location?.href ?? import.meta.url)));
+  return fetched(new URL(source, globalThis.location?.href ?? import.meta.url));
 }
 
 async function started(module) {
@@ -95,17 +107,17 @@ export async function load(source = new URL('./order.wasm', import.meta.url)) {
   /** Calls an export on a body. */
   function asked(name, body, language, ...given) {
     const status = called(name, ...put(body, language), ...given);
-    const details = status === FAULTS || status === NO_JSON ? decoder.decode(bytes(exports.details(), exports.length())) : '';
     renew();
     if (status === MEMORY) throw outOfMemory();
-    return { status, details };
+    return status;
   }
 
   function problem(body, { most = Infinity, language = '' } = {}) {
     if (typeof most !== 'number') throw new TypeError('most is a number');
     if (!(most === Infinity || Number.isInteger(most)) || most < 1) throw new RangeError(`most is ${most}, and not 1, 2, ..`);
-    const { status, details } = asked('check', body, String(language), most);
-    return status === 0 ? null : { status, httpStatus: status === FAULTS ? 422 : 400, details };
+    const status = asked('check', body, String(language), most);
+    if (status === VALID) return null;
+    return { status, httpStatus: status === FAULTS ? 422 : 400, details: decoder.decode(bytes(exports.details(), exports.length())) };
   }
 
   function check(body, options) {
@@ -115,10 +127,18 @@ export async function load(source = new URL('./order.wasm', import.meta.url)) {
     return Object.defineProperty(said.errors, 'more', { value: said.detail !== undefined });
   }
 
+  function value(body, options) {
+    if (asked('value', body, '') !== VALID) throw new FaultsError(check(body, options));
+    const nodes = new Uint32Array(exports.memory.buffer, exports.nodes_at(), 4 * exports.nodes_length());
+    const plain = textsOf(bytes(exports.body(), exports.body_length()), typeof body === 'string' ? body : undefined);
+    return valueOf(nodes, plain, textsOf(bytes(exports.texts_at(), exports.texts_length())));
+  }
+
   return {
     check,
     problem,
-    isValid: (body) => asked('is_valid', body, '').status === 0,
+    value,
+    isValid: (body) => asked('is_valid', body, '') === VALID,
     get held() { return exports.memory.buffer.byteLength; },
   };
 }

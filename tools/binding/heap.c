@@ -5,9 +5,14 @@
  * that of these calls. */
 typedef unsigned long size;
 typedef unsigned char byte;
+// Those of order.h, which needs headers of C.
+typedef struct { void *room; _Bool has_room; } checker;
+typedef struct { byte kind, in_texts; unsigned len; size value; } node;
 
 byte order_check(const byte *body, size body_len, size most, const byte *language, size language_len, byte *out, size out_len, size *len);
 byte order_is_valid(const byte *body, size body_len);
+byte order_value_with(checker *in, const byte *body, size body_len, node *nodes, size nodes_len, size *nodes_used, byte *texts,
+                      size texts_len, size *texts_used);
 
 #define PAGE 65536ul
 // No block has so many bytes.
@@ -21,8 +26,12 @@ typedef struct { size is_there; void *at; } tried;
 
 extern byte __heap_base;
 static byte *top, *end, *input, *out;
-static size details_len;
+static size input_len, details_len, nodes_len, texts_len;
 static block *freed[CLASSES];
+static checker kept;
+// Of a value.
+static node *nodes;
+static byte *texts;
 
 static byte *after(block *it) { return (byte *)(it + 1) + it->units * UNIT; }
 
@@ -103,6 +112,7 @@ double begin(double bytes) {
   end = (byte *)(__builtin_wasm_memory_size(0) * PAGE);
   __builtin_memset(freed, 0, sizeof freed);
   details_len = 0;
+  kept = (checker){0};
   input = bytes <= MOST ? get((size)bytes) : 0;
   return (double)(size)input;
 }
@@ -119,6 +129,28 @@ int check(double body_len, double language_len, double most) {
 }
 
 int is_valid(double body_len) { return order_is_valid(input, (size)body_len); }
+
+// Judges what lies in the room, and returns a status. Of a valid body there are its nodes then. Few bodies have more than one in
+// four bytes: those are judged once more. What its texts have with an escape is no longer than the body.
+int value(double body_len) {
+  input_len = (size)body_len;
+  texts = get(input_len);
+  for (size room = input_len / 4 + 1; texts; room = nodes_len) {
+    nodes = get(room * sizeof(node));
+    if (!nodes) return MEMORY;
+    int status = order_value_with(&kept, input, input_len, nodes, room, &nodes_len, texts, input_len, &texts_len);
+    if (nodes_len <= room) return status;
+    rattle_dealloc(nodes);
+  }
+  return MEMORY;
+}
+
+double body(void) { return (double)(size)input; }
+double body_length(void) { return (double)input_len; }
 double details(void) { return (double)(size)out; }
 double length(void) { return (double)details_len; }
-int version(void) { return 1; }
+double nodes_at(void) { return (double)(size)nodes; }
+double nodes_length(void) { return (double)nodes_len; }
+double texts_at(void) { return (double)(size)texts; }
+double texts_length(void) { return (double)texts_len; }
+int version(void) { return 2; }
