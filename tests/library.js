@@ -22,7 +22,7 @@ function ofLines(count, line = LINE) {
 }
 
 function answers(library, bodies) {
-  return bodies.map((body) => String(library.problem(body)?.details));
+  return bodies.map((body) => String(library.problem(body)?.details ?? JSON.stringify(library.value(body))));
 }
 
 const BODIES = [GOOD, BAD, Buffer.from('nope'), ofLines(40, WRONG_LINE), ofLines(500, WRONG_LINE)];
@@ -49,7 +49,7 @@ function worker(folder, wanted) {
 }
 
 function testAll(folder, cases) {
-  const { Checker, FAULTS, NO_JSON, NotJsonError, check, isValid, problem } = require(folder);
+  const { Checker, FAULTS, FaultsError, NO_JSON, NotJsonError, check, isValid, problem, value } = require(folder);
 
   test('stored bodies', () => {
     const names = readdirSync(cases).filter((name) => name.endsWith('.json'));
@@ -61,6 +61,8 @@ function testAll(folder, cases) {
       assert.deepEqual(found?.details ?? Buffer.alloc(0), readFileSync(join(cases, name.replace('.json', '.answer'))));
       assert.equal(found?.httpStatus, { 1: 422, 2: 400 }[name[0]]);
       assert.equal(isValid(body), found === null);
+      if (found === null) assert.deepEqual(value(body), JSON.parse(body));
+      else assert.throws(() => value(body), found.status === NO_JSON ? NotJsonError : FaultsError);
     }
   });
 
@@ -73,6 +75,26 @@ function testAll(folder, cases) {
     assert.deepEqual(check(GOOD), []);
     assert.equal(check(GOOD).more, false);
     assert.equal(problem(GOOD), null);
+  });
+
+  test('values', () => {
+    const escaped = Buffer.from(String(GOOD).replace('Ada', '\\u0041\\"č\ufeff\\n').replace('"P1"', '"P\\ud83d\\ude00"'));
+    for (const body of [GOOD, escaped, ofLines(50), ofLines(50, '{ "count" : 99, "code" : "Pč" }'), Buffer.concat([Buffer.from('\ufeff'), GOOD])]) {
+      const wanted = JSON.parse(String(body).replace(/^\ufeff/, ''));
+      for (const call of [value, new Checker().value.bind(new Checker())]) assert.deepEqual(call(body), wanted);
+    }
+    assert.throws(() => value(BAD, { most: 2, language: 'cs' }), (it) => it instanceof FaultsError && it.faults.length === 2 && it.faults.more
+      && it.message === '/customer: délka je menší než 1');
+    assert.throws(() => value(BAD, { most: 0 }), RangeError);
+    const shared = new Uint8Array(new SharedArrayBuffer(GOOD.length));
+    shared.set(GOOD);
+    assert.deepEqual(value(shared), JSON.parse(GOOD));
+    const padded = Buffer.concat([GOOD, Buffer.alloc(3e6, ' ')]);
+    assert.deepEqual(value(padded), value(GOOD));
+    const changed = Buffer.from(GOOD);
+    const kept = value(changed);
+    changed.fill('#');
+    assert.deepEqual(kept, JSON.parse(GOOD));
   });
 
   test('languages', () => {
@@ -116,7 +138,7 @@ function testAll(folder, cases) {
     for (const body of [shared, part, Uint8Array.from(BAD)]) assert.deepEqual(check(body), check(BAD));
     const buffer = new ArrayBuffer(8);
     for (const body of [String(GOOD), null, undefined, 5, {}, [], new Uint16Array(4), new DataView(buffer), buffer]) {
-      for (const call of [check, problem, isValid]) assert.throws(() => call(body), TypeError);
+      for (const call of [check, problem, isValid, value]) assert.throws(() => call(body), TypeError);
     }
   });
 
@@ -151,7 +173,7 @@ function testAll(folder, cases) {
   });
 
   test('64 worker threads', async () => {
-    const wanted = answers({ problem }, BODIES);
+    const wanted = answers({ problem, value }, BODIES);
     const said = await Promise.all(Array.from({ length: 64 }, () => worker(folder, wanted)));
     assert.deepEqual(new Set(said), new Set(['done']));
   });
@@ -159,7 +181,7 @@ function testAll(folder, cases) {
   test('many calls take no more memory', async () => {
     const round = async (rounds) => {
       for (let at = 0; at < rounds; at++) {
-        for (let call = 0; call < 500; call++) problem(BAD), isValid(GOOD), new Checker().problem(BAD);
+        for (let call = 0; call < 500; call++) problem(BAD), isValid(GOOD), value(GOOD), new Checker().problem(BAD);
         await setImmediate();
       }
       return process.memoryUsage.rss();

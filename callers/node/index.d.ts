@@ -51,11 +51,22 @@ export class NotJsonError extends SyntaxError {
   readonly details: Buffer;
 }
 
+/** The body has faults, so it has no value. The message has the first one. */
+export class FaultsError extends Error {
+  readonly faults: Faults;
+}
+
 /** The faults of a body. Throws a `NotJsonError` where the bytes are no JSON text. */
 export function check(body: Uint8Array, options?: Options): Faults;
 
 /** What is wrong with a body, or null where it is valid. Bytes that are no JSON text have a problem as well. */
 export function problem(body: Uint8Array, options?: Options): Problem | null;
+
+/** The value of a valid body, as `JSON.parse` makes it, but for whole numbers that a `number` does not hold: those are of the type
+ * `bigint`. So no second reader is needed. Throws a `FaultsError` where the body has faults, and a `NotJsonError` where it is no JSON
+ * text. `T` is what you state of your type: nothing compares it with what the library checks.
+ */
+export function value<T = unknown>(body: Uint8Array, options?: Options): T;
 
 /** Whether a body is valid. Bytes that are no JSON text are not. Reading ends at the first fault. */
 export function isValid(body: Uint8Array): boolean;
@@ -69,6 +80,8 @@ export class Checker {
   check(body: Uint8Array, options?: Options): Faults;
   /** Does what the function `problem` does. */
   problem(body: Uint8Array, options?: Options): Problem | null;
+  /** Does what the function `value` does. */
+  value<T = unknown>(body: Uint8Array, options?: Options): T;
   /** Frees the room now, and not when the checker is collected. A later call makes new room. */
   close(): void;
 }

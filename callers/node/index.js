@@ -5,7 +5,9 @@
 
 const { isSharedArrayBuffer, isUint8Array } = require('node:util').types;
 const addon = require('./order_check.node');
+const { textsOf, valueOf } = require('./nodes.js');
 
+const VALID = 0;
 const FAULTS = 1;
 const NO_JSON = 2;
 const MEMORY = 3;
@@ -13,12 +15,25 @@ const MEMORY = 3;
 const KEPT_BODY = 1024 * 1024;
 const KEPT_DETAILS = 4 * KEPT_BODY;
 const room = addon.newRoom();
+// What the nodes of a value are read from: four numbers for each, the texts with an escape, and how many there are of both.
+const NODES = new Uint32Array(16384);
+const TEXTS = new Uint8Array(4096);
+const used = new Float64Array(2);
 
 class NotJsonError extends SyntaxError {
   constructor(message, details) {
     super(message);
     this.name = 'NotJsonError';
     this.details = details;
+  }
+}
+
+/** The body has faults, so it has no value. The message is the first one. */
+class FaultsError extends Error {
+  constructor(faults) {
+    super(`${faults[0].pointer}: ${faults[0].detail}`);
+    this.name = 'FaultsError';
+    this.faults = faults;
   }
 }
 
@@ -49,6 +64,20 @@ function faultsOf(found) {
   return Object.defineProperty(said.errors, 'more', { value: said.detail !== undefined });
 }
 
+/** The value of a body, or undefined where it is not valid. Few have more than a node in four bytes: those are judged once more. */
+function valueIn(inRoom, body) {
+  let nodes = body.length <= NODES.length ? NODES : new Uint32Array(body.length + 4);
+  for (let texts = TEXTS; ;) {
+    const status = addon.value(inRoom, body, nodes, texts, used);
+    if (status === MEMORY) throw outOfMemory();
+    if (status !== VALID) return undefined;
+    const [nodesUsed, textsUsed] = used;
+    if (4 * nodesUsed <= nodes.length && textsUsed <= texts.length) return valueOf(nodes, textsOf(body), textsOf(texts.subarray(0, textsUsed)));
+    nodes = new Uint32Array(Math.max(nodes.length, 4 * nodesUsed));
+    texts = new Uint8Array(Math.max(texts.length, textsUsed));
+  }
+}
+
 function check(body, options) {
   return faultsOf(problem(body, options));
 }
@@ -56,6 +85,14 @@ function check(body, options) {
 function problem(body, options) {
   const found = asked(room, body, options);
   if (body.length > KEPT_BODY || (found !== null && found.details.length > KEPT_DETAILS)) addon.emptyRoom(room);
+  return found;
+}
+
+function value(body, options) {
+  const it = bytesOf(body);
+  const found = valueIn(room, it);
+  if (it.length > KEPT_BODY) addon.emptyRoom(room);
+  if (found === undefined) throw new FaultsError(check(it, options));
   return found;
 }
 
@@ -76,9 +113,16 @@ class Checker {
     return asked(this.#room, body, options);
   }
 
+  value(body, options) {
+    const it = bytesOf(body);
+    const found = valueIn(this.#room, it);
+    if (found === undefined) throw new FaultsError(this.check(it, options));
+    return found;
+  }
+
   close() {
     addon.emptyRoom(this.#room);
   }
 }
 
-module.exports = { Checker, FAULTS, NO_JSON, NotJsonError, check, isValid, problem };
+module.exports = { Checker, FAULTS, FaultsError, NO_JSON, NotJsonError, check, isValid, problem, value };

@@ -20,6 +20,12 @@ typedef struct {
   size_t len;
 } bytes;
 
+/* A typed array of JavaScript: its elements, and how many there are. */
+typedef struct {
+  void *at;
+  size_t len;
+} array;
+
 /* The arguments of a check. */
 typedef struct {
   room *room;
@@ -78,6 +84,11 @@ static bool bytes_of(napi_env env, napi_value value, bytes *found) {
   if (napi_get_buffer_info(env, value, &at, &found->len) != napi_ok) return false;
   found->at = at ? at : NOTHING;
   return true;
+}
+
+static bool array_of(napi_env env, napi_value value, napi_typedarray_type wanted, array *found) {
+  napi_typedarray_type type;
+  return napi_get_typedarray_info(env, value, &type, &found->len, &found->at, NULL, NULL) == napi_ok && type == wanted;
 }
 
 /* A number of faults: all, where it is larger than C can say. */
@@ -168,12 +179,36 @@ static napi_value is_valid(napi_env env, napi_callback_info info) {
   return status;
 }
 
+/* value(room, body, nodes, texts, used): the status. Of a valid body `nodes` and `texts` get what they have room for. The two numbers
+ * of `used` say how many nodes and bytes of texts there are. */
+static napi_value value(napi_env env, napi_callback_info info) {
+  napi_value words[5], status;
+  size_t count = 5, nodes_used = 0, texts_used = 0;
+  room *in = NULL;
+  bytes body;
+  array nodes, texts, used;
+  if (napi_get_cb_info(env, info, &count, words, NULL, NULL) != napi_ok || !room_of(env, words[0], &in))
+    return failed(env, "no room");
+  if (!bytes_of(env, words[1], &body)) return failed(env, "a body is a Uint8Array");
+  if (!array_of(env, words[2], napi_uint32_array, &nodes) || nodes.len < 4 || (uintptr_t)nodes.at % _Alignof(order_node) ||
+      !array_of(env, words[3], napi_uint8_array, &texts) || !texts.len || !array_of(env, words[4], napi_float64_array, &used) ||
+      used.len != 2)
+    return failed(env, "no room for a value");
+  uint8_t said = order_value_with(&in->checker, body.at, body.len, nodes.at, nodes.len * 4 / sizeof(order_node), &nodes_used, texts.at,
+                                  texts.len, &texts_used);
+  ((double *)used.at)[0] = (double)nodes_used;
+  ((double *)used.at)[1] = (double)texts_used;
+  if (napi_create_uint32(env, said, &status) != napi_ok) return failed(env, "no status");
+  return status;
+}
+
 NAPI_MODULE_INIT() {
   const napi_property_descriptor functions[] = {
       {.utf8name = "newRoom", .method = new_room},
       {.utf8name = "emptyRoom", .method = empty_room},
       {.utf8name = "check", .method = check},
       {.utf8name = "isValid", .method = is_valid},
+      {.utf8name = "value", .method = value},
   };
   if (order_version() != ORDER_VERSION) return failed(env, "the library has another version than its header");
   if (napi_define_properties(env, exports, sizeof functions / sizeof *functions, functions) != napi_ok)
