@@ -5,9 +5,7 @@
 package order
 
 import (
-	"encoding/json"
 	"errors"
-	"fmt"
 	"math"
 )
 
@@ -87,25 +85,24 @@ func read(given []Option) (options, error) {
 	return meant, nil
 }
 
-// Check gives the faults of a body. Where the bytes are no JSON text, the error is a *NotJSONError.
-func Check(body []byte, given ...Option) (Faults, error) {
-	return faultsOf(Problem(body, given...))
+// told is what problem details say.
+type told struct {
+	Detail string  `json:"detail"`
+	Errors []Fault `json:"errors"`
 }
 
-// faultsOf reads problem details.
-func faultsOf(status Status, details []byte, err error) (Faults, error) {
-	if err != nil || status == Valid {
-		return Faults{}, err
-	}
-	var told struct {
-		Detail string
-		Errors []Fault
-	}
-	if err := json.Unmarshal(details, &told); err != nil {
-		return Faults{}, fmt.Errorf("the problem details: %w", err)
-	}
-	if status == NotJSON {
-		return Faults{}, &NotJSONError{Detail: told.Detail, Details: details}
-	}
-	return Faults{List: told.Errors, More: told.Detail != ""}, nil
+// Check gives the faults of a body. Where the bytes are no JSON text, the error is a *NotJSONError.
+func Check(body []byte, given ...Option) (Faults, error) {
+	var c Checker
+	defer c.Close()
+	return c.Check(body, given...)
+}
+
+// Decode puts the value of a valid body where into points: it is the one that was judged, and no second reader reads the body. It
+// goes by the tags of encoding/json. A body with faults has no value: into stays as it was. A value that does not fit into the type
+// is a *FieldError, and what came before it is put.
+func Decode(body []byte, into any, given ...Option) (Faults, error) {
+	var c Checker
+	defer c.Close()
+	return c.Decode(body, into, given...)
 }

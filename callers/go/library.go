@@ -9,13 +9,24 @@ package order
 import "C"
 
 import (
+	"errors"
 	"fmt"
+	"reflect"
 	"runtime"
 	"unsafe"
 )
 
 // room is what a first call has for details. Longer ones take a second call.
 const room = 1024
+
+// ErrTarget is returned where what a value is to be put into is no pointer, or nil.
+var ErrTarget = errors.New("a value is put where a pointer points")
+
+func init() {
+	if unsafe.Sizeof(node{}) != C.sizeof_order_node {
+		panic("order_node of order.h has another layout")
+	}
+}
 
 // What the library owes is proved. What is owed to it stands in the head of order.h, in four lines:
 //  1. start gives a pointer that is not nil, also of a slice without bytes.
@@ -101,9 +112,71 @@ func NewChecker(bodyLen uint32) (*Checker, error) {
 	return c, nil
 }
 
+// startOf points to the first node.
+func startOf(nodes []node) *C.order_node {
+	return (*C.order_node)(unsafe.Pointer(&nodes[0]))
+}
+
+// faults gives the status of a body, its problem details, and their nodes. Few have more than one in four bytes.
+func (c *Checker) faults(body []byte, o options, size int) (Status, reading) {
+	var length, nodesUsed, textsUsed, placesUsed C.size_t
+	var place C.order_place
+	out, nodes, texts, language := make([]byte, size), make([]node, size/4+1), make([]byte, size), []byte(o.language)
+	status := C.order_faults_with(&c.raw, start(body), C.size_t(len(body)), C.size_t(o.most), start(language), C.size_t(len(language)),
+		start(out), C.size_t(size), &length, startOf(nodes), C.size_t(len(nodes)), &nodesUsed, start(texts), C.size_t(size), &textsUsed,
+		&place, 0, &placesUsed)
+	if int(length) > size {
+		return c.faults(body, o, int(length))
+	}
+	if int(nodesUsed) > len(nodes) {
+		return c.faults(body, o, 4*int(nodesUsed))
+	}
+	return Status(status), reading{nodes: nodes, plain: out[:length], texts: texts}
+}
+
+// value gives the status of a body, and the nodes of its value.
+func (c *Checker) value(body []byte, room int) (Status, reading) {
+	var nodesUsed, textsUsed C.size_t
+	nodes, texts := make([]node, room), make([]byte, len(body))
+	status := C.order_value_with(&c.raw, start(body), C.size_t(len(body)), startOf(nodes), C.size_t(room), &nodesUsed,
+		start(texts), C.size_t(len(texts)), &textsUsed)
+	if int(nodesUsed) > room {
+		return c.value(body, int(nodesUsed))
+	}
+	return Status(status), reading{nodes: nodes, plain: body, texts: texts}
+}
+
 // Check gives the faults of a body, as the function Check does.
 func (c *Checker) Check(body []byte, given ...Option) (Faults, error) {
-	return faultsOf(c.Problem(body, given...))
+	meant, err := read(given)
+	if err != nil {
+		return Faults{}, err
+	}
+	status, found := c.faults(body, meant, 4*room)
+	if status == Valid || status == C.ORDER_MEMORY {
+		return Faults{}, map[Status]error{C.ORDER_MEMORY: ErrMemory}[status]
+	}
+	var said told
+	if err := found.into(reflect.ValueOf(&said).Elem(), ""); err != nil {
+		return Faults{}, err
+	}
+	if status == NotJSON {
+		return Faults{}, &NotJSONError{Detail: said.Detail, Details: found.plain}
+	}
+	return Faults{List: said.Errors, More: said.Detail != ""}, nil
+}
+
+// Decode puts the value of a valid body where into points, as the function Decode does.
+func (c *Checker) Decode(body []byte, into any, given ...Option) (Faults, error) {
+	to := reflect.ValueOf(into)
+	if to.Kind() != reflect.Pointer || to.IsNil() {
+		return Faults{}, ErrTarget
+	}
+	status, found := c.value(body, len(body)/4+1)
+	if status != Valid {
+		return c.Check(body, given...)
+	}
+	return Faults{}, found.into(to.Elem(), "")
 }
 
 // Problem gives the status of a body and its problem details, as the function Problem does.

@@ -1,6 +1,7 @@
 package order_test
 
 import (
+	"encoding/json"
 	"errors"
 	"reflect"
 	"strings"
@@ -116,4 +117,88 @@ func TestCheckers(t *testing.T) {
 		}()
 	}
 	all.Wait()
+}
+
+type line struct {
+	Code  string `json:"code"`
+	Count uint8  `json:"count"`
+}
+
+type whole struct {
+	Customer *string `json:"customer"`
+	Lines    []line  `json:"lines"`
+	Kept     int
+}
+
+func TestDecode(t *testing.T) {
+	ada := "A\u010f\"a"
+	it := whole{Kept: 5}
+	faults, err := order.Decode([]byte(`{"lines":[{"count":1,"code":"P1"},{"code":"P\u0032","count":99}],"customer":"A\u010f\"a"}`), &it)
+	want := whole{&ada, []line{{"P1", 1}, {"P2", 99}}, 5}
+	if err != nil || len(faults.List) != 0 || !reflect.DeepEqual(it, want) {
+		t.Error(it, faults, err)
+	}
+	faults, err = order.Decode([]byte(bad), &it, order.Most(1))
+	if err != nil || len(faults.List) != 1 || !faults.More || !reflect.DeepEqual(it, want) {
+		t.Error(it, faults, err)
+	}
+	var found *order.NotJSONError
+	if _, err = order.Decode([]byte("nope"), &it); !errors.As(err, &found) || len(found.Details) == 0 {
+		t.Error(err)
+	}
+	for _, into := range []any{nil, it, (*whole)(nil), 5} {
+		if _, err = order.Decode([]byte(good), into); !errors.Is(err, order.ErrTarget) {
+			t.Error(err)
+		}
+	}
+}
+
+// What encoding/json makes of a body, Decode makes of it.
+func TestDecodeAny(t *testing.T) {
+	for _, lines := range []int{1, 50} {
+		body := []byte(`{"customer":"Ad\u00e9 \ud83d\ude00","lines":[` + strings.Repeat(`{"code":"P\t1","count":7},`, lines-1) + `{"code":"P1","count":1}]}`)
+		var ours, theirs any
+		_, err := order.Decode(body, &ours)
+		if err != nil || json.Unmarshal(body, &theirs) != nil || !reflect.DeepEqual(ours, theirs) {
+			t.Error(ours, theirs, err)
+		}
+		var named map[string]any
+		if _, err = order.Decode(body, &named); err != nil || !reflect.DeepEqual(any(named), theirs) {
+			t.Error(named, err)
+		}
+	}
+}
+
+func TestDecodeIntoOthers(t *testing.T) {
+	type text struct {
+		Customer int `json:"customer"`
+	}
+	type count struct {
+		Lines []struct {
+			Count bool `json:"count"`
+		} `json:"lines"`
+	}
+	type small struct {
+		Lines []struct {
+			Count int8 `json:"count"`
+			Code  any  `json:"code"`
+		} `json:"lines"`
+	}
+	for _, row := range []struct {
+		into any
+		want string
+	}{
+		{&text{}, `"/customer": a text does not fit into int`},
+		{&count{}, `"/lines/0/count": a number does not fit into bool`},
+		{&[]int{}, `"": an object does not fit into []int`},
+		{new(string), `"": an object does not fit into string`},
+		{&map[int]any{}, `"": an object does not fit into map[int]interface {}`},
+		{&small{}, ""},
+	} {
+		var found *order.FieldError
+		_, err := order.Decode([]byte(good), row.into)
+		if (row.want == "") != (err == nil) || (err != nil && (!errors.As(err, &found) || err.Error() != row.want)) {
+			t.Error(err, row.want)
+		}
+	}
 }
