@@ -40,6 +40,24 @@ function byHand(body) {
   return faults;
 }
 
+/** A call that throws of a faulty body. */
+function valueBy(call) {
+  return (body) => {
+    try {
+      return call(body);
+    } catch (error) {
+      return error.faults;
+    }
+  };
+}
+
+let bytes;
+
+/** A call that takes the bytes of the body, as a server has them. */
+function ofBytes(call) {
+  return () => call(bytes);
+}
+
 function order(lines, line) {
   return `{"customer":"Ada","lines":[${Array.from({ length: lines }, (_, n) => line.replace('7', 7 + n)).join(',')}]}`;
 }
@@ -48,17 +66,22 @@ const began = performance.now();
 const narrow = await load(module);
 narrow.check('{}');
 const start = performance.now() - began;
-const ways = { 'by hand': byHand, ajv: byAjv, '32 bits': narrow.check };
+const ways = { 'by hand': byHand, ajv: byAjv, '32 bits': narrow.check, '32 bits, value': valueBy(narrow.value) };
 const wide = await load();
 if (WebAssembly.validate(Uint8Array.of(0, 97, 115, 109, 1, 0, 0, 0, 5, 3, 1, 4, 1))) ways['64 bits'] = wide.check;
+if (isNode) {
+  const addon = (await import('node:module')).createRequire(import.meta.url)('./node/index.js');
+  Object.assign(ways, { addon: ofBytes(addon.check), 'addon, value': ofBytes(valueBy(addon.value)), 'ajv of bytes': ofBytes(byAjv) });
+}
 const said = { start: Number(start.toFixed(1)), rows: [] };
 for (const lines of [3, 50]) {
   for (const [kind, line] of [['valid', '{"code":"P7","count":3}'], ['two faults a line', '{"code":"Q7","count":0}']]) {
     const body = order(lines, line);
+    bytes = isNode ? Buffer.from(body) : null;
     const least = Object.fromEntries(Object.keys(ways).map((it) => [it, Infinity]));
-    // The clock of a page has steps of 0.1 ms.
-    const calls = lines === 3 ? 3000 : 300;
-    for (let turn = 0; turn < 40; turn++) {
+    // The clock of an isolated page has steps of 5 us.
+    const calls = lines === 3 ? 100 : 20;
+    for (let turn = 0; turn < 200; turn++) {
       await new Promise((resolve) => { setTimeout(resolve); });
       for (const [name, way] of Object.entries(ways)) {
         const now = performance.now();

@@ -144,6 +144,12 @@ class Browser:
 
 
 class Quiet(SimpleHTTPRequestHandler):
+    def end_headers(self):
+        # A page that is isolated has a clock with steps of 5 microseconds.
+        self.send_header("Cross-Origin-Opener-Policy", "same-origin")
+        self.send_header("Cross-Origin-Embedder-Policy", "require-corp")
+        super().end_headers()
+
     def log_message(self, *_):
         pass
 
