@@ -5,6 +5,8 @@ import shutil
 import subprocess
 import sys
 
+from lib import extension
+
 WARNED = ("-std=c11", "-Wall", "-Wextra", "-Werror")
 # The words that print the version of a command, and the oldest one that will do.
 OLDEST = {"cargo": ("--version", (1, 85)), "go": ("version", (1, 19)), "node": ("--version", (18, 0))}
@@ -28,6 +30,8 @@ def done(*words, **how):
 
 def lack(tool):
     """Why a command does not serve, or an empty text."""
+    if tool == "Python.h":
+        return extension.lacks()
     if not shutil.which(tool):
         return f"there is no {tool}"
     word, oldest = OLDEST.get(tool, ("", ()))
@@ -55,7 +59,12 @@ def of_go(bound, prefix, room):
 
 def of_python(bound, prefix, room):
     done(sys.executable, "-m", "compileall", "-q", bound / "python")
-    return ["env", f"PYTHONPATH={bound / 'python' / 'src'}", sys.executable, bound / "python" / "check.py"]
+    package, source = bound / "python", room / "python"
+    shutil.copytree(package / "src", source, dirs_exist_ok=True)
+    made = source / f"{prefix}_check" / extension.NAME
+    words, folder = extension.words_of(package, [package / "lib" / f"lib{prefix}.a"], package / "lib", made)
+    done(*words, *WARNED[1:], cwd=folder)
+    return ["env", f"PYTHONPATH={source}", sys.executable, package / "check.py"]
 
 
 def of_node(bound, prefix, room):
@@ -69,7 +78,7 @@ def of_wasm(bound, prefix, room):
 
 # How the program of a language is built, and the commands that build and run it.
 BUILDS = {
-    "c": (of_c, ["cc"]), "go": (of_go, ["go", "cc"]), "node": (of_node, ["node", "npm", "cc"]), "python": (of_python, []),
+    "c": (of_c, ["cc"]), "go": (of_go, ["go", "cc"]), "node": (of_node, ["node", "npm", "cc"]), "python": (of_python, ["cc", "Python.h"]),
     "rust": (of_rust, ["cargo", "cc"]), "wasm": (of_wasm, ["node"]),
 }
 

@@ -8,7 +8,7 @@ import shutil
 import subprocess
 import sys
 
-from lib import prover, repository
+from lib import extension, prover, repository
 from lib.repository import ROOT
 
 CRATE = ROOT / "crates" / "use_library"
@@ -58,13 +58,21 @@ def merged(made, folder=None):
     return made
 
 
-def package(folder, so=None):
-    """The package of callers/python, from a copy in this folder, with the library that is linked, or with this one."""
+def package(folder, built=None, flags=(), imports=True):
+    """The package of callers/python, from a copy in this folder, whose extension is built over the archives, or over those of a
+    folder. `lib` of the copy has the library as `tools/bind` puts it there."""
+    if wrong := extension.lacks():
+        sys.exit(f"callers/python is not tried: {wrong}")
     copy = folder / "python"
     made = shutil.ignore_patterns("*.so", "build", "*.egg-info", "__pycache__")
     shutil.copytree(ROOT / "callers" / "python", copy, ignore=made)
-    library = copy / "src" / "order_check" / "liborder.so"
-    shutil.copy(so, library) if so else shared(library)
+    (copy / "lib").mkdir()
+    shutil.copy(CRATE / "order.h", copy / "lib")
+    whole = [merged(copy / "lib" / "liborder.a", built)]
+    words, room = extension.words_of(copy, whole, copy / "lib", copy / "src" / "order_check" / extension.NAME)
+    subprocess.run([*map(str, words), "-Wall", "-Wextra", "-Werror", *flags], cwd=room, check=True)
+    if not imports:
+        return None
     sys.path.insert(0, str(copy / "src"))
     return importlib.import_module("order_check")
 

@@ -38,7 +38,8 @@ class Language:
 
 LANGUAGES = {
     "c": Language("C", "cc -std=c11 -I . c/check.c liborder.a -o check", '`#include "order.h"`, and link `liborder.a`.'),
-    "python": Language("Python", "pip install ./python", "Then `import order_check`.", (None, None, "src/order_check/liborder.so")),
+    "python": Language("Python", "pip install ./python", "Then `import order_check`.",
+                       ("lib/order.h", "lib/liborder.a", None, "lib/aarch64/liborder.a")),
     "rust": Language("Rust", "cargo build --manifest-path rust/Cargo.toml",
                      "In your crate: `cargo add --path FOLDER/rust`, and `use order_check::check;`.", (None, "lib/liborder.a", None, "lib/aarch64/liborder.a")),
     "go": Language("Go", "(cd go && go build ./...)",

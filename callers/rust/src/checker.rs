@@ -21,8 +21,10 @@ const ROOM: usize = 4096;
 /// shared(order_check::Checker::new());
 /// ```
 pub struct Checker {
-    raw: raw::Checker,
-    details: Vec<u8>,
+    pub(crate) raw: raw::Checker,
+    pub(crate) details: Vec<u8>,
+    pub(crate) nodes: Vec<raw::Node>,
+    pub(crate) texts: Vec<u8>,
 }
 
 // SAFETY: line 3 asks for one thread at a time, and does not ask for the same one. Each call takes
@@ -40,6 +42,8 @@ impl Checker {
         Checker {
             raw: raw::Checker::EMPTY,
             details: Vec::new(),
+            nodes: Vec::new(),
+            texts: Vec::new(),
         }
     }
 
@@ -126,10 +130,7 @@ impl Checker {
 
     /// Makes room for details of so many bytes.
     fn make_room(&mut self, len: usize) -> Result<(), OutOfMemory> {
-        let more = len.saturating_sub(self.details.len());
-        self.details.try_reserve_exact(more).or(Err(OutOfMemory))?;
-        self.details.resize(self.details.len() + more, 0);
-        Ok(())
+        grow(&mut self.details, len, 0)
     }
 }
 
@@ -174,8 +175,16 @@ fn assert_interface() {
     );
 }
 
+/// Makes a room as long as this, with such things behind what it has.
+pub(crate) fn grow<T: Clone>(room: &mut Vec<T>, len: usize, with: T) -> Result<(), OutOfMemory> {
+    let more = len.saturating_sub(room.len());
+    room.try_reserve_exact(more).or(Err(OutOfMemory))?;
+    room.resize(room.len() + more, with);
+    Ok(())
+}
+
 /// Details as a text of their own.
-fn text_of(details: &[u8]) -> Result<String, OutOfMemory> {
+pub(crate) fn text_of(details: &[u8]) -> Result<String, OutOfMemory> {
     let details = std::str::from_utf8(details).expect("the library writes UTF-8");
     let mut text = String::new();
     text.try_reserve_exact(details.len()).or(Err(OutOfMemory))?;

@@ -15,13 +15,18 @@
 #![warn(missing_docs, clippy::undocumented_unsafe_blocks)]
 
 mod checker;
+mod faults;
+mod nodes;
 mod options;
 mod problem;
 mod raw;
+mod value;
 
 pub use checker::{Checker, is_valid};
+pub use faults::{Fault, Faults, FaultsIter};
 pub use options::Options;
 pub use problem::{OutOfMemory, Problem};
+pub use value::{Part, Parts, Text};
 
 /// Checks a body, and reports every fault in English.
 ///

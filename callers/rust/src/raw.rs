@@ -9,6 +9,33 @@ pub const VALID: u8 = 0;
 pub const FAULTS: u8 = 1;
 pub const NO_JSON: u8 = 2;
 pub const MEMORY: u8 = 3;
+/// Of this crate: a value that is none of the caller's type.
+pub const MISFIT: u8 = 255;
+
+/// The kinds of a node.
+pub const NULL: u8 = 0;
+pub const FALSE: u8 = 1;
+pub const TRUE: u8 = 2;
+pub const WHOLE: u8 = 3;
+pub const NEGATIVE: u8 = 4;
+pub const NUMBER: u8 = 5;
+pub const TEXT: u8 = 6;
+pub const LIST: u8 = 7;
+pub const OBJECT: u8 = 8;
+
+/// `order_node`.
+#[repr(C)]
+#[derive(Clone, Copy, Debug)]
+pub struct Node {
+    pub kind: u8,
+    pub in_texts: bool,
+    pub len: u32,
+    pub value: u64,
+}
+
+impl Node {
+    pub const NULL: Node = Node { kind: NULL, in_texts: false, len: 0, value: 0 };
+}
 
 /// `order_checker`.
 #[repr(C)]
@@ -67,6 +94,36 @@ unsafe extern "C" {
         out: *mut u8,
         out_len: usize,
         len: *mut usize,
+    ) -> u8;
+
+    pub fn order_value_with(
+        checker: *mut Checker,
+        body: *const u8,
+        body_len: usize,
+        nodes: *mut Node,
+        nodes_len: usize,
+        nodes_used: *mut usize,
+        texts: *mut u8,
+        texts_len: usize,
+        texts_used: *mut usize,
+    ) -> u8;
+
+    pub fn order_faults_with(
+        checker: *mut Checker,
+        body: *const u8,
+        body_len: usize,
+        most: usize,
+        language: *const u8,
+        language_len: usize,
+        out: *mut u8,
+        out_len: usize,
+        len: *mut usize,
+        nodes: *mut Node,
+        nodes_len: usize,
+        nodes_used: *mut usize,
+        texts: *mut u8,
+        texts_len: usize,
+        texts_used: *mut usize,
     ) -> u8;
 
     pub fn order_free(checker: *mut Checker);

@@ -3,14 +3,18 @@ from __future__ import annotations
 
 import dataclasses
 import enum
-import json
 from collections.abc import Mapping
+from typing import Union
+
+Body = Union[bytes, bytearray, memoryview]
+"""The bytes of a body. `bytes` are read where they lie. Of others a copy is made, since another thread could change them."""
 
 
-@dataclasses.dataclass(frozen=True, slots=True)
+@dataclasses.dataclass(frozen=True)
 class Fault:
     """A fault of a body: where it is, and what is wrong there."""
 
+    __slots__ = ("pointer", "detail", "code", "params")
     pointer: str
     """The JSON Pointer (RFC 6901) of the value with the fault; of a member that is missing, where it would be."""
     detail: str
@@ -19,6 +23,9 @@ class Fault:
     """The kind of the fault, the same in each language."""
     params: Mapping[str, str]
     """What the sentence says of the rule, by name, as `{"min": "1"}`."""
+
+    def __reduce__(self) -> tuple[type, tuple[object, ...]]:
+        return Fault, (self.pointer, self.detail, self.code, self.params)
 
 
 class Faults(list[Fault]):
@@ -39,10 +46,11 @@ class Status(enum.IntEnum):
 STATUSES = {int(it): it for it in Status}
 
 
-@dataclasses.dataclass(frozen=True, slots=True)
+@dataclasses.dataclass(frozen=True)
 class Problem:
     """What is wrong with a body, for a service that hands it on."""
 
+    __slots__ = ("status", "details")
     status: Status
     """Whether the body has faults, or is no JSON text."""
     details: bytes
@@ -53,9 +61,29 @@ class Problem:
         """The status of an HTTP response with the details, which is their member `status`: 422, or 400 of no JSON text."""
         return 422 if self.status is Status.FAULTS else 400
 
+    def __reduce__(self) -> tuple[type, tuple[object, ...]]:
+        return Problem, (self.status, self.details)
+
+
+class Invalid(ValueError):
+    """A body has faults. The message has a line for each."""
+
+    http_status = 422
+
+    def __init__(self, faults: Faults, details: bytes) -> None:
+        super().__init__(faults, details)
+        self.faults = faults
+        self.details = details
+        """Problem details (RFC 9457) of the faults."""
+
+    def __str__(self) -> str:
+        return "\n".join(f"{it.pointer}: {it.detail}" for it in self.faults)
+
 
 class NotJson(ValueError):
     """The bytes are no JSON text. The message has the reason, with line and column."""
+
+    http_status = 400
 
     def __init__(self, message: str, details: bytes) -> None:
         super().__init__(message, details)
@@ -66,12 +94,5 @@ class NotJson(ValueError):
         return str(self.args[0])
 
 
-def faults_of(status: int, details: bytes) -> Faults:
-    """The faults that problem details have."""
-    said = json.loads(details.decode())
-    if status == Status.NO_JSON:
-        raise NotJson(said["detail"], details)
-    faults = Faults([Fault(it["pointer"], it["detail"], it["code"], it["params"]) for it in said["errors"]])
-    if "detail" in said:
-        faults.more = True
-    return faults
+def problem_of(status: int, details: bytes) -> Problem:
+    return Problem(STATUSES[status], details)

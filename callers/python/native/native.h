@@ -1,0 +1,125 @@
+/* What the files of the extension share. It is built for the stable ABI of Python 3.9, so one serves all later versions.
+ *
+ * A call takes a room, and puts it back when it ends. So no two calls share one, be they in two threads, or in one thread where a
+ * signal handler, a finalizer or a class of the caller calls again. What is shared is used with the GIL alone.
+ */
+#ifndef ORDER_NATIVE_H
+#define ORDER_NATIVE_H
+
+#define PY_SSIZE_T_CLEAN
+#define Py_LIMITED_API 0x03090000
+#include <Python.h>
+
+#include "order.h"
+
+enum {
+  /* So many rooms are kept for calls to come, and so many names of members. */
+  ROOMS = 4,
+  NAMES = 512,
+  /* A name of more bytes is not kept, and a class with more fields is rejected. */
+  NAME_LEN = 23,
+  FIELDS = 64,
+  /* A longer body releases the GIL. A shorter one is done before the GIL could be taken and given back. */
+  SMALL = 512,
+};
+
+/* A checker, and memory for an answer. Both grow by need. */
+typedef struct {
+  order_checker checker;
+  order_node *nodes;
+  uint8_t *texts, *out;
+  size_t nodes_len, texts_len, out_len;
+  size_t nodes_used, texts_used, out_used;
+  bool is_taken, is_large;
+} room;
+
+/* What a call is asked. */
+typedef struct {
+  PyObject *body, *language, *into, *room;
+  const uint8_t *at, *tag;
+  size_t len, tag_len, most;
+} asked;
+
+/* What a value may be. */
+enum { A_NULL = 1, A_BOOL = 2, AN_INT = 4, A_FLOAT = 8, A_TEXT = 16, A_LIST = 32, AN_OBJECT = 64 };
+
+/* What is made of a value: the kinds that it may have, and what is made of the items of a list, and of an object: of one with a class,
+ * or of one whose members are all alike. -1 is any value. */
+typedef struct {
+  unsigned kinds;
+  int items, members, record;
+  PyObject *told;
+} shape;
+
+/* A field of a class: its name, also in UTF-8, and what it has where the body has no such member, or NULL. */
+typedef struct {
+  PyObject *name, *bytes, *instead;
+  const char *at;
+  Py_ssize_t len;
+  int shape;
+  bool is_made, may_be_absent;
+} field;
+
+/* How an object of a class is made: as a dict; by its fields, one by one; or by a call with its fields. */
+enum { AS_DICT, BY_FIELDS, BY_CALL };
+
+typedef struct {
+  PyObject *class;
+  int how, count;
+  field *fields;
+} record;
+
+/* What `into` says, with the first shape for the whole. */
+typedef struct {
+  shape *shapes;
+  record *records;
+  int shape_count, record_count;
+  bool is_wrapped;
+} plan;
+
+typedef struct {
+  char text[NAME_LEN];
+  uint8_t len;
+  PyObject *made;
+} name;
+
+/* What a module has. Each interpreter has a module of its own. */
+typedef struct {
+  PyObject *faults, *problem, *not_json, *invalid, *valid, *describe, *plans, *fault_plan, *empty;
+  room *rooms[ROOMS];
+  int room_count;
+  name names[NAMES];
+} state;
+
+/* arguments.c: reads the arguments of a call. `drop_asked` frees what it holds, also where this fails. */
+bool read_asked(PyObject *args, PyObject *words, bool has_into, asked *it);
+void drop_asked(asked *it);
+
+/* room.c */
+room *take_room(state *held, const asked *it);
+void put_room(state *held, const asked *it, room *in);
+void free_room(room *in);
+/* Raises that the library had no memory. */
+PyObject *no_memory(void);
+PyObject *new_room(PyObject *module, PyObject *length);
+PyObject *close_room(PyObject *module, PyObject *capsule);
+/* The status of a body, with its value, its details, or these as nodes too in the room. */
+uint8_t ask_value(room *in, const asked *it);
+uint8_t ask_details(room *in, const asked *it);
+uint8_t ask_faults(room *in, const asked *it);
+
+/* plan.c: what is made by `into`. It is kept by the module. */
+plan *plan_of(state *held, PyObject *into);
+
+/* value.c: the value of these nodes, by a plan or as plain objects. */
+typedef struct {
+  state *held;
+  const plan *by;
+  const order_node *at;
+  const uint8_t *body, *texts;
+  const record *record;
+  const field *field;
+} walk;
+PyObject *made(walk *in);
+
+#endif

@@ -1,0 +1,173 @@
+/* The rooms that calls work in, and the calls of the library. */
+#include "native.h"
+
+#include <stdlib.h>
+#include <string.h>
+
+static const char CAPSULE[] = "order_check.room";
+/* Bytes that a room has for details at first. */
+static const size_t FIRST = 16 * 1024;
+/* A room of a larger body, or with more memory for an answer, is not kept. */
+static const size_t KEPT_BODY = 1024 * 1024, KEPT = 4 * 1024 * 1024;
+/* Details are larger than the body that has the faults, but seldom by more than this. What is not written takes no memory. */
+static const size_t GROWS = 16, MOST_AT_FIRST = 64 * 1024 * 1024;
+
+/* Makes room for so many things of a size. What was there is gone. */
+static bool grow(room *in, void *held, size_t *len, size_t wanted, size_t size) {
+  void **at = held;
+  if (wanted <= *len) return true;
+  free(*at);
+  *at = wanted <= PY_SSIZE_T_MAX / size ? malloc(wanted * size) : NULL;
+  *len = *at ? wanted : 0;
+  in->is_large |= wanted > KEPT / size;
+  return *at != NULL;
+}
+
+static bool grow_nodes(room *in, size_t wanted) { return grow(in, &in->nodes, &in->nodes_len, wanted, sizeof *in->nodes); }
+static bool grow_texts(room *in, size_t wanted) { return grow(in, &in->texts, &in->texts_len, wanted, 1); }
+static bool grow_out(room *in, size_t wanted) { return grow(in, &in->out, &in->out_len, wanted, 1); }
+
+static bool holds(const room *in) {
+  return in->nodes_used <= in->nodes_len && in->texts_used <= in->texts_len && in->out_used <= in->out_len;
+}
+
+/* A call of the library, without the GIL where the body is long. */
+static uint8_t ask(uint8_t (*call)(room *, const asked *), room *in, const asked *it) {
+  in->is_large |= it->len > KEPT_BODY;
+  if (it->len <= SMALL) return call(in, it);
+  PyThreadState *thread = PyEval_SaveThread();
+  uint8_t status = call(in, it);
+  PyEval_RestoreThread(thread);
+  return status;
+}
+
+/* A value has a node for every two bytes at most, with one more. */
+static uint8_t call_value(room *in, const asked *it) {
+  size_t nodes = it->len / 2 + 1, texts = memchr(it->at, '\\', it->len) ? it->len : 1;
+  in->nodes_used = in->texts_used = in->out_used = 0;
+  uint8_t status = ORDER_MEMORY;
+  do {
+    if (!grow_nodes(in, nodes) || !grow_texts(in, texts)) return ORDER_MEMORY;
+    status = order_value_with(&in->checker, it->at, it->len, in->nodes, in->nodes_len, &in->nodes_used, in->texts, in->texts_len,
+                              &in->texts_used);
+    nodes = in->nodes_used;
+    texts = in->texts_used;
+  } while (!holds(in));
+  return status;
+}
+
+static size_t first_out(const asked *it) {
+  size_t wanted = it->len < MOST_AT_FIRST / GROWS ? it->len * GROWS : MOST_AT_FIRST;
+  return wanted < FIRST ? FIRST : wanted;
+}
+
+static uint8_t call_details(room *in, const asked *it) {
+  size_t out = FIRST;
+  in->nodes_used = in->texts_used = in->out_used = 0;
+  uint8_t status = ORDER_MEMORY;
+  do {
+    if (!grow_out(in, out)) return ORDER_MEMORY;
+    status = order_check_with(&in->checker, it->at, it->len, it->most, it->tag, it->tag_len, in->out, in->out_len, &in->out_used);
+    out = in->out_used;
+  } while (!holds(in));
+  return status;
+}
+
+/* Details have a node for every four bytes, about, and in `texts` the sentences that have an escape. */
+static uint8_t call_faults(room *in, const asked *it) {
+  size_t out = first_out(it), nodes = out / 4, texts = out / 2;
+  in->nodes_used = in->texts_used = in->out_used = 0;
+  uint8_t status = ORDER_MEMORY;
+  do {
+    if (!grow_out(in, out) || !grow_nodes(in, nodes) || !grow_texts(in, texts)) return ORDER_MEMORY;
+    status = order_faults_with(&in->checker, it->at, it->len, it->most, it->tag, it->tag_len, in->out, in->out_len, &in->out_used,
+                               in->nodes, in->nodes_len, &in->nodes_used, in->texts, in->texts_len, &in->texts_used);
+    out = in->out_used;
+    nodes = in->nodes_used;
+    texts = in->texts_used;
+  } while (!holds(in));
+  return status;
+}
+
+uint8_t ask_value(room *in, const asked *it) { return ask(call_value, in, it); }
+uint8_t ask_details(room *in, const asked *it) { return ask(call_details, in, it); }
+uint8_t ask_faults(room *in, const asked *it) { return ask(call_faults, in, it); }
+
+/* Frees what a room holds. */
+static void empty(room *in) {
+  order_free(&in->checker);
+  free(in->nodes);
+  free(in->texts);
+  free(in->out);
+  *in = (room){.is_taken = in->is_taken};
+}
+
+void free_room(room *in) {
+  empty(in);
+  free(in);
+}
+
+static room *made_room(void) {
+  room *in = calloc(1, sizeof *in);
+  if (!in) PyErr_NoMemory();
+  return in;
+}
+
+PyObject *no_memory(void) {
+  PyErr_SetString(PyExc_MemoryError, "out of memory");
+  return NULL;
+}
+
+/* The room of a checker, which one call has at a time. */
+static room *room_of(PyObject *capsule) {
+  room *in = PyCapsule_GetPointer(capsule, CAPSULE);
+  if (in && in->is_taken) {
+    PyErr_SetString(PyExc_RuntimeError, "the checker is closed, or is in use");
+    return NULL;
+  }
+  if (in) in->is_taken = true;
+  return in;
+}
+
+room *take_room(state *held, const asked *it) {
+  if (it->room) return room_of(it->room);
+  return held->room_count ? held->rooms[--held->room_count] : made_room();
+}
+
+void put_room(state *held, const asked *it, room *in) {
+  if (it->room)
+    in->is_taken = false;
+  else if (in->is_large || held->room_count == ROOMS)
+    free_room(in);
+  else
+    held->rooms[held->room_count++] = in;
+}
+
+static void drop_capsule(PyObject *capsule) { free_room(PyCapsule_GetPointer(capsule, CAPSULE)); }
+
+/* A room of its own for a checker, for bodies of so many bytes. */
+PyObject *new_room(PyObject *module, PyObject *length) {
+  (void)module;
+  long long wanted = PyLong_AsLongLong(length);
+  if (wanted == -1 && PyErr_Occurred()) return NULL;
+  if (wanted < 0) return PyErr_Format(PyExc_ValueError, "a body has no %S bytes", length);
+  room *in = made_room();
+  if (!in) return NULL;
+  if (wanted && order_reserve(&in->checker, wanted < UINT32_MAX ? (uint32_t)wanted : UINT32_MAX) == ORDER_MEMORY) {
+    free_room(in);
+    return PyErr_NoMemory();
+  }
+  PyObject *capsule = PyCapsule_New(in, CAPSULE, drop_capsule);
+  if (!capsule) free_room(in);
+  return capsule;
+}
+
+/* Frees what the room of a checker holds. It stays taken from then on. */
+PyObject *close_room(PyObject *module, PyObject *capsule) {
+  (void)module;
+  room *in = PyCapsule_GetPointer(capsule, CAPSULE);
+  if (!in) return NULL;
+  if (!in->is_taken) empty(in);
+  in->is_taken = true;
+  Py_RETURN_NONE;
+}
