@@ -284,15 +284,18 @@ class Allocations(unittest.TestCase):
             remove_mem_hooks()
 
     def refuse_each(self, call):
-        right, refused, before = call(), 0, sys.getallocatedblocks()
-        for number in range(150):
-            found = self.answer(call, number)
-            refused += found is MemoryError
-            self.assertTrue(found is MemoryError or found == right)
-        self.assertGreater(refused, 5)
+        right, refused = call(), 0
+        # What the first round keeps, as names and lists of free objects, the second one finds.
+        for _ in range(2):
+            before = sys.getallocatedblocks()
+            for number in range(150):
+                found = self.answer(call, number)
+                refused += found is MemoryError
+                self.assertTrue(found is MemoryError or found == right)
+            gc.collect()
+        self.assertGreater(refused, 10)
         self.assertNotEqual(found, MemoryError)
-        gc.collect()
-        self.assertLess(sys.getallocatedblocks() - before, 40)
+        self.assertLess(sys.getallocatedblocks() - before, 5)
 
     def test_values(self):
         body = body_of({"a": [1.5, 10**30, "x" * 50, {"b": None}], "c" * 30: 1000})

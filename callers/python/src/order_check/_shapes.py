@@ -87,7 +87,7 @@ class Plan:
             kinds |= kind
             if kind == LIST and inner is not None:
                 items = self.add(inner, place)
-            elif kind == OBJECT and isinstance(part, type) and part is not dict:
+            elif kind == OBJECT and is_class(part) and part is not dict:
                 record = self.add_class(part)
             elif kind == OBJECT and inner is not None:
                 members = self.add(inner, place)
@@ -124,7 +124,12 @@ class Plan:
 
 
 def told(hint: Any) -> str:
-    return hint.__name__ if isinstance(hint, type) and not typing.get_args(hint) else str(hint)
+    return hint.__name__ if is_class(hint) else str(hint)
+
+
+def is_class(hint: Any) -> bool:
+    """Whether an annotation is a class. In Python 3.9 `list[int]` is a type too."""
+    return isinstance(hint, type) and typing.get_origin(hint) is None
 
 
 def plain(hint: Any) -> Any:
@@ -158,7 +163,7 @@ def kind_of(part: Any, place: str) -> tuple[int, Any]:
         return LIST, args[0]
     if origin in DICTS and len(args) == 2 and args[0] is str:
         return OBJECT, args[1]
-    if origin is None and isinstance(part, type) and not issubclass(part, enum.Enum) and getattr(part, "__annotations__", None):
+    if is_class(part) and not issubclass(part, enum.Enum) and getattr(part, "__annotations__", None):
         return OBJECT, None
     raise TypeError(f"{place} is {told(part)}, which `load` makes of no value")
 
