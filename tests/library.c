@@ -157,6 +157,46 @@ static void try_memory(const char *body, bool kept) {
   }
 }
 
+/* What both functions with nodes answer of a body: the statuses, and how much they hand over. */
+typedef struct {
+  int value_status, faults_status;
+  size_t nodes, texts, len, fault_nodes, fault_texts;
+} handed;
+
+static handed handed_over(order_checker *checker, const char *body) {
+  handed got = {0};
+  order_node nodes[128];
+  uint8_t out[2048], texts[256];
+  size_t len = strlen(body);
+  got.value_status = order_value_with(checker, (const uint8_t *)body, len, nodes, 128, &got.nodes, texts, sizeof texts, &got.texts);
+  got.faults_status = order_faults_with(checker, (const uint8_t *)body, len, SIZE_MAX, (const uint8_t *)"", 0, out, sizeof out, &got.len, nodes,
+                                        128, &got.fault_nodes, texts, sizeof texts, &got.fault_texts);
+  return got;
+}
+
+/* Each request of these two is refused in turn: they hand over what is right, or ORDER_MEMORY and no node. */
+static void try_memory_of_nodes(const char *body) {
+  order_checker checker = ORDER_CHECKER_EMPTY;
+  handed right = handed_over(&checker, body);
+  order_free(&checker);
+  for (long n = 1;; n++) {
+    long before = blocks;
+    requests = 0;
+    refused = n;
+    handed got = handed_over(&checker, body);
+    bool was_refused = requests >= n;
+    refused = 0;
+    expect(got.value_status == ORDER_MEMORY ? !got.nodes && !got.texts : got.nodes == right.nodes && got.texts == right.texts,
+           "a refused request gives the right nodes or none");
+    expect(got.faults_status == ORDER_MEMORY ? !got.fault_nodes && !got.fault_texts : got.len == right.len && got.fault_nodes == right.fault_nodes,
+           "a refused request gives the right faults or none");
+    expect(was_refused || !memcmp(&got, &right, sizeof got), "both answer where no request is refused");
+    order_free(&checker);
+    expect(blocks == before, "no block is left by nodes");
+    if (!was_refused) return;
+  }
+}
+
 /* A checker answers of the body that it is given, whatever it was given before. */
 static void try_checker(void) {
   const char *bodies[] = {GOOD, BAD, "nope", "", "{\"customer\":\"\\u0041\",\"lines\":[]}"};
@@ -227,6 +267,7 @@ static void try_calls(void) {
   order_checker checker = ORDER_CHECKER_EMPTY;
   long before = blocks;
   for (long i = 0; i < calls; i++) checked_bytes(&checker, (const uint8_t *)(i % 2 ? GOOD : BAD), strlen(i % 2 ? GOOD : BAD), SIZE_MAX);
+  for (long i = 0; i < calls; i += 2) handed_over(&checker, i % 4 ? GOOD : BAD);
   order_free(&checker);
   expect(blocks == before, "no block is left by many calls");
 }
@@ -246,6 +287,9 @@ int main(int count, char **words) {
     try_memory(BAD, kept);
     try_memory("nope", kept);
   }
+  try_memory_of_nodes(GOOD);
+  try_memory_of_nodes(BAD);
+  try_memory_of_nodes("nope");
   try_checker();
   try_reserved();
   try_threads();

@@ -91,6 +91,9 @@ impl Checker {
                 break status;
             }
         };
+        if status == raw::MEMORY {
+            return Err(OutOfMemory);
+        }
         let mut found = Faults::of(status, text_of(&self.details[..len])?);
         found.nodes = self.nodes[..nodes].to_vec();
         found.texts = self.texts[..texts].to_vec();
