@@ -73,7 +73,11 @@ impl Faults {
     /// The problem details (RFC 9457), of the media type `application/problem+json`. There are none of
     /// status 500.
     pub fn details(&self) -> &str {
-        if self.status == raw::MISFIT { "" } else { &self.details }
+        if self.status == raw::MISFIT {
+            ""
+        } else {
+            &self.details
+        }
     }
 
     /// Whether the body has more faults than were asked for.
@@ -81,7 +85,7 @@ impl Faults {
         self.status == raw::FAULTS && self.member("detail").is_some()
     }
 
-    /// The faults, in the order of the form.
+    /// The faults, as the form has them one after the other.
     pub fn iter(&self) -> FaultsIter<'_> {
         let errors = self.member("errors").filter(|_| self.status == raw::FAULTS);
         let left = match errors.clone().and_then(|mut parts| parts.next()) {
@@ -97,11 +101,19 @@ impl Faults {
     /// The fault of bytes that were not judged.
     fn whole(&self) -> Fault<'_> {
         let (code, message) = match self.status {
-            raw::NO_JSON => ("no_json", self.member("detail").as_mut().map(text).unwrap_or_default()),
+            raw::NO_JSON => (
+                "no_json",
+                self.member("detail").as_mut().map(text).unwrap_or_default(),
+            ),
             raw::MISFIT => ("misfit", self.details.as_str()),
             _ => ("out_of_memory", "out of memory"),
         };
-        Fault { pointer: "", message, code, parameters: Vec::new() }
+        Fault {
+            pointer: "",
+            message,
+            code,
+            parameters: Vec::new(),
+        }
     }
 
     fn parts(&self) -> Parts<'_, '_> {
@@ -153,7 +165,12 @@ pub struct FaultsIter<'f> {
 impl<'f> FaultsIter<'f> {
     /// What is said of a fault, member by member. A member that is not known here is passed over.
     fn fault(&mut self) -> Fault<'f> {
-        let mut made = Fault { pointer: "", message: "", code: "", parameters: Vec::new() };
+        let mut made = Fault {
+            pointer: "",
+            message: "",
+            code: "",
+            parameters: Vec::new(),
+        };
         let Some(Part::Object(count)) = self.parts.next() else {
             return made;
         };

@@ -14,12 +14,18 @@ impl Checker {
 
     /// The value of a valid body, or the faults that the options ask for. The value is that which was
     /// judged. It lies in the body and in the room of this checker.
-    pub fn value_with<'b>(&mut self, body: &'b [u8], options: Options) -> Result<Parts<'b, '_>, Faults> {
+    pub fn value_with<'b>(
+        &mut self,
+        body: &'b [u8],
+        options: Options,
+    ) -> Result<Parts<'b, '_>, Faults> {
         let mut texts = std::mem::take(&mut self.texts);
         let found = self.read(body, &mut texts);
         self.texts = texts;
         match found.map_err(|_| Faults::out_of_memory())? {
-            Some((nodes, texts)) => Ok(Parts::new(&self.nodes[..nodes], body, &self.texts[..texts])),
+            Some((nodes, texts)) => {
+                Ok(Parts::new(&self.nodes[..nodes], body, &self.texts[..texts]))
+            }
             None => Err(self.faults(body, options)),
         }
     }
@@ -32,7 +38,10 @@ impl Checker {
         options: Options,
         texts: &'b mut Vec<u8>,
     ) -> Result<Parts<'b, '_>, Faults> {
-        match self.read(body, texts).map_err(|_| Faults::out_of_memory())? {
+        match self
+            .read(body, texts)
+            .map_err(|_| Faults::out_of_memory())?
+        {
             Some((nodes, used)) => Ok(Parts::lent(&self.nodes[..nodes], body, &texts[..used])),
             None => Err(self.faults(body, options)),
         }
@@ -40,7 +49,11 @@ impl Checker {
 
     /// How many nodes and bytes of texts the value of a body has, which are in the rooms, or `None` where
     /// it is not valid.
-    fn read(&mut self, body: &[u8], texts: &mut Vec<u8>) -> Result<Option<(usize, usize)>, OutOfMemory> {
+    fn read(
+        &mut self,
+        body: &[u8],
+        texts: &mut Vec<u8>,
+    ) -> Result<Option<(usize, usize)>, OutOfMemory> {
         // A value has a node for every two bytes at most, but most often for every four.
         let (mut wanted, mut kept) = (body.len() / 4 + 8, 0);
         loop {
@@ -55,7 +68,13 @@ impl Checker {
         }
     }
 
-    fn call_value(&mut self, body: &[u8], texts: &mut [u8], nodes_used: &mut usize, texts_used: &mut usize) -> u8 {
+    fn call_value(
+        &mut self,
+        body: &[u8],
+        texts: &mut [u8],
+        nodes_used: &mut usize,
+        texts_used: &mut usize,
+    ) -> u8 {
         // SAFETY: 1: each pointer comes from a slice, with the length of that slice, or from a
         // reference; none is NULL. 2: what is written is behind five different `&mut`, and what is
         // read behind `&`. 3: `raw` began as EMPTY, is private and is never copied, and `&mut self`
@@ -77,7 +96,8 @@ impl Checker {
 
     /// The faults of a body that has some.
     fn faults(&mut self, body: &[u8], options: Options) -> Faults {
-        self.try_faults(body, options).unwrap_or_else(|_| Faults::out_of_memory())
+        self.try_faults(body, options)
+            .unwrap_or_else(|_| Faults::out_of_memory())
     }
 
     fn try_faults(&mut self, body: &[u8], options: Options) -> Result<Faults, OutOfMemory> {

@@ -34,7 +34,12 @@ pub struct Node {
 }
 
 impl Node {
-    pub const NULL: Node = Node { kind: NULL, in_texts: false, len: 0, value: 0 };
+    pub const NULL: Node = Node {
+        kind: NULL,
+        in_texts: false,
+        len: 0,
+        value: 0,
+    };
 }
 
 /// `order_checker`.

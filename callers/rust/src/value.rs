@@ -45,7 +45,7 @@ pub enum Part<'b, 'r> {
     Object(usize),
 }
 
-/// The parts of a value, in the order of its text.
+/// The parts of a value, one after the other as its text has them.
 #[derive(Clone, Debug)]
 pub struct Parts<'b, 'r> {
     nodes: std::slice::Iter<'r, raw::Node>,
@@ -81,9 +81,16 @@ impl<'b, 'r> Parts<'b, 'r> {
 
 impl<'b> Parts<'b, 'b> {
     /// The same, where the texts lie in a room that lives as long as the body.
-    pub(crate) fn lent<'r>(nodes: &'r [raw::Node], body: &'b [u8], texts: &'b [u8]) -> Parts<'b, 'r> {
+    pub(crate) fn lent<'r>(
+        nodes: &'r [raw::Node],
+        body: &'b [u8],
+        texts: &'b [u8],
+    ) -> Parts<'b, 'r> {
         let texts = std::str::from_utf8(texts).expect("the library writes UTF-8");
-        Parts { texts: Text::Lent(texts), ..Parts::new(nodes, body, &[]) }
+        Parts {
+            texts: Text::Lent(texts),
+            ..Parts::new(nodes, body, &[])
+        }
     }
 }
 

@@ -4,7 +4,10 @@ use std::fmt::{self, Display, Formatter};
 
 use order_check::{Part, Parts, Text};
 use serde::de::value::StrDeserializer;
-use serde::de::{self, DeserializeSeed, Deserializer, EnumAccess, IntoDeserializer, MapAccess, SeqAccess, VariantAccess, Visitor};
+use serde::de::{
+    self, DeserializeSeed, Deserializer, EnumAccess, IntoDeserializer, MapAccess, SeqAccess,
+    VariantAccess, Visitor,
+};
 use serde::forward_to_deserialize_any;
 
 /// Why a value is none of a type.
@@ -33,7 +36,9 @@ impl<'b, 'r> Reader<'b, 'r> {
     }
 
     fn next(&mut self) -> Result<Part<'b, 'r>, Misfit> {
-        self.0.next().ok_or_else(|| Misfit("a value has too few parts".to_owned()))
+        self.0
+            .next()
+            .ok_or_else(|| Misfit("a value has too few parts".to_owned()))
     }
 
     fn text(&mut self) -> Result<Text<'b, 'r>, Misfit> {
@@ -83,14 +88,26 @@ impl<'b> Deserializer<'b> for &mut Reader<'b, '_> {
         visitor.visit_none()
     }
 
-    fn deserialize_newtype_struct<V: Visitor<'b>>(self, _: &'static str, visitor: V) -> Result<V::Value, Misfit> {
+    fn deserialize_newtype_struct<V: Visitor<'b>>(
+        self,
+        _: &'static str,
+        visitor: V,
+    ) -> Result<V::Value, Misfit> {
         visitor.visit_newtype_struct(self)
     }
 
-    fn deserialize_enum<V: Visitor<'b>>(self, _: &'static str, _: &'static [&'static str], visitor: V) -> Result<V::Value, Misfit> {
+    fn deserialize_enum<V: Visitor<'b>>(
+        self,
+        _: &'static str,
+        _: &'static [&'static str],
+        visitor: V,
+    ) -> Result<V::Value, Misfit> {
         if self.0.peek() == Some(Part::Object(1)) {
             self.next()?;
-            return visitor.visit_enum(Counted { reader: self, left: 1 });
+            return visitor.visit_enum(Counted {
+                reader: self,
+                left: 1,
+            });
         }
         let name: StrDeserializer<'_, Misfit> = self.text()?.as_str().into_deserializer();
         visitor.visit_enum(name)
@@ -112,7 +129,10 @@ struct Counted<'a, 'b, 'r> {
 impl<'b> SeqAccess<'b> for Counted<'_, 'b, '_> {
     type Error = Misfit;
 
-    fn next_element_seed<T: DeserializeSeed<'b>>(&mut self, seed: T) -> Result<Option<T::Value>, Misfit> {
+    fn next_element_seed<T: DeserializeSeed<'b>>(
+        &mut self,
+        seed: T,
+    ) -> Result<Option<T::Value>, Misfit> {
         if self.left == 0 {
             return Ok(None);
         }
@@ -128,7 +148,10 @@ impl<'b> SeqAccess<'b> for Counted<'_, 'b, '_> {
 impl<'b> MapAccess<'b> for Counted<'_, 'b, '_> {
     type Error = Misfit;
 
-    fn next_key_seed<K: DeserializeSeed<'b>>(&mut self, seed: K) -> Result<Option<K::Value>, Misfit> {
+    fn next_key_seed<K: DeserializeSeed<'b>>(
+        &mut self,
+        seed: K,
+    ) -> Result<Option<K::Value>, Misfit> {
         self.next_element_seed(seed)
     }
 
@@ -166,7 +189,11 @@ impl<'b> VariantAccess<'b> for Counted<'_, 'b, '_> {
         self.reader.deserialize_any(visitor)
     }
 
-    fn struct_variant<V: Visitor<'b>>(self, _: &'static [&'static str], visitor: V) -> Result<V::Value, Misfit> {
+    fn struct_variant<V: Visitor<'b>>(
+        self,
+        _: &'static [&'static str],
+        visitor: V,
+    ) -> Result<V::Value, Misfit> {
         self.reader.deserialize_any(visitor)
     }
 }

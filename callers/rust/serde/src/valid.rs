@@ -52,7 +52,11 @@ impl Checker {
     }
 
     /// Does what the function [`check_with`] does.
-    pub fn check_with<'b, T: Deserialize<'b>>(&mut self, body: &'b [u8], options: Options) -> Result<Valid<T>, Faults> {
+    pub fn check_with<'b, T: Deserialize<'b>>(
+        &mut self,
+        body: &'b [u8],
+        options: Options,
+    ) -> Result<Valid<T>, Faults> {
         made(self.0.value_with(body, options)?)
     }
 
@@ -70,7 +74,9 @@ impl Checker {
 
 fn made<'b, T: Deserialize<'b>>(parts: Parts<'b, '_>) -> Result<Valid<T>, Faults> {
     let value = T::deserialize(&mut Reader::new(parts));
-    value.map(Valid).map_err(|misfit: Misfit| Faults::misfit(misfit.to_string()))
+    value
+        .map(Valid)
+        .map_err(|misfit: Misfit| Faults::misfit(misfit.to_string()))
 }
 
 /// The value of a valid body, or every fault in English.
@@ -84,6 +90,9 @@ pub fn check<'b, T: Deserialize<'b>>(body: &'b [u8]) -> Result<Valid<T>, Faults>
 /// # Panics
 ///
 /// Where the library has another interface than this crate.
-pub fn check_with<'b, T: Deserialize<'b>>(body: &'b [u8], options: Options) -> Result<Valid<T>, Faults> {
+pub fn check_with<'b, T: Deserialize<'b>>(
+    body: &'b [u8],
+    options: Options,
+) -> Result<Valid<T>, Faults> {
     Checker::new().check_with(body, options)
 }
