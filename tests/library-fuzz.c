@@ -92,12 +92,13 @@ static void try_faults(const uint8_t *body, size_t body_len, size_t most, const 
   for (size_t room = details_len - (details_len > 0); room <= details_len; room++) {
     value few = room_of(0, 0);
     uint8_t *out = malloc(room + !room);
-    size_t len = 9;
+    size_t len = 9, places = 9;
+    order_place none;
     int found = order_faults_with(&kept, body, body_len, most, language, language_len, out, room, &len, few.nodes, 0, &few.nodes_used, few.texts, 0,
-                                  &few.texts_used);
+                                  &few.texts_used, &none, 0, &places);
     value all = room_of(few.nodes_used, few.texts_used);
     order_faults_with(&kept, body, body_len, most, language, language_len, out, room, &len, all.nodes, all.nodes_len, &all.nodes_used, all.texts,
-                      all.texts_len, &all.texts_used);
+                      all.texts_len, &all.texts_used, &none, 0, &places);
     expect(found == status && len == details_len && few.nodes_used == all.nodes_used && !memcmp(out, details, room));
     expect((all.nodes_used > 0) == (room == details_len && room > 0));
     if (all.nodes_used) expect(walk(&all, 0, out, room, 0) == all.nodes_used);

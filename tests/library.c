@@ -167,10 +167,11 @@ static handed handed_over(order_checker *checker, const char *body) {
   handed got = {0};
   order_node nodes[128];
   uint8_t out[2048], texts[256];
-  size_t len = strlen(body);
+  order_place none;
+  size_t len = strlen(body), places = 0;
   got.value_status = order_value_with(checker, (const uint8_t *)body, len, nodes, 128, &got.nodes, texts, sizeof texts, &got.texts);
   got.faults_status = order_faults_with(checker, (const uint8_t *)body, len, SIZE_MAX, (const uint8_t *)"", 0, out, sizeof out, &got.len, nodes,
-                                        128, &got.fault_nodes, texts, sizeof texts, &got.fault_texts);
+                                        128, &got.fault_nodes, texts, sizeof texts, &got.fault_texts, &none, 0, &places);
   return got;
 }
 

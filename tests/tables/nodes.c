@@ -46,9 +46,10 @@ uint8_t order_value_with(order_checker *checker, const uint8_t *body, size_t bod
 
 uint8_t order_faults_with(order_checker *checker, const uint8_t *body, size_t body_len, size_t most, const uint8_t *language,
                           size_t language_len, uint8_t *out, size_t out_len, size_t *len, order_node *nodes, size_t nodes_len,
-                          size_t *nodes_used, uint8_t *texts, size_t texts_len, size_t *texts_used) {
-  (void)nodes, (void)nodes_len, (void)texts, (void)texts_len;
-  *nodes_used = *texts_used = 0;
+                          size_t *nodes_used, uint8_t *texts, size_t texts_len, size_t *texts_used, order_place *places, size_t places_len,
+                          size_t *places_used) {
+  (void)nodes, (void)nodes_len, (void)texts, (void)texts_len, (void)places, (void)places_len;
+  *nodes_used = *texts_used = *places_used = 0;
   return order_check_with(checker, body, body_len, most, language, language_len, out, out_len, len);
 }
 

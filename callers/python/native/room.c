@@ -75,13 +75,14 @@ static uint8_t call_details(room *in, const asked *it) {
 
 /* Details have a node for every four bytes, about, and in `texts` the sentences that have an escape. */
 static uint8_t call_faults(room *in, const asked *it) {
-  size_t out = first_out(it), nodes = out / 4, texts = out / 2;
+  size_t out = first_out(it), nodes = out / 4, texts = out / 2, places = 0;
+  order_place none;
   in->nodes_used = in->texts_used = in->out_used = 0;
   uint8_t status = ORDER_MEMORY;
   do {
     if (!grow_out(in, out) || !grow_nodes(in, nodes) || !grow_texts(in, texts)) return ORDER_MEMORY;
     status = order_faults_with(&in->checker, it->at, it->len, it->most, it->tag, it->tag_len, in->out, in->out_len, &in->out_used,
-                               in->nodes, in->nodes_len, &in->nodes_used, in->texts, in->texts_len, &in->texts_used);
+                               in->nodes, in->nodes_len, &in->nodes_used, in->texts, in->texts_len, &in->texts_used, &none, 0, &places);
     out = in->out_used;
     nodes = in->nodes_used;
     texts = in->texts_used;

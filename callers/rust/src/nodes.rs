@@ -132,7 +132,9 @@ impl Checker {
         texts_used: &mut usize,
     ) -> u8 {
         let language = options.language.as_bytes();
-        // SAFETY: as of `call_value`, with seven different `&mut`.
+        // No places are asked for.
+        let (mut none, mut places) = (raw::Place { line: 0, column: 0 }, 0);
+        // SAFETY: as of `call_value`, with nine different `&mut`.
         unsafe {
             raw::order_faults_with(
                 &mut self.raw,
@@ -150,6 +152,9 @@ impl Checker {
                 self.texts.as_mut_ptr(),
                 self.texts.len(),
                 texts_used,
+                &mut none,
+                0,
+                &mut places,
             )
         }
     }

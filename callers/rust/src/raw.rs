@@ -33,6 +33,13 @@ pub struct Node {
     pub value: u64,
 }
 
+/// `order_place`.
+#[repr(C)]
+pub struct Place {
+    pub line: u64,
+    pub column: u64,
+}
+
 impl Node {
     pub const NULL: Node = Node {
         kind: NULL,
@@ -129,6 +136,9 @@ unsafe extern "C" {
         texts: *mut u8,
         texts_len: usize,
         texts_used: *mut usize,
+        places: *mut Place,
+        places_len: usize,
+        places_used: *mut usize,
     ) -> u8;
 
     pub fn order_free(checker: *mut Checker);
