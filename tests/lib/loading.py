@@ -285,8 +285,8 @@ class Allocations(unittest.TestCase):
 
     def refuse_each(self, call):
         right, refused = call(), 0
-        # What the first round keeps, as names and lists of free objects, the second one finds.
-        for _ in range(2):
+        # What the first rounds keep, as names and lists of free objects, the last one finds.
+        for _ in range(12):
             before = sys.getallocatedblocks()
             for number in range(150):
                 found = self.answer(call, number)
