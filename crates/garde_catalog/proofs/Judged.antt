@@ -12,11 +12,11 @@ use Rattle.garde_catalog.specs.declared.template.TemplateFault.{TemplateFault}
 use Rattle.garde_catalog.specs.declared.template.TemplateFault.TheVariants as faults
 use Rattle.garde_catalog.proofs.Reading.{no_first, no_second, refused, unknown}
 
-and_left : (a b : Bool) → (a && b) ≡ true → a ≡ true
+pub and_left : (a b : Bool) → (a && b) ≡ true → a ≡ true
 and_left true b e = refl
 and_left false b e = e
 
-and_right : (a b : Bool) → (a && b) ≡ true → b ≡ true
+pub and_right : (a b : Bool) → (a && b) ≡ true → b ≡ true
 and_right true b e = e
 and_right false b e = absurd (false≢true e)
 

@@ -1,8 +1,6 @@
-pub mod KeysByNumber
 pub mod Cutting
 pub mod Reading
 pub mod Judged
-pub mod KeysOnce
 pub mod Made
 pub mod GoodLines
 pub mod LinesRead

@@ -1,5 +1,5 @@
 -- The lines of a table that is read from a file: what is told of them, and what is known.
-use Rattle.std.proofs.Common.{◌≡◌, ◌∙◌, ◌+◌, ◌<◌, ◌≤◌, ◌∷◌, ℕ, List, [], Bool, true, false, All, Option, Some, None, Result, Ok, Err, IsOk, IsErr, inl, length, drop, get_or, refl, sym, ap, subst, append-nil, arith}
+use Rattle.std.proofs.Common.{◌≡◌, ◌∙◌, ◌+◌, ◌<◌, ◌≤◌, ◌∷◌, ℕ, List, [], Bool, true, false, Option, Some, None, Result, Ok, Err, IsOk, IsErr, inl, length, drop, map, ◌++◌, get_or, refl, sym, ap, subst, append-nil, arith}
 use Rattle.std.specs.Prelude.{IfOk, IsOkAnd, OnOk, option_map}
 use Rattle.std.proofs.lemmas.Bool.{false≢true}
 use Rattle.std.proofs.lemmas.List.{at_drop_more, drop_all}
@@ -23,17 +23,12 @@ use Rattle.garde_tape.specs.declared.found.Found.{Found}
 use Rattle.garde_tape.specs.declared.found.Found.TheVariants.{Missing, Once, Repeated}
 use Rattle.garde_schema.specs.Forms.{FormTexts, Sound, forget, formed, refused}
 use Rattle.garde_schema.specs.Members.{member_visits, optional_visits}
-use Rattle.garde_catalog.specs.Keys.{first_of, number_of, second_of}
-use Rattle.garde_catalog.specs.Lines.{AreGoodLines, Line, found_text, in_turn, line_visits, lines_of, text_found, text_of, text_visits}
-use Rattle.garde_catalog.specs.Names.{name_of}
+use Rattle.garde_catalog.specs.Lines.{AreGoodLines, AreOwn, Line, asked, found_text, in_turn, joined, line_visits, lines_of, read, text_found, text_of, text_visits}
+use Rattle.garde_catalog.specs.Messages.{LIBRARY, Message, Stated, message_of}
 use Rattle.garde_catalog.specs.Template.{fault_datum, template_fault}
-use Rattle.garde_catalog.specs.declared.key.Key.{Key}
-use Rattle.garde_catalog.specs.declared.key.TheConstants.{KEYS}
 use Rattle.garde_catalog.specs.declared.template.TemplateFault.{TemplateFault}
-use Rattle.garde_catalog.proofs.GoodLines.{Fits, good_lines, has_lines}
+use Rattle.garde_catalog.proofs.GoodLines.{AllFit, Fits, good_lines, has_lines}
 use Rattle.garde_catalog.proofs.Judged.{good}
-use Rattle.garde_catalog.proofs.KeysByNumber.{keys_by_number}
-use Rattle.garde_catalog.proofs.Made.{in_place}
 
 -- ---- what is told
 
@@ -43,20 +38,20 @@ then_nothing (fault f t) = ap (λ s. fault f s) (then_nothing t)
 then_nothing (node k s t) = ap (λ u. node k s u) (then_nothing t)
 
 module _ {text : Datum → List ℕ} {E : Type 0} where
-  module _ (each : Key → Visits) (keys : List Key) (i : ℕ) where
-    -- no key is left
-    pub turn_end : length keys ≤ i → {walk : Trace} {old : List Entry} → Visited {E = E} (in_turn each (drop i keys)) text walk walk old old (Ok tt)
+  module _ (each : Message → Visits) (messages : List Stated) (i : ℕ) where
+    -- no message is left
+    pub turn_end : length messages ≤ i → {walk : Trace} {old : List Entry} → Visited {E = E} (in_turn each (map message_of (drop i messages))) text walk walk old old (Ok tt)
     unfolding in_turn
-    turn_end past {walk} {old} = subst (λ z. Visited {E = E} (in_turn each z) text walk walk old old (Ok tt)) (sym (drop_all i keys past)) visited_none
+    turn_end past {walk} {old} = subst (λ z. Visited {E = E} (in_turn each (map message_of z)) text walk walk old old (Ok tt)) (sym (drop_all i messages past)) visited_none
 
     -- this one is the next
-    pub turn_then : (d : Key) → i < length keys → {before mid after : Trace} {old between new : List Entry} {first result : Result Unit E} → Visited (each (get_or keys i d)) text before mid old between first → IsOk first → Visited (in_turn each (drop (i + 1) keys)) text mid after between new result → Visited (in_turn each (drop i keys)) text before after old new result
+    pub turn_then : (d : Stated) → i < length messages → {before mid after : Trace} {old between new : List Entry} {first result : Result Unit E} → Visited (each (message_of (get_or messages i d))) text before mid old between first → IsOk first → Visited (in_turn each (map message_of (drop (i + 1) messages))) text mid after between new result → Visited (in_turn each (map message_of (drop i messages))) text before after old new result
     unfolding in_turn
-    turn_then d within {before} {after = after} {old} {new = new} {result = result} told done rest = subst (λ z. Visited (in_turn each z) text before after old new result) (sym (at_drop_more (λ l. l) keys i d within)) (visited_then _ _ told done rest)
+    turn_then d within {before} {after = after} {old} {new = new} {result = result} told done rest = subst (λ z. Visited (in_turn each (map message_of z)) text before after old new result) (sym (at_drop_more (λ l. l) messages i d within)) (visited_then _ _ told done rest)
 
-    pub turn_stop : (d : Key) → i < length keys → {before after : Trace} {old new : List Entry} {first result : Result Unit E} → Visited (each (get_or keys i d)) text before after old new first → IsErr first → IsErr result → Visited (in_turn each (drop i keys)) text before after old new result
+    pub turn_stop : (d : Stated) → i < length messages → {before after : Trace} {old new : List Entry} {first result : Result Unit E} → Visited (each (message_of (get_or messages i d))) text before after old new first → IsErr first → IsErr result → Visited (in_turn each (map message_of (drop i messages))) text before after old new result
     unfolding in_turn
-    turn_stop d within {before} {after} {old} {new} {result = result} told was stops = subst (λ z. Visited (in_turn each z) text before after old new result) (sym (at_drop_more (λ l. l) keys i d within)) (visited_stop _ _ told was stops)
+    turn_stop d within {before} {after} {old} {new} {result = result} told was stops = subst (λ z. Visited (in_turn each (map message_of z)) text before after old new result) (sym (at_drop_more (λ l. l) messages i d within)) (visited_stop _ _ told was stops)
 
   -- memory ran out, and nothing was told
   silent : {walk : Trace} {old : List Entry} (e : E) → Visited {E = E} (may_allocate none) text walk walk old old (Err e)
@@ -102,11 +97,10 @@ module _ {text : Datum → List ℕ} {E : Type 0} where
 
 -- ---- what a rule finds
 
--- what is wrong with the text of a key, where its parameters have these names
-pub its_fault : (key : Key) (text : List ℕ) {first second body : List ℕ} {o : Option TemplateFault} → first ≡ first_of key → second ≡ second_of key → body ≡ text → o ≡ template_fault first second body → text_found key text ≡ option_map (λ found. rule (fault_datum found)) o
-its_fault key text {first} {second} {body} f s b is =
-    ap (option_map (λ found. rule (fault_datum found)))
-    (ap (λ x. template_fault x (second_of key) text) (sym f) ∙ ap (λ x. template_fault first x text) (sym s) ∙ ap (λ x. template_fault first second x) (sym b) ∙ sym is)
+-- what is wrong with the text of a message
+pub its_fault : (message : Message) (text : List ℕ) {body : List ℕ} {o : Option TemplateFault} → body ≡ text → o ≡ template_fault message.1 message.2 body → text_found message text ≡ option_map (λ found. rule (fault_datum found)) o
+its_fault message text b is =
+    ap (option_map (λ found. rule (fault_datum found))) (ap (λ x. template_fault message.1 message.2 x) (sym b) ∙ sym is)
 
 -- the answer of a rule that asks a handler for the text of what it found
 datum_applies : {C E : Type 0} (bytes : C → List ℕ) (datum : Datum) (text : Datum → List ℕ) (r : Result C E) (e : RuleError) → IfFault e (λ m. IsOkAnd r (λ t. m ≡ bytes t)) → IfOk r (λ s. bytes s ≡ text datum) → Applies (Some (rule datum)) text (Err e)
@@ -129,50 +123,61 @@ no_fault None f e = refl
 no_fault (Some x) f e = absurd (none-some (f x) (sym e))
 
 -- a text of which nothing is wrong is a template
-text_fits : (may_lack : Bool) (key : Key) (message : List ℕ) (o : Option (List ℕ)) → Known (formed message (λ text. found (text_found key text)) o) → Fits may_lack key (option_map (λ text. Some text) o)
+text_fits : (may_lack : Bool) (m : Message) (message : List ℕ) (o : Option (List ℕ)) → Known (formed message (λ text. found (text_found m text)) o) → Fits may_lack m (option_map (λ text. Some text) o)
 unfolding Known found
-text_fits may_lack key message (Some text) known = good text (first_of key) (second_of key) (no_fault (template_fault (first_of key) (second_of key) text) _ known)
-text_fits may_lack key message None known = refused_is_fault message known
+text_fits may_lack m message (Some text) known = good text m.1 m.2 (no_fault (template_fault m.1 m.2 text) _ known)
+text_fits may_lack m message None known = refused_is_fault message known
 
-found_fits : (texts : FormTexts) (key : Key) (f : Found) → Known (member_visits texts (λ v. text_visits texts key v) f) → Fits false key (found_text false f)
-found_fits texts key Missing known = refused_is_fault _ known
-found_fits texts key (Once v) known = text_fits false key _ (as_str v) known
-found_fits texts key Repeated known = refused_is_fault _ known
+found_fits : (texts : FormTexts) (m : Message) (f : Found) → Known (member_visits texts (λ v. text_visits texts m v) f) → Fits false m (found_text false f)
+found_fits texts m Missing known = refused_is_fault _ known
+found_fits texts m (Once v) known = text_fits false m _ (as_str v) known
+found_fits texts m Repeated known = refused_is_fault _ known
 
-some_found_fits : (name : Part) (texts : FormTexts) (key : Key) (f : Found) → Known (optional_visits name texts (λ v. text_visits texts key v) f) → Fits true key (found_text true f)
+some_found_fits : (name : Part) (texts : FormTexts) (m : Message) (f : Found) → Known (optional_visits name texts (λ v. text_visits texts m v) f) → Fits true m (found_text true f)
 unfolding Known under
-some_found_fits name texts key Missing known = refl
-some_found_fits name texts key (Once v) known = text_fits true key _ (as_str v) known
-some_found_fits name texts key Repeated known = refused_is_fault _ known
+some_found_fits name texts m Missing known = refl
+some_found_fits name texts m (Once v) known = text_fits true m _ (as_str v) known
+some_found_fits name texts m Repeated known = refused_is_fault _ known
 
-line_fits : (may_lack : Bool) (texts : FormTexts) (j : Json) (key : Key) → Known (line_visits may_lack texts j key) → Fits may_lack key (text_of may_lack j key)
+line_fits : (may_lack : Bool) (texts : FormTexts) (j : Json) (m : Message) → Known (line_visits may_lack texts j m) → Fits may_lack m (text_of may_lack j m.0)
 unfolding Known under
-line_fits true texts j key known = some_found_fits (key_part (name_of key)) texts key (find_answer (name_of key) j) known
-line_fits false texts j key known = found_fits texts key (find_answer (name_of key) j) known
+line_fits true texts j m known = some_found_fits (key_part m.0) texts m (find_answer m.0 j) known
+line_fits false texts j m known = found_fits texts m (find_answer m.0 j) known
 
-known_each : (each : Key → Visits) (keys : List Key) → Known (in_turn each keys) → All (λ key. Known (each key)) keys
+all_fit : (may_lack : Bool) (texts : FormTexts) (j : Json) (messages : List Message) → Known (asked may_lack texts j messages) → AllFit may_lack (λ code. text_of may_lack j code) messages
 unfolding Known ◌and◌ in_turn
-known_each each [] known = All-nil (λ key. Known (each key))
-known_each each (key ∷ keys) known = All-cons (λ k. Known (each k)) key keys known.0 (known_each each keys known.1)
+all_fit may_lack texts j [] known = All-nil (λ m. Fits may_lack m (text_of may_lack j m.0))
+all_fit may_lack texts j (m ∷ messages) known =
+    All-cons (λ k. Fits may_lack k (text_of may_lack j k.0)) m messages (line_fits may_lack texts j m known.0) (all_fit may_lack texts j messages known.1)
 
-known_all : (a : Visits) → Known (may_allocate a) → Known a
-unfolding Known may_allocate
-known_all a known = known
-
-all_fit : (may_lack : Bool) (texts : FormTexts) (j : Json) → Known (may_allocate (in_turn (λ key. line_visits may_lack texts j key) KEYS)) → (key : Key) → Fits may_lack key (text_of may_lack j key)
-all_fit may_lack texts j known key =
-    line_fits may_lack texts j key (in_place (λ k. Known (line_visits may_lack texts j k)) KEYS (number_of key) key
-    (known_each (λ k. line_visits may_lack texts j k) KEYS (known_all _ known)) (keys_by_number key))
+known_both : (a b : Visits) → Known (may_allocate (a and b)) → Known a × Known b
+unfolding Known may_allocate ◌and◌
+known_both a b known = known
 
 pub on_ok : {A E : Type 0} (r : Result A E) {P : Type 0} → P → OnOk r P
 on_ok (Ok x) p = p
 on_ok (Err e) p = tt
 
-sound_of : (may_lack : Bool) (texts : FormTexts) (j : Json) (o : Option (List Line)) → lines_of (λ key. text_of may_lack j key) KEYS ≡ o → Sound (may_allocate (in_turn (λ key. line_visits may_lack texts j key) KEYS)) (λ lines. AreGoodLines may_lack lines) o
-sound_of may_lack texts j (Some lines) is = λ known. good_lines may_lack (λ key. text_of may_lack j key) lines (all_fit may_lack texts j known) is
-sound_of may_lack texts j None is = λ known.
-    let some = has_lines may_lack (λ key. text_of may_lack j key) KEYS (all_fit may_lack texts j known) in none-some some.0 (sym is ∙ some.1)
+has_both : (xs ys : Option (List Line)) (a b : List Line) → xs ≡ Some a → ys ≡ Some b → joined xs ys ≡ Some (a ++ b)
+has_both xs ys a b x y = ap (λ o. joined o ys) x ∙ ap (joined (Some a)) y
 
--- lines of which nothing is wrong make a good table
-pub sound_lines : (may_lack : Bool) (texts : FormTexts) (j : Json) → Sound (may_allocate (in_turn (λ key. line_visits may_lack texts j key) KEYS)) (λ lines. AreGoodLines may_lack lines) (lines_of (λ key. text_of may_lack j key) KEYS)
-sound_lines may_lack texts j = sound_of may_lack texts j _ refl
+module _ (may_lack : Bool) (texts : FormTexts) (j : Json) (own : List Message) where
+  abbrev visits : Visits
+  visits = may_allocate (asked may_lack texts j LIBRARY and asked may_lack texts j own)
+
+  abbrev value : Option (List Line)
+  value = joined (read may_lack j LIBRARY) (read may_lack j own)
+
+  sound_of : (o : Option (List Line)) → value ≡ o → Sound visits (λ lines. AreOwn own → AreGoodLines may_lack lines) o
+  sound_of (Some lines) is = λ known are_own.
+      let each = known_both (asked may_lack texts j LIBRARY) (asked may_lack texts j own) known in
+      good_lines may_lack (λ code. text_of may_lack j code) own lines are_own (all_fit may_lack texts j LIBRARY each.0) is
+  sound_of None is = λ known.
+      let each = known_both (asked may_lack texts j LIBRARY) (asked may_lack texts j own) known in
+      let xs = has_lines may_lack (λ code. text_of may_lack j code) LIBRARY (all_fit may_lack texts j LIBRARY each.0) in
+      let ys = has_lines may_lack (λ code. text_of may_lack j code) own (all_fit may_lack texts j own each.1) in
+      none-some (xs.0 ++ ys.0) (sym is ∙ has_both (read may_lack j LIBRARY) (read may_lack j own) xs.0 ys.0 xs.1 ys.1)
+
+  -- lines of which nothing is wrong make a good table
+  pub sound_lines : Sound visits (λ lines. AreOwn own → AreGoodLines may_lack lines) value
+  sound_lines = sound_of _ refl

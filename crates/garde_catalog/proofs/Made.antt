@@ -1,87 +1,98 @@
--- The keys of a table that are checked one by one, and the text of each.
-use Rattle.std.proofs.Common.{◌≡◌, ◌≢◌, ◌++◌, ◌∷◌, ◌+◌, ◌<◌, ◌≤◌, ◌∙◌, ℕ, List, [], All, Some, None, Bool, true, false, ◌==◌, cond, length, take, get_or, slice_get, refl, sym, ap, subst, append-nil, length-append, drop, eq-eqb, eqb-true, ne_eqb, take-append-drop, inl, inr, ⊎_elim, ◌⊎◌, arith}
-use Rattle.std.proofs.lemmas.List.{take_more}
+-- The messages of a table that are checked one by one, and the text of each.
+use Rattle.std.proofs.Common.{◌≡◌, ◌≢◌, ◌++◌, ◌∷◌, ◌+◌, ◌-◌, ◌<◌, ◌≤◌, ◌∙◌, ℕ, zero, suc, List, [], All, Option, Some, None, Bool, true, false, bytes_eq, cond, length, map, take, get_or, slice_get, refl, sym, ap, subst, append-nil, length-append, drop, take-append-drop, inl, inr, ⊎_elim, ◌⊎◌, arith}
+use Rattle.std.proofs.lemmas.List.{get_or-map, length-map, take_more}
 use Rattle.std.proofs.lemmas.Grind.{common_steps}
-use Rattle.std.proofs.lemmas.List.Elements.{All-get_or, All-head, All-more}
-use Rattle.std.proofs.lemmas.Option.{get_or_from_slice_get, slice_get_cases, slice_get_within}
-use Rattle.std.specs.Prelude.{unwrap_or}
-use Rattle.garde_catalog.specs.Keys.{number_of, first_of, second_of}
+use Rattle.std.proofs.lemmas.List.Elements.{All-get_or, All-head, All-map, All-more}
+use Rattle.std.proofs.lemmas.Option.{get_or_from_slice_get, none-some, slice_get-map, slice_get_within}
+use Rattle.std.proofs.Math.Nat.{eq-or-lt_of_le}
+use Rattle.std.proofs.lemmas.Slice.Eq.{bytes_eq-Decides}
+use Rattle.std.proofs.lemmas.Bool.{false_from_ne_true, false≢true}
+use Rattle.std.specs.Prelude.{option_map, unwrap_or}
+use Rattle.garde_catalog.specs.Messages.{LIBRARY, Message, Stated, code_at, message_of}
 use Rattle.garde_catalog.specs.Template.{IsTemplate, Piece, pieces_of}
-use Rattle.garde_catalog.specs.Catalog.{AreGood, AreTold, Entry, HasFault, HasNotOne, IsCatalog, IsFault, IsGood, IsWrong, entries_in, only_text, or_those, others_in, text_in_place, text_on, texts_of, texts_under, word_in, word_of}
-use Rattle.garde_catalog.specs.declared.key.Key.{Key}
-use Rattle.garde_catalog.specs.declared.key.TheConstants.{KEYS}
+use Rattle.garde_catalog.specs.Catalog.{AreGood, AreLines, AreTold, Entry, HasCode, HasFault, HasNotOne, IsCatalog, IsFault, IsGood, IsInOrder, IsListed, IsTold, IsWrong, lines_in, only_text, or_those, others_in, text_on, texts_of, texts_under, word_at, word_in}
+use Rattle.garde_catalog.specs.declared.lines.Lines.{Lines}
 use Rattle.garde_catalog.specs.declared.catalog.Catalog.{Catalog}
 use Rattle.garde_catalog.specs.declared.fault.CatalogFault.{CatalogFault}
 use Rattle.garde_catalog.specs.declared.fault.Wrong.{Wrong}
 use Rattle.garde_catalog.specs.declared.fault.Wrong.TheVariants as wrongs
-use Rattle.garde_catalog.proofs.KeysByNumber.{keys_by_number}
 use Rattle.garde_catalog.proofs.Reading.{its_pieces}
 
--- a key is good, or one of the faults is of it
-abbrev pub IsTold : List Entry → List Entry → List CatalogFault → Key → Type 0
-IsTold entries others faults key = IsGood entries others key ⊎ HasFault faults key
+-- the next message is told, too, and the others still are where there are more faults
+pub next : (entries others : List Entry) (messages : List Stated) (i : ℕ) (d : Stated) (faults more : List CatalogFault) → i < length messages
+    → ((m : Message) → HasFault faults m → HasFault more m) → IsTold entries others more (message_of (get_or messages i d))
+    → All (λ m. IsTold entries others faults (message_of m)) (take i messages) → All (λ m. IsTold entries others more (message_of m)) (take (i + 1) messages)
+next entries others messages i d faults more low kept told h =
+    All-more (λ m. IsTold entries others more (message_of m)) messages i d low (λ k other within. ⊎_elim inl (λ has. inr (kept _ has)) (h k other within)) told
 
--- the next key is told, too, and the others still are where there are more faults
-pub next : (entries others : List Entry) (keys : List Key) (i : ℕ) (d : Key) (faults more : List CatalogFault) → i < length keys
-    → ((key : Key) → HasFault faults key → HasFault more key) → IsTold entries others more (get_or keys i d)
-    → All (IsTold entries others faults) (take i keys) → All (IsTold entries others more) (take (i + 1) keys)
-next entries others keys i d faults more low kept told h =
-    All-more (IsTold entries others more) keys i d low (λ k other within. ⊎_elim inl (λ has. inr (kept _ has)) (h k other within)) told
+-- what is told of each message of a table of the code is told of the messages of the library
+pub all_told : (entries others : List Entry) (faults : List CatalogFault) (messages : List Stated) → map message_of messages ≡ LIBRARY
+    → All (λ m. IsTold entries others faults (message_of m)) messages → AreTold entries others faults
+all_told entries others faults messages same h =
+    subst (All (IsTold entries others faults)) same (All-map (IsTold entries others faults) message_of messages h)
 
--- a fault that was there is there with another one behind it
-pub still_there : (faults : List CatalogFault) (fault : CatalogFault) (key : Key) → HasFault faults key → HasFault (faults ++ fault ∷ []) key
-still_there faults fault key has = (has.0, has.1, grind (arith, common_steps, has.2), grind (arith, common_steps, has.2, has.3), has.4)
+-- its messages are those of the library
+pub listed : (messages : List Stated) (i : ℕ) (d : Stated) → map message_of messages ≡ LIBRARY → i < length messages → IsListed (message_of (get_or messages i d))
+listed messages i d same low =
+    let message = message_of (get_or messages i d) in
+    (i, message, omega (arith, low, ap length same, length-map message_of messages), subst (λ l. get_or l i message ≡ message) same (get_or-map message_of messages i d message low), refl)
 
-pub in_place : (P : Key → Type 0) (keys : List Key) (i : ℕ) (key : Key) → All P keys → slice_get keys i ≡ Some key → P key
-in_place P keys i key h at =
-    subst P (get_or_from_slice_get keys i key key at) (All-get_or P keys i key (slice_get_within keys i key at) h)
-
--- each key of the list is told
-pub all_told : (entries others : List Entry) (faults : List CatalogFault) → All (IsTold entries others faults) KEYS → AreTold entries others faults
-all_told entries others faults h key = in_place (IsTold entries others faults) KEYS (number_of key) key h (keys_by_number key)
-
--- without a fault each key is good
+-- without a fault each message is good
 pub all_good : (entries others : List Entry) (faults : List CatalogFault) → faults ≡ [] → AreTold entries others faults → AreGood entries others
-all_good entries others faults none told key = ⊎_elim (λ good. good) (λ has. absurd (omega (arith, has.2, ap length none))) (told key)
+all_good entries others faults none told =
+    λ k other within. ⊎_elim (λ good. good) (λ has. absurd (omega (arith, has.2, ap length none))) (told k other within)
 
-branch : (t : Bool) (x : List ℕ) (fs bs whole : List (List ℕ)) → whole ≡ fs ++ bs → cond t (x ∷ whole) whole ≡ cond t (x ∷ fs) fs ++ bs
+pub branch : (t : Bool) (x : List ℕ) (fs bs whole : List (List ℕ)) → whole ≡ fs ++ bs → cond t (x ∷ whole) whole ≡ cond t (x ∷ fs) fs ++ bs
 branch true x fs bs whole e = ap (λ l. x ∷ l) e
 branch false x fs bs whole e = e
 
--- the texts under a key of a table and another one behind it
-under_both : (key : Key) (front back : List Entry) → texts_under key (front ++ back) ≡ texts_under key front ++ texts_under key back
-under_both key [] back = refl
-under_both key (entry ∷ front) back =
-    branch (number_of entry.0 == number_of key) entry.1.now (texts_under key front) (texts_under key back) (texts_under key (front ++ back))
-    (under_both key front back)
+same_bytes : (xs ys : List ℕ) → xs ≡ ys → bytes_eq xs ys ≡ true
+same_bytes xs ys e = (bytes_eq-Decides xs ys).1 e
 
-under_next : (key : Key) (entries : List Entry) (i : ℕ) (d : Entry) → i < length entries
-    → texts_under key (take (i + 1) entries) ≡ texts_under key (take i entries) ++ texts_under key (get_or entries i d ∷ [])
-under_next key entries i d low = rw (take_more entries i d low) (under_both key (take i entries) (get_or entries i d ∷ []))
+other_bytes : (xs ys : List ℕ) → xs ≢ ys → bytes_eq xs ys ≡ false
+other_bytes xs ys e = false_from_ne_true (bytes_eq xs ys) (λ same. e ((bytes_eq-Decides xs ys).0 same))
 
--- the next line has this key
-pub same_line : (key : Key) (entries : List Entry) (i : ℕ) (d : Entry) → i < length entries → number_of (get_or entries i d).0 ≡ number_of key
-    → texts_under key (take (i + 1) entries) ≡ texts_under key (take i entries) ++ ((get_or entries i d).1.now ∷ [])
-same_line key entries i d low e =
-    under_next key entries i d low ∙ ap (λ t. texts_under key (take i entries) ++ cond t ((get_or entries i d).1.now ∷ []) []) (eq-eqb _ _ e)
+-- the answer of a comparison
+pub is_code : (xs ys : List ℕ) {b : Bool} → b ≡ bytes_eq xs ys → b ≡ true → xs ≡ ys
+is_code xs ys b yes = (bytes_eq-Decides xs ys).0 (sym b ∙ yes)
+
+pub is_no_code : (xs ys : List ℕ) {b : Bool} → b ≡ bytes_eq xs ys → b ≡ false → xs ≢ ys
+is_no_code xs ys b no e = false≢true (sym no ∙ b ∙ same_bytes xs ys e)
+
+-- the texts under a code of a table and another one behind it
+under_both : (code : List ℕ) (front back : List Entry) → texts_under code (front ++ back) ≡ texts_under code front ++ texts_under code back
+under_both code [] back = refl
+under_both code (entry ∷ front) back =
+    branch (bytes_eq entry.0.now code) entry.1.now (texts_under code front) (texts_under code back) (texts_under code (front ++ back))
+    (under_both code front back)
+
+under_next : (code : List ℕ) (entries : List Entry) (i : ℕ) (d : Entry) → i < length entries
+    → texts_under code (take (i + 1) entries) ≡ texts_under code (take i entries) ++ texts_under code (get_or entries i d ∷ [])
+under_next code entries i d low = rw (take_more entries i d low) (under_both code (take i entries) (get_or entries i d ∷ []))
+
+-- the next line has this code
+pub same_line : (code : List ℕ) (entries : List Entry) (i : ℕ) (d : Entry) → i < length entries → (get_or entries i d).0.now ≡ code
+    → texts_under code (take (i + 1) entries) ≡ texts_under code (take i entries) ++ ((get_or entries i d).1.now ∷ [])
+same_line code entries i d low e =
+    under_next code entries i d low ∙ ap (λ t. texts_under code (take i entries) ++ cond t ((get_or entries i d).1.now ∷ []) []) (same_bytes _ _ e)
 
 -- it has another
-pub other_line : (key : Key) (entries : List Entry) (i : ℕ) (d : Entry) → i < length entries → number_of (get_or entries i d).0 ≢ number_of key
-    → texts_under key (take (i + 1) entries) ≡ texts_under key (take i entries)
-other_line key entries i d low e =
-    under_next key entries i d low ∙ ap (λ t. texts_under key (take i entries) ++ cond t ((get_or entries i d).1.now ∷ []) []) (ne_eqb _ _ e)
-    ∙ append-nil (texts_under key (take i entries))
+pub other_line : (code : List ℕ) (entries : List Entry) (i : ℕ) (d : Entry) → i < length entries → (get_or entries i d).0.now ≢ code
+    → texts_under code (take (i + 1) entries) ≡ texts_under code (take i entries)
+other_line code entries i d low e =
+    under_next code entries i d low ∙ ap (λ t. texts_under code (take i entries) ++ cond t ((get_or entries i d).1.now ∷ []) []) (other_bytes _ _ e)
+    ∙ append-nil (texts_under code (take i entries))
 
--- two lines have this key
-pub second_line : (key : Key) (entries : List Entry) (i : ℕ) (d : Entry) (text : List ℕ) → i < length entries
-    → number_of (get_or entries i d).0 ≡ number_of key → texts_under key (take i entries) ≡ text ∷ [] → 2 ≤ length (texts_under key entries)
-second_line key entries i d text low e one =
-    let front = same_line key entries i d low e ∙ ap (λ l. l ++ ((get_or entries i d).1.now ∷ [])) one in
-    let whole = ap (texts_under key) (sym (take-append-drop (i + 1) entries)) ∙ under_both key (take (i + 1) entries) (drop (i + 1) entries)
-    ∙ ap (λ l. l ++ texts_under key (drop (i + 1) entries)) front in
+-- two lines have this code
+pub second_line : (code : List ℕ) (entries : List Entry) (i : ℕ) (d : Entry) (text : List ℕ) → i < length entries
+    → (get_or entries i d).0.now ≡ code → texts_under code (take i entries) ≡ text ∷ [] → 2 ≤ length (texts_under code entries)
+second_line code entries i d text low e one =
+    let front = same_line code entries i d low e ∙ ap (λ l. l ++ ((get_or entries i d).1.now ∷ [])) one in
+    let whole = ap (texts_under code) (sym (take-append-drop (i + 1) entries)) ∙ under_both code (take (i + 1) entries) (drop (i + 1) entries)
+    ∙ ap (λ l. l ++ texts_under code (drop (i + 1) entries)) front in
     omega (arith, ap length whole)
 
--- the texts of a key in two tables
+-- the texts of a code in two tables
 pub other_texts : (xs ys : List (List ℕ)) → xs ≡ [] → or_those xs ys ≡ ys
 other_texts xs ys e = ap (λ l. or_those l ys) e
 
@@ -92,7 +103,7 @@ pub several_texts : (xs ys : List (List ℕ)) → 2 ≤ length xs → 2 ≤ leng
 several_texts [] ys h = absurd (omega (arith, h))
 several_texts (x ∷ xs) ys h = h
 
--- ---- the text of a key
+-- ---- the text of a code
 
 one_of : (front back : List (List ℕ)) (text other : List ℕ) → (front ++ (text ∷ [])) ++ back ≡ other ∷ [] → text ≡ other
 one_of [] back text other e = ap (λ l. get_or l 0 []) e
@@ -103,57 +114,145 @@ those_first : (xs ys : List (List ℕ)) (text : List ℕ) → or_those xs ys ≡
 those_first [] ys text e some = absurd (omega (arith, some))
 those_first (x ∷ xs) ys text e some = e
 
--- a line with this key has the only text of the key
-its_text : (entries others : List Entry) (key : Key) (i : ℕ) (line : Entry) (text : List ℕ) → i < length entries → get_or entries i line ≡ line
-    → number_of line.0 ≡ number_of key → texts_of entries others key ≡ text ∷ [] → line.1.now ≡ text
-its_text entries others key i line text low at e one =
-    let back = texts_under key (drop (i + 1) entries) in
-    let front = same_line key entries i line low (ap (λ l. number_of l.0) at ∙ e) in
-    let whole = ap (texts_under key) (sym (take-append-drop (i + 1) entries)) ∙ under_both key (take (i + 1) entries) (drop (i + 1) entries)
-    ∙ ap (λ l. l ++ back) (front ∙ ap (λ l. texts_under key (take i entries) ++ (l.1.now ∷ [])) at) in
-    let some : 1 ≤ length (texts_under key entries) =
-    omega (arith, ap length whole, length-append (texts_under key (take i entries) ++ (line.1.now ∷ [])) back, length-append (texts_under key (take i entries)) (line.1.now ∷ [])) in
-    one_of (texts_under key (take i entries)) back line.1.now text (sym whole ∙ those_first (texts_under key entries) (texts_under key others) text one some)
+-- a line with this code has the only text of the code
+its_text : (entries others : List Entry) (code : List ℕ) (i : ℕ) (line : Entry) (text : List ℕ) → i < length entries → get_or entries i line ≡ line
+    → line.0.now ≡ code → texts_of entries others code ≡ text ∷ [] → line.1.now ≡ text
+its_text entries others code i line text low at e one =
+    let back = texts_under code (drop (i + 1) entries) in
+    let front = same_line code entries i line low (ap (λ l. l.0.now) at ∙ e) in
+    let whole = ap (texts_under code) (sym (take-append-drop (i + 1) entries)) ∙ under_both code (take (i + 1) entries) (drop (i + 1) entries)
+    ∙ ap (λ l. l ++ back) (front ∙ ap (λ l. texts_under code (take i entries) ++ (l.1.now ∷ [])) at) in
+    let some : 1 ≤ length (texts_under code entries) =
+    omega (arith, ap length whole, length-append (texts_under code (take i entries) ++ (line.1.now ∷ [])) back, length-append (texts_under code (take i entries)) (line.1.now ∷ [])) in
+    one_of (texts_under code (take i entries)) back line.1.now text (sym whole ∙ those_first (texts_under code entries) (texts_under code others) text one some)
 
--- the word of a key whose place has it, and of any other
-pub word_in_place : (entries others : List Entry) (key : Key) (text : List ℕ) → text_in_place entries key ≡ Some text → text ≡ word_in entries others key
+-- ---- a table in order
+
+-- the messages so far have their lines in their places
+abbrev pub InOrderUpTo : List Entry → List Stated → ℕ → Type 0
+InOrderUpTo entries messages i = (place : ℕ) (message : Stated) → place < i → slice_get messages place ≡ Some message → HasCode (slice_get entries place) message.0.now
+
+pub in_order_next : (entries : List Entry) (messages : List Stated) (i : ℕ) (d : Stated) → i < length messages
+    → HasCode (slice_get entries i) (get_or messages i d).0.now → InOrderUpTo entries messages i → InOrderUpTo entries messages (i + 1)
+in_order_next entries messages i d low has so_far place message within at = elim (eq-or-lt_of_le {place} {i} (omega (arith, within))) [
+  | inl here ↦ subst (λ k. HasCode (slice_get entries k) message.0.now) (sym here)
+      (subst (λ m. HasCode (slice_get entries i) m.0.now) (get_or_from_slice_get messages i message d (subst (λ k. slice_get messages k ≡ Some message) here at)) has)
+  | inr before ↦ so_far place message before at
+]
+
+pub in_order_all : (entries : List Entry) (messages : List Stated) (i : ℕ) → length messages ≤ i → InOrderUpTo entries messages i → IsInOrder entries messages
+in_order_all entries messages i past so_far place message at = so_far place message (omega (arith, past, slice_get_within messages place message at)) at
+
+module _ (entries : List Entry) (messages : List Stated) (order : IsInOrder entries messages) (place : ℕ) (message : Message) where
+  its_code : (found : Option Stated) → slice_get messages place ≡ found → option_map message_of found ≡ Some message → HasCode (slice_get entries place) message.0
+  its_code None is e = absurd (none-some message e)
+  its_code (Some stated) is e = subst (λ (m : Message). HasCode (slice_get entries place) m.0) (ap (λ o. unwrap_or o message) e) (order place stated is)
+
+  -- the messages of the library, too
+  pub in_order : map message_of messages ≡ LIBRARY → slice_get LIBRARY place ≡ Some message → HasCode (slice_get entries place) message.0
+  in_order same at = its_code (slice_get messages place) refl (sym (slice_get-map message_of messages place) ∙ ap (λ l. slice_get l place) same ∙ at)
+
+-- the text in a place that has a line, and in any other
+pub word_in_place : (lines others : Lines) (place : ℕ) (line : Entry) → slice_get lines.ordered.now place ≡ Some line → line.1.now ≡ word_in lines others place
 unfolding word_in
-word_in_place entries others key text e = sym (ap (λ found. unwrap_or found (only_text (texts_of entries others key))) e)
+word_in_place lines others place line e =
+    sym (ap (λ found. unwrap_or (text_on found) (only_text (texts_of lines.all.now others.all.now (code_at place)))) e)
 
-pub word_elsewhere : (entries others : List Entry) (key : Key) → text_in_place entries key ≡ None
-    → only_text (texts_of entries others key) ≡ word_in entries others key
+pub word_elsewhere : (lines others : Lines) (place : ℕ) → slice_get lines.ordered.now place ≡ None
+    → only_text (texts_of lines.all.now others.all.now (code_at place)) ≡ word_in lines others place
 unfolding word_in
-word_elsewhere entries others key e = sym (ap (λ found. unwrap_or found (only_text (texts_of entries others key))) e)
+word_elsewhere lines others place e =
+    sym (ap (λ found. unwrap_or (text_on found) (only_text (texts_of lines.all.now others.all.now (code_at place)))) e)
 
-picks : (b : Bool) (mine other text : List ℕ) → (b ≡ true → mine ≡ text) → other ≡ text → unwrap_or (cond b (Some mine) None) other ≡ text
-picks true mine other text h o = h refl
-picks false mine other text h o = o
+-- a line that is there and has the code has its only text
+there : (entries others : List Entry) (code : List ℕ) (place : ℕ) (found : Option Entry) (text : List ℕ) → slice_get entries place ≡ found → HasCode found code
+    → texts_of entries others code ≡ text ∷ [] → text_on found ≡ Some text
+there entries others code place None text is has one = absurd has
+there entries others code place (Some line) text is has one =
+    ap (λ t. Some t) (its_text entries others code place line text (slice_get_within entries place line is) (get_or_from_slice_get entries place line line is) has one)
 
--- a key with one text has that
-pub one_word : (entries others : List Entry) (key : Key) (text : List ℕ) → texts_of entries others key ≡ text ∷ []
-    → word_in entries others key ≡ text
+-- a message with one text has that in its place
+one_word : (entries others : List Entry) (lines rest : Lines) (place : ℕ) (message : Message) (text : List ℕ) → AreLines entries lines → AreLines others rest
+    → slice_get LIBRARY place ≡ Some message → texts_of entries others message.0 ≡ text ∷ [] → word_in lines rest place ≡ text
 unfolding word_in
-one_word entries others key text one =
-    let other = only_text (texts_of entries others key) in
-    elim (slice_get_cases entries (number_of key)).1 [
-      | inl there ↦ ap (λ found. unwrap_or (text_on found key) other) there.2
-          ∙ picks (number_of there.0.0 == number_of key) there.0.1.now other text
-          (λ same. its_text entries others key (number_of key) there.0 text there.1 there.3 (eqb-true _ _ same) one) (ap only_text one)
-      | inr past ↦ ap (λ found. unwrap_or (text_on found key) other) past.1 ∙ ap only_text one
+one_word entries others lines rest place message text are those at one =
+    let code : code_at place ≡ message.0 = ap (λ m. m.0) (get_or_from_slice_get LIBRARY place message ([], [], []) at) in
+    let other : only_text (texts_of lines.all.now rest.all.now (code_at place)) ≡ text = rw (are.all, those.all, code) (ap only_text one) in
+    elim are.split [
+      | inl plain ↦ ap (λ l. unwrap_or (text_on (slice_get l place)) (only_text (texts_of lines.all.now rest.all.now (code_at place)))) plain.0 ∙ other
+      | inr sorted ↦ ap (λ l. unwrap_or (text_on (slice_get l place)) (only_text (texts_of lines.all.now rest.all.now (code_at place)))) sorted.1
+          ∙ ap (λ o. unwrap_or o (only_text (texts_of lines.all.now rest.all.now (code_at place))))
+          (there entries others message.0 place (slice_get entries place) text refl (sorted.0 place message at) one)
+    ]
+
+-- ---- the lines of rules that bring their codes
+
+behind : (n k : ℕ) (entries : List Entry) → slice_get (drop n entries) k ≡ slice_get entries (n + k)
+behind zero k entries = refl
+behind (suc n) k [] = refl
+behind (suc n) k (entry ∷ entries) = behind n k entries
+
+-- a line with a code has a text of it
+has_text : (entries : List Entry) (code : List ℕ) (k : ℕ) (found : Option Entry) → slice_get entries k ≡ found → HasCode found code → 1 ≤ length (texts_under code entries)
+has_text entries code k None is has = absurd has
+has_text entries code k (Some line) is has =
+    let back = texts_under code (drop (k + 1) entries) in
+    let before = texts_under code (take k entries) in
+    let at = get_or_from_slice_get entries k line line is in
+    let whole = ap (texts_under code) (sym (take-append-drop (k + 1) entries)) ∙ under_both code (take (k + 1) entries) (drop (k + 1) entries)
+    ∙ ap (λ l. l ++ back) (same_line code entries k line (slice_get_within entries k line is) (ap (λ l. l.0.now) at ∙ has)) in
+    omega (arith, ap length whole, length-append (before ++ ((get_or entries k line).1.now ∷ [])) back, length-append before ((get_or entries k line).1.now ∷ []))
+
+only_back : (front back texts : List (List ℕ)) → front ++ back ≡ texts → length texts ≤ 1 → 1 ≤ length back → back ≡ texts
+only_back [] back texts e few some = e
+only_back (x ∷ front) back texts e few some = absurd (omega (arith, few, some, ap length e, length-append (x ∷ front) back))
+
+-- the texts of a rule of the library are those among its lines
+named_under : (entries : List Entry) (lines : Lines) (k : ℕ) (message : Message) (texts : List (List ℕ)) → AreLines entries lines
+    → slice_get LIBRARY (68 + k) ≡ Some message → texts_under message.0 entries ≡ texts → length texts ≤ 1 → texts_under message.0 lines.named.now ≡ texts
+named_under entries lines k message texts are at e few = elim are.split [
+  | inl plain ↦ ap (texts_under message.0) plain.1 ∙ e
+  | inr sorted ↦
+      let back = texts_under message.0 (drop 68 entries) in
+      let whole = sym (under_both message.0 (take 68 entries) (drop 68 entries)) ∙ ap (texts_under message.0) (take-append-drop 68 entries) ∙ e in
+      let has = subst (λ found. HasCode found message.0) (sym (behind 68 k entries)) (sorted.0 (68 + k) message at) in
+      ap (texts_under message.0) sorted.2
+      ∙ only_back (texts_under message.0 (take 68 entries)) back texts whole few (has_text (drop 68 entries) message.0 k (slice_get (drop 68 entries) k) refl has)
+]
+
+either : (xs ys : List (List ℕ)) (text : List ℕ) → or_those xs ys ≡ text ∷ [] → (xs ≡ text ∷ []) ⊎ ((xs ≡ []) × (ys ≡ text ∷ []))
+either [] ys text e = inr (refl, e)
+either (x ∷ xs) ys text e = inl e
+
+named_both : (entries others : List Entry) (lines rest : Lines) (k : ℕ) (message : Message) (text : List ℕ) → AreLines entries lines → AreLines others rest
+    → slice_get LIBRARY (68 + k) ≡ Some message → texts_of entries others message.0 ≡ text ∷ [] → texts_of lines.named.now rest.named.now message.0 ≡ text ∷ []
+named_both entries others lines rest k message text are those at one =
+    let first = texts_under message.0 lines.named.now in
+    let second = texts_under message.0 rest.named.now in
+    elim (either (texts_under message.0 entries) (texts_under message.0 others) text one) [
+      | inl mine ↦ one_text first second text (named_under entries lines k message (text ∷ []) are at mine (omega arith))
+      | inr its ↦ other_texts first second (named_under entries lines k message [] are at its.0 (omega arith))
+          ∙ named_under others rest k message (text ∷ []) those at its.1 (omega arith)
     ]
 
 -- good tables make a catalog
-pub is_catalog : (entries others : List Entry) (catalog : Catalog) → entries_in catalog.tables ≡ entries → others_in catalog.tables ≡ others
+pub is_catalog : (entries others : List Entry) (catalog : Catalog) → AreLines entries (lines_in catalog.tables) → AreLines others (others_in catalog.tables)
     → AreGood entries others → IsCatalog entries others catalog
-is_catalog entries others catalog e o good key =
-    let its = good key in
-    let word : word_of catalog key ≡ its.0 = rw (e, o) (one_word entries others key its.0 its.1) in (
-      subst (λ (t : List ℕ). texts_of entries others key ≡ t ∷ []) (sym word) its.1,
-      subst (λ (t : List ℕ). IsTemplate t (first_of key) (second_of key) (pieces_of t)) (sym word)
-          (subst (IsTemplate its.0 (first_of key) (second_of key)) (sym (its_pieces its.0 (first_of key) (second_of key) its.2.0 its.2.1)) its.2.1),
-    )
+is_catalog entries others catalog lines rest good place message at =
+    let low = slice_get_within LIBRARY place message at in
+    let its : IsGood entries others message = subst (IsGood entries others) (get_or_from_slice_get LIBRARY place message message at) (All-get_or (IsGood entries others) LIBRARY place message low good) in
+    let word : word_at catalog place ≡ its.0 = one_word entries others (lines_in catalog.tables) (others_in catalog.tables) place message its.0 lines rest at its.1 in
+    record {
+      only = subst (λ (t : List ℕ). texts_of entries others message.0 ≡ t ∷ []) (sym word) its.1;
+      template = subst (λ (t : List ℕ). IsTemplate t message.1 message.2 (pieces_of t)) (sym word)
+          (subst (IsTemplate its.0 message.1 message.2) (sym (its_pieces its.0 message.1 message.2 its.2.0 its.2.1)) its.2.1);
+      named = λ late.
+          let later : 68 + (place - 68) ≡ place = omega (arith, late) in
+          subst (λ (t : List ℕ). texts_of (lines_in catalog.tables).named.now (others_in catalog.tables).named.now message.0 ≡ t ∷ []) (sym word)
+          (named_both entries others (lines_in catalog.tables) (others_in catalog.tables) (place - 68) message its.0 lines rest (ap (slice_get LIBRARY) later ∙ at) its.1);
+    }
 
--- a key without one text has none
+-- a code without one text has none
 pub no_word : (texts : List (List ℕ)) (wrong : Wrong) → HasNotOne texts wrong → only_text texts ≡ []
 no_word texts wrongs.Missing h = ap only_text h
 no_word [] wrongs.Repeated h = refl
@@ -161,16 +260,21 @@ no_word (x ∷ []) wrongs.Repeated h = absurd (omega (arith, h))
 no_word (x ∷ y ∷ texts) wrongs.Repeated h = refl
 no_word texts (wrongs.Template fault) h = absurd h
 
--- a key with a fault is not good
-bad : (texts : List (List ℕ)) (key : Key) (wrong : Wrong) (text : List ℕ) (pieces : List Piece) → IsWrong texts key wrong → texts ≡ text ∷ []
-    → IsTemplate text (first_of key) (second_of key) pieces → ⊥
-bad texts key wrongs.Missing text pieces h one fits = omega (arith, ap length (sym h ∙ one))
-bad texts key wrongs.Repeated text pieces h one fits = omega (arith, h, ap length one)
-bad texts key (wrongs.Template fault) text pieces h one fits =
-    h.2 pieces (subst (λ t. IsTemplate t (first_of key) (second_of key) pieces) (ap (λ l. get_or l 0 []) (sym one ∙ h.1)) fits)
+-- a message with a fault is not good
+bad : (texts : List (List ℕ)) (message : Message) (wrong : Wrong) (text : List ℕ) (pieces : List Piece) → IsWrong texts message wrong → texts ≡ text ∷ []
+    → IsTemplate text message.1 message.2 pieces → ⊥
+bad texts message wrongs.Missing text pieces h one fits = omega (arith, ap length (sym h ∙ one))
+bad texts message wrongs.Repeated text pieces h one fits = omega (arith, h, ap length one)
+bad texts message (wrongs.Template fault) text pieces h one fits =
+    h.2 pieces (subst (λ t. IsTemplate t message.1 message.2 pieces) (ap (λ l. get_or l 0 []) (sym one ∙ h.1)) fits)
+
+its_good : (entries others : List Entry) (message : Message) → IsListed message → AreGood entries others → IsGood entries others message
+its_good entries others message listed good =
+    subst (IsGood entries others) (listed.3 ∙ listed.4) (All-get_or (IsGood entries others) LIBRARY listed.0 listed.1 listed.2 good)
 
 pub not_good : (entries others : List Entry) (faults : List CatalogFault) → faults ≢ [] → All (IsFault entries others) faults → ¬ (AreGood entries others)
 not_good entries others [] some h good = some refl
 not_good entries others (fault ∷ faults) some h good =
-    let its = good fault.key in
-    bad (texts_of entries others fault.key) fault.key fault.wrong its.0 its.2.0 (All-head (IsFault entries others) fault faults h) its.1 its.2.1
+    let is_fault = All-head (IsFault entries others) fault faults h in
+    let its = its_good entries others (message_of fault.message) is_fault.0 good in
+    bad (texts_of entries others fault.message.0.now) (message_of fault.message) fault.wrong its.0 its.2.0 is_fault.1 its.1 its.2.1

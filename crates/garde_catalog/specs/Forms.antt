@@ -6,30 +6,30 @@ use Rattle.garde_schema.specs.declared.fault.Wanted.{Wanted}
 use Rattle.garde_schema.specs.declared.fault.Wanted.TheVariants as wants
 use Rattle.garde_schema.specs.declared.fault.Integer.{Integer}
 use Rattle.garde_schema.specs.declared.fault.Integer.TheVariants as integers
-use Rattle.garde_catalog.specs.Catalog.{put_both, word_of}
+use Rattle.garde_schema.specs.FormText.{form_name}
+use Rattle.garde_catalog.specs.Catalog.{put_both, word_at}
 use Rattle.garde_catalog.specs.declared.catalog.Catalog.{Catalog}
-use Rattle.garde_catalog.specs.declared.key.Key.{Key}
-use Rattle.garde_catalog.specs.declared.key.Key.TheVariants as keys
+use Rattle.garde_catalog.specs.Messages.{place_of}
 
--- the key of what is wanted
-abbrev pub wanted_key : Wanted → Key
-wanted_key wants.Text = keys.NotText
-wanted_key wants.Whole = keys.NotWhole
-wanted_key wants.Boolean = keys.NotBoolean
-wanted_key wants.Null = keys.NotNull
-wanted_key wants.List = keys.NotList
-wanted_key wants.Object = keys.NotObject
-wanted_key wants.OneMember = keys.NotOneMember
-wanted_key wants.Character = keys.NotCharacter
-wanted_key wants.Date = keys.NotDate
-wanted_key wants.Time = keys.NotTime
-wanted_key wants.DateTime = keys.NotDateTime
-wanted_key wants.Timestamp = keys.NotTimestamp
-wanted_key wants.Ipv4 = keys.NotIpv4
-wanted_key wants.Ipv6 = keys.NotIpv6
-wanted_key wants.Uuid = keys.NotUuid
-wanted_key wants.Version = keys.NotVersion
-wanted_key wants.Url = keys.NotUrl
+-- the code of the message that something else is wanted
+abbrev pub wanted_message : Wanted → List ℕ
+wanted_message wants.Text = codes "not_text"
+wanted_message wants.Whole = codes "not_whole"
+wanted_message wants.Boolean = codes "not_boolean"
+wanted_message wants.Null = codes "not_null"
+wanted_message wants.List = codes "not_list"
+wanted_message wants.Object = codes "not_object"
+wanted_message wants.OneMember = codes "not_one_member"
+wanted_message wants.Character = codes "not_character"
+wanted_message wants.Date = codes "not_date"
+wanted_message wants.Time = codes "not_time"
+wanted_message wants.DateTime = codes "not_date_time"
+wanted_message wants.Timestamp = codes "not_timestamp"
+wanted_message wants.Ipv4 = codes "not_ipv4"
+wanted_message wants.Ipv6 = codes "not_ipv6"
+wanted_message wants.Uuid = codes "not_uuid"
+wanted_message wants.Version = codes "not_version"
+wanted_message wants.Url = codes "not_url"
 
 -- the least number of a type, in decimal
 abbrev pub least_of : Integer → List ℕ
@@ -57,12 +57,13 @@ greatest_of integers.I32 = codes "2147483647"
 greatest_of integers.I64 = codes "9223372036854775807"
 greatest_of integers.I128 = codes "170141183460469231731687303715884105727"
 
+-- the place of the message of a fault of form: that of its code, or of what is wanted
+abbrev pub form_place : FormFault → ℕ
+form_place (faults.Wrong wanted found) = place_of (wanted_message wanted)
+form_place fault = place_of (form_name fault)
+
 -- the text of a fault of form: what was found is not named
 abbrev pub catalog_form_text : Catalog → FormFault → List ℕ
-catalog_form_text catalog (faults.Wrong wanted found) = word_of catalog (wanted_key wanted)
-catalog_form_text catalog (faults.OutOfRange of) = put_both catalog keys.OutOfRange (least_of of) (greatest_of of)
-catalog_form_text catalog faults.Missing = word_of catalog keys.MemberMissing
-catalog_form_text catalog faults.Repeated = word_of catalog keys.MemberRepeated
-catalog_form_text catalog faults.Unknown = word_of catalog keys.MemberUnknown
-catalog_form_text catalog faults.NotOneOf = word_of catalog keys.ValueUnknown
-catalog_form_text catalog faults.RowLength = word_of catalog keys.RowLength
+catalog_form_text catalog (faults.OutOfRange of) =
+    put_both catalog (form_place (faults.OutOfRange of)) (codes "least") (least_of of) (greatest_of of)
+catalog_form_text catalog fault = word_at catalog (form_place fault)

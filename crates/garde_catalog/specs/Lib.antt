@@ -1,5 +1,4 @@
-pub mod Keys
-pub mod Names
+pub mod Messages
 pub mod Template
 pub mod Catalog
 pub mod Lines

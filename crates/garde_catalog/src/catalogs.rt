@@ -4,9 +4,10 @@ ghost use Rattle.garde_catalog.specs.Catalogs.{AddsLanguage, AreCatalogs, IsRefu
 ghost use Rattle.garde_catalog.specs.Catalog.{IsCatalog, IsRefusal};
 ghost use Rattle.garde_catalog.specs.Lookup.{IsAskedBy, IsOfTag};
 
-use crate::catalog::{Catalog, Entry};
+use crate::catalog::Catalog;
 use crate::fault::CatalogError;
 use crate::language::Language;
+use crate::lines::Entry;
 use std::alloc::{AllocError, Global};
 
 impl Catalog<'static> {

@@ -2,27 +2,27 @@
 ghost use Rattle.std.specs.Prelude.{Some};
 ghost use Rattle.garde_catalog.specs.Catalog.{catalog_error_text};
 
-use crate::key::Key;
+use crate::messages::Message;
 use crate::template::TemplateFault;
 use std::alloc::AllocError;
 use std::fmt;
 
-/// What is wrong with a table under a key.
+/// What is wrong with a table under the code of a message.
 #[derive(Clone, Copy, Debug, Drop, PartialEq, Eq)]
 pub enum Wrong {
-    /// The table has no text under the key.
+    /// The table has no text under the code.
     Missing,
-    /// The table has several texts under the key.
+    /// The table has several texts under the code.
     Repeated,
-    /// The one text under the key is no template.
+    /// The one text under the code is no template.
     Template(TemplateFault),
 }
 
 /// A fault of a table.
 #[derive(Clone, Copy, Debug, Drop, PartialEq, Eq)]
 pub struct CatalogFault {
-    /// The key.
-    pub key: Key,
+    /// The message.
+    pub message: Message,
     /// What is wrong.
     pub wrong: Wrong,
 }
@@ -30,7 +30,7 @@ pub struct CatalogFault {
 /// Why no catalog is made.
 #[derive(Debug, Drop)]
 pub enum CatalogError {
-    /// The table has these faults, in the order of the keys.
+    /// The table has these faults, in the order of the messages.
     Faults(Vec<CatalogFault>),
     /// Out of memory.
     Memory,

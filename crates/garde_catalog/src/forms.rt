@@ -1,35 +1,33 @@
 //! The handlers of form.
 ghost use Rattle.std.specs.Prelude.{◌≡◌};
-ghost use Rattle.garde_catalog.specs.Forms.{catalog_form_text, wanted_key, least_of, greatest_of};
+ghost use Rattle.garde_catalog.specs.Forms.{catalog_form_text, form_place, least_of, greatest_of, wanted_message};
+ghost use Rattle.garde_catalog.specs.Messages.{place_of};
 
 use crate::catalog::Catalog;
-use crate::key::Key;
+use crate::messages::{FORM, WANTED};
 use garde_i18n::Value;
 use garde_schema::{FormFault, FormI18n, Integer, Wanted};
 use std::alloc::{AllocError, Global};
 use std::borrow::CowStr;
 
-fn key_of_wanted(wanted: Wanted) -> Key
-    ensures { result ≡ wanted_key wanted }
+fn place_of_wanted(wanted: Wanted) -> usize
+    ensures { result ≡ place_of (wanted_message wanted) }
 {
-    match wanted {
-        Wanted::Text => Key::NotText,
-        Wanted::Whole => Key::NotWhole,
-        Wanted::Boolean => Key::NotBoolean,
-        Wanted::Null => Key::NotNull,
-        Wanted::List => Key::NotList,
-        Wanted::Object => Key::NotObject,
-        Wanted::OneMember => Key::NotOneMember,
-        Wanted::Character => Key::NotCharacter,
-        Wanted::Date => Key::NotDate,
-        Wanted::Time => Key::NotTime,
-        Wanted::DateTime => Key::NotDateTime,
-        Wanted::Timestamp => Key::NotTimestamp,
-        Wanted::Ipv4 => Key::NotIpv4,
-        Wanted::Ipv6 => Key::NotIpv6,
-        Wanted::Uuid => Key::NotUuid,
-        Wanted::Version => Key::NotVersion,
-        Wanted::Url => Key::NotUrl,
+    WANTED + wanted as usize
+}
+
+// The place of the message of a fault of form.
+fn place_of(fault: FormFault) -> usize
+    ensures { result ≡ form_place fault }
+{
+    match fault {
+        FormFault::Wrong(wanted, _) => place_of_wanted(wanted),
+        FormFault::OutOfRange(_) => FORM,
+        FormFault::Missing => FORM + 1,
+        FormFault::Repeated => FORM + 2,
+        FormFault::Unknown => FORM + 3,
+        FormFault::NotOneOf => FORM + 4,
+        FormFault::RowLength => FORM + 5,
     }
 }
 
@@ -72,18 +70,13 @@ impl FormI18n for Catalog<'_> {
     ghost form_text = { λ catalog fault. catalog_form_text catalog fault };
 
     fn form_fault(&self, alloc: Global, fault: FormFault) -> Result<CowStr<'static>, AllocError> {
-        let key = match fault {
-            FormFault::Wrong(wanted, _) => key_of_wanted(wanted),
+        let place = place_of(fault);
+        match fault {
             FormFault::OutOfRange(of) => {
                 let (least, greatest) = (Value::Text(least(of)), Value::Text(greatest(of)));
-                return self.put_both(alloc, Key::OutOfRange, least, greatest);
+                self.put_both(alloc, place, ("least", least), greatest)
             }
-            FormFault::Missing => Key::MemberMissing,
-            FormFault::Repeated => Key::MemberRepeated,
-            FormFault::Unknown => Key::MemberUnknown,
-            FormFault::NotOneOf => Key::ValueUnknown,
-            FormFault::RowLength => Key::RowLength,
-        };
-        self.fixed(alloc, key)
+            _ => self.fixed(alloc, place),
+        }
     }
 }

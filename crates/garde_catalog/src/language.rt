@@ -1,6 +1,6 @@
 //! Languages, each with its tag and the table of its texts.
 
-use crate::catalog::Entry;
+use crate::lines::Entry;
 use crate::tables::{
     ARABIC, CHINESE, CZECH, DUTCH, ENGLISH, FRENCH, GERMAN, HINDI, ITALIAN, JAPANESE, KOREAN,
     POLISH, PORTUGUESE, RUSSIAN, SPANISH, SWEDISH, TURKISH, UKRAINIAN,

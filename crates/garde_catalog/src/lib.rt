@@ -1,4 +1,4 @@
-//! Handlers whose texts are a table, one template for each kind of fault; tables in 18 languages; and
+//! Handlers whose texts are a table, one template for each message; tables in 18 languages; and
 //! which of them a request asks for.
 #![tactic(auto)]
 
@@ -7,10 +7,11 @@ mod catalogs;
 mod fault;
 mod field;
 mod forms;
-mod key;
-mod key_name;
+mod judge;
 mod language;
+mod lines;
 mod lookup;
+mod messages;
 mod parse;
 mod rules;
 mod spoken;
@@ -19,13 +20,14 @@ mod table_texts;
 mod tables;
 mod template;
 
-pub use catalog::{Catalog, Entry};
+pub use catalog::Catalog;
 pub use catalogs::Catalogs;
 pub use fault::{CatalogError, CatalogFault, Wrong};
 pub use field::ranges_of;
-pub use key::{KEYS, Key};
 pub use language::{Language, languages};
+pub use lines::Entry;
 pub use lookup::Range;
+pub use messages::{MESSAGES, Message};
 pub use spoken::SpokenError;
 pub use table::Table;
 pub use table_texts::{IsTextOf, TableTexts};

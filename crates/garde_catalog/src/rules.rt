@@ -1,61 +1,36 @@
 //! The handlers of rules.
 ghost use Rattle.std.specs.Prelude.{◌≡◌, IfOk};
 ghost use Rattle.std.specs.Cow.{cow_str_bytes};
-ghost use Rattle.garde_i18n.specs.DatumOf.{named_of, value_text};
+ghost use Rattle.garde_i18n.specs.DatumOf.{named_of};
 ghost use Rattle.garde_i18n.specs.Reasons.{ip_kind_text};
-ghost use Rattle.garde_catalog.specs.Catalog.{IsFixed, IsPlaceless, catalog_text, card_key, phone_key, put_in, url_key, word_of};
+ghost use Rattle.garde_catalog.specs.Catalog.{IsFixed, IsPlaceless, card_code, catalog_text, phone_code, put_in, url_code, word_at};
+ghost use Rattle.garde_catalog.specs.Messages.{place_of};
 
 use crate::catalog::Catalog;
-use crate::key::Key;
+use crate::messages::{CARDS, PHONES, URLS};
+use crate::template::fill_one;
 use garde_i18n::{
     Datum, InvalidCreditCard, InvalidPhoneNumber, InvalidUrl, IpKind, Named, Texts, Value,
 };
 use std::alloc::{AllocError, Global};
 use std::borrow::CowStr;
 
-fn key_of_card(reason: InvalidCreditCard) -> Key
-    ensures { result ≡ card_key reason }
+fn place_of_card(reason: InvalidCreditCard) -> usize
+    ensures { result ≡ place_of (card_code reason) }
 {
-    match reason {
-        InvalidCreditCard::InvalidFormat => Key::CardFormat,
-        InvalidCreditCard::InvalidLength => Key::CardLength,
-        InvalidCreditCard::InvalidLuhn => Key::CardLuhn,
-        InvalidCreditCard::UnknownType => Key::CardType,
-        InvalidCreditCard::Other => Key::CardOther,
-    }
+    CARDS + reason as usize
 }
 
-fn key_of_url(reason: InvalidUrl) -> Key
-    ensures { result ≡ url_key reason }
+fn place_of_url(reason: InvalidUrl) -> usize
+    ensures { result ≡ place_of (url_code reason) }
 {
-    match reason {
-        InvalidUrl::EmptyHost => Key::UrlEmptyHost,
-        InvalidUrl::IdnaError => Key::UrlIdna,
-        InvalidUrl::InvalidPort => Key::UrlPort,
-        InvalidUrl::InvalidIpv4Address => Key::UrlIpv4,
-        InvalidUrl::InvalidIpv6Address => Key::UrlIpv6,
-        InvalidUrl::InvalidDomainCharacter => Key::UrlDomainCharacter,
-        InvalidUrl::RelativeUrlWithoutBase => Key::UrlRelative,
-        InvalidUrl::RelativeUrlWithCannotBeABaseBase => Key::UrlRelativeToNoBase,
-        InvalidUrl::SetHostOnCannotBeABaseUrl => Key::UrlSetHost,
-        InvalidUrl::Overflow => Key::UrlOverflow,
-        InvalidUrl::Other => Key::UrlOther,
-    }
+    URLS + reason as usize
 }
 
-fn key_of_phone(reason: InvalidPhoneNumber) -> Key
-    ensures { result ≡ phone_key reason }
+fn place_of_phone(reason: InvalidPhoneNumber) -> usize
+    ensures { result ≡ place_of (phone_code reason) }
 {
-    match reason {
-        InvalidPhoneNumber::Invalid => Key::PhoneNoSuchNumber,
-        InvalidPhoneNumber::NotANumber => Key::PhoneNotANumber,
-        InvalidPhoneNumber::InvalidCountryCode => Key::PhoneCountryCode,
-        InvalidPhoneNumber::TooShortAfterIdd => Key::PhoneTooShortAfterIdd,
-        InvalidPhoneNumber::TooShortNsn => Key::PhoneTooShortNsn,
-        InvalidPhoneNumber::TooLong => Key::PhoneTooLong,
-        InvalidPhoneNumber::MalformedInteger => Key::PhoneMalformed,
-        InvalidPhoneNumber::Other => Key::PhoneOther,
-    }
+    PHONES + reason as usize
 }
 
 fn kind_name(kind: IpKind) -> &'static str
@@ -69,28 +44,34 @@ fn kind_name(kind: IpKind) -> &'static str
 }
 
 impl Catalog<'_> {
-    // The text under a key, with the text under another in the place of its parameter.
-    fn because(&self, alloc: Global, key: Key, reason: Key) -> Result<CowStr<'static>, AllocError>
-        ensures { IfOk result (λ s. cow_str_bytes s ≡ put_in self.now key (word_of self.now reason)) }
+    // The text of a message, with the text of another in the place of its parameter.
+    fn because(
+        &self,
+        alloc: Global,
+        place: usize,
+        reason: usize,
+    ) -> Result<CowStr<'static>, AllocError>
+        ensures { IfOk result (λ s. cow_str_bytes s ≡ put_in self.now place (word_at self.now reason)) }
     {
-        self.put_in(alloc, key, Value::Text(self.word(reason)))
+        self.put_in(alloc, place, Value::Text(self.word_at(reason)))
     }
 
-    // The text of a fault that brings its code.
+    // The text of a fault that brings its code: that of the line of this code, and else English.
     fn of_named(&self, alloc: Global, fault: Named<'_>) -> Result<CowStr<'static>, AllocError>
         ensures { IfOk result (λ s. cow_str_bytes s ≡ catalog_text self.now (named_of fault.entry)) }
     {
-        if fault.code.name == "multiple_of_mismatch" {
-            if let Some((_, value)) = fault.code.param {
-                return self.put_in(alloc, Key::MultipleOf, value);
-            }
+        let Some(text) = self.named(fault.code.name) else {
+            return Ok(CowStr::Owned(String::from_str(alloc, fault.english)?));
+        };
+        match fault.code.param {
+            Some((_, value)) => fill_one(alloc, text, value),
+            None => Ok(CowStr::Owned(String::from_str(alloc, text)?)),
         }
-        Ok(CowStr::Owned(String::from_str(alloc, fault.english)?))
     }
 }
 
 /// The texts of the table, with what a rule found in the places of their parameters. The text of a
-/// fault that brings its code is English, but for `multiple_of_mismatch`.
+/// fault that brings a code without a line is English.
 impl Texts for Catalog<'_> {
     ghost texts = { λ catalog datum. catalog_text catalog datum };
 
@@ -98,31 +79,26 @@ impl Texts for Catalog<'_> {
     ghost borrowed = { λ catalog datum. IsFixed catalog × IsPlaceless datum };
 
     fn text_of(&self, alloc: Global, datum: Datum<'_>) -> Result<CowStr<'static>, AllocError> {
-        let (key, value) = match datum {
-            Datum::LengthLowerThan(min) => (Key::LengthLowerThan, Value::Number(min)),
-            Datum::LengthGreaterThan(max) => (Key::LengthGreaterThan, Value::Number(max)),
-            Datum::RangeLowerThan(min) => (Key::RangeLowerThan, Value::Text(min)),
-            Datum::RangeGreaterThan(max) => (Key::RangeGreaterThan, Value::Text(max)),
-            Datum::PatternNoMatch(pattern) => (Key::PatternNoMatch, Value::Text(pattern)),
-            Datum::ContainsMissing(pattern) => (Key::ContainsMissing, Value::Text(pattern)),
-            Datum::PrefixMissing(pattern) => (Key::PrefixMissing, Value::Text(pattern)),
-            Datum::SuffixMissing(pattern) => (Key::SuffixMissing, Value::Text(pattern)),
-            Datum::IpInvalid(kind) => (Key::IpInvalid, Value::Text(kind_name(kind))),
-            Datum::MatchesFieldMismatch(field) => (Key::MatchesFieldMismatch, Value::Text(field)),
-            Datum::CreditCardInvalid(reason) => {
-                return self.because(alloc, Key::CreditCardInvalid, key_of_card(reason));
-            }
-            Datum::UrlInvalid(reason) => {
-                return self.because(alloc, Key::UrlInvalid, key_of_url(reason));
-            }
-            Datum::PhoneNumberInvalid(reason) => {
-                return self.because(alloc, Key::PhoneNumberInvalid, key_of_phone(reason));
-            }
-            Datum::AsciiInvalid => return self.fixed(alloc, Key::AsciiInvalid),
-            Datum::AlphanumericInvalid => return self.fixed(alloc, Key::AlphanumericInvalid),
-            Datum::RequiredNotSet => return self.fixed(alloc, Key::RequiredNotSet),
+        // The first messages stand in the order of the kinds.
+        let (place, value) = match datum {
+            Datum::LengthLowerThan(min) => (0, Value::Number(min)),
+            Datum::LengthGreaterThan(max) => (1, Value::Number(max)),
+            Datum::RangeLowerThan(min) => (2, Value::Text(min)),
+            Datum::RangeGreaterThan(max) => (3, Value::Text(max)),
+            Datum::CreditCardInvalid(it) => return self.because(alloc, 4, place_of_card(it)),
+            Datum::PatternNoMatch(pattern) => (5, Value::Text(pattern)),
+            Datum::ContainsMissing(pattern) => (6, Value::Text(pattern)),
+            Datum::UrlInvalid(it) => return self.because(alloc, 7, place_of_url(it)),
+            Datum::PrefixMissing(pattern) => (8, Value::Text(pattern)),
+            Datum::SuffixMissing(pattern) => (9, Value::Text(pattern)),
+            Datum::PhoneNumberInvalid(it) => return self.because(alloc, 10, place_of_phone(it)),
+            Datum::IpInvalid(kind) => (11, Value::Text(kind_name(kind))),
+            Datum::MatchesFieldMismatch(field) => (12, Value::Text(field)),
+            Datum::AsciiInvalid => return self.fixed(alloc, 13),
+            Datum::AlphanumericInvalid => return self.fixed(alloc, 14),
+            Datum::RequiredNotSet => return self.fixed(alloc, 15),
             Datum::Named(fault) => return self.of_named(alloc, fault),
         };
-        self.put_in(alloc, key, value)
+        self.put_in(alloc, place, value)
     }
 }

@@ -2,10 +2,11 @@
 ghost use Rattle.std.specs.Prelude.{◌≡◌, IfErr, IfOk, MatchOption, string_bytes};
 ghost use Rattle.garde_catalog.specs.Spoken.{AreOf, IsNotSpoken, IsOfNone, IsSpoken, tags_text};
 
-use crate::catalog::{Catalog, Entry};
+use crate::catalog::Catalog;
 use crate::fault::CatalogError;
 use crate::field::is_range;
 use crate::language::Language;
+use crate::lines::Entry;
 use std::alloc::{AllocError, Global};
 use std::fmt;
 

@@ -2,16 +2,15 @@
 ghost use Rattle.std.specs.Prelude.{◌≡◌, ◌∷◌, ◌++◌, [], map, IfOk, OnOk};
 ghost use Rattle.garde_catalog.specs.Lines.{line_of, owned_line};
 
-use crate::catalog::Entry;
-use crate::key::Key;
+use crate::lines::Entry;
 use std::alloc::{AllocError, Global};
 use std::marker::Model;
 
-/// The texts of a language that were read from a file, each with its key, in the order of the keys. A
+/// The texts of a language that were read from a file, each with its code, in the order of the messages. A
 /// contract sees the list of them. It owns its texts.
 #[derive(Debug, Drop)]
 pub struct Table {
-    lines: Vec<(Key, String)>,
+    lines: Vec<(&'static str, String)>,
 }
 
 impl Model for Table {
@@ -24,12 +23,15 @@ impl Model for Table {
 }
 
 // Lines that borrow their texts from these.
-fn lend<'t>(alloc: Global, owned: &'t [(Key, String)]) -> Result<Vec<Entry<'t>>, AllocError>
+fn lend<'t>(
+    alloc: Global,
+    owned: &'t [(&'static str, String)],
+) -> Result<Vec<Entry<'t>>, AllocError>
     ensures { IfOk result (λ lines. map line_of lines.items ≡ map owned_line owned.now) }
 {
     let mut lines = Vec::new(alloc);
-    for (key, text) in owned {
-        lines.push((*key, text.as_str()))?;
+    for (code, text) in owned {
+        lines.push((*code, text.as_str()))?;
     }
     Ok(lines)
 }
@@ -44,11 +46,16 @@ impl Table {
         }
     }
 
-    // Appends the text of a key.
-    pub(crate) fn push(&mut self, alloc: Global, key: Key, text: &str) -> Result<(), AllocError>
-        ensures { OnOk result (self.new ≡ self.old ++ (key, text.now) ∷ []) }
+    // Appends the text of a code.
+    pub(crate) fn push(
+        &mut self,
+        alloc: Global,
+        code: &'static str,
+        text: &str,
+    ) -> Result<(), AllocError>
+        ensures { OnOk result (self.new ≡ self.old ++ (code.now, text.now) ∷ []) }
     {
-        self.lines.push((key, String::from_str(alloc, text)?))?;
+        self.lines.push((code, String::from_str(alloc, text)?))?;
         Ok(())
     }
 

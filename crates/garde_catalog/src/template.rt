@@ -242,3 +242,14 @@ pub(crate) fn fill(
     }
     Ok(CowStr::Owned(whole))
 }
+
+// A template with this value in each place.
+pub(crate) fn fill_one(
+    alloc: Global,
+    text: &str,
+    value: Value<'_>,
+) -> Result<CowStr<'static>, AllocError>
+    ensures { IfOk result (λ s. cow_str_bytes s ≡ filled (λ _. value_text value.entry) (pieces_of text.now)) }
+{
+    fill(alloc, text, Put::One(value))
+}

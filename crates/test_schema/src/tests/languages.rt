@@ -3,6 +3,7 @@
 
 mod asked;
 mod faulty;
+mod own;
 mod told;
 mod worded;
 mod written;

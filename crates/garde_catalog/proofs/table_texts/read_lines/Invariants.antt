@@ -1,10 +1,9 @@
-use Rattle.std.proofs.Common.{◌≡◌, drop}
-use Rattle.garde_catalog.specs.Lines.{lines_of, text_of}
-use Rattle.garde_catalog.specs.declared.key.TheConstants.{KEYS}
-use Rattle.garde_catalog.proofs.LinesSoFar.{joined}
+use Rattle.std.proofs.Common.{◌≡◌, drop, map}
+use Rattle.garde_catalog.specs.Lines.{joined, read}
+use Rattle.garde_catalog.specs.Messages.{message_of}
 use Rattle.garde_catalog.proofs.table_texts.read_lines.Given as goal
 
--- the lines so far and those of the keys that are left are all lines
-abbrev pub invariant-loop-key : goal.invariant-loop-key
-invariant-loop-key l =
-    joined l.table (lines_of (λ key. text_of l.may_lack l.object key) (drop l.key-index KEYS)) ≡ lines_of (λ key. text_of l.may_lack l.object key) KEYS
+-- the lines so far and those of the messages that are left are all lines
+abbrev pub invariant-loop-code : goal.invariant-loop-code
+invariant-loop-code l =
+    joined l.table (read l.may_lack l.object (map message_of (drop l.code-index l.messages))) ≡ joined l.before (read l.may_lack l.object (map message_of l.messages))

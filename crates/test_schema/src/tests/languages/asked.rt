@@ -3,7 +3,7 @@
 use super::english;
 use crate::tests::long_text::Long;
 use crate::tests::{OrEnd, is_text};
-use garde_catalog::{Catalog, Catalogs, Key, Language, languages, ranges_of};
+use garde_catalog::{Catalog, Catalogs, Language, languages, ranges_of};
 use std::alloc::Global;
 
 static ASKED: [(&str, &str); 33] = [
@@ -121,7 +121,7 @@ fn finds_the_language_of_a_tag(rt: HostRuntime) {
 // Whether the catalog of a tag has this text.
 fn is_in(alloc: Global, tag: &str, text: &str) -> bool {
     match Catalog::in_language(alloc, tag, &languages(), english()) {
-        Ok(catalog) => catalog.word(Key::MemberMissing) == text,
+        Ok(catalog) => catalog.word("member_missing") == text,
         Err(_) => false,
     }
 }
@@ -134,7 +134,7 @@ fn makes_the_catalog_of_a_tag(rt: HostRuntime) {
 // Whether the catalogs answer a field by this tag and this text.
 fn is_answered(catalogs: &Catalogs, field: &[u8], tag: &str, text: &str) -> bool {
     let place = catalogs.asked(field);
-    catalogs.tag(place) == tag && catalogs.catalog(place).word(Key::MemberMissing) == text
+    catalogs.tag(place) == tag && catalogs.catalog(place).word("member_missing") == text
 }
 
 #[test]
@@ -165,7 +165,7 @@ static SPOKEN: [(Option<&str>, &str); 5] = [
 // Whether a tag is answered by this text, where two languages are offered.
 fn is_spoken(alloc: Global, tag: Option<&str>, text: &str) -> bool {
     match Catalog::spoken(alloc, tag, &languages()[..2], english()) {
-        Ok(catalog) => catalog.word(Key::MemberMissing) == text,
+        Ok(catalog) => catalog.word("member_missing") == text,
         Err(error) => is_text(error.to_string(alloc), text),
     }
 }

@@ -1,35 +1,55 @@
 //! Faulty tables, each with the faults that are reported.
 
 use super::english;
-use garde_catalog::{Catalog, CatalogError, CatalogFault, Entry, KEYS, Key, TemplateFault, Wrong};
+use garde_catalog::{Catalog, CatalogError, CatalogFault, Entry, Message, TemplateFault, Wrong};
 use std::alloc::Global;
 
-static TEXTS: [(Key, &str, TemplateFault); 9] = [
+static TEXTS: [(Message, &str, TemplateFault); 9] = [
     (
-        Key::LengthLowerThan,
+        ("length_lower_than", "min", ""),
         "kürzer als {max}",
         TemplateFault::UnknownPlace,
     ),
     (
-        Key::LengthLowerThan,
+        ("length_lower_than", "min", ""),
         "kürzer als {min",
         TemplateFault::StrayBrace,
     ),
-    (Key::LengthLowerThan, "zu kurz", TemplateFault::MissingPlace),
     (
-        Key::OutOfRange,
+        ("length_lower_than", "min", ""),
+        "zu kurz",
+        TemplateFault::MissingPlace,
+    ),
+    (
+        ("out_of_range", "least", "greatest"),
         "bis {greatest}",
         TemplateFault::MissingPlace,
     ),
     (
-        Key::RequiredNotSet,
+        ("required_not_set", "", ""),
         "fehlt {min}",
         TemplateFault::UnknownPlace,
     ),
-    (Key::RequiredNotSet, "fehlt {", TemplateFault::StrayBrace),
-    (Key::RequiredNotSet, "fehlt }", TemplateFault::StrayBrace),
-    (Key::RequiredNotSet, "{}", TemplateFault::UnknownPlace),
-    (Key::PrefixMissing, "{pat{tern}", TemplateFault::StrayBrace),
+    (
+        ("required_not_set", "", ""),
+        "fehlt {",
+        TemplateFault::StrayBrace,
+    ),
+    (
+        ("required_not_set", "", ""),
+        "fehlt }",
+        TemplateFault::StrayBrace,
+    ),
+    (
+        ("required_not_set", "", ""),
+        "{}",
+        TemplateFault::UnknownPlace,
+    ),
+    (
+        ("prefix_missing", "pattern", ""),
+        "{pat{tern}",
+        TemplateFault::StrayBrace,
+    ),
 ];
 
 // How many faults a table has, and whether this is one of them.
@@ -48,47 +68,48 @@ fn faults_of<'t>(
 
 #[test]
 fn tells_what_is_wrong_with_a_text(rt: HostRuntime) {
-    for (key, text, fault) in &TEXTS {
+    for (message, text, fault) in &TEXTS {
         let wanted = CatalogFault {
-            key: *key,
+            message: *message,
             wrong: Wrong::Template(*fault),
         };
-        let table = [(*key, *text)];
+        let table = [(message.0, *text)];
         assert!(rt;
-            faults_of(rt.alloc(), &table, wanted) == Some((KEYS.len(), true)),
+            faults_of(rt.alloc(), &table, wanted) == Some((english().len(), true)),
             "{text}"
         );
     }
 }
 
-static TWICE: [Entry<'static>; 2] = [(Key::NotText, "a"), (Key::NotText, "b")];
+static TWICE: [Entry<'static>; 2] = [("not_text", "a"), ("not_text", "b")];
 
-// Whether this is one of as many faults as there are keys, of a table with one key twice and no other.
-fn is_fault_of_twice(alloc: Global, key: Key, wrong: Wrong) -> bool {
-    faults_of(alloc, &TWICE, CatalogFault { key, wrong }) == Some((KEYS.len(), true))
+// Whether this is one of as many faults as there are messages, of a table with one code twice and no other.
+fn is_fault_of_twice(alloc: Global, code: &'static str, wrong: Wrong) -> bool {
+    let message = (code, "", "");
+    faults_of(alloc, &TWICE, CatalogFault { message, wrong }) == Some((english().len(), true))
 }
 
 #[test]
-fn tells_a_repeated_and_a_missing_key(rt: HostRuntime) {
+fn tells_a_repeated_and_a_missing_text(rt: HostRuntime) {
     assert!(rt;
-        is_fault_of_twice(rt.alloc(), Key::NotText, Wrong::Repeated)
-            && is_fault_of_twice(rt.alloc(), Key::NotUrl, Wrong::Missing)
+        is_fault_of_twice(rt.alloc(), "not_text", Wrong::Repeated)
+            && is_fault_of_twice(rt.alloc(), "not_url", Wrong::Missing)
     );
 }
 
-static ONE: [Entry<'static>; 1] = [(Key::NotText, "kein Text")];
+static ONE: [Entry<'static>; 1] = [("not_text", "kein Text")];
 
 // Whether a catalog was made, and has the text of this table, and another from its fallback.
 fn is_mixed(made: Result<Catalog<'_>, CatalogError>) -> bool {
     match made {
-        Ok(h) => h.word(Key::NotText) == "kein Text" && h.word(Key::NotUrl) == "not a URL",
+        Ok(h) => h.word("not_text") == "kein Text" && h.word("not_url") == "not a URL",
         Err(_) => false,
     }
 }
 
 #[test]
 fn takes_missing_texts_from_the_fallback(rt: HostRuntime) {
-    let table = [(Key::NotText, "kein Text")];
+    let table = [("not_text", "kein Text")];
     assert!(rt;
         is_mixed(Catalog::with_fallback(rt.alloc(), &ONE, english()))
             && is_mixed(Catalog::lent(rt.alloc(), &table, english()))

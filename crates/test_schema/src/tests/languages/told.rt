@@ -7,7 +7,7 @@ use super::{czech, german};
 use crate::tests::is_handed;
 use garde::fields::{Is, Rule};
 use garde::{I18n, RuleError};
-use garde_catalog::{Catalog, CatalogError, Entry, Key, languages};
+use garde_catalog::{Catalog, CatalogError, Entry, languages};
 use garde_i18n::{
     Code, Datum, InvalidCreditCard, InvalidPhoneNumber, InvalidUrl, IpKind, Named, Texts, Value,
 };
@@ -34,7 +34,7 @@ enum Put {
     Nothing,
     This(&'static str),
     /// The text of this reason.
-    Reason(Key),
+    Reason(&'static str),
 }
 
 /// The code of a number that is no multiple of 7.
@@ -43,241 +43,231 @@ const MULTIPLE: Code<'static> = Code {
     param: Some(("divisor", Value::Text("7"))),
 };
 
-const FOUND: &[(Datum<'static>, Key, Put)] = &[
+const FOUND: &[(Datum<'static>, &str, Put)] = &[
     (
         Datum::LengthLowerThan(3),
-        Key::LengthLowerThan,
+        "length_lower_than",
         Put::This("3"),
     ),
     (
         Datum::LengthGreaterThan(18446744073709551615),
-        Key::LengthGreaterThan,
+        "length_greater_than",
         Put::This("18446744073709551615"),
     ),
     (
         Datum::RangeLowerThan("-5"),
-        Key::RangeLowerThan,
+        "range_lower_than",
         Put::This("-5"),
     ),
     (
         Datum::RangeGreaterThan("1.5"),
-        Key::RangeGreaterThan,
+        "range_greater_than",
         Put::This("1.5"),
     ),
     (
         Datum::PatternNoMatch("^{2}$"),
-        Key::PatternNoMatch,
+        "pattern_no_match",
         Put::This("^{2}$"),
     ),
     (
         Datum::ContainsMissing("@"),
-        Key::ContainsMissing,
+        "contains_missing",
         Put::This("@"),
     ),
     (
         Datum::PrefixMissing("{min}"),
-        Key::PrefixMissing,
+        "prefix_missing",
         Put::This("{min}"),
     ),
-    (Datum::SuffixMissing(""), Key::SuffixMissing, Put::This("")),
-    (
-        Datum::IpInvalid(IpKind::Any),
-        Key::IpInvalid,
-        Put::This("IP"),
-    ),
+    (Datum::SuffixMissing(""), "suffix_missing", Put::This("")),
+    (Datum::IpInvalid(IpKind::Any), "ip_invalid", Put::This("IP")),
     (
         Datum::IpInvalid(IpKind::V4),
-        Key::IpInvalid,
+        "ip_invalid",
         Put::This("IPv4"),
     ),
     (
         Datum::IpInvalid(IpKind::V6),
-        Key::IpInvalid,
+        "ip_invalid",
         Put::This("IPv6"),
     ),
     (
         Datum::MatchesFieldMismatch("név"),
-        Key::MatchesFieldMismatch,
+        "matches_field_mismatch",
         Put::This("név"),
     ),
-    (Datum::AsciiInvalid, Key::AsciiInvalid, Put::Nothing),
+    (Datum::AsciiInvalid, "ascii_invalid", Put::Nothing),
     (
         Datum::AlphanumericInvalid,
-        Key::AlphanumericInvalid,
+        "alphanumeric_invalid",
         Put::Nothing,
     ),
-    (Datum::RequiredNotSet, Key::RequiredNotSet, Put::Nothing),
+    (Datum::RequiredNotSet, "required_not_set", Put::Nothing),
     (
         Datum::Named(Named {
             code: MULTIPLE,
             english: "no multiple",
         }),
-        Key::MultipleOf,
+        "multiple_of_mismatch",
         Put::This("7"),
     ),
     (
         Datum::CreditCardInvalid(InvalidCreditCard::InvalidFormat),
-        Key::CreditCardInvalid,
-        Put::Reason(Key::CardFormat),
+        "credit_card_invalid",
+        Put::Reason("card_format"),
     ),
     (
         Datum::CreditCardInvalid(InvalidCreditCard::InvalidLength),
-        Key::CreditCardInvalid,
-        Put::Reason(Key::CardLength),
+        "credit_card_invalid",
+        Put::Reason("card_length"),
     ),
     (
         Datum::CreditCardInvalid(InvalidCreditCard::InvalidLuhn),
-        Key::CreditCardInvalid,
-        Put::Reason(Key::CardLuhn),
+        "credit_card_invalid",
+        Put::Reason("card_luhn"),
     ),
     (
         Datum::CreditCardInvalid(InvalidCreditCard::UnknownType),
-        Key::CreditCardInvalid,
-        Put::Reason(Key::CardType),
+        "credit_card_invalid",
+        Put::Reason("card_type"),
     ),
     (
         Datum::CreditCardInvalid(InvalidCreditCard::Other),
-        Key::CreditCardInvalid,
-        Put::Reason(Key::CardOther),
+        "credit_card_invalid",
+        Put::Reason("card_other"),
     ),
     (
         Datum::UrlInvalid(InvalidUrl::EmptyHost),
-        Key::UrlInvalid,
-        Put::Reason(Key::UrlEmptyHost),
+        "url_invalid",
+        Put::Reason("url_empty_host"),
     ),
     (
         Datum::UrlInvalid(InvalidUrl::IdnaError),
-        Key::UrlInvalid,
-        Put::Reason(Key::UrlIdna),
+        "url_invalid",
+        Put::Reason("url_idna"),
     ),
     (
         Datum::UrlInvalid(InvalidUrl::InvalidPort),
-        Key::UrlInvalid,
-        Put::Reason(Key::UrlPort),
+        "url_invalid",
+        Put::Reason("url_port"),
     ),
     (
         Datum::UrlInvalid(InvalidUrl::InvalidIpv4Address),
-        Key::UrlInvalid,
-        Put::Reason(Key::UrlIpv4),
+        "url_invalid",
+        Put::Reason("url_ipv4"),
     ),
     (
         Datum::UrlInvalid(InvalidUrl::InvalidIpv6Address),
-        Key::UrlInvalid,
-        Put::Reason(Key::UrlIpv6),
+        "url_invalid",
+        Put::Reason("url_ipv6"),
     ),
     (
         Datum::UrlInvalid(InvalidUrl::InvalidDomainCharacter),
-        Key::UrlInvalid,
-        Put::Reason(Key::UrlDomainCharacter),
+        "url_invalid",
+        Put::Reason("url_domain_character"),
     ),
     (
         Datum::UrlInvalid(InvalidUrl::RelativeUrlWithoutBase),
-        Key::UrlInvalid,
-        Put::Reason(Key::UrlRelative),
+        "url_invalid",
+        Put::Reason("url_relative"),
     ),
     (
         Datum::UrlInvalid(InvalidUrl::RelativeUrlWithCannotBeABaseBase),
-        Key::UrlInvalid,
-        Put::Reason(Key::UrlRelativeToNoBase),
+        "url_invalid",
+        Put::Reason("url_relative_to_no_base"),
     ),
     (
         Datum::UrlInvalid(InvalidUrl::SetHostOnCannotBeABaseUrl),
-        Key::UrlInvalid,
-        Put::Reason(Key::UrlSetHost),
+        "url_invalid",
+        Put::Reason("url_set_host"),
     ),
     (
         Datum::UrlInvalid(InvalidUrl::Overflow),
-        Key::UrlInvalid,
-        Put::Reason(Key::UrlOverflow),
+        "url_invalid",
+        Put::Reason("url_overflow"),
     ),
     (
         Datum::UrlInvalid(InvalidUrl::Other),
-        Key::UrlInvalid,
-        Put::Reason(Key::UrlOther),
+        "url_invalid",
+        Put::Reason("url_other"),
     ),
     (
         Datum::PhoneNumberInvalid(InvalidPhoneNumber::Invalid),
-        Key::PhoneNumberInvalid,
-        Put::Reason(Key::PhoneNoSuchNumber),
+        "phone_number_invalid",
+        Put::Reason("phone_no_such_number"),
     ),
     (
         Datum::PhoneNumberInvalid(InvalidPhoneNumber::NotANumber),
-        Key::PhoneNumberInvalid,
-        Put::Reason(Key::PhoneNotANumber),
+        "phone_number_invalid",
+        Put::Reason("phone_not_a_number"),
     ),
     (
         Datum::PhoneNumberInvalid(InvalidPhoneNumber::InvalidCountryCode),
-        Key::PhoneNumberInvalid,
-        Put::Reason(Key::PhoneCountryCode),
+        "phone_number_invalid",
+        Put::Reason("phone_country_code"),
     ),
     (
         Datum::PhoneNumberInvalid(InvalidPhoneNumber::TooShortAfterIdd),
-        Key::PhoneNumberInvalid,
-        Put::Reason(Key::PhoneTooShortAfterIdd),
+        "phone_number_invalid",
+        Put::Reason("phone_too_short_after_idd"),
     ),
     (
         Datum::PhoneNumberInvalid(InvalidPhoneNumber::TooShortNsn),
-        Key::PhoneNumberInvalid,
-        Put::Reason(Key::PhoneTooShortNsn),
+        "phone_number_invalid",
+        Put::Reason("phone_too_short_nsn"),
     ),
     (
         Datum::PhoneNumberInvalid(InvalidPhoneNumber::TooLong),
-        Key::PhoneNumberInvalid,
-        Put::Reason(Key::PhoneTooLong),
+        "phone_number_invalid",
+        Put::Reason("phone_too_long"),
     ),
     (
         Datum::PhoneNumberInvalid(InvalidPhoneNumber::MalformedInteger),
-        Key::PhoneNumberInvalid,
-        Put::Reason(Key::PhoneMalformed),
+        "phone_number_invalid",
+        Put::Reason("phone_malformed"),
     ),
     (
         Datum::PhoneNumberInvalid(InvalidPhoneNumber::Other),
-        Key::PhoneNumberInvalid,
-        Put::Reason(Key::PhoneOther),
+        "phone_number_invalid",
+        Put::Reason("phone_other"),
     ),
 ];
 
-const FORM: &[(FormFault, Key)] = &[
-    (FormFault::Wrong(Wanted::Text, Kind::Null), Key::NotText),
-    (FormFault::Wrong(Wanted::Whole, Kind::Null), Key::NotWhole),
-    (
-        FormFault::Wrong(Wanted::Boolean, Kind::Null),
-        Key::NotBoolean,
-    ),
-    (FormFault::Wrong(Wanted::Null, Kind::Text), Key::NotNull),
-    (FormFault::Wrong(Wanted::List, Kind::Null), Key::NotList),
-    (FormFault::Wrong(Wanted::Object, Kind::Null), Key::NotObject),
+const FORM: &[(FormFault, &str)] = &[
+    (FormFault::Wrong(Wanted::Text, Kind::Null), "not_text"),
+    (FormFault::Wrong(Wanted::Whole, Kind::Null), "not_whole"),
+    (FormFault::Wrong(Wanted::Boolean, Kind::Null), "not_boolean"),
+    (FormFault::Wrong(Wanted::Null, Kind::Text), "not_null"),
+    (FormFault::Wrong(Wanted::List, Kind::Null), "not_list"),
+    (FormFault::Wrong(Wanted::Object, Kind::Null), "not_object"),
     (
         FormFault::Wrong(Wanted::OneMember, Kind::Object),
-        Key::NotOneMember,
+        "not_one_member",
     ),
     (
         FormFault::Wrong(Wanted::Character, Kind::Null),
-        Key::NotCharacter,
+        "not_character",
     ),
-    (FormFault::Wrong(Wanted::Date, Kind::Null), Key::NotDate),
-    (FormFault::Wrong(Wanted::Time, Kind::Null), Key::NotTime),
+    (FormFault::Wrong(Wanted::Date, Kind::Null), "not_date"),
+    (FormFault::Wrong(Wanted::Time, Kind::Null), "not_time"),
     (
         FormFault::Wrong(Wanted::DateTime, Kind::Null),
-        Key::NotDateTime,
+        "not_date_time",
     ),
     (
         FormFault::Wrong(Wanted::Timestamp, Kind::Null),
-        Key::NotTimestamp,
+        "not_timestamp",
     ),
-    (FormFault::Wrong(Wanted::Ipv4, Kind::Null), Key::NotIpv4),
-    (FormFault::Wrong(Wanted::Ipv6, Kind::Null), Key::NotIpv6),
-    (FormFault::Wrong(Wanted::Uuid, Kind::Null), Key::NotUuid),
-    (
-        FormFault::Wrong(Wanted::Version, Kind::Null),
-        Key::NotVersion,
-    ),
-    (FormFault::Wrong(Wanted::Url, Kind::Null), Key::NotUrl),
-    (FormFault::Missing, Key::MemberMissing),
-    (FormFault::Repeated, Key::MemberRepeated),
-    (FormFault::Unknown, Key::MemberUnknown),
-    (FormFault::NotOneOf, Key::ValueUnknown),
-    (FormFault::RowLength, Key::RowLength),
+    (FormFault::Wrong(Wanted::Ipv4, Kind::Null), "not_ipv4"),
+    (FormFault::Wrong(Wanted::Ipv6, Kind::Null), "not_ipv6"),
+    (FormFault::Wrong(Wanted::Uuid, Kind::Null), "not_uuid"),
+    (FormFault::Wrong(Wanted::Version, Kind::Null), "not_version"),
+    (FormFault::Wrong(Wanted::Url, Kind::Null), "not_url"),
+    (FormFault::Missing, "member_missing"),
+    (FormFault::Repeated, "member_repeated"),
+    (FormFault::Unknown, "member_unknown"),
+    (FormFault::NotOneOf, "value_unknown"),
+    (FormFault::RowLength, "row_length"),
 ];
 
 /// A place in a text.
@@ -286,18 +276,18 @@ const PLACE: Place = Place {
     column: 3,
 };
 
-const PARSE: &[(ParseError, Key)] = &[
-    (ParseError::NotUtf8(PLACE), Key::NotUtf8),
-    (ParseError::NotJson(PLACE), Key::NotJson),
-    (ParseError::TooDeep(PLACE), Key::NestedTooDeep),
-    (ParseError::LoneSurrogate(PLACE), Key::LoneSurrogate),
-    (ParseError::TooLong, Key::TextTooLong),
+const PARSE: &[(ParseError, &str)] = &[
+    (ParseError::NotUtf8(PLACE), "not_utf8"),
+    (ParseError::NotJson(PLACE), "not_json"),
+    (ParseError::TooDeep(PLACE), "nested_too_deep"),
+    (ParseError::LoneSurrogate(PLACE), "lone_surrogate"),
+    (ParseError::TooLong, "text_too_long"),
 ];
 
-// The text of a table under a key.
-fn text_under<'t>(table: &[Entry<'t>], wanted: Key) -> &'t str {
-    for (key, text) in table {
-        if *key == wanted {
+// The text of a table under a code.
+fn text_under<'t>(table: &[Entry<'t>], wanted: &str) -> &'t str {
+    for (code, text) in table {
+        if *code == wanted {
             return text;
         }
     }
@@ -348,9 +338,9 @@ fn is_placed_behind(told: &str, between: &str, after: &str) -> bool {
 // Whether the messages of what is not read as JSON are those of the table.
 fn are_parses(alloc: Global, h: &Catalog<'_>, table: &[Entry<'_>]) -> bool {
     let mut all = true;
-    for (error, key) in PARSE {
+    for (error, code) in PARSE {
         let is_told = match h.parse_error(alloc, error) {
-            Ok(told) => is_placed(told.as_str(), text_under(table, *key)),
+            Ok(told) => is_placed(told.as_str(), text_under(table, code)),
             Err(_) => false,
         };
         all = all && is_told;
@@ -377,13 +367,13 @@ fn tells(alloc: Global, h: &Catalog<'_>, datum: Datum<'static>, text: &str, valu
 // Whether the messages of rules are those of the table.
 fn are_messages(alloc: Global, h: &Catalog<'_>, table: &[Entry<'_>]) -> bool {
     let mut all = true;
-    for (datum, key, put) in FOUND {
+    for (datum, code, put) in FOUND {
         let value = match put {
             Put::Nothing => "",
             Put::This(value) => value,
-            Put::Reason(reason) => text_under(table, *reason),
+            Put::Reason(reason) => text_under(table, reason),
         };
-        all = all && tells(alloc, h, *datum, text_under(table, *key), value);
+        all = all && tells(alloc, h, *datum, text_under(table, code), value);
     }
     all
 }
@@ -391,8 +381,8 @@ fn are_messages(alloc: Global, h: &Catalog<'_>, table: &[Entry<'_>]) -> bool {
 // Whether the messages of form are those of the table.
 fn are_forms(alloc: Global, h: &Catalog<'_>, table: &[Entry<'_>]) -> bool {
     let mut all = true;
-    for (fault, key) in FORM {
-        all = all && is_handed(h.form_fault(alloc, *fault), text_under(table, *key));
+    for (fault, code) in FORM {
+        all = all && is_handed(h.form_fault(alloc, *fault), text_under(table, code));
     }
     all
 }

@@ -16,9 +16,9 @@ static WORDED: [(&str, &str, &str); 3] = [
         "not_url: has a name in braces that is no parameter of this text\n",
     ),
     (
-        "{\"multiple_of\":\"a\"}",
-        "multiple_of: template_place_missing\n",
-        "multiple_of: lacks a parameter in braces\n",
+        "{\"multiple_of_mismatch\":\"a\"}",
+        "multiple_of_mismatch: template_place_missing\n",
+        "multiple_of_mismatch: lacks a parameter in braces\n",
     ),
     (
         "{\"not_url\":\"}\"}",

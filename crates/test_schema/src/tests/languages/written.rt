@@ -4,7 +4,7 @@ use super::english;
 use crate::tests::long_text::Long;
 use crate::tests::{OrEnd, is_text};
 use garde::DefaultI18n;
-use garde_catalog::{Catalog, Entry, KEYS, Key, Table, TableTexts, languages};
+use garde_catalog::{Catalog, Entry, Table, TableTexts, languages};
 use garde_schema::{Closed, Object, ReadError, Scratch, read_json};
 use std::alloc::{AllocError, Global};
 
@@ -20,19 +20,19 @@ fn push_member(json: &mut String, name: &str, text: &str) -> Result<(), AllocErr
     json.push_str("\",")
 }
 
-// A table in JSON. In the place of the line of this key stands another one, with a comma behind it.
+// A table in JSON. In the place of the line of this code stands another one, with a comma behind it.
 fn written(
     alloc: Global,
     table: &[Entry<'_>],
-    key: Option<Key>,
+    code: Option<&str>,
     instead: &str,
 ) -> Result<String, AllocError> {
     let mut json = String::from_str(alloc, "{")?;
     for (name, text) in table {
-        if key == Some(*name) {
+        if code == Some(*name) {
             json.push_str(instead)?;
         } else {
-            push_member(&mut json, name.name(), text)?;
+            push_member(&mut json, name, text)?;
         }
     }
     let _ = json.pop();
@@ -40,7 +40,7 @@ fn written(
     Ok(json)
 }
 
-// Reads a table, with all keys or with some.
+// Reads a table, with all codes or with some.
 fn read(alloc: Global, json: &[u8], texts: TableTexts) -> Result<Table, ReadError> {
     let mut scratch = Scratch::new(alloc);
     let form = Object(Closed(texts));
@@ -52,8 +52,8 @@ fn is_spoken(alloc: Global, lines: &[Entry<'_>], table: &[Entry<'_>]) -> bool {
     let Ok(catalog) = Catalog::lent(alloc, lines, english()) else {
         return false;
     };
-    for (key, text) in table {
-        if catalog.word(*key) != *text {
+    for (code, text) in table {
+        if catalog.word(code) != *text {
             return false;
         }
     }
@@ -81,7 +81,7 @@ fn reads_back_every_language(rt: HostRuntime) {
 }
 
 #[test]
-fn takes_missing_keys_from_the_fallback(rt: HostRuntime) {
+fn takes_missing_codes_from_the_fallback(rt: HostRuntime) {
     assert!(rt; is_read_as(rt.alloc(), "{}", TableTexts::some(), english()));
 }
 
@@ -93,110 +93,110 @@ fn report_of(alloc: Global, json: &str, texts: TableTexts) -> Result<String, All
     }
 }
 
-// The report of a table in English with another line in the place of that of a key.
-fn report_with(alloc: Global, key: Key, instead: &Long) -> Result<String, AllocError> {
+// The report of a table in English with another line in the place of that of a code.
+fn report_with(alloc: Global, code: &str, instead: &Long) -> Result<String, AllocError> {
     let instead = instead.text(alloc)?;
-    let json = written(alloc, english(), Some(key), instead.as_str())?;
+    let json = written(alloc, english(), Some(code), instead.as_str())?;
     report_of(alloc, json.as_str(), TableTexts::all())
 }
 
-// A key, what stands in the place of its line, and what is reported.
-static FAULTS: [(Key, Long, &str); 23] = [
-    (Key::NotUrl, Long::Text(""), "not_url: missing\n"),
+// A code, what stands in the place of its line, and what is reported.
+static FAULTS: [(&str, Long, &str); 23] = [
+    ("not_url", Long::Text(""), "not_url: missing\n"),
     (
-        Key::NotUrl,
+        "not_url",
         Long::Text("\"not_url\":7,"),
         "not_url: not a text\n",
     ),
     (
-        Key::NotUrl,
+        "not_url",
         Long::Text("\"not_url\":null,"),
         "not_url: not a text\n",
     ),
-    (Key::NotUrl, Long::Text("\"not_url\":\"\","), "a table"),
+    ("not_url", Long::Text("\"not_url\":\"\","), "a table"),
     (
-        Key::NotUrl,
+        "not_url",
         Long::Text("\"not_url\":\"\\u202e\\u0007\","),
         "a table",
     ),
     (
-        Key::NotUrl,
+        "not_url",
         Long::Text("\"not_url\":\"a\",\"not_url\":\"a\","),
         "not_url: repeated\n",
     ),
     (
-        Key::NotUrl,
+        "not_url",
         Long::Text("\"NotUrl\":\"a\","),
         "not_url: missing\nNotUrl: not known here\n",
     ),
     (
-        Key::NotUrl,
+        "not_url",
         Long::Text("\"\\u202e\":1,\"not_url\":\"a\",\"\":2,"),
         "\u{202e}: not known here\n: not known here\n",
     ),
     (
-        Key::NotUrl,
+        "not_url",
         Long::Text("\"not_url\":\"{}\","),
         "not_url: has a name in braces that is no parameter of this text\n",
     ),
     (
-        Key::NotUrl,
+        "not_url",
         Long::Text("\"not_url\":\"{min}\","),
         "not_url: has a name in braces that is no parameter of this text\n",
     ),
     (
-        Key::NotUrl,
+        "not_url",
         Long::Text("\"not_url\":\"{\","),
         "not_url: has a brace that does not close or does not open\n",
     ),
     (
-        Key::NotUrl,
+        "not_url",
         Long::Text("\"not_url\":\"}\","),
         "not_url: has a brace that does not close or does not open\n",
     ),
     (
-        Key::LengthLowerThan,
+        "length_lower_than",
         Long::Text("\"length_lower_than\":\"a {min\","),
         "length_lower_than: has a brace that does not close or does not open\n",
     ),
     (
-        Key::LengthLowerThan,
+        "length_lower_than",
         Long::Text("\"length_lower_than\":\"a {{min}}\","),
         "length_lower_than: has a brace that does not close or does not open\n",
     ),
     (
-        Key::LengthLowerThan,
+        "length_lower_than",
         Long::Text("\"length_lower_than\":\"a {max}\","),
         "length_lower_than: has a name in braces that is no parameter of this text\n",
     ),
     (
-        Key::LengthLowerThan,
+        "length_lower_than",
         Long::Text("\"length_lower_than\":\"a { min}\","),
         "length_lower_than: has a name in braces that is no parameter of this text\n",
     ),
     (
-        Key::LengthLowerThan,
+        "length_lower_than",
         Long::Text("\"length_lower_than\":\"a\","),
         "length_lower_than: lacks a parameter in braces\n",
     ),
     (
-        Key::LengthLowerThan,
+        "length_lower_than",
         Long::Text("\"length_lower_than\":\"{min}{min}\","),
         "a table",
     ),
     (
-        Key::OutOfRange,
+        "out_of_range",
         Long::Text("\"out_of_range\":\"to {greatest}\","),
         "out_of_range: lacks a parameter in braces\n",
     ),
     (
-        Key::OutOfRange,
+        "out_of_range",
         Long::Text("\"out_of_range\":\"{greatest}, {least}\","),
         "a table",
     ),
     // Texts of a megabyte and more.
     (
-        Key::LengthLowerThan,
+        "length_lower_than",
         Long::Repeated(
             "\"length_lower_than\":\"",
             (65536, "0123456789abcdef"),
@@ -207,7 +207,7 @@ static FAULTS: [(Key, Long, &str); 23] = [
         "a table",
     ),
     (
-        Key::LengthLowerThan,
+        "length_lower_than",
         Long::Repeated(
             "\"length_lower_than\":\"",
             (65536, "0123456789abcdef"),
@@ -218,7 +218,7 @@ static FAULTS: [(Key, Long, &str); 23] = [
         "length_lower_than: lacks a parameter in braces\n",
     ),
     (
-        Key::LengthLowerThan,
+        "length_lower_than",
         Long::Repeated(
             "\"length_lower_than\":\"",
             (65536, "0123456789abcdef"),
@@ -232,13 +232,13 @@ static FAULTS: [(Key, Long, &str); 23] = [
 
 #[test]
 fn reports_each_fault_of_a_table(rt: HostRuntime) {
-    for (row, (key, instead, wanted)) in FAULTS.iter().enumerate() {
-        let report = report_with(rt.alloc(), *key, instead);
+    for (row, (code, instead, wanted)) in FAULTS.iter().enumerate() {
+        let report = report_with(rt.alloc(), code, instead);
         assert!(rt; is_text(report, wanted), "row {row}");
     }
 }
 
-// What is read as a table that may lack keys, and what is reported.
+// What is read as a table that may lack codes, and what is reported.
 static OTHERS: [(&str, &str); 4] = [
     ("[]", "not an object\n"),
     ("{\"not_url\":\"a\"}", "a table"),
@@ -253,7 +253,7 @@ static OTHERS: [(&str, &str); 4] = [
 ];
 
 #[test]
-fn reports_all_faults_in_the_order_of_the_keys(rt: HostRuntime) {
+fn reports_all_faults_in_the_order_of_the_messages(rt: HostRuntime) {
     for (json, wanted) in &OTHERS {
         let report = report_of(rt.alloc(), json, TableTexts::some());
         assert!(rt; is_text(report, wanted), "{json}");
@@ -273,7 +273,7 @@ fn lines_of_unknown(alloc: Global) -> Result<usize, AllocError> {
 #[test]
 fn reports_a_thousand_unknown_names(rt: HostRuntime) {
     let lines = lines_of_unknown(rt.alloc());
-    assert!(rt; lines == Ok(KEYS.len() + 1000));
+    assert!(rt; lines == Ok(english().len() + 1000));
 }
 
 // Bytes that are no JSON.
