@@ -14,36 +14,37 @@ TAG = "[A-Za-z]{1,8}(?:-[A-Za-z0-9]{1,8})*"
 RANGE = re.compile(rf"[ \t]*({TAG})[ \t]*(?:;[ \t]*[qQ]=(0(?:\.[0-9]{{0,3}})?|1(?:\.0{{0,3}})?)[ \t]*)?")
 # Tags that words ask for: of languages that are offered, of their countries, and of none, and ill-formed ones.
 TAGS = ("en", "de", "DE-at", "cs", "zh", "zh-Hant", "pt-PT", "ar", "ja", "sv", "tlh", "", "cs-", "cs--CZ", "de-\n")
-# What is wrong with a text of a file has no key, so its sentence is that of the library in each language.
+# What is wrong with a text of a file is no message of a table, so its sentence is that of the library in each language.
 TEMPLATE_FAULTS = {
     "template_place_unknown": "has a name in braces that is no parameter of this text", "template_place_missing": "lacks a parameter in braces",
     "template_brace_stray": "has a brace that does not close or does not open",
 }
-NO_JSON = {"not UTF-8": "NotUtf8", "not JSON": "NotJson", "nested deeper than 128": "NestedTooDeep", "a lone surrogate": "LoneSurrogate"}
+NO_JSON = {"not UTF-8": "not_utf8", "not JSON": "not_json", "nested deeper than 128": "nested_too_deep", "a lone surrogate": "lone_surrogate"}
 
 
 def texts():
-    """The texts: by their tag, and then by their key."""
+    """The texts: by their tag, and then by their code."""
     tables = page.tables()
     return {tag: dict(tables[table]) for table, tag in page.offered().items()}
 
 
-def camel(code):
-    return "".join(word.capitalize() for word in code.split("_"))
+def wanted_code(wanted):
+    """The code of the message that something else is wanted, as `not_one_member` of `OneMember`."""
+    return "not" + re.sub("([A-Z])", r"_\1", wanted).lower()
 
 
 def url_text(said, english):
     """The text of a URL that is none: its reason stands in the same language."""
-    keys = {text: key for key, text in english.items() if key.startswith("Url") and key != "UrlInvalid"}
-    return lambda reason: said["UrlInvalid"].format(reason=said[keys[reason]])
+    codes = {text: code for code, text in english.items() if code.startswith("url_") and code != "url_invalid"}
+    return lambda reason: said["url_invalid"].format(reason=said[codes[reason]])
 
 
 def language(said, english):
     """A language, by its texts."""
     return {
-        **{code: said[camel(code)] for code in ENGLISH if camel(code) in said},
-        "wrong_form": lambda wanted, found: said[f"Not{wanted}"],
-        "out_of_range": lambda of: said["OutOfRange"].format(least=INTEGERS[of][0], greatest=INTEGERS[of][1]),
+        **{code: said[code] for code in ENGLISH if code in said},
+        "wrong_form": lambda wanted, found: said[wanted_code(wanted)],
+        "out_of_range": lambda of: said["out_of_range"].format(least=INTEGERS[of][0], greatest=INTEGERS[of][1]),
         "url_invalid": url_text(said, english), "own": "{text}", **TEMPLATE_FAULTS,
     }
 
@@ -90,7 +91,7 @@ def unknown():
 
 
 def said_in(tag):
-    """The texts under a tag, by their keys."""
+    """The texts under a tag, by their codes."""
     return TEXTS[OTHER_TAGS.get(tag, tag)]
 
 

@@ -6,31 +6,16 @@ from lib import repository
 PAGE = "out/docs/languages.md"
 HEAD = "docs/reference/languages/head.md"
 CRATE = "crates/garde_catalog/src/"
-ENTRY = re.compile(r'\(\s*Key::(\w+),\s*"((?:[^"\\]|\\.)*)",?\s*\)')
-KEY = re.compile(r"^    /// (.*)\n    (\w+),$", re.MULTILINE)
-PARAM = re.compile(r'Key::(\w+) => "(\w+)"')
+ENTRY = re.compile(r'\(\s*"(\w+)",\s*"((?:[^"\\]|\\.)*)",?\s*\)')
+MESSAGE = re.compile(r'\("(\w+)", "(\w*)", "(\w*)"\)')
 OFFERED = re.compile(r'tagged\("([\w-]+)", &?(\w+)\)')
 NAMED = re.compile(r"let (\w+): &\[Entry<'_>\] = &(\w+);")
 TABLE = re.compile(r"pub static (\w+):")
 
 
-def keys():
-    """The keys in their order, each with what it says."""
-    source = repository.text_of(CRATE + "key.rt").partition("pub enum Key {")[2].partition("\n}\n")[0]
-    return [(name, said) for said, name in KEY.findall(source)]
-
-
-def params():
-    """The parameters of each key that has any."""
-    found = {}
-    for key, name in PARAM.findall(repository.text_of(CRATE + "key.rt")):
-        found.setdefault(key, set()).add(name)
-    return found
-
-
-def names():
-    """The name of each key in a file."""
-    return dict(PARAM.findall(repository.text_of(CRATE + "key_name.rt")))
+def messages():
+    """The messages in their order: the parameters of each code."""
+    return {code: {name for name in names if name} for code, *names in MESSAGE.findall(repository.text_of(CRATE + "messages.rt"))}
 
 
 def offered():
@@ -43,22 +28,17 @@ def offered():
 
 
 def tables():
-    """The tables by their names, each as the lines of its file: a key and its text, without the escapes of a source."""
+    """The tables by their names, each as the lines of its file: a code and its text, without the escapes of a source."""
     sources = [it.read_text(encoding="utf-8") for it in sorted((repository.ROOT / CRATE / "tables").glob("*.rt"))]
     lines = {TABLE.search(it)[1]: ENTRY.findall(it) for it in sources}
-    return {name: [(key, text.replace('\\"', '"').replace("\\\\", "\\")) for key, text in found] for name, found in lines.items()}
-
-
-def words(name):
-    """The words of a key, as `length lower than` of `LengthLowerThan`."""
-    return re.sub(r"(?<!^)(?=[A-Z])", " ", name).lower()
+    return {name: [(code, text.replace('\\"', '"').replace("\\\\", "\\")) for code, text in found] for name, found in lines.items()}
 
 
 def text():
-    """The page: a table for each key, with a row for each language."""
-    every, written, parts = tables(), names(), [repository.text_of(HEAD).rstrip()]
-    for name, said in keys():
-        rows = [f"| {tag} | {text} |" for table, tag in offered().items() for key, text in every[table] if key == name]
-        parts.append(f"## {words(name).capitalize()}\n\n`Key::{name}`, in a file `{written.get(name)}`. {said}")
+    """The page: a table for each message, with a row for each language."""
+    every, parts = tables(), [repository.text_of(HEAD).rstrip()]
+    for code in messages():
+        rows = [f"| {tag} | {text} |" for table, tag in offered().items() for it, text in every[table] if it == code]
+        parts.append(f"## {code.replace('_', ' ').capitalize()}\n\n`{code}`")
         parts.append("\n".join(["| language | text |", "|---|---|", *rows]))
     return "\n\n".join(parts) + "\n"

@@ -111,7 +111,7 @@ def most(words, all_of_them):
 
 def lines_of(words, form, index, header, record, tag):
     """The lines of a record, whose place is `[N]` or `line N`."""
-    language = {**languages.of_tag(tag), "not_csv": record.fault, "row_length": languages.said_in(tag)["RowLength"]}
+    language = {**languages.of_tag(tag), "not_csv": record.fault, "row_length": languages.said_in(tag)["row_length"]}
     walk = walk_of(index, header, record)
     if form != "plain":
         return placed.lines_at(form, "<stdin>", (record.line, 1), walk, language)
