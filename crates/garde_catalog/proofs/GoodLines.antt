@@ -7,7 +7,7 @@ use Rattle.std.proofs.lemmas.List.Elements.{All-get_or, All-head, All-tail}
 use Rattle.std.specs.List.{flat_map}
 use Rattle.std.proofs.lemmas.List.Folds.{list_any_at}
 use Rattle.std.specs.Prelude.{unwrap_or}
-use Rattle.garde_catalog.specs.Catalog.{AreGood, Entry, IsGood, texts_under}
+use Rattle.garde_catalog.specs.Catalog.{Entry, IsGood, texts_under}
 use Rattle.garde_catalog.specs.Messages.{LIBRARY, Message}
 use Rattle.garde_catalog.specs.Lines.{AreGoodLines, AreOwn, Line, is_name, joined, line_of, lines_of, with_first_line}
 use Rattle.garde_catalog.specs.Template.{IsTemplate, pieces_of}

@@ -23,7 +23,7 @@ use Rattle.garde_tape.specs.declared.found.Found.{Found}
 use Rattle.garde_tape.specs.declared.found.Found.TheVariants.{Missing, Once, Repeated}
 use Rattle.garde_schema.specs.Forms.{FormTexts, Sound, forget, formed, refused}
 use Rattle.garde_schema.specs.Members.{member_visits, optional_visits}
-use Rattle.garde_catalog.specs.Lines.{AreGoodLines, AreOwn, Line, asked, found_text, in_turn, joined, line_visits, lines_of, read, text_found, text_of, text_visits}
+use Rattle.garde_catalog.specs.Lines.{AreGoodLines, AreOwn, Line, asked, found_text, in_turn, joined, line_visits, read, text_found, text_of, text_visits}
 use Rattle.garde_catalog.specs.Messages.{LIBRARY, Message, Stated, message_of}
 use Rattle.garde_catalog.specs.Template.{fault_datum, template_fault}
 use Rattle.garde_catalog.specs.declared.template.TemplateFault.{TemplateFault}
@@ -94,6 +94,15 @@ module _ {text : Datum → List ℕ} {E : Type 0} where
   not_made a (Ok done) result told was is = absurd (false≢true was)
   not_made a (Err e) (Ok x) told was is = absurd (false≢true is)
   not_made a (Err e) (Err f) told was is = more a (record { ok = tt; err = told.err; why = told.why })
+
+  -- what is asked of messages is asked of the same messages
+  pub of_these : (may_lack : Bool) (texts : FormTexts) (j : Json) {listed all : List Message} {first : Result Unit E} {before after : Trace} {old new : List Entry} → listed ≡ all → Visited (asked may_lack texts j listed) text before after old new first → Visited (asked may_lack texts j all) text before after old new first
+  of_these may_lack texts j {first = first} {before} {after} {old} {new} same told = subst (λ messages. Visited (asked may_lack texts j messages) text before after old new first) same told
+
+  -- the first faults were not told to their end, and no others
+  pub not_begun : {A : Type 0} (a b : Visits) (first : Result Unit E) (result : Result A E) {before after : Trace} {old new : List Entry} → Visited a text before after old new first → IsErr first → IsErr result → Visited (may_allocate (a and b)) text before after old new (forget result)
+  not_begun a b first (Ok x) told was is = absurd (false≢true is)
+  not_begun a b first (Err f) told was is = more (a and b) (visited_stop a b told was refl)
 
 -- ---- what a rule finds
 

@@ -1,7 +1,9 @@
 -- The lines of messages, put together one after the other.
-use Rattle.std.proofs.Common.{◌≡◌, ◌∙◌, ◌+◌, ◌<◌, ◌≤◌, ◌++◌, ◌∷◌, ℕ, List, [], Option, Some, None, length, drop, map, get_or, refl, sym, ap, append_assoc, append-nil}
+use Rattle.std.proofs.Common.{◌≡◌, ◌∙◌, ◌+◌, ◌<◌, ◌≤◌, ◌∷◌, ℕ, Bool, List, [], Option, Some, None, Result, length, drop, map, get_or, refl, sym, ap, subst, append_assoc, append-nil}
+use Rattle.std.specs.Prelude.{IfOk}
+use Rattle.json.specs.Json.{Json}
 use Rattle.std.proofs.lemmas.List.{at_drop_more, drop_all}
-use Rattle.garde_catalog.specs.Lines.{Line, joined, lines_of, with_first_line, with_last_line}
+use Rattle.garde_catalog.specs.Lines.{Line, joined, lines_of, read, with_first_line, with_last_line}
 use Rattle.garde_catalog.specs.Messages.{Message, Stated, message_of}
 
 joined_first : (so_far : Option (List Line)) (code : List ℕ) (found : Option (Option (List ℕ))) (rest : Option (List Line))
@@ -31,3 +33,14 @@ module _ (text_at : List ℕ → Option (Option (List ℕ))) (messages : List St
   -- behind the last message nothing is left
   pub lines_end : (so_far : Option (List Line)) {all : Option (List Line)} → length messages ≤ i → joined so_far (lines_of text_at (map message_of (drop i messages))) ≡ all → so_far ≡ all
   lines_end so_far past is = sym (joined_nothing so_far) ∙ ap (λ l. joined so_far (lines_of text_at (map message_of l))) (sym (drop_all i messages past)) ∙ is
+
+joined_from : (lines : Option (List Line)) → joined (Some []) lines ≡ lines
+joined_from (Some lines) = refl
+joined_from None = refl
+
+-- the lines of two tables of messages, one behind the other
+pub both_lines : {E : Type 0} (may_lack : Bool) (j : Json) (start : List Line) (table rest : Option (List Line)) (result : Result (Option (List Line)) E) {listed all : List Message} → start ≡ [] → listed ≡ all
+    → table ≡ joined (Some start) (read may_lack j listed) → IfOk result (λ out. out ≡ joined table rest) → IfOk result (λ out. out ≡ joined (read may_lack j all) rest)
+both_lines may_lack j start table rest result {listed} none same is then_is =
+    let first : table ≡ read may_lack j listed = is ∙ ap (λ l. joined (Some l) (read may_lack j listed)) none ∙ joined_from (read may_lack j listed) in
+    subst (λ t. IfOk result (λ out. out ≡ joined t rest)) (first ∙ ap (read may_lack j) same) then_is

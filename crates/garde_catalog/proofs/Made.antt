@@ -1,10 +1,9 @@
 -- The messages of a table that are checked one by one, and the text of each.
 use Rattle.std.proofs.Common.{◌≡◌, ◌≢◌, ◌++◌, ◌∷◌, ◌+◌, ◌-◌, ◌<◌, ◌≤◌, ◌∙◌, ℕ, zero, suc, List, [], All, Option, Some, None, Bool, true, false, bytes_eq, cond, length, map, take, get_or, slice_get, refl, sym, ap, subst, append-nil, length-append, drop, take-append-drop, inl, inr, ⊎_elim, ◌⊎◌, arith}
-use Rattle.std.proofs.lemmas.List.{get_or-map, length-map, take_more}
-use Rattle.std.proofs.lemmas.Grind.{common_steps}
+use Rattle.std.proofs.lemmas.List.{get_or-map, get_or_past, length-map, take_more}
 use Rattle.std.proofs.lemmas.List.Elements.{All-get_or, All-head, All-map, All-more}
 use Rattle.std.proofs.lemmas.Option.{get_or_from_slice_get, none-some, slice_get-map, slice_get_within}
-use Rattle.std.proofs.Math.Nat.{eq-or-lt_of_le}
+use Rattle.std.proofs.Math.Nat.{eq-or-lt_of_le, zero-add}
 use Rattle.std.proofs.lemmas.Slice.Eq.{bytes_eq-Decides}
 use Rattle.std.proofs.lemmas.Bool.{false_from_ne_true, false≢true}
 use Rattle.std.specs.Prelude.{option_map, unwrap_or}
@@ -35,7 +34,7 @@ all_told entries others faults messages same h =
 pub listed : (messages : List Stated) (i : ℕ) (d : Stated) → map message_of messages ≡ LIBRARY → i < length messages → IsListed (message_of (get_or messages i d))
 listed messages i d same low =
     let message = message_of (get_or messages i d) in
-    (i, message, omega (arith, low, ap length same, length-map message_of messages), subst (λ l. get_or l i message ≡ message) same (get_or-map message_of messages i d message low), refl)
+    (i, message, omega (arith, low, ap length same, length-map messages message_of), subst (λ l. get_or l i message ≡ message) same (get_or-map message_of messages i d message low), refl)
 
 -- without a fault each message is good
 pub all_good : (entries others : List Entry) (faults : List CatalogFault) → faults ≡ [] → AreTold entries others faults → AreGood entries others
@@ -54,10 +53,10 @@ other_bytes xs ys e = false_from_ne_true (bytes_eq xs ys) (λ same. e ((bytes_eq
 
 -- the answer of a comparison
 pub is_code : (xs ys : List ℕ) {b : Bool} → b ≡ bytes_eq xs ys → b ≡ true → xs ≡ ys
-is_code xs ys b yes = (bytes_eq-Decides xs ys).0 (sym b ∙ yes)
+is_code xs ys is holds = (bytes_eq-Decides xs ys).0 (sym is ∙ holds)
 
 pub is_no_code : (xs ys : List ℕ) {b : Bool} → b ≡ bytes_eq xs ys → b ≡ false → xs ≢ ys
-is_no_code xs ys b no e = false≢true (sym no ∙ b ∙ same_bytes xs ys e)
+is_no_code xs ys is fails e = false≢true (sym fails ∙ is ∙ same_bytes xs ys e)
 
 -- the texts under a code of a table and another one behind it
 under_both : (code : List ℕ) (front back : List Entry) → texts_under code (front ++ back) ≡ texts_under code front ++ texts_under code back
@@ -134,7 +133,7 @@ InOrderUpTo entries messages i = (place : ℕ) (message : Stated) → place < i 
 
 pub in_order_next : (entries : List Entry) (messages : List Stated) (i : ℕ) (d : Stated) → i < length messages
     → HasCode (slice_get entries i) (get_or messages i d).0.now → InOrderUpTo entries messages i → InOrderUpTo entries messages (i + 1)
-in_order_next entries messages i d low has so_far place message within at = elim (eq-or-lt_of_le {place} {i} (omega (arith, within))) [
+in_order_next entries messages i d low has so_far place message within at = elim (eq-or-lt_of_le {n = place} {m = i} (omega (arith, within))) [
   | inl here ↦ subst (λ k. HasCode (slice_get entries k) message.0.now) (sym here)
       (subst (λ m. HasCode (slice_get entries i) m.0.now) (get_or_from_slice_get messages i message d (subst (λ k. slice_get messages k ≡ Some message) here at)) has)
   | inr before ↦ so_far place message before at
@@ -151,6 +150,18 @@ module _ (entries : List Entry) (messages : List Stated) (order : IsInOrder entr
   -- the messages of the library, too
   pub in_order : map message_of messages ≡ LIBRARY → slice_get LIBRARY place ≡ Some message → HasCode (slice_get entries place) message.0
   in_order same at = its_code (slice_get messages place) refl (sym (slice_get-map message_of messages place) ∙ ap (λ l. slice_get l place) same ∙ at)
+
+-- the code in a place that has a message, and in any other
+pub code_there : (messages : List Stated) (place : ℕ) (message : Stated) → map message_of messages ≡ LIBRARY → slice_get messages place ≡ Some message
+    → message.0.now ≡ code_at place
+code_there messages place message same at =
+    let listed = ap (λ l. slice_get l place) (sym same) ∙ slice_get-map message_of messages place ∙ ap (option_map message_of) at in
+    sym (ap (λ (m : Message). m.0) (get_or_from_slice_get LIBRARY place (message_of message) ([], [], []) listed))
+
+pub no_code_there : (messages : List Stated) (place : ℕ) → map message_of messages ≡ LIBRARY → length messages ≤ place → [] ≡ code_at place
+no_code_there messages place same past =
+    let beyond = subst (λ l. length l ≤ place) same (subst (λ n. n ≤ place) (sym (length-map messages message_of)) past) in
+    sym (ap (λ (m : Message). m.0) (get_or_past LIBRARY place ([], [], []) beyond))
 
 -- the text in a place that has a line, and in any other
 pub word_in_place : (lines others : Lines) (place : ℕ) (line : Entry) → slice_get lines.ordered.now place ≡ Some line → line.1.now ≡ word_in lines others place
@@ -188,9 +199,11 @@ one_word entries others lines rest place message text are those at one =
 -- ---- the lines of rules that bring their codes
 
 behind : (n k : ℕ) (entries : List Entry) → slice_get (drop n entries) k ≡ slice_get entries (n + k)
-behind zero k entries = refl
+behind zero k entries = ap (slice_get entries) (sym (zero-add k))
 behind (suc n) k [] = refl
-behind (suc n) k (entry ∷ entries) = behind n k entries
+behind (suc n) k (entry ∷ entries) =
+    let later : suc (n + k) ≡ suc n + k = omega arith in
+    behind n k entries ∙ ap (slice_get (entry ∷ entries)) later
 
 -- a line with a code has a text of it
 has_text : (entries : List Entry) (code : List ℕ) (k : ℕ) (found : Option Entry) → slice_get entries k ≡ found → HasCode found code → 1 ≤ length (texts_under code entries)

@@ -3,7 +3,7 @@ use Rattle.std.specs.Prelude.{◌≡◌, ◌≤◌, ℕ, List, [], ◌∷◌, Op
 use Rattle.std.specs.Borrow.{Bor}
 use Rattle.std.specs.List.{Any, slice_get}
 use Rattle.garde_i18n.specs.CodeText.{datum_code}
-use Rattle.garde_i18n.specs.Datum.{Code, Datum, length_lower, length_greater, range_lower, range_greater, card, pattern, contains, url, prefix, suffix, phone, ip, matches, not_ascii, not_alphanumeric, not_set, named}
+use Rattle.garde_i18n.specs.Datum.{Code, Datum, card, url, phone, not_ascii, not_alphanumeric, not_set, named}
 use Rattle.garde_i18n.specs.declared.reasons.InvalidUrl.{InvalidUrl}
 use Rattle.garde_i18n.specs.declared.reasons.InvalidUrl.TheVariants as urls
 use Rattle.garde_i18n.specs.declared.reasons.InvalidCreditCard.{InvalidCreditCard}

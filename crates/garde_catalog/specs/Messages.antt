@@ -1,5 +1,5 @@
 -- The messages that a table has texts for: their codes, and the names of their parameters.
-use Rattle.std.specs.Prelude.{ℕ, List, [], ◌∷◌, ◌+◌, bytes_eq, codes, cond, get_or, suc}
+use Rattle.std.specs.Prelude.{ℕ, List, [], ◌∷◌, bytes_eq, codes, cond, get_or, suc}
 use Rattle.std.specs.Borrow.{Bor}
 
 -- a message: its code, and the names of its two parameters: one with no name is none

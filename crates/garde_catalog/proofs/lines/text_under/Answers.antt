@@ -1,4 +1,4 @@
-use Rattle.std.proofs.Common.{◌≡◌, ◌≢◌, ◌∷◌, ◌++◌, ◌+◌, ◌<◌, ◌∙◌, [], ℕ, List, Option, Some, None, MatchOption, Bor, length, get_or, take, ap, sym}
+use Rattle.std.proofs.Common.{◌≡◌, ◌≢◌, ◌∷◌, ◌++◌, ◌+◌, ◌<◌, ◌∙◌, [], ℕ, List, Option, Some, None, MatchOption, Bor, length, get_or, take, ap}
 use Rattle.garde_catalog.specs.Catalog.{Entry, texts_under}
 use Rattle.garde_catalog.proofs.Made.{is_code, is_no_code, other_line, same_line, second_line}
 use Rattle.garde_catalog.proofs.lines.text_under.Goals.{then-eq+in_default, else-eq}

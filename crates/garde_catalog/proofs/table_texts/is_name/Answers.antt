@@ -1,8 +1,13 @@
-use Rattle.std.proofs.Common.{◌≡◌, ◌<◌, ◌+◌, ◌∙◌, ◌||◌, ℕ, List, true, false, bytes_eq, length, map, take, get_or, sym, ap}
-use Rattle.std.proofs.lemmas.List.Folds.{list_any-map, list_any_at, list_any_more}
+use Rattle.std.proofs.Common.{◌≡◌, ◌<◌, ◌+◌, ◌∙◌, ◌||◌, ℕ, List, [], ◌∷◌, Bool, true, false, bytes_eq, length, map, take, get_or, refl, sym, ap}
+use Rattle.std.specs.List.{list_any}
+use Rattle.std.proofs.lemmas.List.Folds.{list_any_at, list_any_more}
 use Rattle.garde_catalog.specs.Lines.{is_name}
-use Rattle.garde_catalog.specs.Messages.{Message, Stated, message_of}
+use Rattle.garde_catalog.specs.Messages.{Stated, message_of}
 use Rattle.garde_catalog.proofs.table_texts.is_name.Goals as goal
+
+list_any-map : {X Y : Type 0} (p : Y → Bool) (f : X → Y) (xs : List X) → list_any p (map f xs) ≡ list_any (λ x. p (f x)) xs
+list_any-map p f [] = refl
+list_any-map p f (x ∷ xs) = ap (λ b. p (f x) || b) (list_any-map p f xs)
 
 module _ (name : List ℕ) (messages : List Stated) (i : ℕ) (d : Stated) (low : i < length messages) where
   has_name : bytes_eq name (get_or messages i d).0.now ≡ true → is_name (map message_of messages) name ≡ true
