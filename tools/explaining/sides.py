@@ -3,18 +3,19 @@
 Where the names agree, the prover says which field differs, under a proof file with a line for each: it stops at the line of the
 first one that it does not accept.
 """
+import functools
 import pathlib
 import re
 from dataclasses import dataclass
 
-from lib import paths
-
-from .spans import texts
+from lib import paths, source
 
 STATED = re.compile(r'\bfield\s+(?:"(\w+)"|\(\s*(?:\w+\.)?codes\s+"(\w+)"\s*\))|\bitem\s+(\d+)')
 CODED = re.compile(r'\b(?:Field|Component::key)\s*\(\s*(?:[\w:]+\s*\(\s*)?"(\w+)"|\b(?:Item|Component::index)\s*\(\s*(\d+)')
 CALL = re.compile(r"\.\s*(visit|visit_of)\s*\((?!.*\.\s*visit)", re.S)
 PARTS = pathlib.Path(__file__).with_name("parts.txt").read_text(encoding="utf-8")
+# a comment of a statement
+COMMENT = re.compile(r"--[^\n]*")
 
 
 @dataclass(frozen=True)
@@ -62,17 +63,27 @@ class Sides:
 
 def sides_in(folder):
     """The types of a crate that have both sides, by their paths."""
-    for plain in texts(folder):
-        modules = [it for it in plain.file.removeprefix("src/").removesuffix(".rt").split("/") if it not in ("lib", "main")]
-        members = {(paths.name_of_block(plain.items, it.owner), it.name): it for it in plain.items.all_items() if it.owner}
+    for place in sorted(folder.glob("src/**/*.rt")):
+        read, file = source.read(place.read_text(encoding="utf-8", errors="replace")), str(place.relative_to(folder))
+        modules = [it for it in file.removeprefix("src/").removesuffix(".rt").split("/") if it not in ("lib", "main")]
+        members = {(paths.name_of_block(read, it.owner), it.name): it for it in read.all_items() if it.owner}
         for block, name in members:
             visits = members.get((f"{block.removesuffix('Validate')}Stated", "visits"))
             if name == "validate_into" and visits:
                 code = members[block, name]
-                stated, coded = named(plain, STATED, visits), named(plain, CODED, code)
-                yield Sides(folder.name, (*modules, block, name), plain.file, stated, coded, plain.kept[code.head : code.end])
+                stated, coded = named(read, STATED, visits), named(read, CODED, code)
+                yield Sides(folder.name, (*modules, block, name), file, stated, coded, kept(read)[code.head : code.end])
 
 
-def named(plain, words, item):
+def named(read, words, item):
     """The names of the fields in an item, each with its line."""
-    return [(it[it.lastindex], plain.line_of(it.start())) for it in words.finditer(plain.kept, item.head, item.end)]
+    return [(it[it.lastindex], read.line_of(it.start())) for it in words.finditer(kept(read), item.head, item.end)]
+
+
+@functools.cache
+def kept(read):
+    """A source with spaces for its comments."""
+    text = source.without_comments(read.text)
+    for first, last in (it.span() for ghost in read.all_items() if ghost.kind == "ghost" for it in COMMENT.finditer(read.blank, ghost.head, ghost.end)):
+        text = text[:first] + source.spaces(text[first:last]) + text[last:]
+    return text
