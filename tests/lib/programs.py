@@ -14,12 +14,15 @@ CASES = ROOT / "tests" / "used"
 
 
 def program_of(name):
-    return ROOT / "crates" / name / "out" / name
+    """The program of a crate, or of a folder of bench/."""
+    is_measured = (ROOT / "bench" / name).is_dir()
+    return ROOT / f"bench/out/unproved_{name}" if is_measured else ROOT / "crates" / name / "out" / name
 
 
 def missing(script, *names):
     """The programs that are not there, a line each."""
-    return [f"{script}: {program_of(it)} is not there: run rt ci, or rt run in crates/{it}" for it in names if not program_of(it).exists()]
+    ways = {it: f"bench/unproved {it}" if "bench" in program_of(it).parts else f"rt ci, or rt run in crates/{it}" for it in names}
+    return [f"{script}: {program_of(it)} is not there: run {ways[it]}" for it in names if not program_of(it).exists()]
 
 
 def require(script, *names):

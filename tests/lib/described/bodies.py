@@ -1,19 +1,11 @@
-#!/usr/bin/env python3
-"""random_bodies [COUNT [SEED [PROGRAM]]]: reads COUNT random bodies (30,000) by the form of bench/bodies/, and compares the value, the whole
-report, or that it is no JSON with what is described here, by means that know nothing of the library. Of what is no JSON the place is
-not compared, but that of bytes that are not UTF-8 is. It fails at the first other answer, and prints it, made small.
-
-The program is no crate of the gate. It is proved and built once, over the libraries that `rt ci` built. PROGRAM is another one, as
-`bench/unproved bodies` builds it.
+"""The form of bench/bodies/, with all words of a form, after the READMEs of the crates. The program of that folder, which `bench/unproved
+bodies` builds, says of a body its value, the whole report, or that it is no JSON. Of what is no JSON the place is not compared, but that
+of bytes that are not UTF-8 is.
 """
 import json
 import re
-import subprocess
-import sys
 
-from programs import build
-from lib import drawing
-from lib.described import Case
+from lib.described import Case, run
 from lib.faults import ALPHANUMERIC, ASCII, ENGLISH, REQUIRED, between, chars, items, length
 from lib.form import (
     All, Any, Checked, Closed, Flag, ListUnder, MapUnder, Member, Null, Nullable, Nullish, Object, OneOf, Optional, Tagged, Text, Under, Whole,
@@ -22,7 +14,7 @@ from lib.form import (
 from lib.json_values import NoJson, of_bytes
 from lib.spoiled import some_json
 
-# The account of bench/bodies/account.rt.txt, by the words of `lib.form`.
+# The account of bench/bodies/account.rt.txt.
 ADDRESS = Object(Closed(
     Member("street", Text(length(2, 8))),
     Member("zip", Nullable(Whole("u32", between(1000, 9999)))),
@@ -89,22 +81,7 @@ def wanted(case):
 
 def met(program, case):
     """What the program says of a body: a line of hex digits."""
-    done = subprocess.run([program], input=case.given.hex() + "\n", capture_output=True, text=True, check=True)
-    said = bytes.fromhex(done.stdout).decode()
+    said = bytes.fromhex(run(program, case._replace(given=case.given.hex().encode() + b"\n"))[1].decode()).decode()
     if said.startswith("report "):
         return "faulty", json.loads(said.removeprefix("report "))
     return ("valid", said) if said.startswith("value ") else ("no JSON", said.encode())
-
-
-def main():
-    count, seed, *program = (*sys.argv[1:], *("30000", "1")[len(sys.argv) - 1 :])
-    program = program[0] if program else build("bodies")
-    came = drawing.compared("bodies", sys.modules[__name__], lambda case: met(program, case), seed, 0, int(count))
-    for case, *answers in came.wrong:
-        print(f"random_bodies: {case.given!r}\n  is answered {answers[0]}\n  and not     {answers[1]}")
-    print("random_bodies: " + ", ".join(f"{number} {name}" for name, number in sorted(came.statuses.items())))
-    return 1 if came.wrong else 0
-
-
-if __name__ == "__main__":
-    sys.exit(main())
