@@ -5,12 +5,13 @@ from dataclasses import replace
 from .defaults import WAY, Defaults, Value, fitted, is_skipped
 from .derives import CASES, OPTIONS, OWN, all_types, fields_of, options, reading_case, type_names
 from .everyday import plain
+from .expressions import SIGNED, UNSIGNED
 from .flattened import always_there, faults as faults_of_flattened, flat_part, held_part, names_of
 from .groups import is_flat, is_rest, others_of, own_rules, shared_rules
 from .holes import BY_IMPL, Hole, Holes, nothing, optional
 from .kinds import DECIMAL, KEPT, LIFE, canonical, is_any, is_float, kind_of
 from .parsed import WAYS, place_of
-from .scope import SIGNED, UNSIGNED, is_option, is_path, is_text
+from .scope import is_option, is_path, is_text
 from .quoted import BESIDE_CONTEXT
 from .rules import Attributes
 from .source import Item, Param, Type, all_rules, is_ported, named_type, with_doc, with_fields

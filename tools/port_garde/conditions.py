@@ -2,9 +2,9 @@
 a type, and so is the key by which `unique_by` compares them."""
 import re
 
-from .expressions import ADDRESSES, CONTEXT, ITEM, VALUE, Expression, places_in, with_item
+from .expressions import ADDRESSES, CONTEXT, ITEM, SIGNED, UNSIGNED, VALUE, Expression, places_in, with_item
 from .layout import Chain, Word, head_of_method, holding, statement
-from .scope import SIGNED, UNSIGNED, Place, Scope, is_option, is_path, is_text, spoken
+from .scope import Place, Scope, is_option, is_path, is_text, spoken
 from .templates import fill, rows
 from .tokens import Refusal
 

@@ -4,12 +4,12 @@ import re
 from dataclasses import dataclass, replace
 
 from .derives import options
-from .expressions import inside_of, number_of
+from .expressions import SIGNED, UNSIGNED, inside_of, number_of, range_of, resolved
 from .groups import own_rules
 from .layout import Method, Word, call, ghost, holding, literal, statement
 from .names import of_field, of_variant
 from .prelude import is_declared
-from .scope import SIGNED, UNSIGNED, is_option, is_path, is_text, range_of, resolved
+from .scope import is_option, is_path, is_text
 from .source import Parser, named_type
 from .templates import fill
 from .tokens import Refusal, Refusals, tokens_of

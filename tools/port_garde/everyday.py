@@ -4,12 +4,12 @@ from dataclasses import replace
 
 from .defaults import Constants, NoConstant
 from .derives import options
-from .expressions import VALUE, Expression
+from .expressions import SIGNED, UNSIGNED, VALUE, Expression, range_of
 from .holes import BY_FUNCTION, BY_IMPL, Hole
 from .parsed import place_of, with_moments
 from .prelude import NOTHING, NUMBERS
 from .rules import REPEATED, Rule
-from .scope import SIGNED, UNSIGNED, is_option, is_path, is_text, range_of
+from .scope import is_option, is_path, is_text
 from .source import Type, named_type, with_fields
 from .tokens import Refusal
 from .unions import is_other, names_of

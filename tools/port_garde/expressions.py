@@ -8,6 +8,10 @@ from .tokens import Refusal, Tokens
 VALUE, CONTEXT = "{value}", "{context}"
 # How a place begins that is an item of a list, behind which the name stands that a closure gives it.
 ITEM = "{item}"
+UNSIGNED = ("u8", "u16", "u32", "u64", "u128", "usize")
+SIGNED = ("i8", "i16", "i32", "i64", "i128", "isize")
+# What becomes of two constants.
+MADE_OF = {"+": int.__add__, "-": int.__sub__, "*": int.__mul__}
 # The types of addresses that a condition may name, and the rules that say whether a text is one.
 ADDRESSES = {"IpAddr": ("is_ipv4", "is_ipv6"), "Ipv4Addr": ("is_ipv4",), "Ipv6Addr": ("is_ipv6",)}
 # The marks that join parts from the left, those that bind least first, with the kind of what each makes; comparisons bind between.
@@ -218,6 +222,27 @@ def number_of(token):
         return int(digits, 0 if re.match(r"0[xob]", digits) else 10)
     except ValueError:
         raise Refusal(token.line, f"the number `{token.text}`, which cannot be read") from None
+
+
+def range_of(name):
+    bits, signed = 64 if name.endswith("size") else int(name[1:]), name in SIGNED
+    return -(2 ** (bits - 1)) * signed, 2 ** (bits - signed) - 1
+
+
+def resolved(it, numbers):
+    """An expression, and of a constant its number: of one of these of the file, or of the greatest or least one of a type."""
+    if it.kind == "minus":
+        part = resolved(it.parts[0], numbers)
+        return Expression("number", it.line, -part.value) if part.kind == "number" else it
+    if it.kind in MADE_OF:
+        one, other = (resolved(part, numbers) for part in it.parts)
+        return Expression("number", it.line, MADE_OF[it.kind](one.value, other.value)) if one.kind == other.kind == "number" else it
+    found = None
+    if it.kind == "path" and len(it.value) == 2 and it.value[0] in (*UNSIGNED, *SIGNED) and it.value[1] in ("MIN", "MAX"):
+        found = range_of(it.value[0])[it.value[1] == "MAX"]
+    if found is None and (it.kind == "place" and len(it.value) == 1 or it.kind == "path"):
+        found = numbers.get(it.value[-1])
+    return it if found is None else Expression("number", it.line, found)
 
 
 def compared(mark, line, parts):

@@ -3,10 +3,11 @@ import textwrap
 from collections import namedtuple
 
 from .defaults import is_skipped
+from .expressions import SIGNED, UNSIGNED
 from .layout import WIDTH, Word, call, statement
 from .names import of_field
 from .parsed import KNOWN
-from .scope import SIGNED, UNSIGNED, is_option, is_path, is_text
+from .scope import is_option, is_path, is_text
 from .source import is_ported
 from .templates import fill, rows
 from .tokens import Refusal

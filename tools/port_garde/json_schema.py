@@ -7,6 +7,7 @@ from .borrowed import fields_of, is_held, is_map, is_named, of_whole, within_opt
 from .defaults import in_json, is_skipped
 from .derives import options, type_names
 from .everyday import UNKNOWN
+from .expressions import SIGNED, range_of
 from .forms import beside_dive, items_rules
 from .front import OF_CODE
 from .flattened import fields_among, flat_part, held_part, is_closed, own_part
@@ -14,7 +15,7 @@ from .groups import is_flat, is_rest, own_rules, shared_rules
 from .names import of_field
 from .kinds import WHOLE, kind_of
 from .rules import END
-from .scope import SIGNED, is_option, is_path, is_text, range_of
+from .scope import is_option, is_path, is_text
 from .tokens import Refusal
 from .unions import Shapes, beside_units, is_list, is_other, is_tuple, is_unit, names_of, units_of
 from .words import camel

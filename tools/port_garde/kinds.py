@@ -1,8 +1,9 @@
 """The kinds of types whose values have no parts in JSON: by which form each is read, what that makes, and what a JSON Schema says of it."""
 from dataclasses import dataclass, replace
 
+from .expressions import SIGNED, UNSIGNED
 from .parsed import parser_of
-from .scope import SIGNED, UNSIGNED, is_path, is_text
+from .scope import is_path, is_text
 from .source import Type, named_type
 from .tokens import Refusal
 

@@ -1,8 +1,8 @@
 """The description (OpenAPI 3.1) of a route that takes a source's type as JSON, and answers by problem details (RFC 9457)."""
 from .borrowed import fields_of, is_named
 from .derives import options, type_names
+from .expressions import SIGNED, UNSIGNED
 from .json_schema import DRAFT
-from .scope import SIGNED, UNSIGNED
 from .source import all_rules
 
 COMPONENTS = "#/components/schemas/"

@@ -2,7 +2,7 @@
 import pathlib
 from dataclasses import replace
 
-from .scope import SIGNED, UNSIGNED
+from .expressions import SIGNED, UNSIGNED
 from .source import read_source
 from .templates import names
 

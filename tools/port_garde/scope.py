@@ -2,14 +2,10 @@
 import re
 from dataclasses import dataclass, field
 
-from .expressions import CONTEXT, ITEM, VALUE, Expression
+from .expressions import CONTEXT, ITEM, VALUE
 from .source import Type
 from .tokens import Refusal
 
-UNSIGNED = ("u8", "u16", "u32", "u64", "u128", "usize")
-SIGNED = ("i8", "i16", "i32", "i64", "i128", "isize")
-# What becomes of two constants.
-MADE_OF = {"+": int.__add__, "-": int.__sub__, "*": int.__mul__}
 VARIABLES = ("x", "y", "z", "w", "u")
 # The names in a piece of a statement, variables of one letter apart; those of them that are of the prelude, and words of the language.
 NAMES = re.compile(r"(?<![\w.])[A-Za-z]\w+")
@@ -84,27 +80,6 @@ def is_text(kind):
     """Whether a type is a text: `String`, `&str`, `Cow<str>`, or a text that a form reads."""
     borrowed = kind.kind == "ref" and is_path(kind.args[0], "str")
     return is_path(kind, "String", "TextRef") or borrowed or (is_path(kind, "Cow") and bool(kind.lives) and any(is_path(it, "str") for it in kind.args))
-
-
-def range_of(name):
-    bits, signed = 64 if name.endswith("size") else int(name[1:]), name in SIGNED
-    return -(2 ** (bits - 1)) * signed, 2 ** (bits - signed) - 1
-
-
-def resolved(it, numbers):
-    """An expression, and of a constant its number: of one of these of the file, or of the greatest or least one of a type."""
-    if it.kind == "minus":
-        part = resolved(it.parts[0], numbers)
-        return Expression("number", it.line, -part.value) if part.kind == "number" else it
-    if it.kind in MADE_OF:
-        one, other = (resolved(part, numbers) for part in it.parts)
-        return Expression("number", it.line, MADE_OF[it.kind](one.value, other.value)) if one.kind == other.kind == "number" else it
-    found = None
-    if it.kind == "path" and len(it.value) == 2 and it.value[0] in (*UNSIGNED, *SIGNED) and it.value[1] in ("MIN", "MAX"):
-        found = range_of(it.value[0])[it.value[1] == "MAX"]
-    if found is None and (it.kind == "place" and len(it.value) == 1 or it.kind == "path"):
-        found = numbers.get(it.value[-1])
-    return it if found is None else Expression("number", it.line, found)
 
 
 class Scope:

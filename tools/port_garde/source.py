@@ -4,14 +4,13 @@ from dataclasses import dataclass, field, replace
 
 from .build import Build
 from .derives import read_option
-from .expressions import number_of
+from .expressions import number_of, resolved
 from .own import at_field
 from .rules import Attributes, Rules, present, read_attributes
 from .tokens import OPEN, Notes, Refusal, tokens_of
 
 # Where the derives and the attributes of the language are, which may stand there without a path.
 BUILT_IN = ([], ["core"], ["std"], ["core", "prelude", "v1"], ["std", "prelude", "v1"])
-SUMS = {"+": int.__add__, "-": int.__sub__, "*": int.__mul__}
 UNKNOWN_BUILD = "an attribute `cfg` or `cfg_attr`, which the port cannot judge"
 
 
@@ -165,9 +164,8 @@ def read_source(text, features=None):
     known = None
     while known != source.numbers:
         known = dict(source.numbers)
-        for name, tokens.at in source.sums.items():
-            value = tokens.read_constant_sum(source.numbers)
-            source.numbers[name] = value if tokens.sees(";") else None
+        for name, value in ((name, resolved(it, known)) for name, it in source.sums.items()):
+            source.numbers[name] = value.value if value.kind == "number" else None
     return source
 
 
@@ -273,25 +271,17 @@ class Parser(Rules):
         while not self.ended() and not self.sees("="):
             self.group() if any(map(self.opens, OPEN)) else self.take()
         self.takes("=")
-        if not conditional and name not in source.numbers:
-            source.sums[name] = self.at
+        at, value = self.at, None
+        try:
+            value = self.read_expression()
+        except Refusal:
+            self.at = at
+        if value is not None and self.sees(";") and not conditional and name not in source.numbers:
+            source.sums[name] = value
         else:
             source.sums.pop(name, None)
         source.numbers[name] = None
         self.pass_to_end()
-
-    def read_constant_sum(self, known, marks=("+", "-")):
-        """Reads numbers and constants, with `+`, `-` and `*`: the number that they make, or nothing."""
-        if not marks:
-            minus, token = self.takes("-"), self.take()
-            value = number_of(token) if token.kind == "number" else known.get(token.text) if token.kind == "name" else None
-            return -value if minus and value is not None else value
-        below = ("*",) if "+" in marks else ()
-        value = self.read_constant_sum(known, below)
-        while value is not None and any(map(self.sees, marks)):
-            mark, more = self.take().text, self.read_constant_sum(known, below)
-            value = None if more is None else SUMS[mark](value, more)
-        return value
 
     # Attributes, and what else stands around an item.
 

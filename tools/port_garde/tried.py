@@ -1,8 +1,7 @@
 """Whether a value that is known, as a default is, has what a rule of your own asks."""
 import operator
 
-from .expressions import VALUE
-from .scope import resolved
+from .expressions import VALUE, resolved
 
 COMPARED = {"==": operator.eq, "!=": operator.ne, "<": operator.lt, "<=": operator.le, ">": operator.gt, ">=": operator.ge}
 

@@ -3,8 +3,9 @@ import functools
 from dataclasses import dataclass, field
 
 from .derives import all_options, options
+from .expressions import SIGNED, UNSIGNED
 from .names import of_field, of_variant
-from .scope import SIGNED, UNSIGNED, is_option, is_path, is_text
+from .scope import is_option, is_path, is_text
 
 # The kinds of values: whole numbers are those without a sign, those behind a minus, and those of more than 64 bits.
 WHOLE = ("unsigned", "negative", "big")

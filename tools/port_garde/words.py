@@ -4,11 +4,11 @@ from fractions import Fraction
 
 from .conditions import Conditions, same_by
 from .derives import type_names
-from .expressions import CONTEXT, places_in
+from .expressions import CONTEXT, SIGNED, UNSIGNED, places_in, range_of as whole_range
 from .kinds import DECIMAL, KEPT, is_made, text_of
 from .layout import Behind, Word, call, literal
 from .rules import OURS, REPEATED, RULES
-from .scope import SIGNED, UNSIGNED, Place, Scope, Seen, is_option, is_path, is_text, range_of as whole_range
+from .scope import Place, Scope, Seen, is_option, is_path, is_text
 from .source import named_type
 from .tokens import Refusal
 

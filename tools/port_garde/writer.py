@@ -4,6 +4,7 @@ from dataclasses import replace
 
 from .borrowed import Borrowed, below, is_held, is_named
 from .derives import OWN as OWN_DERIVES, SERDE, Derives, all_types, fields_of, literal_function, named_function, options, serde_lines
+from .expressions import SIGNED, resolved
 from .front import Front, place_named
 from .implementation import Implementation
 from .layout import CALL, VARIANT, WIDTH, Method, Word, call, ghost, head_of_method, holding, lifetimes_of, literal, statement, use_line
@@ -11,7 +12,7 @@ from .own import read_function
 from .parsed import KNOWN
 from .quoted import BESIDE_CONTEXT, turn as quoted_of
 from .schema import Schema, snake, within_rule
-from .scope import SIGNED, Scope, Uses, resolved
+from .scope import Scope, Uses
 from .second import faults_of_values, lost_of_names, lost_of_serde, passed_by
 from .source import all_rules, is_ported, read_source
 from .templates import fill
