@@ -37,7 +37,7 @@ def besides(name):
 def tests():
     """The tests of each function: those that are found, and those that are given by hand to it, or, where it has none of these,
     to what stands above it."""
-    found = {name: list(names) for name, names in promised.chosen_tests().items()}
+    found = {name: list(names) for name, names in promised.found_tests().items()}
     for test, name in given("tests"):
         if name in found and test not in found[name]:
             found[name].append(test)
@@ -64,14 +64,14 @@ def mutants(crate):
 
 def test_faults():
     """The tests that are given, and are not there, or are given to what has them, or others, anyway."""
-    every = promised.every()
+    every, found = promised.every(), promised.found_tests()
     for test, name in given("tests"):
         under = [it for it in every if it.startswith(f"{name}::")]
         if test not in promised.tests():
             yield f"there is no test {test}"
-        elif name in every and test in promised.chosen_tests()[name]:
+        elif name in every and test in found[name]:
             yield f"{test} is found for {name}"
-        elif name not in every and not any(test in tests()[it] for it in under):
+        elif name not in every and not any(test in tests()[it] and test not in found[it] for it in under):
             yield f"no function under {name} lacks a test" if under else f"there is no function {name}"
 
 

@@ -80,18 +80,9 @@ def tests():
 
 
 @functools.cache
-def chosen_tests():
-    """The tests of each function. A test stands at the function, of those that it calls, that the fewest tests call. A function
-    that gets none so has the one, of the tests that call it, that calls the fewest functions."""
-    calling = {name: [test for test, called in tests().items() if name in called] for name in every()}
-    found = {name: [] for name in every()}
-    for test, called in tests().items():
-        if called:
-            found[min(sorted(called), key=lambda name: len(calling[name]))].append(test)
-    for name, chosen in found.items():
-        if not chosen and calling[name]:
-            chosen.append(min(calling[name], key=lambda test: len(tests()[test])))
-    return found
+def found_tests():
+    """The tests of each function."""
+    return {name: [test for test, called in tests().items() if name in called] for name in every()}
 
 
 class Mutants:
