@@ -7,7 +7,7 @@ import collections
 import functools
 import re
 
-from lib import code, repository, source
+from lib import code, paths, repository, source
 
 LIST = "tests/memory-places.md"
 COLUMNS = "| file | function | the line | whose refusal it hands on |"
@@ -40,9 +40,9 @@ def function_at(text, at):
     if not inside:
         return ""
     block = inside[-1].owner
-    header = " ".join(source.without_generics(text.header(block)).split()) if block else ""
-    owner = re.match(r"(?:pub )?(?:impl|trait)\b(?:.* for)? ?&? ?(\w+)", header)
-    return "::".join([*(owner.groups() if owner else ()), inside[-1].name])
+    owner = re.match(r"&? ?(\w+)", paths.head_of(text, block)[2]) if block and block.kind == "impl" else None
+    names = owner.groups() if owner else [block.name] if block and block.kind == "trait" else []
+    return "::".join([*names, inside[-1].name])
 
 
 @functools.cache

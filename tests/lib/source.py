@@ -139,11 +139,3 @@ class Source:
 @functools.lru_cache(maxsize=4096)
 def read(text):
     return Source(text)
-
-
-def without_generics(header):
-    """A header without what stands between `<` and `>`."""
-    header, before = header.replace("->", ""), ""
-    while header != before:
-        header, before = re.sub(r"<[^<>]*>", "", header), header
-    return header

@@ -38,9 +38,8 @@ def block_of(function):
         return "", ""
     if block.kind == "trait":
         return block.name, ""
-    header = re.split(r" where\b", " ".join(source.without_generics(function.text.header(block)).split()))[0]
-    trait, _, of = header.removeprefix("impl ").rpartition(" for ")
-    return re.search(r"\w*$", trait)[0], re.search(r"\w+|$", of)[0]
+    _, trait, of = paths.head_of(function.text, block)
+    return re.search(r"\w*$", trait.partition("<")[0])[0], re.search(r"\w+|$", of)[0]
 
 
 def crate_of(function):
