@@ -1,5 +1,5 @@
 """The page of the promises: a head that is written by hand, and for each crate a table of its public functions."""
-from dataclasses import dataclass
+from collections import namedtuple
 
 from lib import repository
 
@@ -15,18 +15,8 @@ THROUGH_RUNS = ("garde_check", "garde_service", "example_table")
 REASONS = ("C", "law", "run", "safe")
 
 
-@dataclass
-class Line:
-    """A public function: what is said of it, and in each cell names in backquotes, one of REASONS, or nothing."""
-
-    name: str
-    said: str
-    clauses: str
-    tests: str
-    mutants: str
-
-    def __str__(self):
-        return f"| `{self.name}` | {self.said} | {self.clauses} | {self.tests} | {self.mutants} |"
+# A public function: what is said of it, and in each cell names in backquotes, one of REASONS, or nothing.
+Line = namedtuple("Line", "name said clauses tests mutants")
 
 
 def quoted(names):
@@ -62,7 +52,8 @@ def others(crate):
 
 def section(crate):
     """The section of a crate."""
-    tables = [(COLUMNS, [str(it) for it in lines(crate)]), (OTHERS, others(crate))]
+    rows = [f"| `{it.name}` | {it.said} | {it.clauses} | {it.tests} | {it.mutants} |" for it in lines(crate)]
+    tables = [(COLUMNS, rows), (OTHERS, others(crate))]
     above = notes.sections(notes.CRATES).get(f"`{crate}`")
     parts = [f"## `{crate}`", *filter(None, [above]), *(head + "\n".join(rows) for head, rows in tables if rows)]
     return "\n\n".join(parts)

@@ -12,13 +12,20 @@ from lib.reports import lines
 from lib.spoiled import LISTED, cut
 
 CODES = ("P1", "P200", "Pé", "Q1", "p1", "", "P", "P 1", "P-1", "P１", "PP\n")
-ROW = Object(
-    Member("code", Text(prefix("P"), ALPHANUMERIC, like=CODES)),
-    Member("name", Text(chars(1, 80), like=("Screw", "two\nlines", 'a "b", c', " "))),
-    Member("quantity", Parsed("u32", between(1, 10_000))),
-    Member("price", Parsed("u32", between(1, 50_000))),
-    Member("page", OrEmpty(Text(URL, like=URLS))),
-)
+
+
+def row_of(numbers, quantity=None, price=None):
+    """A row with numbers of this type, and with these messages of parsers."""
+    return Object(
+        Member("code", Text(prefix("P"), ALPHANUMERIC, like=CODES)),
+        Member("name", Text(chars(1, 80), like=("Screw", "two\nlines", 'a "b", c', " "))),
+        Member("quantity", Parsed(numbers, between(1, 10_000), message=quantity)),
+        Member("price", Parsed(numbers, between(1, 50_000), message=price)),
+        Member("page", OrEmpty(Text(URL, like=URLS))),
+    )
+
+
+ROW = row_of("u32")
 GREATEST = 2**64 - 1
 COLUMNS = ["code", "name", "quantity", "price", "page"]
 OTHERS = ["note", "Code", "code ", "", "prices", "\x1b[0m", "a\nb", "\\", "\u202e"]

@@ -7,9 +7,9 @@ import tempfile
 
 from lib import languages, placed
 from lib.described import Case, pattern, run
-from lib.described.use_import import CODES, COLUMNS, records, rows_of, several_cuts, some_row, written
-from lib.faults import ALPHANUMERIC, URL, URLS, between, chars, fault, prefix
-from lib.form import Member, Object, OrEmpty, Parsed, Text, read
+from lib.described.use_import import COLUMNS, records, row_of, rows_of, several_cuts, some_row, written
+from lib.faults import fault
+from lib.form import read
 from lib.json_values import Pairs
 from lib.reports import lines
 
@@ -18,13 +18,7 @@ try:
 except ImportError:
     sqlite3 = None
 
-ROW = Object(
-    Member("code", Text(prefix("P"), ALPHANUMERIC, like=CODES)),
-    Member("name", Text(chars(1, 80), like=("Screw", "two\nlines", 'a "b", c'))),
-    Member("quantity", Parsed("u64", between(1, 10_000), message="not a number of pieces")),
-    Member("price", Parsed("u64", between(1, 50_000), message="not a price in cents")),
-    Member("page", OrEmpty(Text(URL, like=URLS))),
-)
+ROW = row_of("u64", "not a number of pieces", "not a price in cents")
 HEADER = ",".join(COLUMNS).encode()
 SELECT = "select code, name, quantity, price, page from stock order by id"
 
