@@ -93,6 +93,9 @@ async function* rows({ load, FaultsError, NotJsonError }, module) {
   yield ['no bodies', [null, 5, [1], new Uint16Array(2), {}].map((it) => thrown(() => order.check(it))), Array(5).fill('TypeError')];
   yield ['no number of faults', [0, -1, 1.5, NaN].map((most) => thrown(() => order.check(GOOD, { most }))), Array(4).fill('RangeError')];
   yield ['no JSON', [thrown(() => order.check('{')), thrown(() => order.check('')), new NotJsonError('a') instanceof SyntaxError], ['NotJsonError', 'NotJsonError', true]];
+  for (const [depth, wanted] of [[128, 1], [129, 'NotJsonError'], [1e6, 'NotJsonError']]) {
+    yield [`${depth} lists`, thrown(() => order.check('['.repeat(depth) + ']'.repeat(depth)).length), wanted];
+  }
   yield ['surrogates, tags', [order.check('"\ud800"').length, order.check(BAD, { language: '\ud800č'.repeat(999) })[0].detail], [1, 'length is lower than 1']];
   const many = order.check(lines(1e5, '{"code":1,"count":0}'), { language: 'cs' });
   yield ['100,000 lines', [many.length, order.held > 2 ** 24], [200001, true]];
