@@ -62,10 +62,20 @@ function order(lines, line) {
   return `{"customer":"Ada","lines":[${Array.from({ length: lines }, (_, n) => line.replace('7', 7 + n)).join(',')}]}`;
 }
 
-const began = performance.now();
+/** The least milliseconds from the bytes of a module to a first answer. Each has a section of its own, so none is found compiled. */
+async function started() {
+  let least = Infinity;
+  for (let n = 0; n < 20; n++) {
+    const bytes = new Uint8Array([...module, 0, 3, 1, 120, n]);
+    const began = performance.now();
+    (await load(bytes)).check('{}');
+    least = Math.min(least, performance.now() - began);
+  }
+  return least;
+}
+
+const start = await started();
 const narrow = await load(module);
-narrow.check('{}');
-const start = performance.now() - began;
 const ways = { 'by hand': byHand, ajv: byAjv, '32 bits': narrow.check, '32 bits, value': valueBy(narrow.value) };
 const wide = await load();
 if (WebAssembly.validate(Uint8Array.of(0, 97, 115, 109, 1, 0, 0, 0, 5, 3, 1, 4, 1))) ways['64 bits'] = wide.check;
