@@ -94,7 +94,7 @@ export async function load(source = new URL('./order.wasm', import.meta.url)) {
     if (at === 0) throw outOfMemory();
     const length = typeof it === 'string' ? encoder.encodeInto(it, bytes(at, most)).written : most;
     if (typeof it !== 'string') bytes(at, most).set(it);
-    return [length, encoder.encodeInto(language, bytes(at + length, 3 * language.length)).written];
+    return [length, language === '' ? 0 : encoder.encodeInto(language, bytes(at + length, 3 * language.length)).written];
   }
 
   /** Puts a fresh instance in the place of one that holds much memory. */
