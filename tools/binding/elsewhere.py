@@ -25,7 +25,7 @@ KEEPS = f"""#!/bin/sh
 exec "{{clang}}" "$@"
 """
 # The words that the toolchain has for wasm64, and two more: vectors of 16 bytes, in which the reader of JSON works, and more inlining,
-# since calls cost more there: a check takes a tenth less time, and the module a third more bytes.
+# since calls cost more there: a check takes a tenth less time, and a module has a third more bytes.
 COMPILED = f"""--target={WASM} -mcpu=lime1 -msimd128 -O3 -mllvm -inline-threshold=1000 -mllvm -expand-div-rem-bits=64
     -mllvm -expand-fp-convert-bits=64 -ffunction-sections -fdata-sections -mllvm -trap-unreachable -mllvm -disable-machine-licm
     -mllvm -disable-postra-machine-licm -mllvm -sink-common-insts=false --no-default-config -no-canonical-prefixes
