@@ -31,13 +31,19 @@ function valueText(order, body) {
   return said === wanted && other === wanted ? said : `${said} is not ${wanted}`;
 }
 
-/** The hashes of the answers: of each the status, a length, and the details or the value. */
+/** The details of a body that is not valid, with the places of its faults behind them. */
+function detailsOf(order, body, options, { status, details }) {
+  const placed = status === 1 ? order.check(body, { ...options, places: true }) : [];
+  return [details, ...placed.map(({ line, column }) => `${line}:${column}`)].join(' ');
+}
+
+/** The hashes of the answers: of each the status, a length, and the details with places or the value. */
 async function hashes(order, stream) {
   const found = [];
   let pieces = [];
   for (const [body, options] of bodies(stream)) {
     const it = order.problem(body, options);
-    const details = encoder.encode(it === null ? valueText(order, body) : it.details);
+    const details = encoder.encode(it === null ? valueText(order, body) : detailsOf(order, body, options, it));
     pieces.push(Uint32Array.of(it?.status ?? 0, details.length), details);
     if (pieces.length === 2000) found.push(await hash(pieces.splice(0)));
   }
@@ -70,6 +76,10 @@ async function* rows({ load, FaultsError, NotJsonError }, module) {
   yield ['valid', [order.check(GOOD), order.problem(GOOD), order.isValid(GOOD), order.isValid(BAD)], [[], null, true, false]];
   yield ['faults', order.check(BAD, { most: 1 }).concat(order.check(BAD, { most: 1 }).more), [
     { pointer: '/customer', detail: 'length is lower than 1', code: 'length_lower_than', params: { min: '1' } }, true]];
+  const placed = (body, options) => order.check(body, { ...options, places: true }).map(({ line, column, pointer }) => [line, column, pointer]);
+  yield ['places', [placed(BAD.replaceAll(',', ',\n')), placed(`\ufeff${BAD}`, { most: 1 }), placed(GOOD)], [
+    [[1, 13, '/customer'], [2, 18, '/lines/0/code'], [3, 9, '/lines/0/count'], [4, 1, '/x']], [[1, 13, '/customer']], []]];
+  yield ['no places', Object.keys(order.check(BAD)[0]), ['pointer', 'detail', 'code', 'params']];
   yield ['a value', [order.value(GOOD), order.value(encoder.encode(GOOD.replace('Ada', '\ufeffA\\u0064\\"č')))], [
     JSON.parse(GOOD), { ...JSON.parse(GOOD), customer: '\ufeffAd"č' }]];
   for (const [body, name] of [[BAD, 'FaultsError'], ['{', 'NotJsonError'], [null, 'TypeError']]) yield ['no value', thrown(() => order.value(body)), name];
@@ -97,8 +107,8 @@ async function* rows({ load, FaultsError, NotJsonError }, module) {
     yield [`${depth} lists`, thrown(() => order.check('['.repeat(depth) + ']'.repeat(depth)).length), wanted];
   }
   yield ['surrogates, tags', [order.check('"\ud800"').length, order.check(BAD, { language: '\ud800č'.repeat(999) })[0].detail], [1, 'length is lower than 1']];
-  const many = order.check(lines(1e5, '{"code":1,"count":0}'), { language: 'cs' });
-  yield ['100,000 lines', [many.length, order.held > 2 ** 24], [200001, true]];
+  const many = order.check(lines(1e5, '{"code":1,"count":0}'), { language: 'cs', places: true });
+  yield ['100,000 lines', [many.length, many[2].column, many[200000].column, order.held > 2 ** 24], [200001, 46, 2100025, true]];
   for (let n = 0; n < 1e4; n++) order.check(GOOD);
   await later(500);
   yield ['memory that is given back', [order.held < 2 ** 22, order.check(GOOD)], [true, []]];

@@ -15,8 +15,16 @@ export interface Fault {
   readonly params: Readonly<Record<string, string>>;
 }
 
+/** A fault with its place: of an unknown or a repeated member its name, and else its value. */
+export interface PlacedFault extends Fault {
+  /** The line, from 1 on. */
+  readonly line: number;
+  /** The column, in characters from 1 on. U+FEFF at the beginning of a body is not counted. */
+  readonly column: number;
+}
+
 /** The faults of a body, which are none where it is valid. */
-export interface Faults extends Array<Fault> {
+export interface Faults<F extends Fault = Fault> extends Array<F> {
   /** Whether the body has more faults than were asked for. */
   readonly more: boolean;
 }
@@ -26,6 +34,8 @@ export interface Options {
   most?: number;
   /** The tag of the language of the sentences. Where the library does not know it they are English. */
   language?: string;
+  /** Whether `check` gives the place of each fault, which takes more time where there are faults. */
+  places?: boolean;
 }
 
 /** What is wrong with a body. */
@@ -58,6 +68,7 @@ export type Body = string | Uint8Array;
  */
 export interface Instance {
   /** The faults of a body. Throws a `NotJsonError` where it is no JSON text. */
+  check(body: Body, options: Options & { places: true }): Faults<PlacedFault>;
   check(body: Body, options?: Options): Faults;
   /** What is wrong with a body, or null where it is valid. */
   problem(body: Body, options?: Options): Problem | null;

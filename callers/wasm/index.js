@@ -4,13 +4,15 @@
  */
 import { textsOf, valueOf } from './nodes.js';
 
-const VERSION = 2;
+const VERSION = 3;
 const VALID = 0;
 const FAULTS = 1;
 const NO_JSON = 2;
 const MEMORY = 3;
 // A longer text is encoded before its room is made, which is three bytes for each unit else.
 const SHORT = 65536;
+// Room for so many places, where they are asked for. Where there are more faults, the module checks once more.
+const PLACES = 64;
 // Memory of a module only grows. After a call that took more than this, a fresh instance takes its place.
 const KEPT = 16 * 1024 * 1024;
 // A module that has a memory with addresses of 64 bits, and nothing else.
@@ -112,18 +114,25 @@ export async function load(source = new URL('./order.wasm', import.meta.url)) {
     return status;
   }
 
-  function problem(body, { most = Infinity, language = '' } = {}) {
+  function problem(body, { most = Infinity, language = '', places = false } = {}) {
     if (typeof most !== 'number') throw new TypeError('most is a number');
     if (!(most === Infinity || Number.isInteger(most)) || most < 1) throw new RangeError(`most is ${most}, and not 1, 2, ..`);
-    const status = asked('check', body, String(language), most);
+    const status = asked('check', body, String(language), most, places ? PLACES : 0);
     if (status === VALID) return null;
     return { status, httpStatus: status === FAULTS ? 422 : 400, details: decoder.decode(bytes(exports.details(), exports.length())) };
+  }
+
+  /** Gives faults their places: of each two numbers of 64 bits, which fit 32. */
+  function place(faults) {
+    const found = new Uint32Array(exports.memory.buffer, exports.places_at(), 4 * exports.places_length());
+    faults.forEach((it, n) => Object.assign(it, { line: found[4 * n], column: found[4 * n + 2] }));
   }
 
   function check(body, options) {
     const found = problem(body, options);
     const said = found === null ? { errors: [] } : JSON.parse(found.details);
     if (found !== null && found.status === NO_JSON) throw new NotJsonError(said.detail, found.details);
+    if (found !== null && options?.places) place(said.errors);
     return Object.defineProperty(said.errors, 'more', { value: said.detail !== undefined });
   }
 

@@ -1,5 +1,6 @@
 /* Checks the bodies on standard input, each with its length, the most faults and the length of a tag before it. Writes of each the
- * status, a length, and so many bytes: the details, or of a valid body its value, as `JSON.stringify` of JavaScript writes it. */
+ * status, a length, and so many bytes: the details with the line and the column of each fault, or of a valid body its value, as
+ * `JSON.stringify` of JavaScript writes it. */
 #include <inttypes.h>
 #include <stdio.h>
 #include <stdlib.h>
@@ -10,6 +11,7 @@
 enum { ROOM = 1 << 24 };
 static uint8_t out[ROOM], texts[ROOM];
 static order_node nodes[ROOM / 16];
+static order_place places[ROOM / 16];
 static size_t len;
 
 static void put(const char *text) {
@@ -56,6 +58,15 @@ static bool value_of(order_checker *checker, const uint8_t *body, size_t body_le
   return status == ORDER_VALID && used <= ROOM / 16 && put_value(nodes, body) == nodes + used;
 }
 
+/* Checks a body, and writes the places of its faults behind the details. */
+static uint8_t checked(order_checker *checker, const uint8_t *body, size_t body_len, size_t most, size_t language_len) {
+  size_t nodes_used, texts_used, count;
+  uint8_t status = order_faults_with(checker, body, body_len, most, (const uint8_t *)"cs", language_len, out, ROOM, &len, nodes, ROOM / 16,
+                                     &nodes_used, texts, ROOM, &texts_used, places, ROOM / 16, &count);
+  for (size_t n = 0; n < count; n++) len += (size_t)sprintf((char *)out + len, " %" PRIu64 ":%" PRIu64, places[n].line, places[n].column);
+  return status;
+}
+
 int main(void) {
   order_checker checker = ORDER_CHECKER_EMPTY;
   uint32_t head[3];
@@ -63,7 +74,7 @@ int main(void) {
     uint8_t *body = malloc(head[0] + 1);
     if (!body || fread(body, 1, head[0], stdin) != head[0]) return 1;
     size_t most = head[1] == UINT32_MAX ? SIZE_MAX : head[1];
-    uint8_t status = order_check(body, head[0], most, (const uint8_t *)"cs", head[2], out, sizeof out, &len);
+    uint8_t status = checked(&checker, body, head[0], most, head[2]);
     if (status == ORDER_VALID && !value_of(&checker, body, head[0])) return 1;
     uint32_t said[2] = {status, (uint32_t)len};
     if (len > sizeof out || fwrite(said, sizeof said, 1, stdout) != 1 || fwrite(out, 1, len, stdout) != len) return 1;

@@ -31,8 +31,8 @@ COMPILED = f"""--target={WASM} -mcpu=lime1 -msimd128 -O3 -mllvm -inline-threshol
     -mllvm -disable-postra-machine-licm -mllvm -sink-common-insts=false --no-default-config -no-canonical-prefixes
     -fno-crash-diagnostics -Werror""".split()
 LINKED = "-mwasm64 --no-entry --strip-all --gc-sections --stack-first -z stack-size=1048576 --export=__stack_pointer".split()
-CALLS = ("begin", "body", "body_length", "check", "details", "is_valid", "length", "nodes_at", "nodes_length", "texts_at", "texts_length", "value",
-         "version")
+CALLS = ("begin", "body", "body_length", "check", "details", "is_valid", "length", "nodes_at", "nodes_length", "places_at", "places_length",
+         "texts_at", "texts_length", "value", "version")
 PAGE, LEAST, MOST = 65536, 4 << 20, 4 << 30
 OPERAND = r"\s+(\((?:local\.get \$\w+|\w+\.const [^)]*)\))"
 LANES = {"8": "i8x16 i32.load8_u", "16": "i16x8 i32.load16_u", "32": "i32x4 i32.load", "64": "i64x2 i64.load"}

@@ -8,8 +8,12 @@ typedef unsigned char byte;
 // Those of order.h, which needs headers of C.
 typedef struct { void *room; _Bool has_room; } checker;
 typedef struct { byte kind, in_texts; unsigned len; size value; } node;
+typedef struct { size line, column; } place;
 
 byte order_check(const byte *body, size body_len, size most, const byte *language, size language_len, byte *out, size out_len, size *len);
+byte order_faults_with(checker *in, const byte *body, size body_len, size most, const byte *language, size language_len, byte *out,
+                       size out_len, size *len, node *nodes, size nodes_len, size *nodes_used, byte *texts, size texts_len,
+                       size *texts_used, place *places, size places_len, size *places_used);
 byte order_is_valid(const byte *body, size body_len);
 byte order_value_with(checker *in, const byte *body, size body_len, node *nodes, size nodes_len, size *nodes_used, byte *texts,
                       size texts_len, size *texts_used);
@@ -26,12 +30,14 @@ typedef struct { size is_there; void *at; } tried;
 
 extern byte __heap_base;
 static byte *top, *end, *input, *out;
-static size input_len, details_len, nodes_len, texts_len;
+static size input_len, details_len, nodes_len, texts_len, places_len;
 static block *freed[CLASSES];
 static checker kept;
 // Of a value.
 static node *nodes;
 static byte *texts;
+// Of faults.
+static place *places;
 
 static byte *after(block *it) { return (byte *)(it + 1) + it->units * UNIT; }
 
@@ -111,20 +117,33 @@ double begin(double bytes) {
   top = (byte *)(((size)&__heap_base + UNIT - 1) / UNIT * UNIT);
   end = (byte *)(__builtin_wasm_memory_size(0) * PAGE);
   __builtin_memset(freed, 0, sizeof freed);
-  details_len = 0;
+  details_len = places_len = 0;
   kept = (checker){0};
   input = bytes <= MOST ? get((size)bytes) : 0;
   return (double)(size)input;
 }
 
-// Checks what lies in the room, and returns a status. Where the details are longer than there was room for, it checks once more.
-int check(double body_len, double language_len, double most) {
-  size all = most < 0x1p63 ? (size)most : ~0ul;
-  for (size room = OUT;; room = details_len) {
-    out = get(room);
-    if (!out) return MEMORY;
-    int status = order_check(input, (size)body_len, all, input + (size)body_len, (size)language_len, out, room, &details_len);
-    if (details_len <= room) return status;
+// Checks a body once, with the tag behind it, and returns a status. Places are looked for where there is room for one.
+static int check_in(size body_len, size language_len, size most, size room, size place_room) {
+  const byte *language = input + body_len;
+  size no_nodes, no_texts;
+  out = get(room);
+  places = get(place_room * sizeof(place));
+  if (!out || !places) return MEMORY;
+  if (!place_room) return order_check(input, body_len, most, language, language_len, out, room, &details_len);
+  return order_faults_with(&kept, input, body_len, most, language, language_len, out, room, &details_len, (node *)top, 0, &no_nodes, top, 0,
+                           &no_texts, places, place_room, &places_len);
+}
+
+// Checks what lies in the room, and returns a status. Where there is more than there was room for, it checks once more. With a
+// `place_room` of 0 there are no places.
+int check(double body_len, double language_len, double most, double place_room) {
+  size all = most < 0x1p63 ? (size)most : ~0ul, room = OUT, spots = (size)place_room;
+  for (;;) {
+    int status = check_in((size)body_len, (size)language_len, all, room, spots);
+    if (status == MEMORY || (details_len <= room && places_len <= spots)) return status;
+    if (details_len > room) room = details_len;
+    if (places_len > spots) spots = places_len;
   }
 }
 
@@ -151,6 +170,8 @@ double details(void) { return (double)(size)out; }
 double length(void) { return (double)details_len; }
 double nodes_at(void) { return (double)(size)nodes; }
 double nodes_length(void) { return (double)nodes_len; }
+double places_at(void) { return (double)(size)places; }
+double places_length(void) { return (double)places_len; }
 double texts_at(void) { return (double)(size)texts; }
 double texts_length(void) { return (double)texts_len; }
-int version(void) { return 2; }
+int version(void) { return 3; }
