@@ -1,4 +1,5 @@
 """A headless Chromium, driven over a pipe by the DevTools protocol. It needs Python's standard library alone."""
+import contextlib
 import json
 import os
 import select
@@ -154,21 +155,26 @@ class Quiet(SimpleHTTPRequestHandler):
         pass
 
 
-def said_by(folder, script, seconds):
-    """The version of the browser, and the value of `said` that the script of this name leaves on a page. Both are in this folder, which
-    is served meanwhile."""
-    (folder / "page.html").write_text(f"<!DOCTYPE html><script type=module src={script}></script>", encoding="utf-8")
+@contextlib.contextmanager
+def served(folder):
+    """The address at which the files of a folder are served meanwhile."""
     server = ThreadingHTTPServer(("127.0.0.1", 0), partial(Quiet, directory=folder))
     threading.Thread(target=server.serve_forever, daemon=True).start()
     try:
-        with Browser(found()) as browser:
-            browser.loaded("Page.navigate", url=f"http://127.0.0.1:{server.server_port}/page.html")
-            ends = time.monotonic() + seconds
-            while not (said := browser.value("globalThis.said")):
-                if time.monotonic() > ends:
-                    raise Refused(f"{script} says nothing for {seconds} seconds")
-                time.sleep(0.2)
-            return browser.call("Browser.getVersion")["product"], said
+        yield f"http://127.0.0.1:{server.server_port}"
     finally:
         server.shutdown()
         server.server_close()
+
+
+def said_by(folder, script, seconds):
+    """The version of the browser, and the value of `said` that the script of this name leaves on a page. Both are in this folder."""
+    (folder / "page.html").write_text(f"<!DOCTYPE html><script type=module src={script}></script>", encoding="utf-8")
+    with served(folder) as address, Browser(found()) as browser:
+        browser.loaded("Page.navigate", url=f"{address}/page.html")
+        ends = time.monotonic() + seconds
+        while not (said := browser.value("globalThis.said")):
+            if time.monotonic() > ends:
+                raise Refused(f"{script} says nothing for {seconds} seconds")
+            time.sleep(0.2)
+        return browser.call("Browser.getVersion")["product"], said
