@@ -14,8 +14,9 @@ from lib.spoiled import some_json
 MOST, BODIES = 500, 200
 LANGUAGES = ("en", "cs")
 FILES = {"/page/", "/page/style.css", "/page/page.js", "/page/examples.js", "/page/rules.rs", "/index.js", "/nodes.js", "/order.wasm"}
-# What is asked of the page: its faults where a body is put into it, its colours, the sizes of its controls, and how wide it is.
-FAULTS, COLOURS, TARGETS, WIDTH, FOCUS, EXAMPLE = (it.text for it in tables.cases("try-page"))
+# What is asked of the page: its faults where a body is put into it, its colours, the sizes of its controls, how wide it is, what has the
+# focus, an example, and all of them.
+FAULTS, COLOURS, TARGETS, WIDTH, FOCUS, EXAMPLE, EXAMPLES = (it.text for it in tables.cases("try-page"))
 KEYS = {"Tab": 9, "Enter": 13, "ArrowRight": 39, "ArrowDown": 40}
 # Scripts that a page could be made to run.
 PLANTED = ("document.body.append(Object.assign(document.createElement('script'), { textContent: 'globalThis.planted = 1' }))",
@@ -37,14 +38,18 @@ class Library:
     def __init__(self, path):
         self.calls, self.checker, self.out = ctypes.CDLL(path), Checker(), ctypes.create_string_buffer(1 << 20)
 
-    def faults(self, body, language):
-        """The faults of a body: of each the path, the text, the line and the column. One that is no JSON has its reason."""
+    def said(self, body, language):
+        """The status of a body, its problem details, and the places of its faults."""
         places, size, spare = (Place * MOST)(), ctypes.c_size_t, ctypes.create_string_buffer(8)
         length, nodes, texts, count = size(), size(), size(), size()
         given = [ctypes.byref(self.checker), body, size(len(body)), size(MOST), language.encode(), size(len(language)), self.out,
                  size(len(self.out)), ctypes.byref(length), spare, size(0), ctypes.byref(nodes), spare, size(0), ctypes.byref(texts)]
         status = self.calls.order_faults_with(*given, places, size(MOST), ctypes.byref(count))
-        said = json.loads(self.out.raw[:length.value]) if length.value else {"errors": []}
+        return status, json.loads(ctypes.string_at(self.out, length.value) or b'{"errors": []}'), places
+
+    def faults(self, body, language):
+        """The faults of a body: of each the path, the text, the line and the column. One that is no JSON has its reason."""
+        status, said, places = self.said(body, language)
         if status == 2:
             line, column = map(int, re.search(r"line (\d+) column (\d+)$", said["detail"]).groups())
             return [["the whole body", said["detail"], line, column]]
@@ -119,6 +124,30 @@ def of_bodies(page, library):
             yield from (f"body {number} in {language}: {what}: {met} and not {want}" for what, met, want in rows if met != want)
 
 
+def of_examples(page, library):
+    """What is wrong with the examples: each is what its group says, and they have faults of all kinds."""
+    codes, kinds = set(), set()
+    for group, name, text in page.asked(EXAMPLES):
+        status, said, _ = library.said(text.encode("utf-8", "replace"), "en")
+        codes |= {it["code"] for it in said["errors"]}
+        if status != {"Valid": 0, "Faults": 1, "Not JSON": 2}.get(group, status):
+            yield f"{group}: {name}: the status is {status}"
+    for dice in map(random.Random, range(10 * BODIES)):
+        kinds |= {it["code"] for it in library.said(some_json(dice, use_http.ORDER)[0], "en")[1]["errors"]}
+    if kinds - codes:
+        yield f"no example has the faults {sorted(kinds - codes)}"
+
+
+def of_names(page):
+    """The controls that a screen reader has no name for, and those that it has."""
+    roles, nodes = ("button", "combobox", "tab", "tabpanel", "textbox", "region"), page.call("Accessibility.getFullAXTree")["nodes"]
+    met = [(it["role"]["value"], it.get("name", {}).get("value", "")) for it in nodes if it.get("role", {}).get("value") in roles]
+    wanted = {("combobox", "Example"), ("combobox", "Messages in"), ("textbox", "Body"), ("tab", "Faults"), ("tabpanel", "Faults"),
+              ("button", "lower than 1 /lines/0/count line 4, column 30")}
+    yield from (f"a {role} has no name" for role, name in met if not name)
+    yield from (f"there is no {role} {name}" for role, name in sorted(wanted - set(met)))
+
+
 def of_looks(page):
     """What is wrong with colours, sizes and widths, in each state, by each tab, in both schemes."""
     for scheme in ("light", "dark"):
@@ -179,7 +208,7 @@ def wrong_with(bound, pictures=None):
         page.opened(url)
         found = list(of_keys(page))
         page.opened(url)
-        found += [*of_bodies(page, library), *of_looks(page)]
+        found += [*of_names(page), *of_examples(page, library), *of_bodies(page, library), *of_looks(page)]
         if pictures:
             draw(page, url, pictures)
         page.opened(url)

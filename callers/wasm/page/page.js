@@ -100,7 +100,8 @@ function entry({ pointer, detail, line, column }, place) {
 
 function show(state, status, hint, entries = [], answer = '', details = '') {
   document.body.dataset.state = state;
-  at('#status').textContent = status;
+  // The same words are not announced again.
+  if (at('#status').textContent !== status) at('#status').textContent = status;
   at('#faults .hint').textContent = hint;
   at('#faults ol').replaceChildren(...entries);
   at('#details .hint').textContent = answer;
