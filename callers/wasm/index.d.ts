@@ -15,7 +15,7 @@ export interface Fault {
   readonly params: Readonly<Record<string, string>>;
 }
 
-/** A fault with its place: of an unknown or a repeated member its name, and else its value. */
+/** A fault with its place: of an unknown or a repeated member its name, of a missing one its object, and else its value. */
 export interface PlacedFault extends Fault {
   /** The line, from 1 on. */
   readonly line: number;
