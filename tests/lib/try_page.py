@@ -156,7 +156,7 @@ def of_looks(page):
             for example in ("Several", "One line", "A comma too many", "20,000 lines", "Names that turn and hide", "Your own"):
                 for tab in ("faults", "details", "rules"):
                     page.asked(EXAMPLE, example, tab, size)
-                    found = [*page.asked(COLOURS), *page.asked(TARGETS), *page.asked(WIDTH)]
+                    found = [*page.asked(COLOURS), *page.asked(TARGETS), *page.asked(WIDTH, width)]
                     yield from (f"{scheme}, {width} px, {size}, {example}, {tab}: {it}" for it in found)
     page.asked(EXAMPLE, "Several", "faults", "100%")
     page.screen(1280, 800)
