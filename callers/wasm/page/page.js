@@ -128,22 +128,20 @@ function open(tab) {
     it.tabIndex = it === tab ? 0 : -1;
     at(`#${it.getAttribute('aria-controls')}`).hidden = it !== tab;
   }
+  tab.focus();
 }
 
 /** Goes to the tab beside the one that has the focus. */
 function turn({ key, target }) {
   const step = { ArrowRight: 1, ArrowLeft: tabs.length - 1 }[key] ?? 0;
-  const next = tabs[(tabs.indexOf(target) + step) % tabs.length];
-  open(next);
-  next.focus();
+  open(tabs[(tabs.indexOf(target) + step) % tabs.length]);
 }
 
 async function start() {
   const bodies = EXAMPLES.flatMap(([, rows]) => rows.map(([, text]) => text));
   const option = ([name, text]) => element('option', { value: bodies.indexOf(text), textContent: name });
   example.append(...EXAMPLES.map(([label, rows]) => element('optgroup', { label }, ...rows.map(option))));
-  example.value = FIRST;
-  body.value = bodies[FIRST];
+  [example.value, body.value] = [FIRST, bodies[FIRST]];
   tabs.forEach((it) => { it.onclick = () => open(it); });
   at('[role=tablist]').onkeydown = turn;
   at('#rules pre').textContent = await (await fetch('rules.rs')).text();
