@@ -1,9 +1,10 @@
 """The page of a form with its faults, as the README of `garde_html` has it."""
 import html
+import re
 import string
 import typing
 
-from lib import tables
+from lib import repository, tables
 
 
 class Field(typing.NamedTuple):
@@ -24,7 +25,8 @@ class Form(typing.NamedTuple):
     direction: str = "ltr"
 
 
-PAGE = string.Template(tables.text_of("form.html"))
+PAGE = string.Template(tables.text_of("page.html"))
+STYLE = re.search(r'\(\n +"(.*?)"\n', repository.text_of("crates/garde_html/src/style.rt"), re.DOTALL)[1]
 
 
 def text(given):
@@ -44,7 +46,7 @@ def entry(form, path, message):
 
 def summary(form, faults):
     entries = "".join(entry(form, *fault) for fault in faults)
-    return f'<div class="summary" role="alert">\n<h2>{text(form.summary)}</h2>\n<ul>\n{entries}</ul>\n</div>\n' if faults else ""
+    return f'<div class="summary" role="alert" tabindex="-1" autofocus="">\n<h2>{text(form.summary)}</h2>\n<ul>\n{entries}</ul>\n</div>\n' if faults else ""
 
 
 def line(field, typed, invalid):
@@ -74,9 +76,14 @@ def field_of(field, typed, faults):
     return f'<div class="field">\n{control(field, typed, invalid)}{listed}\n</div>\n'
 
 
+def within(main, language, direction, title, said=None):
+    """A page with this in its middle, under this heading. What it says as its title is the heading, if it is nothing else."""
+    texts = {"language": language, "direction": direction, "title": title, "said": said or title}
+    return PAGE.substitute({name: text(it) for name, it in texts.items()}, style=STYLE, main=main)
+
+
 def page(form, typed, faults):
     """The page of a form, with each name that was sent and its text, and with faults, each a path and a message."""
-    said = form._asdict() | {"said": form.faulty_title if faults else form.title}
     fields = "".join(field_of(it, typed, faults) for it in form.fields)
-    texts = {name: text(it) for name, it in said.items() if isinstance(it, str)}
-    return PAGE.substitute(texts, summary=summary(form, faults), fields=fields)
+    main = f'{summary(form, faults)}<form method="post" novalidate>\n{fields}<button>{text(form.send)}</button>\n</form>\n'
+    return within(main, form.language, form.direction, form.title, form.faulty_title if faults else form.title)

@@ -7,6 +7,7 @@ import subprocess
 import sys
 import tempfile
 
+from lib import pages
 from lib.repository import ROOT
 
 # The stored cases. `tests/uses` says what the files of a case are.
@@ -57,7 +58,9 @@ def bytes_of(case, name):
 
 
 def wanted_of(case):
-    return int(bytes_of(case, "status") or b"0"), bytes_of(case, "stdout"), bytes_of(case, "stderr")
+    """What a stored case wants as an answer. `$STYLE` in its output stands for the stylesheet of the pages."""
+    output = bytes_of(case, "stdout").replace(b"$STYLE", pages.STYLE.encode())
+    return int(bytes_of(case, "status") or b"0"), output, bytes_of(case, "stderr")
 
 
 def command_of(case, program, words="args"):

@@ -1,7 +1,7 @@
 """The service of use_signup, by crates/use_signup/README.md: which answer a request has, as bytes, where no date is added."""
 import re
 
-from lib import languages, tables
+from lib import languages, pages, tables
 from lib.requests import PHRASES, Request, bytes_of, elsewhere, has_coding, path_of, requests_of, some_coding
 
 # The texts of the pages in each language, by their names: of a field its label, and of `FIELD=VALUE` that of a box.
@@ -17,7 +17,6 @@ REFUSED = {
     501: ("Not implemented", "The method or the coding is not known."),
 }
 METHODS = {"/": "GET, HEAD, POST", "/thanks": "GET, HEAD"}
-VIEWPORT = '<meta charset="utf-8">\n<meta name="viewport" content="width=device-width, initial-scale=1">\n'
 MEDIA = (FORM, FORM, FORM, FORM.upper(), f"{FORM}; charset=utf-8", f"{FORM}x", "multipart/form-data; boundary=x", "text/plain", "")
 PATHS = ("/", "/", "/", "/?x=1", "/thanks", "/thanks?", "/thank", "/thanks/", "//", "/form", "form", "x:80", "*", "http://x/thanks")
 FIELDS = ("", "cs", "ar", "ar-EG", "cs-CZ,cs;q=0.9,en;q=0.8", "de", "en;q=0.5, ar", "cs;q=0", "de, *", "AR;q=0.2,CS;q=0.3", "cs,,ar", "x;q=2")
@@ -29,14 +28,13 @@ def tag_of(request):
 
 
 def thanks(tag):
-    title, said = SAID[tag]["thanks"], SAID[tag]["signed_up"]
-    head = f'<!DOCTYPE html>\n<html lang="{tag}" dir="{SAID[tag]["direction"]}">\n<head>\n{VIEWPORT}<title>{title}</title>\n</head>\n'
-    return f"{head}<body>\n<main>\n<h1>{title}</h1>\n<p>{said}</p>\n</main>\n</body>\n</html>\n"
+    said = SAID[tag]
+    return pages.within(f"<p>{said['signed_up']}</p>\n", tag, said["direction"], said["thanks"])
 
 
 def refused(status):
     title, said = REFUSED[status]
-    return f'<!DOCTYPE html>\n<html lang="en">\n{VIEWPORT}<title>{title}</title>\n<h1>{title}</h1>\n<p>{said}</p>\n'
+    return pages.within(f"<p>{said}</p>\n", "en", "ltr", title)
 
 
 def spoken(tag):

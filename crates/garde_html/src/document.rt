@@ -1,11 +1,12 @@
 //! A form as a page.
 ghost use Rattle.std.specs.Prelude.{◌≡◌, ◌++◌, IfOk, OnOk};
-ghost use Rattle.garde_html.specs.Document.{form_pieces, head_pieces, title_of};
+ghost use Rattle.garde_html.specs.Document.{begin_pieces, form_pieces, head_pieces, heading_pieces, title_of};
 
 use crate::controls::put_fields;
 use crate::form::Form;
 use crate::page::Page;
 use crate::page::Piece::{Markup, Text};
+use crate::style::STYLE;
 use crate::summary::put_summary;
 use garde_report::Report;
 use std::alloc::{AllocError, Global};
@@ -17,8 +18,9 @@ const DIRECTION: &str = "\" dir=\"";
 const TITLE: &str =
     "\">\n<head>\n<meta charset=\"utf-8\">\n<meta name=\"viewport\" content=\"width=device-width, initial-scale=1\">\n<title>";
 
-const STYLE: &str =
-    "</title>\n<style>\nbody { margin: 1em auto; padding: 0 1em; max-width: 32em; font-family: sans-serif; line-height: 1.5; overflow-wrap: anywhere }\n.field { margin: 1em 0 }\n.field > label { display: block }\n.field > input { box-sizing: border-box; width: 100%; font: inherit }\n.field > [aria-invalid] { border: 2px solid #a00 }\nfieldset { min-width: 0 }\n.summary, .faults { border-inline-start: 4px solid #a00; padding-inline-start: 1em; color: #a00 }\n.summary a { color: inherit }\n</style>\n</head>\n<body>\n<main>\n<h1>";
+const STYLE_BEGIN: &str = "</title>\n<style>";
+
+const STYLE_END: &str = "</style>\n</head>\n<body>\n<main>\n<h1>";
 
 const HEADING_END: &str = "</h1>\n";
 
@@ -39,23 +41,39 @@ fn title_of<'a>(form: &Form<'a>, report: &Report) -> &'a str
     }
 }
 
-// What stands before the faults.
-fn put_head<'a>(page: &mut Page<'a>, form: &Form<'a>, title: &'a str) -> Result<(), AllocError>
-    ensures { OnOk result (page.new ≡ page.old ++ head_pieces form.now title.now) }
+// The beginning of a page, up to its title.
+fn put_begin<'a>(page: &mut Page<'a>, form: &Form<'a>, title: &'a str) -> Result<(), AllocError>
+    ensures { OnOk result (page.new ≡ page.old ++ begin_pieces form.now title.now) }
 {
     page.put(&[
         Markup(BEGIN),
         Text(form.language),
         Markup(DIRECTION),
         Text(form.direction),
-    ])?;
-    page.put(&[
         Markup(TITLE),
         Text(title),
+    ])
+}
+
+// How a page looks, and its heading.
+fn put_heading<'a>(page: &mut Page<'a>, heading: &'a str) -> Result<(), AllocError>
+    ensures { OnOk result (page.new ≡ page.old ++ heading_pieces heading.now) }
+{
+    page.put(&[
+        Markup(STYLE_BEGIN),
         Markup(STYLE),
-        Text(form.title),
+        Markup(STYLE_END),
+        Text(heading),
         Markup(HEADING_END),
     ])
+}
+
+// What stands before the faults.
+fn put_head<'a>(page: &mut Page<'a>, form: &Form<'a>, title: &'a str) -> Result<(), AllocError>
+    ensures { OnOk result (page.new ≡ page.old ++ head_pieces form.now title.now) }
+{
+    put_begin(page, form, title)?;
+    put_heading(page, form.title)
 }
 
 /// The page of a form: above it each fault of the report once, in order, with a link to its field if it

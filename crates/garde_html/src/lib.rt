@@ -8,6 +8,7 @@ mod faults;
 mod form;
 pub mod laws;
 mod page;
+mod style;
 mod summary;
 mod text;
 
@@ -15,4 +16,5 @@ pub use document::form_page;
 pub use faults::{field_faults, field_of, other_faults};
 pub use form::{Control, Field, Form};
 pub use page::{Page, Piece};
+pub use style::STYLE;
 pub use text::HtmlText;

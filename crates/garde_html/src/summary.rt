@@ -10,7 +10,7 @@ use crate::page::Piece::{Markup, Text};
 use garde_report::{Path, Report};
 use std::alloc::{AllocError, Global};
 
-const SUMMARY: &str = "<div class=\"summary\" role=\"alert\">\n<h2>";
+const SUMMARY: &str = "<div class=\"summary\" role=\"alert\" tabindex=\"-1\" autofocus=\"\">\n<h2>";
 
 const SUMMARY_LIST: &str = "</h2>\n<ul>\n";
 

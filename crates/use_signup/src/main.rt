@@ -4,6 +4,7 @@
 
 mod command;
 mod page;
+mod plain;
 mod refused;
 mod rely;
 mod service;

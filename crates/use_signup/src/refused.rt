@@ -2,6 +2,8 @@
 ghost use Rattle.std.specs.Prelude.{◌≡◌};
 ghost use Rattle.use_signup.specs.Refused.{page_of};
 
+use crate::plain::plain_page;
+use garde_html::with_style;
 use garde_service::Rejected;
 
 /// The page.
@@ -22,20 +24,10 @@ pub fn page_of(why: Rejected) -> &'static str
     }
 }
 
-/// The text of a page with this title, which says this.
+/// The text of a page in English with this title, which says this.
 macro_rules! page {
     ($title:literal, $said:literal) => {
-        concat!(
-            "<!DOCTYPE html>\n<html lang=\"en\">\n<meta charset=\"utf-8\">\n",
-            "<meta name=\"viewport\" content=\"width=device-width, initial-scale=1\">\n",
-            "<title>",
-            $title,
-            "</title>\n<h1>",
-            $title,
-            "</h1>\n<p>",
-            $said,
-            "</p>\n",
-        )
+        with_style!(plain_page, "en", "ltr", $title, $said)
     };
 }
 

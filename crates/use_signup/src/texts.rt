@@ -2,9 +2,10 @@
 ghost use Rattle.std.specs.Prelude.{◌≡◌};
 
 use crate::page::{ARABIC_PAGE, CZECH_PAGE, ENGLISH_PAGE};
+use crate::plain::plain_page;
 use crate::terms::{ARABIC_WORDS, CZECH_WORDS, ENGLISH_WORDS, Words};
 use garde_catalog::Catalogs;
-use garde_html::Form;
+use garde_html::{Form, with_style};
 
 /// The form, the words of its rules, and the page of thanks, in one language.
 #[derive(Clone, Copy)]
@@ -84,53 +85,14 @@ impl<'a> Speech<'a> {
     }
 }
 
-const ENGLISH_THANKS: &str = "\
-<!DOCTYPE html>
-<html lang=\"en\" dir=\"ltr\">
-<head>
-<meta charset=\"utf-8\">
-<meta name=\"viewport\" content=\"width=device-width, initial-scale=1\">
-<title>Thank you</title>
-</head>
-<body>
-<main>
-<h1>Thank you</h1>
-<p>You are signed up.</p>
-</main>
-</body>
-</html>
-";
+const ENGLISH_THANKS: &str = with_style!(
+    plain_page,
+    "en",
+    "ltr",
+    "Thank you",
+    "You are signed up."
+);
 
-const CZECH_THANKS: &str = "\
-<!DOCTYPE html>
-<html lang=\"cs\" dir=\"ltr\">
-<head>
-<meta charset=\"utf-8\">
-<meta name=\"viewport\" content=\"width=device-width, initial-scale=1\">
-<title>Děkujeme</title>
-</head>
-<body>
-<main>
-<h1>Děkujeme</h1>
-<p>Jste zaregistrováni.</p>
-</main>
-</body>
-</html>
-";
+const CZECH_THANKS: &str = with_style!(plain_page, "cs", "ltr", "Děkujeme", "Jste zaregistrováni.");
 
-const ARABIC_THANKS: &str = "\
-<!DOCTYPE html>
-<html lang=\"ar\" dir=\"rtl\">
-<head>
-<meta charset=\"utf-8\">
-<meta name=\"viewport\" content=\"width=device-width, initial-scale=1\">
-<title>شكرًا لك</title>
-</head>
-<body>
-<main>
-<h1>شكرًا لك</h1>
-<p>تم تسجيلك.</p>
-</main>
-</body>
-</html>
-";
+const ARABIC_THANKS: &str = with_style!(plain_page, "ar", "rtl", "شكرًا لك", "تم تسجيلك.");

@@ -173,7 +173,7 @@ const PLAIN: &str = "<h1>Sign &amp; up</h1>
 
 /// The same with the faults.
 const FAULTY: &str = "<h1>Sign &amp; up</h1>
-<div class=\"summary\" role=\"alert\">
+<div class=\"summary\" role=\"alert\" tabindex=\"-1\" autofocus=\"\">
 <h2>What is wrong</h2>
 <ul>
 <li><a href=\"#field-name\">Name: short</a></li>
