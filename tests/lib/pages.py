@@ -1,4 +1,6 @@
 """The page of a form with its faults, as the README of `garde_html` has it."""
+import base64
+import hashlib
 import html
 import re
 import string
@@ -27,6 +29,8 @@ class Form(typing.NamedTuple):
 
 PAGE = string.Template(tables.text_of("page.html"))
 STYLE = re.search(r'\(\n +"(.*?)"\n', repository.text_of("crates/garde_html/src/style.rt"), re.DOTALL)[1]
+# The stylesheet as a policy names it (Content Security Policy, section 2.3.1).
+SOURCE = f"sha256-{base64.b64encode(hashlib.sha256(STYLE.encode()).digest()).decode()}"
 
 
 def text(given):

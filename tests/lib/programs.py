@@ -58,8 +58,8 @@ def bytes_of(case, name):
 
 
 def wanted_of(case):
-    """What a stored case wants as an answer. `$STYLE` in its output stands for the stylesheet of the pages."""
-    output = bytes_of(case, "stdout").replace(b"$STYLE", pages.STYLE.encode())
+    """What a stored case wants as an answer. In its output `$STYLE` stands for the stylesheet of the pages, and `$SOURCE` for its hash."""
+    output = bytes_of(case, "stdout").replace(b"$STYLE", pages.STYLE.encode()).replace(b"$SOURCE", pages.SOURCE.encode())
     return int(bytes_of(case, "status") or b"0"), output, bytes_of(case, "stderr")
 
 

@@ -8,6 +8,10 @@ from lib.requests import PHRASES, Request, bytes_of, elsewhere, has_coding, path
 SAID = {it.title: dict(line.split(": ", 1) for line in it.text.splitlines()) for it in tables.cases("sign-up")}
 FORM = "application/x-www-form-urlencoded"
 PAGE = "text/html; charset=utf-8"
+GUARDS = (
+    ("content-security-policy", f"default-src 'none'; style-src '{pages.SOURCE}'; form-action 'self'; frame-ancestors 'none'; base-uri 'none'"),
+    ("x-content-type-options", "nosniff"), ("referrer-policy", "same-origin"), ("cache-control", "no-store"),
+)
 REFUSED = {
     400: ("Bad request", "What came is no request."),
     404: ("Not found", "There is no such page."),
@@ -39,7 +43,7 @@ def refused(status):
 
 def spoken(tag):
     """The fields of a page in a language."""
-    return ("content-type", PAGE), ("content-language", tag), ("vary", "accept-language")
+    return ("content-type", PAGE), ("content-language", tag), ("vary", "accept-language"), *GUARDS
 
 
 def answer(request, page):

@@ -16,5 +16,5 @@ pub use document::form_page;
 pub use faults::{field_faults, field_of, other_faults};
 pub use form::{Control, Field, Form};
 pub use page::{Page, Piece};
-pub use style::STYLE;
+pub use style::{POLICY, STYLE};
 pub use text::HtmlText;

@@ -82,3 +82,8 @@ macro_rules! alone {
 /// The stylesheet of each page, as it stands within `<style>`: light or dark as the reader has it, from
 /// 320 pixels on, from either side, in sizes that follow the reader's.
 pub const STYLE: &str = with_style!(alone);
+
+/// The field `Content-Security-Policy` of a page with this stylesheet: it loads nothing and has no script,
+/// its form is sent to where it came from, and no page frames it. It names the stylesheet by its SHA-256.
+pub const POLICY: &str =
+    "default-src 'none'; style-src 'sha256-TA2WVrGtC9fKXKlWBpudfFxalxuglKGzDGXs/kblpuM='; form-action 'self'; frame-ancestors 'none'; base-uri 'none'";

@@ -1,5 +1,5 @@
 -- What is answered to a request.
-use Rattle.std.specs.Prelude.{⊤, ℕ, List, [], ◌∷◌, codes, Option, Some, None, Result, Ok, Err}
+use Rattle.std.specs.Prelude.{⊤, ℕ, List, [], ◌∷◌, ◌++◌, codes, Option, Some, None, Result, Ok, Err}
 use Rattle.json.specs.Json.{Json}
 use Rattle.garde.specs.Answers.{Answers}
 use Rattle.garde.specs.Handlers.{Datum}
@@ -13,6 +13,7 @@ use Rattle.garde_catalog.specs.declared.catalog.Catalog.{Catalog}
 use Rattle.garde_form.specs.Spelling.{OfForm}
 use Rattle.garde_form.specs.WebForm.{fields_in}
 use Rattle.garde_html.specs.declared.form.Form.{Form}
+use Rattle.garde_html.specs.declared.style.TheConstants as style
 use Rattle.garde_report.specs.Report.{Entry}
 use Rattle.garde_schema.specs.Forms.{FormTexts}
 use Rattle.garde_service.specs.Asked.{IsLanguage}
@@ -70,9 +71,15 @@ ReadsFields visits words form_text text fields read =
 abbrev pub Reads : FormVisits → Voice → List ℕ → Result (Unit {0}) ValidateError → Type 0
 Reads visits voice body read = ReadsFields visits voice.texts.words voice.form_text voice.text (fields_in body) read
 
+-- what a browser does not do with a page
+abbrev pub guard_fields : List Header
+guard_fields =
+    (codes "content-security-policy", style.POLICY.now) ∷ (codes "x-content-type-options", codes "nosniff")
+    ∷ (codes "referrer-policy", codes "same-origin") ∷ (codes "cache-control", codes "no-store") ∷ []
+
 -- the fields of a page in the language of this tag
 abbrev pub page_fields : List ℕ → List Header
-page_fields tag = (codes "content-type", codes "text/html; charset=utf-8") ∷ language_fields tag
+page_fields tag = (codes "content-type", codes "text/html; charset=utf-8") ∷ (language_fields tag ++ guard_fields)
 
 -- the response is a page of the form, with these fields and these faults
 abbrev pub ShowsForm : Form → List ℕ → ℕ → FieldTexts → List Entry → Response → Type 0

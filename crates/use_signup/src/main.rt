@@ -5,6 +5,7 @@
 mod command;
 mod page;
 mod plain;
+mod put;
 mod refused;
 mod rely;
 mod service;

@@ -1,5 +1,5 @@
 //! The service: what is answered to each request.
-ghost use Rattle.std.specs.Prelude.{◌≡◌, ◌≢◌, [], ◌∷◌, Err, OnOk, codes};
+ghost use Rattle.std.specs.Prelude.{◌≡◌, ◌≢◌, [], Err, OnOk, codes};
 ghost use Rattle.garde_catalog.specs.Catalog.{catalog_text};
 ghost use Rattle.garde_catalog.specs.Forms.{catalog_form_text};
 ghost use Rattle.garde_form.specs.WebForm.{field_texts};
@@ -14,6 +14,7 @@ ghost use Rattle.use_signup.specs.Refused.{page_of};
 ghost use Rattle.use_signup.specs.declared.service.Reply.TheVariants as replies;
 
 use crate::page::write_page;
+use crate::put::{PAGE_TYPE, put_page, put_signed_up};
 use crate::refused::page_of;
 use crate::sign_up::{SignUp, read_sign_up};
 use crate::terms::Words;
@@ -24,10 +25,8 @@ use garde_catalog::Catalog;
 use garde_form::{FormField, form_fields};
 use garde_html::Form;
 use garde_schema::SpelledUnder;
-use garde_service::{
-    Body, Handler, Media, Post, Rejected, Route, language_of, put_field, put_language, put_text,
-};
-use http::{Request, StatusCode, header};
+use garde_service::{Body, Handler, Media, Post, Rejected, Route, language_of};
+use http::{Request, StatusCode};
 use http_server::Response;
 use std::alloc::{AllocError, Global};
 
@@ -59,24 +58,6 @@ const ROUTES: &[Route<Reply>] = &[
     },
 ];
 
-/// The media type of a page.
-const PAGE_TYPE: &str = "text/html; charset=utf-8";
-
-/// Answers with a page in the language of this tag.
-fn put_page(
-    alloc: Global,
-    tag: &str,
-    status: StatusCode,
-    html: &str,
-    response: &mut Response,
-) -> Result<(), AllocError>
-    requires { IsBlank response.old }
-    ensures { OnOk result (IsResponse status (page_fields tag.now) html.now response.new) }
-{
-    put_text(response, status, PAGE_TYPE, html)?;
-    put_language(alloc, tag, response)
-}
-
 /// Answers with the page of the form, with these fields and these faults.
 fn put_form(
     alloc: Global,
@@ -94,15 +75,6 @@ fn put_form(
     let html = write_page(alloc, form, fields, report)?;
     put_page(alloc, tag, status, html.as_str(), response)?;
     Ok(())
-}
-
-/// Answers that who sent the form is signed up: a browser asks for the page of thanks then.
-fn put_signed_up(response: &mut Response) -> Result<(), AllocError>
-    requires { IsBlank response.old }
-    ensures { OnOk result (IsResponse 303 ((codes "location", codes "/thanks") ∷ []) [] response.new) }
-{
-    response.status = StatusCode::SEE_OTHER;
-    put_field(response, header::LOCATION, "/thanks")
 }
 
 /// Reads the fields of a form, or reports every fault of its form and of its rules. Who signs up is
