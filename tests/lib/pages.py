@@ -10,11 +10,15 @@ from lib import repository, tables
 
 
 class Field(typing.NamedTuple):
-    """A field: a line of this type, or boxes, each with the text that is sent and its label."""
+    """A field: a line of this type, or boxes, each with the text that is sent and its label. An empty hint or attribute is none."""
     name: str
     label: str
     kind: str = "text"
     boxes: tuple = ()
+    hint: str = ""
+    autocomplete: str = ""
+    inputmode: str = ""
+    required: bool = False
 
 
 class Form(typing.NamedTuple):
@@ -25,6 +29,7 @@ class Form(typing.NamedTuple):
     send: str
     fields: tuple
     direction: str = "ltr"
+    action: str = "/"
 
 
 PAGE = string.Template(tables.text_of("page.html"))
@@ -53,31 +58,51 @@ def summary(form, faults):
     return f'<div class="summary" role="alert" tabindex="-1" autofocus="">\n<h2>{text(form.summary)}</h2>\n<ul>\n{entries}</ul>\n</div>\n' if faults else ""
 
 
-def line(field, typed, invalid):
+def attributes(said):
+    return "".join(f' {name}="{text(value)}"' for name, value in said if value is not None)
+
+
+def marks(field):
+    """What a browser is told of a field besides its name and its type."""
+    return attributes([("autocomplete", field.autocomplete or None), ("inputmode", field.inputmode or None), ("aria-required", "true" if field.required else None)])
+
+
+def described(field, faulty):
+    """Whether a field has faults, and the elements that describe it."""
+    by = [f"{part}-{field.name}" for part, there in (("hint", field.hint), ("faults", faulty)) if there]
+    return attributes([("aria-invalid", "true" if faulty else None), ("aria-describedby", " ".join(by) or None)])
+
+
+def hint(field):
+    return f'<p class="hint" id="hint-{text(field.name)}">{text(field.hint)}</p>\n' if field.hint else ""
+
+
+def line(field, typed, faulty):
     name, shown = text(field.name), "" if field.kind == "password" else text(next((it for at, it in typed if at == field.name), ""))
-    label = f'<label for="field-{name}">{text(field.label)}</label>\n'
-    return f'{label}<input id="field-{name}" name="{name}" dir="auto" type="{text(field.kind)}" value="{shown}"{invalid}>'
+    label = f'<label for="field-{name}">{text(field.label)}</label>\n{hint(field)}'
+    said = f'dir="auto" type="{text(field.kind)}" value="{shown}"{marks(field)}{described(field, faulty)}'
+    return f'{label}<input id="field-{name}" name="{name}" {said}>'
 
 
-def box(field, value, label, typed, invalid):
-    checked = ' checked=""' if (field.name, value) in typed else ""
-    return f'<label><input type="checkbox" name="{text(field.name)}" value="{text(value)}"{checked}{invalid}> {text(label)}</label>\n'
+def box(field, value, label, typed, faulty):
+    said = attributes([("checked", "" if (field.name, value) in typed else None), ("aria-required", "true" if field.required else None)])
+    said += described(field, faulty)
+    return f'<label><input type="checkbox" name="{text(field.name)}" value="{text(value)}"{said}> {text(label)}</label>\n'
 
 
-def control(field, typed, invalid):
+def control(field, typed, faulty):
     if not field.boxes:
-        return line(field, typed, invalid)
-    boxes = "".join(box(field, *it, typed, invalid) for it in field.boxes)
-    return f'<fieldset id="field-{text(field.name)}" tabindex="-1"><legend>{text(field.label)}</legend>\n{boxes}</fieldset>'
+        return line(field, typed, faulty)
+    boxes = "".join(box(field, *it, typed, faulty) for it in field.boxes)
+    legend = f"<legend>{text(field.label)}</legend>\n{hint(field)}"
+    return f'<fieldset id="field-{text(field.name)}" tabindex="-1">{legend}{boxes}</fieldset>'
 
 
 def field_of(field, typed, faults):
     """A field with what was typed, and with the messages at it and under it."""
     messages = "".join(f"<li>{text(message)}</li>\n" for path, message in faults if path and path[0] == field.name)
-    name = text(field.name)
-    invalid = f' aria-invalid="true" aria-describedby="faults-{name}"' if messages else ""
-    listed = f'\n<ul class="faults" id="faults-{name}">\n{messages}</ul>' if messages else ""
-    return f'<div class="field">\n{control(field, typed, invalid)}{listed}\n</div>\n'
+    listed = f'\n<ul class="faults" id="faults-{text(field.name)}">\n{messages}</ul>' if messages else ""
+    return f'<div class="field">\n{control(field, typed, bool(messages))}{listed}\n</div>\n'
 
 
 def within(main, language, direction, title, said=None):
@@ -89,5 +114,5 @@ def within(main, language, direction, title, said=None):
 def page(form, typed, faults):
     """The page of a form, with each name that was sent and its text, and with faults, each a path and a message."""
     fields = "".join(field_of(it, typed, faults) for it in form.fields)
-    main = f'{summary(form, faults)}<form method="post" novalidate>\n{fields}<button>{text(form.send)}</button>\n</form>\n'
+    main = f'{summary(form, faults)}<form method="post" action="{text(form.action)}" novalidate>\n{fields}<button>{text(form.send)}</button>\n</form>\n'
     return within(main, form.language, form.direction, form.title, form.faulty_title if faults else form.title)

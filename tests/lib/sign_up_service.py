@@ -4,7 +4,7 @@ import re
 from lib import languages, pages, tables
 from lib.requests import PHRASES, Request, bytes_of, elsewhere, has_coding, path_of, requests_of, some_coding
 
-# The texts of the pages in each language, by their names: of a field its label, and of `FIELD=VALUE` that of a box.
+# The texts of the pages in each language, by their names: of a field its label, of `FIELD?` its hint, and of `FIELD=VALUE` the label of a box.
 SAID = {it.title: dict(line.split(": ", 1) for line in it.text.splitlines()) for it in tables.cases("sign-up")}
 FORM = "application/x-www-form-urlencoded"
 PAGE = "text/html; charset=utf-8"

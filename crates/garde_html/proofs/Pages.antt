@@ -8,10 +8,9 @@ use Rattle.garde_html.specs.declared.form.Control.{Control}
 use Rattle.garde_html.specs.declared.form.Control.TheVariants.{Line, Password, Boxes}
 use Rattle.garde_html.specs.declared.form.Field.{Field}
 use Rattle.garde_html.specs.declared.controls.TheConstants as plain
-use Rattle.garde_html.specs.declared.document.TheConstants as page
-use Rattle.garde_html.specs.Controls.{box_pieces, boxes_pieces, control_pieces, field_pieces, fields_pieces, filled_pieces, group_pieces, is_faulty, line_pieces, list_pieces, under_legend, with_messages}
-use Rattle.garde_html.specs.Document.{around_fields, end_pieces, head_pieces, title_of}
-use Rattle.garde_html.specs.Form.{Typed, is_checked}
+use Rattle.garde_html.specs.Controls.{begin_pieces, box_pieces, boxes_pieces, control_pieces, field_pieces, fields_pieces, filled_pieces, group_pieces, is_faulty, line_pieces, list_pieces, rest_pieces, under_legend, value_pieces, with_messages}
+use Rattle.garde_html.specs.Document.{around_fields, end_pieces, form_begin, head_pieces, title_of}
+use Rattle.garde_html.specs.Form.{Typed, is_checked, typed_text}
 use Rattle.garde_html.specs.Html.{html_text, is_ending}
 use Rattle.garde_html.specs.Page.{Written, blank, blank_piece, markup, markup_of, rendered, rendered_piece}
 use Rattle.garde_html.specs.Summary.{summary_pieces}
@@ -45,27 +44,21 @@ texts_add_no_markup (p ∷ ps) = by_kind p.0 p.1 p ps (markup_of ps) refl refl (
 
 -- ---- boxes
 
-same_boxes : (name : List ℕ) (faulty : Bool) (typed other : List Typed)
-    → ((value : List ℕ) → is_checked name value typed ≡ is_checked name value other)
-    → (boxes : List Typed) → boxes_pieces name typed faulty boxes ≡ boxes_pieces name other faulty boxes
-same_boxes name faulty typed other alike [] = refl
-same_boxes name faulty typed other alike (one ∷ boxes) =
-    ap₂ (λ (checked : Bool) (rest : List Written). box_pieces name one checked faulty ++ rest)
-    (alike one.0.now) (same_boxes name faulty typed other alike boxes)
+same_boxes : (f : Field) (faulty : Bool) (typed other : List Typed)
+    → ((value : List ℕ) → is_checked f.name.now value typed ≡ is_checked f.name.now value other)
+    → (boxes : List Typed) → boxes_pieces f typed faulty boxes ≡ boxes_pieces f other faulty boxes
+same_boxes f faulty typed other alike [] = refl
+same_boxes f faulty typed other alike (one ∷ boxes) =
+    ap₂ (λ (checked : Bool) (rest : List Written). box_pieces f one checked faulty ++ rest)
+    (alike one.0.now) (same_boxes f faulty typed other alike boxes)
 
 same_group : (f : Field) (faulty : Bool) (typed other : List Typed)
     → ((value : List ℕ) → is_checked f.name.now value typed ≡ is_checked f.name.now value other)
     → (boxes : List Typed) → group_pieces f typed faulty boxes ≡ group_pieces f other faulty boxes
 same_group f faulty typed other alike boxes =
-    ap (λ (middle : List Written). under_legend f middle) (same_boxes f.name.now faulty typed other alike boxes)
+    ap (λ (middle : List Written). under_legend f middle) (same_boxes f faulty typed other alike boxes)
 
 -- ---- what was typed is text
-
-blank_control : (c : Control) (f : Field) (faulty : Bool) (typed other : List Typed) → IsCheckedAlike c f.name.now typed other
-    → blank (filled_pieces c f typed faulty) ≡ blank (filled_pieces c f other faulty)
-blank_control (Line kind) f faulty typed other alike = refl
-blank_control Password f faulty typed other alike = refl
-blank_control (Boxes boxes) f faulty typed other alike = ap blank (same_group f faulty typed other alike boxes.now)
 
 -- the same before and behind what is the same but for its texts
 blank_within : (before a b behind : List Written) → blank a ≡ blank b → blank (before ++ (a ++ behind)) ≡ blank (before ++ (b ++ behind))
@@ -74,6 +67,14 @@ blank_within before a b behind same =
     ∙ ap (λ (rest : List Written). blank before ++ rest)
     (map-append blank_piece a behind ∙ ap (λ (middle : List Written). middle ++ blank behind) same ∙ sym (map-append blank_piece b behind))
     ∙ sym (map-append blank_piece before (b ++ behind))
+
+blank_control : (c : Control) (f : Field) (faulty : Bool) (typed other : List Typed) → IsCheckedAlike c f.name.now typed other
+    → blank (filled_pieces c f typed faulty) ≡ blank (filled_pieces c f other faulty)
+blank_control (Line kind) f faulty typed other alike =
+    blank_within (begin_pieces f) (value_pieces kind.now (typed_text f.name.now typed)) (value_pieces kind.now (typed_text f.name.now other))
+    (rest_pieces f faulty) refl
+blank_control Password f faulty typed other alike = refl
+blank_control (Boxes boxes) f faulty typed other alike = ap blank (same_group f faulty typed other alike boxes.now)
 
 blank_field : (f : Field) (entries : List Entry) (typed other : List Typed) → IsCheckedAlike f.control f.name.now typed other
     → blank (field_pieces f typed entries) ≡ blank (field_pieces f other entries)
@@ -100,12 +101,12 @@ typed_is_text form typed other entries alike =
     let one : List Written = fields_pieces typed entries form.fields.now in
     let two : List Written = fields_pieces other entries form.fields.now in
     let same : blank one ≡ blank two = blank_fields form.fields.now entries typed other alike in
-    map-append blank_piece head (summary ++ (markup page.FORM.now ∷ (one ++ end_pieces form)))
+    map-append blank_piece head (summary ++ (form_begin form ++ (one ++ end_pieces form)))
     ∙ ap (λ (rest : List Written). blank head ++ rest)
-    (map-append blank_piece summary (markup page.FORM.now ∷ (one ++ end_pieces form))
-    ∙ ap (λ (rest : List Written). blank summary ++ rest) (blank_within (markup page.FORM.now ∷ []) one two (end_pieces form) same)
-    ∙ sym (map-append blank_piece summary (markup page.FORM.now ∷ (two ++ end_pieces form))))
-    ∙ sym (map-append blank_piece head (summary ++ (markup page.FORM.now ∷ (two ++ end_pieces form))))
+    (map-append blank_piece summary (form_begin form ++ (one ++ end_pieces form))
+    ∙ ap (λ (rest : List Written). blank summary ++ rest) (blank_within (form_begin form) one two (end_pieces form) same)
+    ∙ sym (map-append blank_piece summary (form_begin form ++ (two ++ end_pieces form))))
+    ∙ sym (map-append blank_piece head (summary ++ (form_begin form ++ (two ++ end_pieces form))))
 
 -- ---- passwords are kept off
 

@@ -5,7 +5,9 @@ use Rattle.garde_html.specs.declared.form.Field.{Field}
 use Rattle.garde_html.specs.declared.form.Control.{Control}
 use Rattle.garde_html.specs.declared.form.Control.TheVariants.{Line, Password, Boxes}
 use Rattle.garde_html.specs.declared.controls.TheConstants as plain
+use Rattle.garde_html.specs.declared.marks.TheConstants as marks
 use Rattle.garde_html.specs.Form.{Typed, is_checked, typed_text}
+use Rattle.garde_html.specs.Marks.{control_end, hint_pieces, mark, marks_pieces}
 use Rattle.garde_html.specs.Page.{Written, markup, text}
 
 abbrev pub is_some_text : List (List ℕ) → Bool
@@ -16,54 +18,53 @@ is_some_text (one ∷ others) = true
 abbrev pub is_faulty : Field → List Entry → Bool
 is_faulty field entries = is_some_text (messages_under (field.name.now ∷ []) entries)
 
--- the end of a control, which names the faults beside it
-abbrev pub invalid_pieces : List ℕ → Bool → List Written
-invalid_pieces name true = markup plain.INVALID.now ∷ text name ∷ markup plain.CONTROL_END.now ∷ []
-invalid_pieces name false = markup plain.CONTROL_END.now ∷ []
-
 -- the label of a line
 abbrev pub label_pieces : Field → List Written
-label_pieces field = markup plain.LABEL.now ∷ text field.name.now ∷ markup plain.LABEL_TEXT.now ∷ text field.label.now ∷ []
+label_pieces field =
+    markup plain.LABEL.now ∷ text field.name.now ∷ markup plain.LABEL_TEXT.now ∷ text field.label.now ∷ markup plain.LABEL_END.now ∷ []
 
 -- its name on the page and in what is sent
 abbrev pub names_pieces : List ℕ → List Written
 names_pieces name = markup plain.INPUT.now ∷ text name ∷ markup plain.NAME.now ∷ text name ∷ []
 
--- its type and its text, and the faults beside it
-abbrev pub value_pieces : List ℕ → List ℕ → List ℕ → Bool → List Written
-value_pieces name kind typed faulty =
-    markup plain.TYPE.now ∷ text kind ∷ markup plain.VALUE.now ∷ text typed ∷ invalid_pieces name faulty
+-- what stands before its type
+abbrev pub begin_pieces : Field → List Written
+begin_pieces field = label_pieces field ++ (hint_pieces field.name.now field.hint ++ names_pieces field.name.now)
+
+-- its type and its text
+abbrev pub value_pieces : List ℕ → List ℕ → List Written
+value_pieces kind typed = markup plain.TYPE.now ∷ text kind ∷ markup plain.VALUE.now ∷ text typed ∷ []
+
+-- what stands behind its text
+abbrev pub rest_pieces : Field → Bool → List Written
+rest_pieces field faulty = marks_pieces field ++ control_end field faulty
 
 -- a line with its label
 abbrev pub line_pieces : Field → List ℕ → List ℕ → Bool → List Written
-line_pieces field kind typed faulty =
-    label_pieces field ++ (names_pieces field.name.now ++ value_pieces field.name.now kind typed faulty)
-
-abbrev pub checked_mark : Bool → List ℕ
-checked_mark true = plain.CHECKED.now
-checked_mark false = plain.UNCHECKED.now
+line_pieces field kind typed faulty = begin_pieces field ++ (value_pieces kind typed ++ rest_pieces field faulty)
 
 -- a box with its label
-abbrev pub box_pieces : List ℕ → Typed → Bool → Bool → List Written
-box_pieces name one checked faulty =
-    markup plain.BOX.now ∷ text name ∷ markup plain.VALUE.now ∷ text one.0.now ∷ markup (checked_mark checked)
-    ∷ (invalid_pieces name faulty ++ markup plain.BOX_TEXT.now ∷ text one.1.now ∷ markup plain.BOX_END.now ∷ [])
+abbrev pub box_pieces : Field → Typed → Bool → Bool → List Written
+box_pieces field one checked faulty =
+    markup plain.BOX.now ∷ text field.name.now ∷ markup plain.VALUE.now ∷ text one.0.now
+    ∷ markup (mark plain.CHECKED.now checked) ∷ markup (mark marks.REQUIRED.now field.required)
+    ∷ (control_end field faulty ++ markup plain.BOX_TEXT.now ∷ text one.1.now ∷ markup plain.BOX_END.now ∷ [])
 
 -- boxes, each of which is checked if its text was sent
-abbrev pub boxes_pieces : List ℕ → List Typed → Bool → List Typed → List Written
-boxes_pieces name typed faulty [] = []
-boxes_pieces name typed faulty (one ∷ boxes) =
-    box_pieces name one (is_checked name one.0.now typed) faulty ++ boxes_pieces name typed faulty boxes
+abbrev pub boxes_pieces : Field → List Typed → Bool → List Typed → List Written
+boxes_pieces field typed faulty [] = []
+boxes_pieces field typed faulty (one ∷ boxes) =
+    box_pieces field one (is_checked field.name.now one.0.now typed) faulty ++ boxes_pieces field typed faulty boxes
 
--- the label of boxes, and these pieces under it
+-- the label of boxes with its hint, and these pieces under it
 abbrev pub under_legend : Field → List Written → List Written
 under_legend field middle =
     markup plain.GROUP.now ∷ text field.name.now ∷ markup plain.LEGEND.now ∷ text field.label.now ∷ markup plain.LEGEND_END.now
-    ∷ (middle ++ markup plain.GROUP_END.now ∷ [])
+    ∷ (hint_pieces field.name.now field.hint ++ (middle ++ markup plain.GROUP_END.now ∷ []))
 
 -- boxes under the label of their field
 abbrev pub group_pieces : Field → List Typed → Bool → List Typed → List Written
-group_pieces field typed faulty boxes = under_legend field (boxes_pieces field.name.now typed faulty boxes)
+group_pieces field typed faulty boxes = under_legend field (boxes_pieces field typed faulty boxes)
 
 -- what a visitor fills in, as it was filled in; of a password nothing that was typed
 abbrev pub filled_pieces : Control → Field → List Typed → Bool → List Written

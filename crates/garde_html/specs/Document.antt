@@ -28,6 +28,10 @@ heading_pieces heading =
 abbrev pub head_pieces : Form → List ℕ → List Written
 head_pieces form title = begin_pieces form title ++ heading_pieces form.title.now
 
+-- the beginning of a form, which says where it is sent
+abbrev pub form_begin : Form → List Written
+form_begin form = markup plain.FORM.now ∷ text form.action.now ∷ markup plain.FORM_END.now ∷ []
+
 -- what stands behind the fields
 abbrev pub end_pieces : Form → List Written
 end_pieces form = markup plain.SEND.now ∷ text form.send.now ∷ markup plain.END.now ∷ []
@@ -35,7 +39,7 @@ end_pieces form = markup plain.SEND.now ∷ text form.send.now ∷ markup plain.
 -- the page round these fields
 abbrev pub around_fields : Form → List Entry → List Written → List Written
 around_fields form entries fields =
-    head_pieces form (title_of form entries) ++ (summary_pieces form entries ++ (markup plain.FORM.now ∷ (fields ++ end_pieces form)))
+    head_pieces form (title_of form entries) ++ (summary_pieces form entries ++ (form_begin form ++ (fields ++ end_pieces form)))
 
 -- the page of a form, with what was typed and these faults
 abbrev pub form_pieces : Form → List Typed → List Entry → List Written

@@ -4,5 +4,6 @@ pub mod Fields
 pub mod Form
 pub mod Html
 pub mod Laws
+pub mod Marks
 pub mod Page
 pub mod Summary

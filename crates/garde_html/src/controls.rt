@@ -2,10 +2,11 @@
 ghost use Rattle.std.specs.Prelude.{◌≡◌, ◌++◌, ◌∷◌, [], OnOk};
 ghost use Rattle.garde_report.specs.Report.{messages_under};
 ghost use Rattle.garde_html.specs.Form.{typed_text};
-ghost use Rattle.garde_html.specs.Controls.{box_pieces, boxes_pieces, checked_mark, control_pieces, field_pieces, fields_pieces, group_pieces, invalid_pieces, is_faulty, label_pieces, line_pieces, list_pieces, messages_pieces, names_pieces, value_pieces};
+ghost use Rattle.garde_html.specs.Controls.{begin_pieces, box_pieces, boxes_pieces, control_pieces, field_pieces, fields_pieces, group_pieces, is_faulty, label_pieces, line_pieces, list_pieces, messages_pieces, names_pieces, rest_pieces, value_pieces};
 
 use crate::faults::field_faults;
 use crate::form::{Control, Field, is_checked, typed_text};
+use crate::marks::{REQUIRED, mark, put_end, put_hint, put_marks};
 use crate::page::Page;
 use crate::page::Piece::{Markup, Text};
 use garde_report::Report;
@@ -22,17 +23,15 @@ const LABEL: &str = "<label for=\"field-";
 
 const LABEL_TEXT: &str = "\">";
 
-const INPUT: &str = "</label>\n<input id=\"field-";
+const LABEL_END: &str = "</label>\n";
+
+const INPUT: &str = "<input id=\"field-";
 
 const NAME: &str = "\" name=\"";
 
 const TYPE: &str = "\" dir=\"auto\" type=\"";
 
 const VALUE: &str = "\" value=\"";
-
-const INVALID: &str = "\" aria-invalid=\"true\" aria-describedby=\"faults-";
-
-const CONTROL_END: &str = "\">";
 
 const GROUP: &str = "<fieldset id=\"field-";
 
@@ -45,8 +44,6 @@ const GROUP_END: &str = "</fieldset>";
 const BOX: &str = "<label><input type=\"checkbox\" name=\"";
 
 const CHECKED: &str = "\" checked=\"";
-
-const UNCHECKED: &str = "";
 
 const BOX_TEXT: &str = " ";
 
@@ -69,17 +66,6 @@ fn is_faulty(report: &Report, field: &Field<'_>) -> bool
     field_faults(report, &field.name).next().is_some()
 }
 
-// Ends a control. It names the faults beside it, if there are any.
-fn put_end<'a>(page: &mut Page<'a>, name: &'a str, faulty: bool) -> Result<(), AllocError>
-    ensures { OnOk result (page.new ≡ page.old ++ invalid_pieces name.now faulty) }
-{
-    if faulty {
-        page.put(&[Markup(INVALID), Text(name), Markup(CONTROL_END)])
-    } else {
-        page.put(&[Markup(CONTROL_END)])
-    }
-}
-
 // The label of a line.
 fn put_label<'a>(page: &mut Page<'a>, field: &'a Field<'a>) -> Result<(), AllocError>
     ensures { OnOk result (page.new ≡ page.old ++ label_pieces field.now) }
@@ -89,6 +75,7 @@ fn put_label<'a>(page: &mut Page<'a>, field: &'a Field<'a>) -> Result<(), AllocE
         Text(field.name),
         Markup(LABEL_TEXT),
         Text(field.label),
+        Markup(LABEL_END),
     ])
 }
 
@@ -99,19 +86,28 @@ fn put_names<'a>(page: &mut Page<'a>, name: &'a str) -> Result<(), AllocError>
     page.put(&[Markup(INPUT), Text(name), Markup(NAME), Text(name)])
 }
 
-// What a visitor fills in, with this text in it.
-fn put_value<'a>(
-    page: &mut Page<'a>,
-    name: &'a str,
-    kind: &'a str,
-    text: &'a str,
-    faulty: bool,
-) -> Result<(), AllocError>
-    ensures { OnOk result (page.new
-        ≡ page.old ++ value_pieces name.now kind.now text.now faulty) }
+// What stands of a line before its type.
+fn put_begin<'a>(page: &mut Page<'a>, field: &'a Field<'a>) -> Result<(), AllocError>
+    ensures { OnOk result (page.new ≡ page.old ++ begin_pieces field.now) }
 {
-    page.put(&[Markup(TYPE), Text(kind), Markup(VALUE), Text(text)])?;
-    put_end(page, name, faulty)
+    put_label(page, field)?;
+    put_hint(page, field)?;
+    put_names(page, field.name)
+}
+
+// What stands of a line behind its text.
+fn put_rest<'a>(page: &mut Page<'a>, field: &'a Field<'a>, faulty: bool) -> Result<(), AllocError>
+    ensures { OnOk result (page.new ≡ page.old ++ rest_pieces field.now faulty) }
+{
+    put_marks(page, field)?;
+    put_end(page, field, faulty)
+}
+
+// The type and the text of a line.
+fn put_value<'a>(page: &mut Page<'a>, kind: &'a str, text: &'a str) -> Result<(), AllocError>
+    ensures { OnOk result (page.new ≡ page.old ++ value_pieces kind.now text.now) }
+{
+    page.put(&[Markup(TYPE), Text(kind), Markup(VALUE), Text(text)])
 }
 
 // A line with this text in it.
@@ -124,9 +120,9 @@ fn put_line<'a>(
 ) -> Result<(), AllocError>
     ensures { OnOk result (page.new ≡ page.old ++ line_pieces field.now kind.now text.now faulty) }
 {
-    put_label(page, field)?;
-    put_names(page, field.name)?;
-    put_value(page, field.name, kind, text, faulty)
+    put_begin(page, field)?;
+    put_value(page, kind, text)?;
+    put_rest(page, field, faulty)
 }
 
 // A line with what was typed in it.
@@ -143,48 +139,47 @@ fn put_typed<'a>(
     put_line(page, field, kind, typed_text(typed, field.name), faulty)
 }
 
-// What stands behind the text of a box.
-fn checked_mark(checked: bool) -> &'static str
-    ensures { result.now ≡ checked_mark checked }
-{
-    if checked { CHECKED } else { UNCHECKED }
-}
-
 // A box to check.
 fn put_box<'a>(
     page: &mut Page<'a>,
-    name: &'a str,
+    field: &'a Field<'a>,
     one: &'a (&'a str, &'a str),
     checked: bool,
     faulty: bool,
 ) -> Result<(), AllocError>
-    ensures { OnOk result (page.new ≡ page.old ++ box_pieces name.now one.now checked faulty) }
+    ensures { OnOk result (page.new ≡ page.old ++ box_pieces field.now one.now checked faulty) }
 {
-    let mark = checked_mark(checked);
     page.put(&[
         Markup(BOX),
-        Text(name),
+        Text(field.name),
         Markup(VALUE),
         Text(one.0),
-        Markup(mark),
+        Markup(mark(CHECKED, checked)),
+        Markup(mark(REQUIRED, field.required)),
     ])?;
-    put_end(page, name, faulty)?;
+    put_end(page, field, faulty)?;
     page.put(&[Markup(BOX_TEXT), Text(one.1), Markup(BOX_END)])
 }
 
 // The boxes of a field.
 fn put_boxes<'a>(
     page: &mut Page<'a>,
-    name: &'a str,
+    field: &'a Field<'a>,
     boxes: &'a [(&'a str, &'a str)],
     typed: Typed<'a>,
     faulty: bool,
 ) -> Result<(), AllocError>
     ensures { OnOk result (page.new
-        ≡ page.old ++ boxes_pieces name.now typed.now faulty boxes.now) }
+        ≡ page.old ++ boxes_pieces field.now typed.now faulty boxes.now) }
 {
     for one in boxes {
-        put_box(page, name, one, is_checked(typed, name, one.0), faulty)?;
+        put_box(
+            page,
+            field,
+            one,
+            is_checked(typed, field.name, one.0),
+            faulty,
+        )?;
     }
     Ok(())
 }
@@ -200,15 +195,15 @@ fn put_group<'a>(
     ensures { OnOk result (page.new
         ≡ page.old ++ group_pieces field.now typed.now faulty boxes.now) }
 {
-    let name = field.name;
     page.put(&[
         Markup(GROUP),
-        Text(name),
+        Text(field.name),
         Markup(LEGEND),
         Text(field.label),
         Markup(LEGEND_END),
     ])?;
-    put_boxes(page, name, boxes, typed, faulty)?;
+    put_hint(page, field)?;
+    put_boxes(page, field, boxes, typed, faulty)?;
     page.put(&[Markup(GROUP_END)])
 }
 

@@ -24,7 +24,9 @@ const STYLE_END: &str = "</style>\n</head>\n<body>\n<main>\n<h1>";
 
 const HEADING_END: &str = "</h1>\n";
 
-const FORM: &str = "<form method=\"post\" novalidate>\n";
+const FORM: &str = "<form method=\"post\" action=\"";
+
+const FORM_END: &str = "\" novalidate>\n";
 
 const SEND: &str = "<button>";
 
@@ -90,7 +92,7 @@ pub fn form_page<'a>(
     let mut page = Page::new(alloc);
     put_head(&mut page, form, title_of(form, report))?;
     put_summary(alloc, &mut page, form, report)?;
-    page.put(&[Markup(FORM)])?;
+    page.put(&[Markup(FORM), Text(form.action), Markup(FORM_END)])?;
     put_fields(&mut page, form.fields, typed, report)?;
     page.put(&[Markup(SEND), Text(form.send), Markup(END)])?;
     Ok(page)

@@ -21,6 +21,15 @@ pub struct Field<'a> {
     pub name: &'a str,
     /// What a visitor reads beside it.
     pub label: &'a str,
+    /// What a visitor should know beforehand, as which texts are taken.
+    pub hint: Option<&'a str>,
+    /// What a browser may fill in, by a name of HTML, as `email` or `new-password`. Boxes do not say it.
+    pub autocomplete: Option<&'a str>,
+    /// Which keys a screen shows, as `numeric`, where the type of the line does not say it.
+    pub inputmode: Option<&'a str>,
+    /// Whether it is a fault to leave the field empty; of boxes, whether each has to be checked. A screen
+    /// reader says so, and a browser holds no form back.
+    pub required: bool,
     pub control: Control<'a>,
 }
 
@@ -37,6 +46,8 @@ pub struct Form<'a> {
     pub faulty_title: &'a str,
     /// What stands above the list of all faults.
     pub summary: &'a str,
+    /// The address that takes the form. It has no fragment: one would take the focus off the faults.
+    pub action: &'a str,
     /// What the button says.
     pub send: &'a str,
     /// The fields, in their order on the page. No two have one name.

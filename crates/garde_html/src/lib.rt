@@ -7,6 +7,7 @@ mod document;
 mod faults;
 mod form;
 pub mod laws;
+mod marks;
 mod page;
 mod style;
 mod summary;

@@ -8,134 +8,128 @@ use garde_form::FormField;
 use garde_html::{Control, Field, Form, form_page};
 use std::alloc::{AllocError, Global};
 
-const ENGLISH_FIELDS: &[Field<'static>] = &[
-    Field {
-        name: "name",
-        label: "Name",
-        control: Control::Line("text"),
-    },
-    Field {
-        name: "username",
-        label: "Username",
-        control: Control::Line("text"),
-    },
-    Field {
-        name: "password",
-        label: "Password",
-        control: Control::Password,
-    },
-    Field {
-        name: "password_again",
-        label: "Password, once more",
-        control: Control::Password,
-    },
-    Field {
-        name: "age",
-        label: "Age",
-        control: Control::Line("text"),
-    },
-    Field {
-        name: "phone",
-        label: "Phone, if you like",
-        control: Control::Line("tel"),
-    },
-    Field {
-        name: "topics",
-        label: "Topics",
-        control: Control::Boxes(&[("news", "News"), ("events", "Events")]),
-    },
-    Field {
-        name: "terms",
-        label: "Terms",
-        control: Control::Boxes(&[("on", "I accept the terms")]),
-    },
-];
+/// The fields with these labels, hints and texts of boxes. An empty text of those that are required is a
+/// fault, and so is a box of them that is not checked.
+macro_rules! fields {
+    (
+        $name:literal,
+        $username:literal($letters:literal),
+        $password:literal($length:literal),
+        $password_again:literal,
+        $age:literal($ages:literal),
+        $phone:literal($number:literal),
+        $topics:literal($news:literal, $events:literal),
+        $terms:literal($accepted:literal)
+    ) => {
+        &[
+            Field {
+                name: "name",
+                label: $name,
+                hint: None,
+                autocomplete: Some("name"),
+                inputmode: None,
+                required: true,
+                control: Control::Line("text"),
+            },
+            Field {
+                name: "username",
+                label: $username,
+                hint: Some($letters),
+                autocomplete: Some("username"),
+                inputmode: None,
+                required: true,
+                control: Control::Line("text"),
+            },
+            Field {
+                name: "password",
+                label: $password,
+                hint: Some($length),
+                autocomplete: Some("new-password"),
+                inputmode: None,
+                required: true,
+                control: Control::Password,
+            },
+            Field {
+                name: "password_again",
+                label: $password_again,
+                hint: None,
+                autocomplete: Some("new-password"),
+                inputmode: None,
+                required: true,
+                control: Control::Password,
+            },
+            Field {
+                name: "age",
+                label: $age,
+                hint: Some($ages),
+                autocomplete: None,
+                inputmode: Some("numeric"),
+                required: true,
+                control: Control::Line("text"),
+            },
+            Field {
+                name: "phone",
+                label: $phone,
+                hint: Some($number),
+                autocomplete: Some("tel"),
+                inputmode: None,
+                required: false,
+                control: Control::Line("tel"),
+            },
+            Field {
+                name: "topics",
+                label: $topics,
+                hint: None,
+                autocomplete: None,
+                inputmode: None,
+                required: false,
+                control: Control::Boxes(&[("news", $news), ("events", $events)]),
+            },
+            Field {
+                name: "terms",
+                label: $terms,
+                hint: None,
+                autocomplete: None,
+                inputmode: None,
+                required: true,
+                control: Control::Boxes(&[("on", $accepted)]),
+            },
+        ]
+    };
+}
 
-const CZECH_FIELDS: &[Field<'static>] = &[
-    Field {
-        name: "name",
-        label: "Jméno",
-        control: Control::Line("text"),
-    },
-    Field {
-        name: "username",
-        label: "Uživatelské jméno",
-        control: Control::Line("text"),
-    },
-    Field {
-        name: "password",
-        label: "Heslo",
-        control: Control::Password,
-    },
-    Field {
-        name: "password_again",
-        label: "Heslo ještě jednou",
-        control: Control::Password,
-    },
-    Field {
-        name: "age",
-        label: "Věk",
-        control: Control::Line("text"),
-    },
-    Field {
-        name: "phone",
-        label: "Telefon, není nutný",
-        control: Control::Line("tel"),
-    },
-    Field {
-        name: "topics",
-        label: "Témata",
-        control: Control::Boxes(&[("news", "Zprávy"), ("events", "Akce")]),
-    },
-    Field {
-        name: "terms",
-        label: "Podmínky",
-        control: Control::Boxes(&[("on", "Souhlasím s podmínkami")]),
-    },
-];
+const ENGLISH_FIELDS: &[Field<'static>] = fields!(
+    "Name",
+    "Username"("3 to 25 letters and digits"),
+    "Password"("12 to 128 characters"),
+    "Password, once more",
+    "Age"("From 18 to 120"),
+    "Phone, if you like"("Begins with +, as +420777123456"),
+    "Topics"("News", "Events"),
+    "Terms"("I accept the terms")
+);
 
-const ARABIC_FIELDS: &[Field<'static>] = &[
-    Field {
-        name: "name",
-        label: "الاسم",
-        control: Control::Line("text"),
-    },
-    Field {
-        name: "username",
-        label: "اسم المستخدم",
-        control: Control::Line("text"),
-    },
-    Field {
-        name: "password",
-        label: "كلمة المرور",
-        control: Control::Password,
-    },
-    Field {
-        name: "password_again",
-        label: "كلمة المرور مرة أخرى",
-        control: Control::Password,
-    },
-    Field {
-        name: "age",
-        label: "العمر",
-        control: Control::Line("text"),
-    },
-    Field {
-        name: "phone",
-        label: "الهاتف (اختياري)",
-        control: Control::Line("tel"),
-    },
-    Field {
-        name: "topics",
-        label: "المواضيع",
-        control: Control::Boxes(&[("news", "الأخبار"), ("events", "الفعاليات")]),
-    },
-    Field {
-        name: "terms",
-        label: "الشروط",
-        control: Control::Boxes(&[("on", "أوافق على الشروط")]),
-    },
-];
+const CZECH_FIELDS: &[Field<'static>] = fields!(
+    "Jméno",
+    "Uživatelské jméno"("3 až 25 písmen a číslic"),
+    "Heslo"("12 až 128 znaků"),
+    "Heslo ještě jednou",
+    "Věk"("Od 18 do 120"),
+    "Telefon, není nutný"("Začíná znakem +, jako +420777123456"),
+    "Témata"("Zprávy", "Akce"),
+    "Podmínky"("Souhlasím s podmínkami")
+);
+
+const ARABIC_FIELDS: &[Field<'static>] = fields!(
+    "الاسم",
+    "اسم المستخدم"("من 3 إلى 25 حرفًا أو رقمًا"),
+    "كلمة المرور"("من 12 إلى 128 رمزًا"),
+    "كلمة المرور مرة أخرى",
+    "العمر"("من 18 إلى 120"),
+    "الهاتف (اختياري)"("يبدأ بالرمز \u{200e}+، مثل \u{200e}+420777123456"),
+    "المواضيع"("الأخبار", "الفعاليات"),
+    "الشروط"("أوافق على الشروط")
+);
 
 /// The form in English.
 pub const ENGLISH_PAGE: Form<'static> = Form {
@@ -144,6 +138,7 @@ pub const ENGLISH_PAGE: Form<'static> = Form {
     title: "Sign up",
     faulty_title: "Please correct: Sign up",
     summary: "Please correct",
+    action: "/",
     send: "Sign up",
     fields: ENGLISH_FIELDS,
 };
@@ -155,6 +150,7 @@ pub const CZECH_PAGE: Form<'static> = Form {
     title: "Registrace",
     faulty_title: "Opravte prosím: Registrace",
     summary: "Opravte prosím",
+    action: "/",
     send: "Registrovat",
     fields: CZECH_FIELDS,
 };
@@ -166,6 +162,7 @@ pub const ARABIC_PAGE: Form<'static> = Form {
     title: "التسجيل",
     faulty_title: "يُرجى التصحيح: التسجيل",
     summary: "يُرجى التصحيح",
+    action: "/",
     send: "تسجيل",
     fields: ARABIC_FIELDS,
 };

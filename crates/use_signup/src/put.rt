@@ -13,7 +13,7 @@ use std::alloc::{AllocError, Global};
 pub const PAGE_TYPE: &str = "text/html; charset=utf-8";
 
 /// Says what a browser does not do with a page: it loads nothing for it and frames it nowhere, guesses no
-/// other type, tells no other site of it, and keeps no copy.
+/// other type, names it to no other site, and keeps no copy.
 fn put_guards(response: &mut Response) -> Result<(), AllocError>
     ensures headers { OnOk result (fields_of response.new ≡ fields_of response.old ++ guard_fields) }
     ensures status { response.new.status ≡ response.old.status }

@@ -31,6 +31,16 @@ LISTS = ("topics",)
 WORDS = {it[0]: it[1:] for it in re.findall(r"^\| `(\w+)` \| ([^|]+) \| ([^|]+) \|$", repository.text_of("crates/use_signup/README.md"), re.MULTILINE)}
 NAMES = ("name", "username", "password", "password_again", "age", "phone", "topics", "terms")
 KINDS = {"password": "password", "password_again": "password", "phone": "tel"}
+# What a browser is told of the fields, whatever the language is.
+TOLD = {
+    "name": {"autocomplete": "name"},
+    "username": {"autocomplete": "username"},
+    "password": {"autocomplete": "new-password"},
+    "password_again": {"autocomplete": "new-password"},
+    "age": {"inputmode": "numeric"},
+    "phone": {"autocomplete": "tel"},
+}
+OPTIONAL = ("phone", "topics")
 SERVE = ("--serve", "--no-date")
 TEXTS = [it.decode() for it in LISTED["texts of a web form"]]
 # Pieces of bodies as no browser sends them.
@@ -94,7 +104,8 @@ def form_of(tag):
 
     def field(name):
         boxes = tuple((key.partition("=")[2], label) for key, label in said.items() if key.startswith(f"{name}="))
-        return pages.Field(name, said[name], KINDS.get(name, "text"), boxes)
+        told = {"hint": said.get(f"{name}?", ""), "required": name not in OPTIONAL, **TOLD.get(name, {})}
+        return pages.Field(name, said[name], KINDS.get(name, "text"), boxes, **told)
 
     texts = (said[it] for it in ("title", "faulty_title", "summary", "send"))
     return pages.Form(tag, *texts, tuple(map(field, NAMES)), said["direction"])

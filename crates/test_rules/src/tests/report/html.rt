@@ -118,21 +118,34 @@ static FORM: Form<'static> = Form {
     title: "Sign & up",
     faulty_title: "Faults",
     summary: "What is wrong",
+    action: "/sign?up",
     send: "Send",
     fields: &[
         Field {
             name: "name",
             label: "Name",
+            hint: Some("Letters & digits"),
+            autocomplete: Some("name"),
+            inputmode: None,
+            required: true,
             control: Control::Line("text"),
         },
         Field {
             name: "key",
             label: "Key",
+            hint: None,
+            autocomplete: Some("new-password"),
+            inputmode: Some("numeric"),
+            required: false,
             control: Control::Password,
         },
         Field {
             name: "topics",
             label: "Topics",
+            hint: Some("<"),
+            autocomplete: None,
+            inputmode: None,
+            required: true,
             control: Control::Boxes(&[("news", "News"), ("<", "Less")]),
         },
     ],
@@ -149,19 +162,21 @@ static TYPED: [(&str, &str); 5] = [
 
 /// What stands on a page behind its style, up to its end.
 const PLAIN: &str = "<h1>Sign &amp; up</h1>
-<form method=\"post\" novalidate>
+<form method=\"post\" action=\"/sign?up\" novalidate>
 <div class=\"field\">
 <label for=\"field-name\">Name</label>
-<input id=\"field-name\" name=\"name\" dir=\"auto\" type=\"text\" value=\"&quot;&gt;&lt;img src=x&gt;\">
+<p class=\"hint\" id=\"hint-name\">Letters &amp; digits</p>
+<input id=\"field-name\" name=\"name\" dir=\"auto\" type=\"text\" value=\"&quot;&gt;&lt;img src=x&gt;\" autocomplete=\"name\" aria-required=\"true\" aria-describedby=\"hint-name\">
 </div>
 <div class=\"field\">
 <label for=\"field-key\">Key</label>
-<input id=\"field-key\" name=\"key\" dir=\"auto\" type=\"password\" value=\"\">
+<input id=\"field-key\" name=\"key\" dir=\"auto\" type=\"password\" value=\"\" autocomplete=\"new-password\" inputmode=\"numeric\">
 </div>
 <div class=\"field\">
 <fieldset id=\"field-topics\" tabindex=\"-1\"><legend>Topics</legend>
-<label><input type=\"checkbox\" name=\"topics\" value=\"news\"> News</label>
-<label><input type=\"checkbox\" name=\"topics\" value=\"&lt;\" checked=\"\"> Less</label>
+<p class=\"hint\" id=\"hint-topics\">&lt;</p>
+<label><input type=\"checkbox\" name=\"topics\" value=\"news\" aria-required=\"true\" aria-describedby=\"hint-topics\"> News</label>
+<label><input type=\"checkbox\" name=\"topics\" value=\"&lt;\" checked=\"\" aria-required=\"true\" aria-describedby=\"hint-topics\"> Less</label>
 </fieldset>
 </div>
 <button>Send</button>
@@ -184,10 +199,11 @@ const FAULTY: &str = "<h1>Sign &amp; up</h1>
 <li><bdi>x</bdi>: deep</li>
 </ul>
 </div>
-<form method=\"post\" novalidate>
+<form method=\"post\" action=\"/sign?up\" novalidate>
 <div class=\"field\">
 <label for=\"field-name\">Name</label>
-<input id=\"field-name\" name=\"name\" dir=\"auto\" type=\"text\" value=\"&quot;&gt;&lt;img src=x&gt;\" aria-invalid=\"true\" aria-describedby=\"faults-name\">
+<p class=\"hint\" id=\"hint-name\">Letters &amp; digits</p>
+<input id=\"field-name\" name=\"name\" dir=\"auto\" type=\"text\" value=\"&quot;&gt;&lt;img src=x&gt;\" autocomplete=\"name\" aria-required=\"true\" aria-invalid=\"true\" aria-describedby=\"hint-name faults-name\">
 <ul class=\"faults\" id=\"faults-name\">
 <li>short</li>
 <li>not ASCII</li>
@@ -195,12 +211,13 @@ const FAULTY: &str = "<h1>Sign &amp; up</h1>
 </div>
 <div class=\"field\">
 <label for=\"field-key\">Key</label>
-<input id=\"field-key\" name=\"key\" dir=\"auto\" type=\"password\" value=\"\">
+<input id=\"field-key\" name=\"key\" dir=\"auto\" type=\"password\" value=\"\" autocomplete=\"new-password\" inputmode=\"numeric\">
 </div>
 <div class=\"field\">
 <fieldset id=\"field-topics\" tabindex=\"-1\"><legend>Topics</legend>
-<label><input type=\"checkbox\" name=\"topics\" value=\"news\" aria-invalid=\"true\" aria-describedby=\"faults-topics\"> News</label>
-<label><input type=\"checkbox\" name=\"topics\" value=\"&lt;\" checked=\"\" aria-invalid=\"true\" aria-describedby=\"faults-topics\"> Less</label>
+<p class=\"hint\" id=\"hint-topics\">&lt;</p>
+<label><input type=\"checkbox\" name=\"topics\" value=\"news\" aria-required=\"true\" aria-invalid=\"true\" aria-describedby=\"hint-topics faults-topics\"> News</label>
+<label><input type=\"checkbox\" name=\"topics\" value=\"&lt;\" checked=\"\" aria-required=\"true\" aria-invalid=\"true\" aria-describedby=\"hint-topics faults-topics\"> Less</label>
 </fieldset>
 <ul class=\"faults\" id=\"faults-topics\">
 <li>not known</li>
