@@ -86,10 +86,10 @@ static void try_value(const uint8_t *body, size_t body_len, size_t room, int sta
   drop(&all);
 }
 
-/* The details as nodes: there where the room has the details as a whole. */
+/* The faults as nodes, whose texts lie in no body, and the details as text where there is room for a byte. */
 static void try_faults(const uint8_t *body, size_t body_len, size_t most, const uint8_t *language, size_t language_len, const uint8_t *details,
                        size_t details_len, int status) {
-  for (size_t room = details_len - (details_len > 0); room <= details_len; room++) {
+  for (size_t room = 0; room <= details_len; room += details_len / 2 + 1) {
     value few = room_of(0, 0);
     uint8_t *out = malloc(room + !room);
     size_t len = 9, places = 9;
@@ -99,9 +99,9 @@ static void try_faults(const uint8_t *body, size_t body_len, size_t most, const 
     value all = room_of(few.nodes_used, few.texts_used);
     order_faults_with(&kept, body, body_len, most, language, language_len, out, room, &len, all.nodes, all.nodes_len, &all.nodes_used, all.texts,
                       all.texts_len, &all.texts_used, &none, 0, &places);
-    expect(found == status && len == details_len && few.nodes_used == all.nodes_used && !memcmp(out, details, room));
-    expect((all.nodes_used > 0) == (room == details_len && room > 0));
-    if (all.nodes_used) expect(walk(&all, 0, out, room, 0) == all.nodes_used);
+    expect(found == status && len == (room ? details_len : 0) && few.nodes_used == all.nodes_used && !memcmp(out, details, room));
+    expect((all.nodes_used > 0) == (details_len > 0));
+    if (all.nodes_used) expect(walk(&all, 0, out, 0, 0) == all.nodes_used);
     drop(&few);
     drop(&all);
     free(out);

@@ -46,15 +46,16 @@ static faults faults_of(order_checker *checker, const char *body, size_t room, s
   return got;
 }
 
-/* The details of a faulty order as nodes, where `out` has room for all of them. */
+/* The details of a faulty order as nodes, and as text where `out` has room for a byte. */
 static void try_fault_nodes(void) {
   answer whole = checked(NULL, BAD, SIZE_MAX);
   order_checker checker = ORDER_CHECKER_EMPTY;
-  for (size_t room = whole.len - 1; room <= whole.len; room++) {
+  for (size_t room = 0; room <= whole.len; room++) {
     faults got = faults_of(&checker, BAD, room, 0);
-    expect(got.status == ORDER_FAULTS && got.len == whole.len && !memcmp(got.out, whole.text, room), "the details are those of order_check");
-    expect((got.used > 0) == (room == whole.len), "there are nodes where the details fit");
-    if (!got.used) continue;
+    expect(got.status == ORDER_FAULTS && got.len == (room ? whole.len : 0) && !memcmp(got.out, whole.text, room), "the details are those of order_check");
+    expect(got.out[room] == 0, "nothing is written behind the details");
+    for (size_t i = 0; i < got.used; i++)
+      expect(got.nodes[i].kind != ORDER_NODE_TEXT || (got.nodes[i].in_texts && got.nodes[i].value + got.nodes[i].len <= got.texts_used), "a text of a fault lies among the texts");
     expect(got.nodes[0].kind == ORDER_NODE_OBJECT && got.nodes[0].value == 3, "the details have three members");
     expect(got.nodes[4].kind == ORDER_NODE_WHOLE && got.nodes[4].value == 422, "the details have their status");
     expect(got.nodes[6].kind == ORDER_NODE_LIST && got.nodes[6].value == 4, "the details have four faults");

@@ -25,7 +25,7 @@ extern "C" {
 #endif
 
 /* The version of the interface that this header describes. */
-#define ORDER_VERSION 3u
+#define ORDER_VERSION 4u
 
 /* There is no fault. */
 #define ORDER_VALID 0
@@ -166,11 +166,11 @@ uint8_t order_value_with(order_checker *checker,
                          size_t *texts_used);
 
 /* Does what `order_check_with` does, and hands over the details as nodes too, as `order_value_with` does:
- * their texts lie in `out` or in `texts`. The value is an object. Its last member is `errors`, a list with
- * an object for each fault: `pointer`, `detail`, `code` and `params`, in this order.
+ * their texts lie in `texts`. The value is an object. Its last member is `errors`, a list with an object for
+ * each fault: `pointer`, `detail`, `code` and `params`, in this order.
  *
- * There are nodes only where `out` has room for the details as a whole. Where it has not, or where there
- * are no details, `nodes_used` and `texts_used` are 0.
+ * Give `out_len` 0 if you do not ask for the details as text: then they are not written, and `len` is 0. Where
+ * there are no details, `nodes_used` and `texts_used` are 0.
  *
  * Of ORDER_FAULTS `places` gets where in the body each fault is, in the order of `errors`, as far as it has
  * room, and `places_used` says how many faults there are. Give `places_len` 0 if you do not ask: then

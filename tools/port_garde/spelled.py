@@ -89,7 +89,7 @@ class Spellings(Forms):
             notes.refuse(item.line if item else 1, f"the {'body' if self.writer.is_library else 'type'} `{self.body}`: there is no type of that name which derives `Deserialize` and `Validate`")
             return
         for it in self.schema.order(item):
-            if it.name in ("Body", "Spelled", "ReadBody"):
+            if it.name in ("Body", "Spelled", "ReadBody", "ReadTree"):
                 notes.refuse(it.line, f"the name `{it.name}`, which `--body` writes")
 
     def texts(self):
@@ -110,11 +110,12 @@ class Spellings(Forms):
         if self.writer.input != "json" or self.writer.context_of(item) or not borrows:
             spelling, is_under = self.spelling_of(item, item.name + (STATIC if self.turned[item.name].params else ""), ".now")
             return Reader(self.schema, item).text(f"({spelling})" if is_under else spelling, self.writer.context_of(item))
-        self.schema.use("read_json_first", "FormI18n", "FirstReadError", "ReadBody", "Scratch")
-        self.writer.uses.others |= {"std::alloc::Global", "garde::I18n", "garde::Valid"}
+        is_tree = self.writer.is_tree
+        self.schema.use("FormI18n", *(("read_first", "Tree") if is_tree else ("read_json_first", "FirstReadError", "ReadBody", "Scratch")))
+        self.writer.uses.others |= {"std::alloc::Global", "garde::I18n", "garde::Valid", *(("garde::FirstError", "garde_library::ReadTree") if is_tree else ())}
         name, made = self.schema.names_of(item)
         head = fill("head of a library", words=name.replace("_", " "), made=made) + "\n\n" if self.writer.is_library else ""
-        return head + fill("body", made=made, name=name, forms=self.schema.forms(item, 8))
+        return head + fill("body of a library" if is_tree else "body", made=made, name=name, forms=self.schema.forms(item, 8))
 
     def statement(self, item):
         self.writer.item = item

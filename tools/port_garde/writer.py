@@ -34,16 +34,16 @@ class Writer:
     """Writes what stands for a source. `module` is the path of what is written, `own` that of the rules of one's own, and
     `leave_out` are the derives and attributes that are left out without a word. With `no_walk` types that a form reads have no walk.
     `body` is the type that a static library checks, and `spelled` one of which JSON spells what a program reads: then they have none.
-    What reads reports the `first` faults alone, or all. What is spelled is read from an `input`: JSON, a web form or rows. The types and the
+    A `library` judges the tree of a body. What reads reports the `first` faults alone, or all. What is spelled is read from an `input`: JSON, a web form or rows. The types and the
     variants that are `taken` have names that stand for something else in what is written."""
 
-    def __init__(self, source, module=None, own=None, leave_out=(), schema=False, no_walk=False, body=None, first=False, spelled=None, input="json", taken=()):
-        self.given = (module, own, leave_out, schema, no_walk, body, first, spelled, input)
+    def __init__(self, source, module=None, own=None, leave_out=(), schema=False, no_walk=False, body=None, first=False, spelled=None, input="json", library=False, taken=()):
+        self.given = (module, own, leave_out, schema, no_walk, body, first, spelled, input, library)
         self.source, self.module, self.own, self.first, self.input = source, module, own, first, input
         self.taken, self.clashes = frozenset(taken), set()
         front = Front(source, bool(schema or body or spelled), body or spelled, self.taken)
         front.turn()
-        self.checked, self.is_library = front.called(body or spelled), body is not None
+        self.checked, self.is_library, self.is_tree = front.called(body or spelled), body is not None, library
         quoted = quoted_of(source, self.checked) if spelled else {}
         self.borrowed = Borrowed(source, leave_out, bool(self.checked), not no_walk, spelled is not None, input, own, self.checked) if schema or self.checked else None
         self.unwalked = self.borrowed.unwalked() if self.checked or schema and no_walk else set()

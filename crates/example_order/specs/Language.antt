@@ -12,8 +12,8 @@ use Rattle.garde_library.specs.declared.node.Node.{Node}
 use Rattle.garde_library.specs.declared.place.Place.{Place}
 use Rattle.garde_library.specs.declared.status.Status.TheVariants.{Valid, Memory}
 use Rattle.garde_library.specs.Checked.{IsChecked, IsListed, IsVerdict}
-use Rattle.garde_library.specs.Places.{IsCheckedWithPlaces}
-use Rattle.garde_library.specs.Value.{AreDetails, IsGivenAs, IsNotGiven}
+use Rattle.garde_library.specs.Faults.{IsCheckedWithNodes}
+use Rattle.garde_library.specs.Value.{IsGivenAs, IsNotGiven}
 use Rattle.garde_schema.specs.Spelling.{Spelling, SpellsValid}
 use Rattle.example_order.specs.declared.language.Language.{Language}
 use Rattle.example_order.specs.declared.language.Language.TheVariants.{English, Czech}
@@ -66,17 +66,10 @@ IsValueOf spelling rules body old new count old' new' len status =
     ((judged : Status) × IsOrder spelling rules body judged × IsGivenAs judged body old new count old' new' len status)
     ⊎ ((status ≡ Memory) × IsNotGiven old new count old' new' len)
 
--- The same as `IsCheckedIn`, and the places of the faults were handed over.
-abbrev pub IsPlacedIn : {A C : Type 0} → Spelling A → (A → C → Visits) → Language → ℕ → List ℕ → List ℕ → List ℕ → ℕ
-    → List Place → List Place → ℕ → Status → Type 0
-IsPlacedIn spelling rules language most body out out' size places places' found status =
-    IsCheckedWithPlaces (λ j. spelling.visits (form_texts language) j) (rule_texts language) most TITLE.now body out out' size places places' found status
-    × (status ≡ Valid → SpellsValid spelling rules body)
-
--- These bytes were handed the answer to the bytes of a body, with the places of the faults, and the details of the answer were handed over as
--- nodes too; or memory ran out, and the length of the details and the numbers of places and nodes are 0.
+-- These were handed the faults of the bytes of a body: the text of the details, their nodes, and the places.
 abbrev pub AreFaultsIn : {A C : Type 0} → Spelling A → (A → C → Visits) → Language → ℕ → List ℕ → List ℕ → List ℕ → ℕ
-    → List Place → List Place → ℕ → List Node → List Node → ℕ → List ℕ → List ℕ → ℕ → Status → Type 0
-AreFaultsIn spelling rules language most body out out' size places places' found old new count old' new' len status =
-    (IsPlacedIn spelling rules language most body out out' size places places' found status × AreDetails out' size old new count old' new' len)
-    ⊎ ((status ≡ Memory) × (size ≡ 0) × (found ≡ 0) × IsNotGiven old new count old' new' len)
+    → List Node → List Node → ℕ → List ℕ → List ℕ → ℕ → List Place → List Place → ℕ → Status → Type 0
+AreFaultsIn spelling rules language most body out out' size nodes nodes' count texts texts' len places places' found status =
+    IsCheckedWithNodes (λ j. spelling.visits (form_texts language) j) (rule_texts language) most TITLE.now body out out' size
+    nodes nodes' count texts texts' len places places' found status
+    × (status ≡ Valid → SpellsValid spelling rules body)

@@ -4,10 +4,11 @@ ghost use Rattle.garde.specs.Fields.{◌and◌, between, chars, count, each, fie
 ghost use Rattle.garde_schema.specs.Spelling.{a_list_of, a_number, a_text, an_object, closed, made, member, two, u32_numbers};
 
 use garde::fields::{Is, Prefix};
-use garde::{I18n, Stated, Valid, length, range};
+use garde::{FirstError, I18n, Stated, Valid, length, range};
+use garde_library::ReadTree;
 use garde_schema::{
-    Built, Closed, FirstReadError, FormI18n, FromParts, Items, ListUnder, Member, Object, ReadBody,
-    Scratch, Spelled, Text, TextRef, U32, Whole, read_json_first,
+    Built, Closed, FormI18n, FromParts, Items, ListUnder, Member, Object, Spelled, Text, TextRef,
+    Tree, U32, Whole, read_first,
 };
 use std::alloc::Global;
 use std::marker::PhantomData;
@@ -95,14 +96,13 @@ pub const TITLE: &str = "the order has faults";
 pub type Body<'a> = Order<'a>;
 
 #[tactic(auto, unfolding(garde::specs::Fields::Known))]
-impl<'a> ReadBody<'a> for Order<'a> {
-    fn read_body<H: I18n + FormI18n>(
+impl<'a> ReadTree<'a> for Order<'a> {
+    fn read_tree<'t, H: I18n + FormI18n>(
         alloc: Global,
-        bytes: &'a [u8],
-        scratch: &'a mut Scratch,
+        tree: &Tree<'t, 'a>,
         most: usize,
         h: &H,
-    ) -> Result<Order<'a>, FirstReadError> {
+    ) -> Result<Order<'a>, FirstError> {
         let line_form = Built(
             Object(Closed((
                 Member("code", Text(Is(Prefix("P")))),
@@ -120,7 +120,7 @@ impl<'a> ReadBody<'a> for Order<'a> {
             ))),
             PhantomData::<&Order<'_>>,
         );
-        match read_json_first(alloc, bytes, scratch, &order_form, most, h) {
+        match read_first(alloc, &order_form, tree, most, h) {
             Ok(value) => Ok(Valid::known(value, &()).into_inner()),
             Err(error) => Err(error),
         }

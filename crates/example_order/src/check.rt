@@ -1,13 +1,12 @@
 //! What is answered to the bytes of an order, in the language that is asked for.
-ghost use Rattle.example_order.specs.Language.{AreFaultsIn, IsCheckedIn, IsListedIn, IsOrder, IsPlacedIn, IsValueOf};
+ghost use Rattle.example_order.specs.Language.{AreFaultsIn, IsCheckedIn, IsListedIn, IsOrder, IsValueOf};
 
 use crate::body::{Body, TITLE};
 use crate::czech::Czech;
 use crate::language::Language;
 use garde::{DefaultI18n, Stated};
 use garde_library::{
-    Node, Place, Status, check_body, check_body_with_places, give_details, give_value,
-    is_valid_body, list_body,
+    Node, Place, Status, check_body, check_body_with_nodes, is_valid_body, list_body, value_of_body,
 };
 use garde_problem::WithCodes;
 use garde_schema::{Scratch, Spelled};
@@ -73,39 +72,8 @@ pub fn is_order(alloc: Global, body: &[u8], scratch: &mut Scratch) -> Status
     is_valid_body::<Body<'_>, _>(alloc, body, scratch, &DefaultI18n)
 }
 
-// Does what `check_order` does, and hands over where the faults are.
-fn place_order(
-    alloc: Global,
-    body: &[u8],
-    scratch: &mut Scratch,
-    most: usize,
-    language: Language,
-    out: &mut [u8],
-    len: &mut usize,
-    places: &mut [Place],
-    used: &mut usize,
-) -> Status
-    ensures { IsPlacedIn ⟦<Body<'static> as Spelled>⟧.spelled ⟦<Body<'static> as Stated>⟧.visits
-        language most body.now out.old out.new len.new places.old places.new used.new result }
-{
-    match language {
-        Language::English => {
-            let h = WithCodes(DefaultI18n);
-            check_body_with_places::<Body<'_>, _>(
-                alloc, body, scratch, most, &h, TITLE, out, len, places, used,
-            )
-        }
-        Language::Czech => {
-            let h = WithCodes(Czech);
-            check_body_with_places::<Body<'_>, _>(
-                alloc, body, scratch, most, &h, TITLE, out, len, places, used,
-            )
-        }
-    }
-}
-
 /// Does what `check_order` does, and hands over the details as nodes too, and the places of the faults:
-/// `garde_library::give_details` and `garde_library::check_body_with_places` say more.
+/// `garde_library::check_body_with_nodes` says more.
 pub fn faults_of_order(
     alloc: Global,
     body: &[u8],
@@ -113,56 +81,49 @@ pub fn faults_of_order(
     most: usize,
     language: Language,
     out: &mut [u8],
-    len: &mut usize,
+    size: &mut usize,
     nodes: &mut [Node],
-    nodes_used: &mut usize,
+    count: &mut usize,
     texts: &mut [u8],
-    texts_used: &mut usize,
+    len: &mut usize,
     places: &mut [Place],
-    places_used: &mut usize,
+    found: &mut usize,
 ) -> Status
     ensures { AreFaultsIn ⟦<Body<'static> as Spelled>⟧.spelled ⟦<Body<'static> as Stated>⟧.visits
-        language most body.now out.old out.new len.new places.old places.new places_used.new
-        nodes.old nodes.new nodes_used.new texts.old texts.new texts_used.new result }
+        language most body.now out.old out.new size.new nodes.old nodes.new count.new
+        texts.old texts.new len.new places.old places.new found.new result }
 {
-    let status = place_order(
-        alloc,
-        body,
-        scratch,
-        most,
-        language,
-        out,
-        len,
-        places,
-        places_used,
-    );
-    let given = give_details(
-        alloc, out, *len, scratch, nodes, nodes_used, texts, texts_used,
-    );
-    if given {
-        return status;
+    match language {
+        Language::English => {
+            let h = WithCodes(DefaultI18n);
+            check_body_with_nodes::<Body<'_>, _>(
+                alloc, body, scratch, most, &h, TITLE, out, size, nodes, count, texts, len, places,
+                found,
+            )
+        }
+        Language::Czech => {
+            let h = WithCodes(Czech);
+            check_body_with_nodes::<Body<'_>, _>(
+                alloc, body, scratch, most, &h, TITLE, out, size, nodes, count, texts, len, places,
+                found,
+            )
+        }
     }
-    *len = 0;
-    *places_used = 0;
-    Status::Memory
 }
 
-/// Whether the bytes are those of an order without a fault, as `is_order` says, and then their JSON value:
-/// `garde_library::give_value` says more.
+/// Whether the bytes are those of an order without a fault, as `is_order` says, and then the JSON value that was
+/// judged: `garde_library::value_of_body` says more.
 pub fn value_of_order(
     alloc: Global,
     body: &[u8],
     scratch: &mut Scratch,
     nodes: &mut [Node],
-    nodes_used: &mut usize,
+    count: &mut usize,
     texts: &mut [u8],
-    texts_used: &mut usize,
+    len: &mut usize,
 ) -> Status
     ensures { IsValueOf ⟦<Body<'static> as Spelled>⟧.spelled ⟦<Body<'static> as Stated>⟧.visits
-        body.now nodes.old nodes.new nodes_used.new texts.old texts.new texts_used.new result }
+        body.now nodes.old nodes.new count.new texts.old texts.new len.new result }
 {
-    let judged = is_order(alloc, body, scratch);
-    give_value(
-        alloc, judged, body, scratch, nodes, nodes_used, texts, texts_used,
-    )
+    value_of_body::<Body<'_>, _>(alloc, body, scratch, &DefaultI18n, nodes, count, texts, len)
 }

@@ -1,3 +1,5 @@
 mod Values
+pub mod Adding
+pub mod Given
 pub mod Growing
 pub mod Placed

@@ -1,5 +1,5 @@
 -- What is answered to bytes.
-use Rattle.std.specs.Prelude.{◌≡◌, ◌<◌, ◌⊎◌, ℕ, List, [], ◌++◌, length, take, drop, Result, Ok, Err, codes}
+use Rattle.std.specs.Prelude.{◌≡◌, ◌<◌, ◌⊎◌, ℕ, List, [], ◌++◌, length, take, drop, Option, Some, None, Result, Ok, Err, codes}
 use Rattle.std.specs.Fmt.{decimal}
 use Rattle.json.specs.Json.{Json, string, number, array, object, no_members, member}
 use Rattle.garde.specs.Handlers.{Datum}
@@ -19,28 +19,37 @@ use Rattle.garde_library.specs.declared.telling.Telling.TheVariants as tellings
 abbrev pub Reading : Type 0
 Reading = Result (Unit {0}) FirstReadError
 
--- the problem details of bytes with these faults
-abbrev pub faults_text : List ℕ → List Entry → List ℕ
-faults_text title report = json_text (object
+-- problem details with a title, a status, perhaps a sentence, and the faults
+abbrev pub details : List ℕ → ℕ → Option (List ℕ) → List Entry → Json
+details title status None report = object
     (member (codes "title") (string title)
-    (member (codes "status") (number (decimal 422))
+    (member (codes "status") (number (decimal status))
+    (member (codes "errors") (array (faults_json report)) no_members)))
+details title status (Some detail) report = object
+    (member (codes "title") (string title)
+    (member (codes "status") (number (decimal status))
+    (member (codes "detail") (string detail)
     (member (codes "errors") (array (faults_json report)) no_members))))
 
--- the problem details of bytes with more faults than these
-abbrev pub first_faults_text : List ℕ → List Entry → List ℕ
-first_faults_text title report = json_text (object
-    (member (codes "title") (string title)
-    (member (codes "status") (number (decimal 422))
-    (member (codes "detail") (string (codes "there are more"))
-    (member (codes "errors") (array (faults_json report)) no_members)))))
+-- those of bytes with these faults
+abbrev pub all_faults : List ℕ → List Entry → Json
+all_faults title report = details title 422 None report
 
--- the problem details of bytes that are no JSON text, for this reason
-abbrev pub no_json_text : List ℕ → List ℕ
-no_json_text reason = json_text (object
-    (member (codes "title") (string (codes "the body is no JSON text"))
-    (member (codes "status") (number (decimal 400))
-    (member (codes "detail") (string reason)
-    (member (codes "errors") (array (faults_json [])) no_members)))))
+-- those of bytes with more faults than these
+abbrev pub first_faults : List ℕ → List Entry → Json
+first_faults title report = details title 422 (Some (codes "there are more")) report
+
+-- those of bytes that are no JSON text, for this reason
+abbrev pub no_json : List ℕ → Json
+no_json reason = details (codes "the body is no JSON text") 400 (Some reason) []
+
+-- the details of the result of reading: of valid bytes, and where memory ran out, there are none
+abbrev pub details_json : List ℕ → Reading → Option Json
+details_json title (Ok done) = None
+details_json title (Err (All report)) = Some (all_faults title report)
+details_json title (Err (First report)) = Some (first_faults title report)
+details_json title (Err (Parse error)) = Some (no_json (first_read_error_text (Parse error)))
+details_json title (Err Memory) = None
 
 -- the status that tells the result of reading
 abbrev pub status_of : Reading → Status
@@ -53,9 +62,9 @@ status_of (Err Memory) = statuses.Memory
 -- the text that tells it: of valid bytes, and where memory ran out, there is none
 abbrev pub text_of : List ℕ → Reading → List ℕ
 text_of title (Ok done) = []
-text_of title (Err (All report)) = faults_text title report
-text_of title (Err (First report)) = first_faults_text title report
-text_of title (Err (Parse error)) = no_json_text (first_read_error_text (Parse error))
+text_of title (Err (All report)) = json_text (all_faults title report)
+text_of title (Err (First report)) = json_text (first_faults title report)
+text_of title (Err (Parse error)) = json_text (no_json (first_read_error_text (Parse error)))
 text_of title (Err Memory) = []
 
 -- The items are as they were, but that they begin with those that are handed over, as the bytes of a text, or with as many of them as

@@ -1,10 +1,11 @@
 -- The nodes of a JSON value.
-use Rattle.std.specs.Prelude.{◌≡◌, ◌+◌, ◌≤◌, ⊤, ℕ, ℤ, pos, negsuc, unsigned_abs, List, [], ◌∷◌, ◌++◌, length, take, drop, Bool, true, false, if◌then◌else◌, Option, Some, None}
+use Rattle.std.specs.Prelude.{◌≡◌, ◌+◌, ◌≤◌, ⊤, ℕ, ℤ, pos, negsuc, unsigned_abs, List, [], ◌∷◌, ◌++◌, length, take, drop, Bool, if◌then◌else◌, Option, Some, None, codes}
 use Rattle.json.specs.Json.{Json, null, boolean, number, string, array, object, Items, no_items, item, Members, no_members, member}
 use Rattle.garde_tape.specs.Number.{signed_of, unsigned_of}
 use Rattle.garde_tape.specs.Reading.{item_list, member_list}
 use Rattle.garde_library.specs.declared.node.Node.{Node}
 use Rattle.garde_library.specs.declared.node.TheConstants as kinds
+use Rattle.garde_library.specs.declared.walk.Walk.{Walk}
 
 -- what a node says: a list of so many items or an object of so many members follows, or a value without parts. The name of a member is
 -- a text.
@@ -42,6 +43,15 @@ each_marks (j ∷ js) = marks j ++ each_marks js
 abbrev pub pair_marks : List (List ℕ × Json) → List Mark
 pair_marks [] = []
 pair_marks (m ∷ ms) = a_text m.0 ∷ (marks m.1 ++ pair_marks ms)
+
+-- what the nodes say of a sentence that details may have, and how many members they have with it
+abbrev pub sentence_marks : Option (List ℕ) → List Mark
+sentence_marks None = []
+sentence_marks (Some s) = a_text (codes "detail") ∷ a_text s ∷ []
+
+abbrev pub members_with : Option (List ℕ) → ℕ
+members_with None = 3
+members_with (Some s) = 4
 
 -- these bytes have the text at an offset
 abbrev pub LiesAt : List ℕ → ℕ → List ℕ → Type 0
@@ -86,3 +96,8 @@ Spells body room nodes j = AreNodes body room (marks j) nodes
 abbrev pub Adds : List Mark → List ℕ → List Node → List ℕ → List Node → List ℕ → Type 0
 Adds ms body nodes room nodes' room' =
     (before : List Mark) → AreNodes body room before nodes → AreNodes body room' (before ++ ms) nodes'
+
+-- the same of a walk, which goes over the same body
+pub record AreAdded (ms : List Mark) (old new : Walk) : Type 0 where
+  pub body : new.body ≡ old.body
+  pub nodes : Adds ms old.body.now old.nodes.items old.room.items new.nodes.items new.room.items

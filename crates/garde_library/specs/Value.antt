@@ -1,5 +1,6 @@
 -- What is handed over of a value.
-use Rattle.std.specs.Prelude.{◌≡◌, ◌<◌, ◌≤◌, ◌⊎◌, ℕ, List, [], length, take}
+use Rattle.std.specs.Prelude.{◌≡◌, ◌⊎◌, ℕ, List, [], Option, Some, None}
+use Rattle.json.specs.Json.{Json}
 use Rattle.garde_tape.specs.Input.{without_mark}
 use Rattle.garde_schema.specs.Bytes.{OfDocument}
 use Rattle.garde_library.specs.Checked.{IsHanded}
@@ -33,9 +34,7 @@ IsGivenAs judged bytes old new count old' new' len status =
     ((status ≡ judged) × IsGivenIf judged bytes old new count old' new' len)
     ⊎ ((status ≡ statuses.Memory) × IsNotGiven old new count old' new' len)
 
--- Details of so many bytes were handed over as nodes too, where there are some, and these bytes hold them as a whole. Else neither nodes nor
--- texts were.
-abbrev pub AreDetails : List ℕ → ℕ → List Node → List Node → ℕ → List ℕ → List ℕ → ℕ → Type 0
-AreDetails out size old new count old' new' len =
-    ((0 < size) × (size ≤ length out) × IsGiven (take size out) old new count old' new' len)
-    ⊎ (((size ≡ 0) ⊎ (length out < size)) × IsNotGiven old new count old' new' len)
+-- the nodes spell a value whose texts lie among the texts, where there is one; else there are none
+abbrev pub SpellIf : Option Json → List ℕ → List Node → Type 0
+SpellIf None texts nodes = (nodes ≡ []) × (texts ≡ [])
+SpellIf (Some j) texts nodes = Spells [] texts nodes j

@@ -1,61 +1,61 @@
 //! The problem details of bytes (RFC 9457).
-ghost use Rattle.std.specs.Prelude.{◌≡◌, IfOk, string_bytes};
+ghost use Rattle.std.specs.Prelude.{◌≡◌, IfOk, option_map, string_bytes};
+ghost use Rattle.garde_problem.specs.Problem.{json_text};
 ghost use Rattle.garde_schema.specs.FirstRead.{first_read_error_text};
 ghost use Rattle.garde_schema.specs.declared.first_read_error.FirstReadError.TheVariants.{Parse};
-ghost use Rattle.garde_library.specs.Checked.{faults_text, first_faults_text, no_json_text, text_of};
+ghost use Rattle.garde_library.specs.Checked.{details, first_faults, no_json, text_of};
 
 use garde::Report;
 use garde_problem::{Problem, problem_to_json_text};
 use garde_schema::{FirstReadError, ParseError};
 use std::alloc::{AllocError, Global};
 
-/// The details of bytes with these faults.
-fn of_all(alloc: Global, title: &str, report: &Report) -> Result<String, AllocError>
-    ensures { IfOk result (λ text. string_bytes text ≡ faults_text title.now report.now) }
+// The text of details with a title, a status, perhaps a sentence, and the faults.
+fn json_of<'p>(
+    alloc: Global,
+    title: &'p str,
+    status: u16,
+    detail: Option<&'p str>,
+    report: &Report,
+) -> Result<String, AllocError>
+    ensures { IfOk result (λ text. string_bytes text
+        ≡ json_text (details title.now status (option_map (λ s. s.now) detail.entry) report.now)) }
 {
     let problem = Problem {
         type_uri: None,
         title,
-        status: 422,
-        detail: None,
+        status,
+        detail,
         instance: None,
     };
     problem_to_json_text(alloc, report, &problem)
 }
 
-/// The details of bytes with more faults than these.
+// The details of bytes with more faults than these.
 fn of_first(alloc: Global, title: &str, report: &Report) -> Result<String, AllocError>
-    ensures { IfOk result (λ text. string_bytes text ≡ first_faults_text title.now report.now) }
+    ensures { IfOk result (λ text. string_bytes text ≡ json_text (first_faults title.now report.now)) }
 {
-    let problem = Problem {
-        type_uri: None,
-        title,
-        status: 422,
-        detail: Some("there are more"),
-        instance: None,
-    };
-    problem_to_json_text(alloc, report, &problem)
+    json_of(alloc, title, 422, Some("there are more"), report)
 }
 
-/// The details of bytes that are no JSON text, for this reason.
+// The details of bytes that are no JSON text, for this reason.
 fn of_reason(alloc: Global, reason: &str) -> Result<String, AllocError>
-    ensures { IfOk result (λ text. string_bytes text ≡ no_json_text reason.now) }
+    ensures { IfOk result (λ text. string_bytes text ≡ json_text (no_json reason.now)) }
 {
-    let problem = Problem {
-        type_uri: None,
-        title: "the body is no JSON text",
-        status: 400,
-        detail: Some(reason),
-        instance: None,
-    };
     let report = Report::new(alloc);
-    problem_to_json_text(alloc, &report, &problem)
+    json_of(
+        alloc,
+        "the body is no JSON text",
+        400,
+        Some(reason),
+        &report,
+    )
 }
 
-/// The details of bytes that are no JSON text, with the reason and its place.
+// The details of bytes that are no JSON text, with the reason and its place.
 fn of_no_json(alloc: Global, error: &ParseError) -> Result<String, AllocError>
     ensures { IfOk result (λ text. string_bytes text
-        ≡ no_json_text (first_read_error_text (Parse error.now))) }
+        ≡ json_text (no_json (first_read_error_text (Parse error.now)))) }
 {
     let reason = format!(in alloc; "{error}")?;
     of_reason(alloc, reason.as_str())
@@ -72,7 +72,7 @@ pub fn details_of(
 {
     match read {
         Ok(()) => Ok(String::new(alloc)),
-        Err(FirstReadError::All(report)) => of_all(alloc, title, report),
+        Err(FirstReadError::All(report)) => json_of(alloc, title, 422, None, report),
         Err(FirstReadError::First(report)) => of_first(alloc, title, report),
         Err(FirstReadError::Parse(error)) => of_no_json(alloc, error),
         Err(FirstReadError::Memory) => Ok(String::new(alloc)),

@@ -4,13 +4,16 @@
 
 mod answer;
 mod body;
+mod detail_nodes;
 mod details;
+mod faults;
 mod find;
 mod lines;
 mod loose;
 mod node;
 mod place;
 mod places;
+mod read_tree;
 mod room;
 mod status;
 mod telling;
@@ -18,9 +21,11 @@ mod value;
 mod walk;
 
 pub use answer::{check_json, is_valid_json, list_json, out_of_memory};
-pub use body::{check_body, check_body_with_places, is_valid_body, list_body};
+pub use body::{check_body, check_body_with_nodes, is_valid_body, list_body};
+pub use faults::give_no_faults;
 pub use node::Node;
 pub use place::Place;
+pub use read_tree::ReadTree;
 pub use room::Room;
 pub use status::Status;
-pub use value::{give_details, give_nothing, give_value};
+pub use value::{give_nothing, value_of_body};

@@ -1,10 +1,8 @@
 //! The places of the faults of a body.
 ghost use Rattle.std.specs.Prelude.{◌≡◌, IfOk, map};
-ghost use Rattle.garde_library.specs.Places.{AreFound, ArePlaces, ArePlacesOf, IsPlaced, place_of};
+ghost use Rattle.garde_library.specs.Places.{AreFound, ArePlaces, ArePlacesOf, place_of};
 
-use crate::answer::hand_over;
 use crate::place::Place;
-use crate::status::Status;
 use garde::Report;
 use garde_places::{Fault, faults_of};
 use garde_schema::FirstReadError;
@@ -71,20 +69,4 @@ pub(crate) fn find_places(
         return Ok(Vec::new(alloc));
     }
     of_read(alloc, bytes, read)
-}
-
-/// Hands over the places that were found, where this is the status of faults.
-pub(crate) fn hand_over_places(
-    status: Status,
-    found: &[Place],
-    places: &mut [Place],
-    count: &mut usize,
-)
-    ensures { IsPlaced status found.now places.old places.new count.new }
-{
-    if let Status::Faults = status {
-        hand_over(found, places, count);
-    } else {
-        hand_over(&[], places, count);
-    }
 }

@@ -38,7 +38,7 @@ impl<'b> Walk<'b> {
     }
 
     // A node without a text.
-    fn push_plain(&mut self, kind: u8, value: u64) -> Result<(), AllocError>
+    pub(crate) fn push_plain(&mut self, kind: u8, value: u64) -> Result<(), AllocError>
         ensures ok { OnOk result ((node : ANode) × (node.kind ≡ kind) × (node.value ≡ value)
             × (self.new.nodes.items ≡ self.old.nodes.items ++ node ∷ [])) }
         ensures body { self.new.body ≡ self.old.body }
@@ -66,7 +66,12 @@ impl<'b> Walk<'b> {
     }
 
     // A node with a text, where it is found in the body or in the room.
-    fn push_found(&mut self, kind: u8, text: &str, found: Option<usize>) -> Result<(), AllocError>
+    pub(crate) fn push_found(
+        &mut self,
+        kind: u8,
+        text: &str,
+        found: Option<usize>,
+    ) -> Result<(), AllocError>
         requires { IfSome found (λ at. LiesAt self.old.body.now at text.now) }
         ensures ok { OnOk result ((node : ANode) × (more : List ℕ) × (node.kind ≡ kind)
             × (self.new.nodes.items ≡ self.old.nodes.items ++ node ∷ [])

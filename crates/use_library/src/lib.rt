@@ -22,16 +22,16 @@ use example_order::{
     Body, Language, check_order, faults_of_order, is_order, list_order, value_of_order,
 };
 use garde::Stated;
-use garde_library::{Node, Place, Room, Status, give_nothing, out_of_memory};
+use garde_library::{Node, Place, Room, Status, give_no_faults, give_nothing, out_of_memory};
 use garde_schema::{Scratch, Spelled};
 use std::alloc::Global;
 
 /// The version of this interface: ORDER_VERSION, where the header belongs to the library.
 #[unsafe(no_mangle)]
 pub extern "C" fn order_version() -> u32
-    ensures { result ≡ 3 }
+    ensures { result ≡ 4 }
 {
-    3
+    4
 }
 
 /// Checks the bytes of an order, and returns a status. `out` gets the problem details of what is
@@ -176,11 +176,11 @@ pub extern "C" fn order_value_with(
 }
 
 /// Does what `order_check_with` does, and hands over the details as nodes too, as `order_value_with` does:
-/// their texts lie in `out` or in `texts`. The value is an object. Its last member is `errors`, a list with
-/// an object for each fault: `pointer`, `detail`, `code` and `params`, in this order.
+/// their texts lie in `texts`. The value is an object. Its last member is `errors`, a list with an object for
+/// each fault: `pointer`, `detail`, `code` and `params`, in this order.
 ///
-/// There are nodes only where `out` has room for the details as a whole. Where it has not, or where there
-/// are no details, `nodes_used` and `texts_used` are 0.
+/// Give `out_len` 0 if you do not ask for the details as text: then they are not written, and `len` is 0. Where
+/// there are no details, `nodes_used` and `texts_used` are 0.
 ///
 /// Of ORDER_FAULTS `places` gets where in the body each fault is, in the order of `errors`, as far as it has
 /// room, and `places_used` says how many faults there are. Give `places_len` 0 if you do not ask: then
@@ -204,14 +204,22 @@ pub extern "C" fn order_faults_with(
     ensures { IsCode (λ s. AreFaultsIn
         ⟦<Body<'static> as Spelled>⟧.spelled ⟦<Body<'static> as Stated>⟧.visits
         (language_of language.now) most body.now out.old out.new len.new
-        places.old places.new places_used.new
-        nodes.old nodes.new nodes_used.new texts.old texts.new texts_used.new s) result }
+        nodes.old nodes.new nodes_used.new texts.old texts.new texts_used.new
+        places.old places.new places_used.new s) result }
 {
     let language = Language::of(language);
     let Ok(mut scratch) = checker.take_or_new(alloc) else {
-        give_nothing(nodes, nodes_used, texts, texts_used);
-        *places_used = 0;
-        return out_of_memory(out, len) as u8;
+        give_no_faults(
+            out,
+            len,
+            nodes,
+            nodes_used,
+            texts,
+            texts_used,
+            places,
+            places_used,
+        );
+        return Status::Memory as u8;
     };
     let status = faults_of_order(
         alloc,

@@ -1,5 +1,5 @@
 //! The body that the library checks: an order, with its form and its rules.
-//@ --body Order --module example_order::body
+//@ --body Order --library --module example_order::body
 use garde::Validate;
 use serde::Deserialize;
 

@@ -1,5 +1,5 @@
 use Rattle.std.proofs.Common.{[], sym, subst}
-use Rattle.garde_library.specs.Nodes.{AreNodes, marks, Spells}
+use Rattle.garde_library.specs.Nodes.{AreNodes, Spells}
 use Rattle.garde_library.proofs.walk.nodes_of.Goals as goal
 
 pub returns : goal.returns

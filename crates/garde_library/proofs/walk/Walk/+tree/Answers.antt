@@ -1,4 +1,4 @@
-use Rattle.std.proofs.Common.{◌∷◌, [], ◌∙◌, sym, ap, subst, true, false, arith, rules}
+use Rattle.std.proofs.Common.{sym, subst, true, false, arith, rules}
 use Rattle.std.proofs.lemmas.Result.{on_ok_weaker}
 use Rattle.garde_library.specs.Nodes.{Adds, a_flag, nothing}
 use Rattle.garde_library.proofs.Growing.{value_added, member_added, list_smaller, object_smaller, list_added, object_added, plain_added, flag_marks, null_marks}

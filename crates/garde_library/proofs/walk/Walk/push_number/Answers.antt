@@ -1,4 +1,4 @@
-use Rattle.std.proofs.Common.{◌≡◌, ◌∷◌, [], Some, None, sym, ap, ◌∙◌, w64, to_z, of_z, rules}
+use Rattle.std.proofs.Common.{◌≡◌, Some, None, sym, ap, ◌∙◌, w64, to_z, of_z, rules}
 use Rattle.std.specs.Prelude.{option_and_then, unsigned_abs}
 use Rattle.garde_tape.specs.Number.{signed_of, unsigned_of}
 use Rattle.std.proofs.lemmas.Result.{on_ok_weaker}

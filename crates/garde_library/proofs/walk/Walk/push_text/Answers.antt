@@ -1,4 +1,3 @@
-use Rattle.std.proofs.Common.{◌∷◌, []}
 use Rattle.std.proofs.lemmas.Result.{on_ok_weaker}
 use Rattle.garde_library.specs.Nodes.{a_text}
 use Rattle.garde_library.proofs.Growing.{one_added}

@@ -1,0 +1,13 @@
+use Rattle.std.proofs.lemmas.Result.{on_ok_weaker}
+use Rattle.garde_library.specs.Nodes.{a_text}
+use Rattle.garde_library.proofs.Growing.{one_added}
+use Rattle.garde_library.proofs.detail_nodes.push_text.Goals as goal
+
+pub returns : goal.returns
+returns c =
+    let s = c.args.walk.now in
+    let after = c.push_found.new.self in
+    on_ok_weaker c.push_found.result (λ f. record {
+      body = c.push_found.ensures.body;
+      nodes = one_added s.body.now s.room.items f.1 after.room.items s.nodes.items after.nodes.items (a_text c.args.text.now) f.0 f.3 f.4 (f.2, f.5);
+    }) c.push_found.ensures.ok

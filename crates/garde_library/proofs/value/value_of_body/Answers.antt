@@ -1,0 +1,14 @@
+use Rattle.std.proofs.Common.{Ok, Err, inl, refl, ◌∙◌}
+use Rattle.garde_library.specs.Checked.{status_of}
+use Rattle.garde_library.specs.declared.status.Status.TheVariants.{Valid}
+use Rattle.garde_library.proofs.Given.{not_given}
+use Rattle.garde_library.proofs.value.value_of_body.Goals as goal
+
+pub returns-in-Ok : goal.returns-in-Ok
+returns-in-Ok g c = (Valid, (Ok tt, c.in-Ok.ensures.answer, refl), (λ _. c.in-Ok.ensures.valid), c.give.ensures)
+
+pub returns-in-Err : goal.returns-in-Err
+returns-in-Err g c =
+    let error = c.in-Err.error in
+    let said = c.status_of.ensures in
+    (status_of (Err error), (Err error, c.in-Err.ensures.answer, refl), (λ valid. absurd (let no = said.valid (said.told ∙ valid) in cc)), inl (said.told, not_given error _ _ _ _ _ _ _ c.give_nothing.ensures))
