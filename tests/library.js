@@ -51,6 +51,20 @@ function worker(folder, wanted) {
 function testAll(folder, cases) {
   const { Checker, FAULTS, FaultsError, NO_JSON, NotJsonError, check, isValid, problem, value } = require(folder);
 
+  test('places', () => {
+    const body = Buffer.from('\ufeff{"customer":"",\n "lines":[{"code":"é","count":0}],"x":1}');
+    const wanted = [[1, 13], [2, 19], [2, 31], [2, 35]];
+    const placesOf = (faults) => faults.map(({ line, column }) => [line, column]);
+    for (const library of [{ check }, new Checker()]) {
+      assert.deepEqual(placesOf(library.check(body, { places: true })), wanted);
+      assert.deepEqual(placesOf(library.check(body, { places: true, most: 2 })), wanted.slice(0, 2));
+      assert.ok(library.check(body).every((fault) => !('line' in fault)));
+      assert.deepEqual([...library.check(GOOD, { places: true })], []);
+      assert.throws(() => library.check(Buffer.from('nope'), { places: true }), NotJsonError);
+    }
+    assert.equal(check(ofLines(500, WRONG_LINE), { places: true }).at(-1).line, 1);
+  });
+
   test('stored bodies', () => {
     const names = readdirSync(cases).filter((name) => name.endsWith('.json'));
     assert.ok(names.length >= 10);

@@ -15,6 +15,8 @@ type Fault struct {
 	Detail  string            `json:"detail"`  // a sentence for people
 	Code    string            `json:"code"`    // a name for programs
 	Params  map[string]string `json:"params"`  // what the sentence speaks of, as the bound of a range
+	Line    int               `json:"-"`       // where it is in the body, from 1 on, if Places asked for it
+	Column  int               `json:"-"`       // in characters from 1 on
 }
 
 // Faults are what is wrong with a body: a valid one has none.
@@ -61,6 +63,7 @@ type Option func(*options)
 type options struct {
 	most     int
 	language string
+	places   bool
 }
 
 // Most asks for so many faults at most. Without it all are reported.
@@ -71,6 +74,11 @@ func Most(faults int) Option {
 // Language asks for sentences in the language of a tag (RFC 5646). Of one that the library has not, they are English.
 func Language(tag string) Option {
 	return func(o *options) { o.language = tag }
+}
+
+// Places asks where in the body each fault is: of an unknown or a repeated member its name, and else its value.
+func Places() Option {
+	return func(o *options) { o.places = true }
 }
 
 // read gives the options that are meant.

@@ -117,21 +117,23 @@ func startOf(nodes []node) *C.order_node {
 	return (*C.order_node)(unsafe.Pointer(&nodes[0]))
 }
 
-// faults gives the status of a body, its problem details, and their nodes. Few have more than one in four bytes.
-func (c *Checker) faults(body []byte, o options, size int) (Status, reading) {
-	var length, nodesUsed, textsUsed, placesUsed C.size_t
-	var place C.order_place
-	out, nodes, texts, language := make([]byte, size), make([]node, size/4+1), make([]byte, size), []byte(o.language)
+// wanted is how much room faults take: nodes, bytes of texts, and places.
+type wanted struct {
+	nodes, texts, places int
+}
+
+// faults gives the status of a body, its faults as nodes, and where they are.
+func (c *Checker) faults(body []byte, o options, has wanted) (Status, reading, []C.order_place) {
+	var noDetails, nodesUsed, textsUsed, placesUsed C.size_t
+	nodes, texts, language := make([]node, has.nodes), make([]byte, has.texts), []byte(o.language)
+	places := make([]C.order_place, has.places+1)
 	status := C.order_faults_with(&c.raw, start(body), C.size_t(len(body)), C.size_t(o.most), start(language), C.size_t(len(language)),
-		start(out), C.size_t(size), &length, startOf(nodes), C.size_t(len(nodes)), &nodesUsed, start(texts), C.size_t(size), &textsUsed,
-		&place, 0, &placesUsed)
-	if int(length) > size {
-		return c.faults(body, o, int(length))
+		start(nil), 0, &noDetails, startOf(nodes), C.size_t(has.nodes), &nodesUsed,
+		start(texts), C.size_t(has.texts), &textsUsed, &places[0], C.size_t(has.places), &placesUsed)
+	if used := (wanted{int(nodesUsed), int(textsUsed), int(placesUsed)}); used.nodes > has.nodes || used.texts > has.texts || used.places > has.places {
+		return c.faults(body, o, wanted{used.nodes + 1, used.texts, used.places})
 	}
-	if int(nodesUsed) > len(nodes) {
-		return c.faults(body, o, 4*int(nodesUsed))
-	}
-	return Status(status), reading{nodes: nodes, plain: out[:length], texts: texts}
+	return Status(status), reading{nodes: nodes, texts: texts}, places[:placesUsed]
 }
 
 // value gives the status of a body, and the nodes of its value.
@@ -152,7 +154,11 @@ func (c *Checker) Check(body []byte, given ...Option) (Faults, error) {
 	if err != nil {
 		return Faults{}, err
 	}
-	status, found := c.faults(body, meant, 4*room)
+	has := wanted{nodes: room, texts: 8 * room}
+	if meant.places {
+		has.places = room
+	}
+	status, found, places := c.faults(body, meant, has)
 	if status == Valid || status == C.ORDER_MEMORY {
 		return Faults{}, map[Status]error{C.ORDER_MEMORY: ErrMemory}[status]
 	}
@@ -161,7 +167,14 @@ func (c *Checker) Check(body []byte, given ...Option) (Faults, error) {
 		return Faults{}, err
 	}
 	if status == NotJSON {
-		return Faults{}, &NotJSONError{Detail: said.Detail, Details: found.plain}
+		_, details, err := c.Problem(body, given...)
+		if err != nil {
+			return Faults{}, err
+		}
+		return Faults{}, &NotJSONError{Detail: said.Detail, Details: details}
+	}
+	for i, it := range places {
+		said.Errors[i].Line, said.Errors[i].Column = int(it.line), int(it.column)
 	}
 	return Faults{List: said.Errors, More: said.Detail != ""}, nil
 }

@@ -32,6 +32,21 @@ func TestFaults(t *testing.T) {
 	}
 }
 
+func TestPlaces(t *testing.T) {
+	faults, err := order.Check([]byte("{\"customer\":\"\",\n \"lines\":[],\"é\":1,\"x\":1}"), order.Places())
+	if err != nil || len(faults.List) != 4 {
+		t.Fatal(faults, err)
+	}
+	for i, want := range [][2]int{{1, 13}, {2, 10}, {2, 13}, {2, 19}} {
+		if it := faults.List[i]; [2]int{it.Line, it.Column} != want {
+			t.Error(it, want)
+		}
+	}
+	if faults, err = order.Check([]byte(bad)); err != nil || faults.List[0].Line != 0 {
+		t.Error(faults, err)
+	}
+}
+
 func TestNoFault(t *testing.T) {
 	faults, err := order.Check([]byte(good))
 	if err != nil || len(faults.List) != 0 || faults.More {

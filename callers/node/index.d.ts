@@ -16,6 +16,10 @@ export interface Fault {
   readonly code: string;
   /** What the sentence says of the rule, by name, as `{ min: '1' }`. */
   readonly params: Readonly<Record<string, string>>;
+  /** Where it is in the body, from 1 on, if places were asked for: of an unknown or a repeated member its name, and else its value. */
+  readonly line?: number;
+  /** In characters from 1 on. A byte order mark is not counted. */
+  readonly column?: number;
 }
 
 /** The faults of a body, which are none where it is valid. */
@@ -29,6 +33,8 @@ export interface Options {
   most?: number;
   /** The tag of the language of the sentences. Where the library does not know it they are English. */
   language?: string;
+  /** Whether `check` says where in the body each fault is. */
+  places?: boolean;
 }
 
 /** The `status` of a problem whose body has faults. */

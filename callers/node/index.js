@@ -5,7 +5,7 @@
 
 const { isSharedArrayBuffer, isUint8Array } = require('node:util').types;
 const addon = require('./order_check.node');
-const { textsOf, valueOf } = require('./nodes.js');
+const { Texts, valueOf } = require('./nodes.js');
 
 const VALID = 0;
 const FAULTS = 1;
@@ -19,6 +19,7 @@ const room = addon.newRoom();
 const NODES = new Uint32Array(16384);
 const TEXTS = new Uint8Array(4096);
 const used = new Float64Array(2);
+const NO_TEXTS = new Texts(new Uint8Array(0), '');
 
 class NotJsonError extends SyntaxError {
   constructor(message, details) {
@@ -48,20 +49,31 @@ function outOfMemory() {
 }
 
 /** What is wrong with a body, or null. */
-function asked(inRoom, body, { most = Infinity, language = '' } = {}) {
+function asked(inRoom, body, { most = Infinity, language = '', places = false } = {}) {
   if (typeof most !== 'number') throw new TypeError('most is a number');
   if (!(most === Infinity || Number.isInteger(most)) || most < 1) throw new RangeError(`most is ${most}, and not 1, 2, ..`);
-  const answer = addon.check(inRoom, bytesOf(body), most, language);
+  const answer = addon.check(inRoom, bytesOf(body), most, language, Boolean(places));
   if (answer === 0) return null;
   if (answer === MEMORY) throw outOfMemory();
+  return answer;
+}
+
+function problemOf(answer) {
+  if (answer === null) return null;
   const [status, details] = answer;
   return { status, httpStatus: status === FAULTS ? 422 : 400, details };
 }
 
-function faultsOf(found) {
-  const said = found === null ? { errors: [] } : JSON.parse(found.details);
-  if (found !== null && found.status === NO_JSON) throw new NotJsonError(said.detail, found.details);
+function faultsOf(answer) {
+  const [status, details, places] = answer ?? [VALID, '{"errors":[]}', []];
+  const said = JSON.parse(details);
+  if (status === NO_JSON) throw new NotJsonError(said.detail, details);
+  for (let i = 0; i < places.length; i += 2) Object.assign(said.errors[i / 2], { line: places[i], column: places[i + 1] });
   return Object.defineProperty(said.errors, 'more', { value: said.detail !== undefined });
+}
+
+function escapedIn(texts, length) {
+  return length === 0 ? NO_TEXTS : new Texts(texts.subarray(0, length));
 }
 
 /** The value of a body, or undefined where it is not valid. Few have more than a node in four bytes: those are judged once more. */
@@ -71,21 +83,27 @@ function valueIn(inRoom, body) {
     const status = addon.value(inRoom, body, nodes, texts, used);
     if (status === MEMORY) throw outOfMemory();
     if (status !== VALID) return undefined;
-    const [nodesUsed, textsUsed] = used;
-    if (4 * nodesUsed <= nodes.length && textsUsed <= texts.length) return valueOf(nodes, textsOf(body), textsOf(texts.subarray(0, textsUsed)));
+    const nodesUsed = used[0];
+    const textsUsed = used[1];
+    if (4 * nodesUsed <= nodes.length && textsUsed <= texts.length) return valueOf(nodes, new Texts(body), escapedIn(texts, textsUsed));
     nodes = new Uint32Array(Math.max(nodes.length, 4 * nodesUsed));
     texts = new Uint8Array(Math.max(texts.length, textsUsed));
   }
 }
 
+/** What is wrong with a body, or null, in the room of the module. */
+function askedHere(body, options) {
+  const found = asked(room, body, options);
+  if (body.length > KEPT_BODY || (found !== null && found[1].length > KEPT_DETAILS)) addon.emptyRoom(room);
+  return found;
+}
+
 function check(body, options) {
-  return faultsOf(problem(body, options));
+  return faultsOf(askedHere(body, options));
 }
 
 function problem(body, options) {
-  const found = asked(room, body, options);
-  if (body.length > KEPT_BODY || (found !== null && found.details.length > KEPT_DETAILS)) addon.emptyRoom(room);
-  return found;
+  return problemOf(askedHere(body, options));
 }
 
 function value(body, options) {
@@ -106,11 +124,11 @@ class Checker {
   #room = addon.newRoom();
 
   check(body, options) {
-    return faultsOf(this.problem(body, options));
+    return faultsOf(asked(this.#room, body, options));
   }
 
   problem(body, options) {
-    return asked(this.#room, body, options);
+    return problemOf(asked(this.#room, body, options));
   }
 
   value(body, options) {

@@ -2,11 +2,30 @@
 'use strict';
 
 const decoder = new TextDecoder('utf-8', { ignoreBOM: true });
+// Names of members that came before, each where its length and its first letter say: most come again and again.
+const names = new Array(256).fill('');
 
-/** What reads the texts of some bytes. It cuts them out of the text that the bytes are, where that is ASCII. */
-function textsOf(bytes, text = decoder.decode(bytes)) {
-  if (text.length === bytes.length) return (at, length) => text.slice(at, at + length);
-  return (at, length) => (length === 0 ? '' : decoder.decode(bytes.subarray(at, at + length)));
+/** Where texts lie: bytes, and the text that they are, where that is ASCII. */
+class Texts {
+  constructor(bytes, text = decoder.decode(bytes)) {
+    this.bytes = bytes;
+    this.text = text;
+    this.isPlain = text.length === bytes.length;
+  }
+
+  at(from, length) {
+    if (this.isPlain) return this.text.slice(from, from + length);
+    return length === 0 ? '' : decoder.decode(this.bytes.subarray(from, from + length));
+  }
+
+  /** The name of a member. */
+  name(from, length) {
+    if (!this.isPlain) return this.at(from, length);
+    const place = (length * 31 + this.text.charCodeAt(from)) & 255;
+    const kept = names[place];
+    if (kept.length === length && length !== 0 && this.text.startsWith(kept, from)) return kept;
+    return (names[place] = this.at(from, length));
+  }
 }
 
 /** A whole number, which is a BigInt where a number does not hold it. */
@@ -21,46 +40,62 @@ function numberOf(text) {
   return /^-?\d+$/.test(text) ? BigInt(text) : Number(text);
 }
 
-/** The value of nodes, of which the texts without an escape and those with one are read so. */
-function valueOf(nodes, plain, escaped) {
-  let next = 0;
-  const textAt = (at) => (nodes[at] & 0xff00 ? escaped : plain)(nodes[at + 2], nodes[at + 1]);
+/** Reads the nodes of a value one by one, from where its texts without an escape lie, and those with one. */
+class Reader {
+  constructor(nodes, plain, escaped) {
+    this.nodes = nodes;
+    this.plain = plain;
+    this.escaped = escaped;
+    this.next = 0;
+  }
 
-  function list(count) {
+  textsAt(at) {
+    return this.nodes[at] & 0xff00 ? this.escaped : this.plain;
+  }
+
+  text(at) {
+    return this.textsAt(at).at(this.nodes[at + 2], this.nodes[at + 1]);
+  }
+
+  list(count) {
     const made = [];
-    for (let n = 0; n < count; n++) made.push(read());
+    for (let n = 0; n < count; n++) made.push(this.read());
     return made;
   }
 
-  function object(count) {
+  object(count) {
     const made = {};
     for (let n = 0; n < count; n++) {
-      const name = textAt(next);
-      next += 4;
+      const at = this.next;
+      this.next += 4;
+      const name = this.textsAt(at).name(this.nodes[at + 2], this.nodes[at + 1]);
       // Else it would set the prototype.
-      if (name === '__proto__') Object.defineProperty(made, name, { value: read(), configurable: true, enumerable: true, writable: true });
-      else made[name] = read();
+      if (name === '__proto__') Object.defineProperty(made, name, { value: this.read(), configurable: true, enumerable: true, writable: true });
+      else made[name] = this.read();
     }
     return made;
   }
 
-  function read() {
-    const at = next;
-    next += 4;
-    switch (nodes[at] & 0xff) {
+  read() {
+    const at = this.next;
+    this.next += 4;
+    switch (this.nodes[at] & 0xff) {
       case 0: return null;
       case 1: return false;
       case 2: return true;
-      case 3: return whole(nodes[at + 2], nodes[at + 3], false);
-      case 4: return whole(nodes[at + 2], nodes[at + 3], true);
-      case 5: return numberOf(textAt(at));
-      case 6: return textAt(at);
-      case 7: return list(nodes[at + 2]);
-      default: return object(nodes[at + 2]);
+      case 3: return whole(this.nodes[at + 2], this.nodes[at + 3], false);
+      case 4: return whole(this.nodes[at + 2], this.nodes[at + 3], true);
+      case 5: return numberOf(this.text(at));
+      case 6: return this.text(at);
+      case 7: return this.list(this.nodes[at + 2]);
+      default: return this.object(this.nodes[at + 2]);
     }
   }
-
-  return read();
 }
 
-module.exports = { textsOf, valueOf };
+/** The value of nodes. */
+function valueOf(nodes, plain, escaped) {
+  return new Reader(nodes, plain, escaped).read();
+}
+
+module.exports = { Texts, valueOf };

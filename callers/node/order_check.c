@@ -7,11 +7,13 @@
 
 #include "order.h"
 
-/* What a call works in: a checker, and memory for details. Both grow by need. */
+/* What a call works in: a checker, and memory for details and for places. All grow by need. */
 typedef struct {
   order_checker checker;
   uint8_t *details;
   size_t size;
+  order_place *places;
+  size_t places_size;
 } room;
 
 /* Bytes, which are never at NULL. */
@@ -32,11 +34,12 @@ typedef struct {
   bytes body, language;
   size_t most;
   char tag[64];
+  bool has_places;
 } asked;
 
 static const uint8_t *const NOTHING = (const uint8_t *)"";
-/* Bytes that a room has for details at first, and about what it holds in all. */
-static const size_t FIRST = 16 * 1024;
+/* Bytes that a room has for details at first, and places, and about what it holds in all. */
+static const size_t FIRST = 16 * 1024, FIRST_PLACES = 64;
 static const int64_t HELD = 20 * 1024;
 
 static napi_value failed(napi_env env, const char *message) {
@@ -49,8 +52,8 @@ static napi_value failed(napi_env env, const char *message) {
 static void empty(room *it) {
   order_free(&it->checker);
   free(it->details);
-  it->details = NULL;
-  it->size = 0;
+  free(it->places);
+  *it = (room){.checker = it->checker};
 }
 
 /* V8 learns what a room holds, about, so that it collects rooms in time. */
@@ -66,12 +69,14 @@ static void drop(napi_env env, void *given, void *hint) {
   weigh(env, -HELD);
 }
 
-/* Makes memory for details of so many bytes. */
-static bool grow(room *it, size_t size) {
-  uint8_t *details = size <= it->size ? it->details : realloc(it->details, size);
-  if (!details) return false;
-  it->details = details;
-  it->size = size <= it->size ? it->size : size;
+/* Makes memory for so many things of a size. */
+static bool grow(void *held, size_t *has, size_t wanted, size_t size) {
+  void **at = held;
+  if (wanted <= *has) return true;
+  void *made = wanted <= SIZE_MAX / size ? realloc(*at, wanted * size) : NULL;
+  if (!made) return false;
+  *at = made;
+  *has = wanted;
   return true;
 }
 
@@ -105,16 +110,22 @@ static bool language_of(napi_env env, napi_value value, asked *it) {
   return napi_get_value_string_utf8(env, value, it->tag, sizeof it->tag, &it->language.len) == napi_ok;
 }
 
-/* Checks a body. Where the details are longer than there is room for, it asks again with more room. */
-static uint8_t checked(const asked *it, size_t *len) {
+/* Checks a body. Where there is too little room for the details or the places, it asks again with more. */
+static uint8_t checked(const asked *it, size_t *len, size_t *places) {
   room *in = it->room;
+  size_t none = 0;
+  order_node node;
   *len = FIRST;
+  *places = it->has_places ? FIRST_PLACES : 0;
   uint8_t status = ORDER_MEMORY;
   do {
-    if (!grow(in, *len)) return ORDER_MEMORY;
-    status = order_check_with(&in->checker, it->body.at, it->body.len, it->most, it->language.at, it->language.len, in->details,
-                              in->size, len);
-  } while (*len > in->size);
+    if (!grow(&in->details, &in->size, *len, 1) || !grow(&in->places, &in->places_size, *places, sizeof *in->places)) return ORDER_MEMORY;
+    status = it->has_places
+                 ? order_faults_with(&in->checker, it->body.at, it->body.len, it->most, it->language.at, it->language.len, in->details,
+                                     in->size, len, &node, 0, &none, in->details, 0, &none, in->places, in->places_size, places)
+                 : order_check_with(&in->checker, it->body.at, it->body.len, it->most, it->language.at, it->language.len, in->details,
+                                    in->size, len);
+  } while (*len > in->size || *places > in->places_size);
   return status;
 }
 
@@ -142,30 +153,44 @@ static napi_value empty_room(napi_env env, napi_callback_info info) {
   return NULL;
 }
 
-/* The status, or an array of it and of the details where there are some. */
-static napi_value answer(napi_env env, uint8_t status, const room *in, size_t len) {
-  napi_value number, details, both;
+/* Line and column of each fault, one after the other. */
+static bool placed(napi_env env, const room *in, size_t count, napi_value *made) {
+  void *at = NULL;
+  napi_value buffer;
+  if (napi_create_arraybuffer(env, 2 * count * sizeof(double), &at, &buffer) != napi_ok) return false;
+  for (size_t i = 0; i < count; i++) {
+    ((double *)at)[2 * i] = (double)in->places[i].line;
+    ((double *)at)[2 * i + 1] = (double)in->places[i].column;
+  }
+  return napi_create_typedarray(env, napi_float64_array, 2 * count, buffer, 0, made) == napi_ok;
+}
+
+/* The status, or an array of it, of the details where there are some, and of the places. */
+static napi_value answer(napi_env env, uint8_t status, const room *in, size_t len, size_t places) {
+  napi_value number, details, at, all;
   if (napi_create_uint32(env, status, &number) != napi_ok) return failed(env, "no status");
   if (status != ORDER_FAULTS && status != ORDER_NO_JSON) return number;
   if (napi_create_buffer_copy(env, len, in->details, NULL, &details) != napi_ok) return failed(env, "no details");
-  if (napi_create_array_with_length(env, 2, &both) != napi_ok || napi_set_element(env, both, 0, number) != napi_ok ||
-      napi_set_element(env, both, 1, details) != napi_ok)
+  if (!placed(env, in, places, &at)) return failed(env, "no places");
+  if (napi_create_array_with_length(env, 3, &all) != napi_ok || napi_set_element(env, all, 0, number) != napi_ok ||
+      napi_set_element(env, all, 1, details) != napi_ok || napi_set_element(env, all, 2, at) != napi_ok)
     return failed(env, "no answer");
-  return both;
+  return all;
 }
 
-/* check(room, body, most, language): what `answer` says of the body. */
+/* check(room, body, most, language, hasPlaces): what `answer` says of the body. */
 static napi_value check(napi_env env, napi_callback_info info) {
-  napi_value words[4];
-  size_t count = 4, len = 0;
+  napi_value words[5];
+  size_t count = 5, len = 0, places = 0;
   asked it;
   if (napi_get_cb_info(env, info, &count, words, NULL, NULL) != napi_ok || !room_of(env, words[0], &it.room))
     return failed(env, "no room");
   if (!bytes_of(env, words[1], &it.body)) return failed(env, "a body is a Uint8Array");
   if (!most_of(env, words[2], &it.most)) return failed(env, "most is a number from 1 on");
   if (!language_of(env, words[3], &it)) return failed(env, "a language is a string");
-  uint8_t status = checked(&it, &len);
-  return answer(env, status, it.room, len);
+  if (napi_get_value_bool(env, words[4], &it.has_places) != napi_ok) return failed(env, "places is true or false");
+  uint8_t status = checked(&it, &len, &places);
+  return answer(env, status, it.room, len, places);
 }
 
 /* isValid(body): the status. */

@@ -2,7 +2,7 @@
  * Checks bodies in JSON by a library that was proved, as a WebAssembly module, and reports every fault. `index.d.ts` says what each
  * function does.
  */
-import { textsOf, valueOf } from './nodes.js';
+import { Texts, valueOf } from './nodes.js';
 
 const VERSION = 3;
 const VALID = 0;
@@ -139,8 +139,8 @@ export async function load(source = new URL('./order.wasm', import.meta.url)) {
   function value(body, options) {
     if (asked('value', body, '') !== VALID) throw new FaultsError(check(body, options));
     const nodes = new Uint32Array(exports.memory.buffer, exports.nodes_at(), 4 * exports.nodes_length());
-    const plain = textsOf(bytes(exports.body(), exports.body_length()), typeof body === 'string' ? body : undefined);
-    return valueOf(nodes, plain, textsOf(bytes(exports.texts_at(), exports.texts_length())));
+    const plain = new Texts(bytes(exports.body(), exports.body_length()), typeof body === 'string' ? body : undefined);
+    return valueOf(nodes, plain, new Texts(bytes(exports.texts_at(), exports.texts_length())));
   }
 
   return {

@@ -59,15 +59,21 @@ static bool read_language(asked *it, PyObject *given) {
   return true;
 }
 
-bool read_asked(PyObject *args, PyObject *words, bool has_into, asked *it) {
-  static char *plain[] = {"body", "most", "language", "room", NULL}, *into[] = {"body", "into", "most", "language", "room", NULL};
+bool read_asked(PyObject *args, PyObject *words, int call, asked *it) {
+  static char *to_problem[] = {"body", "most", "language", "room", NULL};
+  static char *to_check[] = {"body", "most", "language", "room", "places", NULL};
+  static char *to_load[] = {"body", "into", "most", "language", "room", "places", NULL};
   PyObject *body = NULL, *most = NULL, *language = NULL;
+  int places = 0;
   *it = (asked){.tag = NOTHING, .most = SIZE_MAX};
   if (!words && PyTuple_Size(args) == 1) return read_body(it, PyTuple_GetItem(args, 0));
-  bool is_read = has_into ? PyArg_ParseTupleAndKeywords(args, words, "O|O$OOO:load", into, &body, &it->into, &most, &language, &it->room)
-                          : PyArg_ParseTupleAndKeywords(args, words, "O|$OOO:check", plain, &body, &most, &language, &it->room);
+  bool is_read =
+      call == TO_LOAD    ? PyArg_ParseTupleAndKeywords(args, words, "O|O$OOOp:load", to_load, &body, &it->into, &most, &language, &it->room, &places)
+      : call == TO_CHECK ? PyArg_ParseTupleAndKeywords(args, words, "O|$OOOp:check", to_check, &body, &most, &language, &it->room, &places)
+                         : PyArg_ParseTupleAndKeywords(args, words, "O|$OOO:problem", to_problem, &body, &most, &language, &it->room);
   if (it->into == Py_None) it->into = NULL;
   if (it->room == Py_None) it->room = NULL;
+  it->places = places;
   return is_read && read_body(it, body) && read_most(it, most) && read_language(it, language);
 }
 

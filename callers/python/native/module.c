@@ -3,16 +3,17 @@
 
 #include <string.h>
 
-static const char CHECK[] = "check(body, *, most=None, language='', room=None)\n--\n\n"
+static const char CHECK[] = "check(body, *, most=None, language='', room=None, places=False)\n--\n\n"
     "Returns the faults of a body, which is none where it is valid.\n\n"
     "`most` bounds how many there are, and `more` of the list says whether the body has others. `language` is the tag of the\n"
-    "language of the sentences; where the library does not know it they are English. `room` is for `Checker`.\n\n"
+    "language of the sentences; where the library does not know it they are English. `room` is for `Checker`. With `places`\n"
+    "`places` of the list says where in the body each fault is.\n\n"
     "Raises `NotJson` where the bytes are no JSON text, `ValueError` where `most` is less than 1, and `MemoryError`.";
 static const char PROBLEM[] = "problem(body, *, most=None, language='', room=None)\n--\n\n"
     "Returns what is wrong with a body as problem details, or None where it is valid.\n\n"
-    "Bytes that are no JSON text have a problem as well. The arguments are those of `check`. Raises `ValueError` where `most` is\n"
+    "Bytes that are no JSON text have a problem as well. The arguments are those of `check`, without places. Raises `ValueError` where `most` is\n"
     "less than 1, and `MemoryError`.";
-static const char LOAD[] = "load(body, into=None, *, most=None, language='', room=None)\n--\n\n"
+static const char LOAD[] = "load(body, into=None, *, most=None, language='', room=None, places=False)\n--\n\n"
     "Returns the value of a valid body: that which was judged, and not read once more.\n\n"
     "It is what `json.loads` makes. Where `into` is a class it is an object of it, by its annotations, and where it is\n"
     "`Valid[Class]`, it is wrapped as one that is valid. The other arguments are those of `check`.\n\n"
@@ -24,7 +25,7 @@ static const char IS_VALID[] = "is_valid(body)\n--\n\n"
 static PyObject *details_of(const room *in) { return PyBytes_FromStringAndSize((const char *)in->out, (Py_ssize_t)in->out_used); }
 
 static bool is_named(const order_node *it, const room *in, const char *name) {
-  return it->len == strlen(name) && !memcmp((it->in_texts ? in->texts : in->out) + it->value, name, it->len);
+  return it->len == strlen(name) && !memcmp(in->texts + it->value, name, it->len);
 }
 
 /* The value of a member of the details, all of which have one node but the last one, or NULL. */
@@ -39,20 +40,40 @@ static walk walk_of(state *held, const room *in, const uint8_t *body, const orde
   return (walk){.held = held, .by = by, .at = at, .body = body, .texts = in->texts};
 }
 
+/* The places of the faults that are in the room. */
+static PyObject *places_of(state *held, const room *in) {
+  PyObject *places = PyList_New((Py_ssize_t)in->places_used);
+  for (size_t i = 0; places && i < in->places_used; i++) {
+    const order_place *it = &in->places[i];
+    PyObject *place = PyObject_CallFunction(held->place, "KK", (unsigned long long)it->line, (unsigned long long)it->column);
+    if (!place) Py_CLEAR(places);
+    else PyList_SetItem(places, (Py_ssize_t)i, place);
+  }
+  return places;
+}
+
+/* Gives the faults a list of their places. */
+static bool put_places(state *held, const room *in, PyObject *faults) {
+  PyObject *places = places_of(held, in);
+  bool is_put = places && !PyObject_SetAttrString(faults, "places", places);
+  Py_XDECREF(places);
+  return is_put;
+}
+
 /* The faults that are in the room. */
-static PyObject *faults_of(state *held, const room *in) {
-  PyObject *faults = PyObject_CallFunctionObjArgs(held->faults, NULL), *all = NULL, *more = member(in, "detail") ? Py_True : Py_False;
-  const plan *by = plan_of(held, held->fault_plan);
-  walk to = walk_of(held, in, in->out, member(in, "errors"), by);
-  if (faults && by) all = made(&to);
-  if (!all || PyList_SetSlice(faults, 0, 0, all) || PyObject_SetAttrString(faults, "more", more)) Py_CLEAR(faults);
+static PyObject *faults_of(state *held, const room *in, const asked *it) {
+  walk to = walk_of(held, in, in->texts, member(in, "errors"), NULL);
+  PyObject *faults = PyObject_CallFunctionObjArgs(held->faults, NULL), *all = faults ? faults_made(&to) : NULL;
+  if (!all || PyList_SetSlice(faults, 0, 0, all) || (member(in, "detail") && PyObject_SetAttrString(faults, "more", Py_True)) ||
+      (it->places && !put_places(held, in, faults)))
+    Py_CLEAR(faults);
   Py_XDECREF(all);
   return faults;
 }
 
-/* Raises that the bytes are no JSON text. */
+/* Raises that the bytes are no JSON text, whose details are in the room. */
 static PyObject *not_json(state *held, const room *in) {
-  walk to = walk_of(held, in, in->out, member(in, "detail"), NULL);
+  walk to = walk_of(held, in, in->texts, member(in, "detail"), NULL);
   PyObject *why = made(&to), *details = why ? details_of(in) : NULL;
   PyObject *error = details ? PyObject_CallFunctionObjArgs(held->not_json, why, details, NULL) : NULL;
   if (error) PyErr_SetObject(held->not_json, error);
@@ -63,12 +84,15 @@ static PyObject *not_json(state *held, const room *in) {
 }
 
 static PyObject *check_in(state *held, room *in, const asked *it) {
+  asked more = *it;
   switch (ask_faults(in, it)) {
     case ORDER_VALID: return PyObject_CallFunctionObjArgs(held->faults, NULL);
-    case ORDER_FAULTS: return faults_of(held, in);
-    case ORDER_NO_JSON: return not_json(held, in);
+    case ORDER_FAULTS: return faults_of(held, in, it);
+    case ORDER_NO_JSON: break;
     default: return no_memory();
   }
+  more.details = true;
+  return it->details || ask_faults(in, &more) == ORDER_NO_JSON ? not_json(held, in) : no_memory();
 }
 
 static PyObject *problem_in(state *held, room *in, const asked *it) {
@@ -80,7 +104,9 @@ static PyObject *problem_in(state *held, room *in, const asked *it) {
 
 /* Raises the faults of a body that has some. */
 static PyObject *invalid(state *held, room *in, const asked *it) {
-  PyObject *faults = check_in(held, in, it), *details = faults ? details_of(in) : NULL;
+  asked more = *it;
+  more.details = true;
+  PyObject *faults = check_in(held, in, &more), *details = faults ? details_of(in) : NULL;
   PyObject *error = details ? PyObject_CallFunctionObjArgs(held->invalid, faults, details, NULL) : NULL;
   if (error) PyErr_SetObject(held->invalid, error);
   Py_XDECREF(error);
@@ -112,12 +138,12 @@ static PyObject *value_in(state *held, room *in, const asked *it) {
 }
 
 /* What one of these answers to the arguments of a call, in a room. */
-static PyObject *answer(PyObject *module, PyObject *args, PyObject *words, bool has_into,
+static PyObject *answer(PyObject *module, PyObject *args, PyObject *words, int call,
                         PyObject *(*way)(state *, room *, const asked *)) {
   asked it;
   PyObject *found = NULL;
   state *held = PyModule_GetState(module);
-  room *in = read_asked(args, words, has_into, &it) ? take_room(held, &it) : NULL;
+  room *in = read_asked(args, words, call, &it) ? take_room(held, &it) : NULL;
   if (in) {
     found = way(held, in, &it);
     put_room(held, &it, in);
@@ -126,16 +152,16 @@ static PyObject *answer(PyObject *module, PyObject *args, PyObject *words, bool 
   return found;
 }
 
-static PyObject *check(PyObject *module, PyObject *args, PyObject *words) { return answer(module, args, words, false, check_in); }
-static PyObject *problem(PyObject *module, PyObject *args, PyObject *words) { return answer(module, args, words, false, problem_in); }
-static PyObject *load(PyObject *module, PyObject *args, PyObject *words) { return answer(module, args, words, true, value_in); }
+static PyObject *check(PyObject *module, PyObject *args, PyObject *words) { return answer(module, args, words, TO_CHECK, check_in); }
+static PyObject *problem(PyObject *module, PyObject *args, PyObject *words) { return answer(module, args, words, TO_PROBLEM, problem_in); }
+static PyObject *load(PyObject *module, PyObject *args, PyObject *words) { return answer(module, args, words, TO_LOAD, value_in); }
 
 static PyObject *is_valid(PyObject *module, PyObject *body) {
   (void)module;
   asked it = {0};
   uint8_t status = ORDER_MEMORY;
   PyObject *args = PyTuple_Pack(1, body);
-  bool is_read = args && read_asked(args, NULL, false, &it);
+  bool is_read = args && read_asked(args, NULL, TO_PROBLEM, &it);
   if (is_read) {
     PyThreadState *thread = it.len > SMALL ? PyEval_SaveThread() : NULL;
     status = order_is_valid(it.at, it.len);
@@ -166,8 +192,8 @@ static PyMethodDef functions[] = {
 
 /* The objects of a module that the collector of cycles may see, one after the other. */
 static PyObject **object_at(state *held, int number) {
-  PyObject **all[] = {&held->faults, &held->problem, &held->not_json, &held->invalid, &held->valid,
-                      &held->describe, &held->plans, &held->fault_plan, &held->empty, NULL};
+  PyObject **all[] = {&held->faults, &held->place, &held->problem, &held->not_json, &held->invalid, &held->valid, &held->describe,
+                      &held->plans, &held->empty, &held->fault, &held->parts[0], &held->parts[1], &held->parts[2], &held->parts[3], NULL};
   return all[number];
 }
 
@@ -197,6 +223,28 @@ static bool import(const char *from, const char *name, PyObject **to) {
   return *to != NULL;
 }
 
+static int set_by_name(PyObject *name, PyObject *fault, PyObject *value) { return PyObject_GenericSetAttr(fault, name, value); }
+
+/* How a part of a fault is set: by its slot. Python 3.9 does not say how, so there it is by the name, which takes longer. */
+static bool begin_part(state *held, int part, const char *name) {
+  PyObject *slot = PyObject_GetAttrString(held->fault, name);
+  held->parts[part] = slot;
+  held->setters[part] = slot ? PyType_GetSlot(Py_TYPE(slot), Py_tp_descr_set) : NULL;
+  if (!slot || held->setters[part]) return slot != NULL;
+  PyErr_Clear();
+  Py_DECREF(slot);
+  held->setters[part] = set_by_name;
+  held->parts[part] = PyUnicode_InternFromString(name);
+  return held->parts[part] != NULL;
+}
+
+static bool begin_parts(state *held) {
+  static const char *const NAMES[PARTS] = {"pointer", "detail", "code", "params"};
+  for (int i = 0; i < PARTS; i++)
+    if (!begin_part(held, i, NAMES[i])) return false;
+  return true;
+}
+
 static int begin(PyObject *module) {
   static const char ANSWERS[] = "order_check._answers", SHAPES[] = "order_check._shapes";
   state *held = PyModule_GetState(module);
@@ -206,10 +254,10 @@ static int begin(PyObject *module) {
   }
   held->plans = PyDict_New();
   held->empty = PyTuple_New(0);
-  bool is_begun = held->plans && held->empty && import(ANSWERS, "Faults", &held->faults) && import(ANSWERS, "problem_of", &held->problem) &&
-                  import(ANSWERS, "NotJson", &held->not_json) && import(ANSWERS, "Invalid", &held->invalid) &&
+  bool is_begun = held->plans && held->empty && import(ANSWERS, "Faults", &held->faults) && import(ANSWERS, "Place", &held->place) &&
+                  import(ANSWERS, "problem_of", &held->problem) && import(ANSWERS, "NotJson", &held->not_json) && import(ANSWERS, "Invalid", &held->invalid) &&
                   import(SHAPES, "Valid", &held->valid) && import(SHAPES, "describe", &held->describe) &&
-                  import(SHAPES, "FAULTS", &held->fault_plan);
+                  import(ANSWERS, "Fault", &held->fault) && begin_parts(held);
   return is_begun ? 0 : -1;
 }
 

@@ -19,6 +19,8 @@ enum {
   /* A name of more bytes is not kept, and a class with more fields is rejected. */
   NAME_LEN = 23,
   FIELDS = 64,
+  /* The parts of a fault. */
+  PARTS = 4,
   /* A longer body releases the GIL. A shorter one is done before the GIL could be taken and given back. */
   SMALL = 512,
 };
@@ -27,9 +29,10 @@ enum {
 typedef struct {
   order_checker checker;
   order_node *nodes;
+  order_place *places;
   uint8_t *texts, *out;
-  size_t nodes_len, texts_len, out_len;
-  size_t nodes_used, texts_used, out_used;
+  size_t nodes_len, places_len, texts_len, out_len;
+  size_t nodes_used, places_used, texts_used, out_used;
   bool is_taken, is_large;
 } room;
 
@@ -38,6 +41,7 @@ typedef struct {
   PyObject *body, *language, *into, *room;
   const uint8_t *at, *tag;
   size_t len, tag_len, most;
+  bool places, details;
 } asked;
 
 /* What a value may be. */
@@ -85,14 +89,17 @@ typedef struct {
 
 /* What a module has. Each interpreter has a module of its own. */
 typedef struct {
-  PyObject *faults, *problem, *not_json, *invalid, *valid, *describe, *plans, *fault_plan, *empty;
+  PyObject *faults, *place, *problem, *not_json, *invalid, *valid, *describe, *plans, *empty;
+  PyObject *fault, *parts[PARTS];
+  descrsetfunc setters[PARTS];
   room *rooms[ROOMS];
   int room_count;
   name names[NAMES];
 } state;
 
-/* arguments.c: reads the arguments of a call. `drop_asked` frees what it holds, also where this fails. */
-bool read_asked(PyObject *args, PyObject *words, bool has_into, asked *it);
+/* arguments.c: reads the arguments of a call, as its keywords say. `drop_asked` frees what it holds, also where this fails. */
+enum { TO_PROBLEM, TO_CHECK, TO_LOAD };
+bool read_asked(PyObject *args, PyObject *words, int call, asked *it);
 void drop_asked(asked *it);
 
 /* room.c */
@@ -103,7 +110,8 @@ void free_room(room *in);
 PyObject *no_memory(void);
 PyObject *new_room(PyObject *module, PyObject *length);
 PyObject *close_room(PyObject *module, PyObject *capsule);
-/* The status of a body, with its value, its details, or these as nodes too in the room. */
+/* The status of a body, with its value, its details, or its faults as nodes in the room: with the details and the places too, where
+ * they are asked for. */
 uint8_t ask_value(room *in, const asked *it);
 uint8_t ask_details(room *in, const asked *it);
 uint8_t ask_faults(room *in, const asked *it);
@@ -121,5 +129,7 @@ typedef struct {
   const field *field;
 } walk;
 PyObject *made(walk *in);
+/* The faults of the nodes of `errors`. */
+PyObject *faults_made(walk *in);
 
 #endif

@@ -9,8 +9,8 @@ static const char CAPSULE[] = "order_check.room";
 static const size_t FIRST = 16 * 1024;
 /* A room of a larger body, or with more memory for an answer, is not kept. */
 static const size_t KEPT_BODY = 1024 * 1024, KEPT = 4 * 1024 * 1024;
-/* Details are larger than the body that has the faults, but seldom by more than this. What is not written takes no memory. */
-static const size_t GROWS = 16, MOST_AT_FIRST = 64 * 1024 * 1024;
+/* Room for the faults of a larger body is made once it is known how many they are. What is not written takes no memory. */
+static const size_t MOST_AT_FIRST = 4 * 1024 * 1024;
 
 /* Makes room for so many things of a size. What was there is gone. */
 static bool grow(room *in, void *held, size_t *len, size_t wanted, size_t size) {
@@ -24,11 +24,13 @@ static bool grow(room *in, void *held, size_t *len, size_t wanted, size_t size) 
 }
 
 static bool grow_nodes(room *in, size_t wanted) { return grow(in, &in->nodes, &in->nodes_len, wanted, sizeof *in->nodes); }
+static bool grow_places(room *in, size_t wanted) { return grow(in, &in->places, &in->places_len, wanted, sizeof *in->places); }
 static bool grow_texts(room *in, size_t wanted) { return grow(in, &in->texts, &in->texts_len, wanted, 1); }
 static bool grow_out(room *in, size_t wanted) { return grow(in, &in->out, &in->out_len, wanted, 1); }
 
 static bool holds(const room *in) {
-  return in->nodes_used <= in->nodes_len && in->texts_used <= in->texts_len && in->out_used <= in->out_len;
+  return in->nodes_used <= in->nodes_len && in->texts_used <= in->texts_len && in->out_used <= in->out_len &&
+         in->places_used <= in->places_len;
 }
 
 /* A call of the library, without the GIL where the body is long. */
@@ -44,7 +46,7 @@ static uint8_t ask(uint8_t (*call)(room *, const asked *), room *in, const asked
 /* A value has a node for every two bytes at most, with one more. */
 static uint8_t call_value(room *in, const asked *it) {
   size_t nodes = it->len / 2 + 1, texts = memchr(it->at, '\\', it->len) ? it->len : 1;
-  in->nodes_used = in->texts_used = in->out_used = 0;
+  in->nodes_used = in->texts_used = in->out_used = in->places_used = 0;
   uint8_t status = ORDER_MEMORY;
   do {
     if (!grow_nodes(in, nodes) || !grow_texts(in, texts)) return ORDER_MEMORY;
@@ -56,14 +58,9 @@ static uint8_t call_value(room *in, const asked *it) {
   return status;
 }
 
-static size_t first_out(const asked *it) {
-  size_t wanted = it->len < MOST_AT_FIRST / GROWS ? it->len * GROWS : MOST_AT_FIRST;
-  return wanted < FIRST ? FIRST : wanted;
-}
-
 static uint8_t call_details(room *in, const asked *it) {
   size_t out = FIRST;
-  in->nodes_used = in->texts_used = in->out_used = 0;
+  in->nodes_used = in->texts_used = in->out_used = in->places_used = 0;
   uint8_t status = ORDER_MEMORY;
   do {
     if (!grow_out(in, out)) return ORDER_MEMORY;
@@ -73,19 +70,22 @@ static uint8_t call_details(room *in, const asked *it) {
   return status;
 }
 
-/* Details have a node for every four bytes, about, and in `texts` the sentences that have an escape. */
+/* Nodes and texts of most faults, of a body of so many bytes: some 13 nodes and 100 bytes for each, and a fault for 12 bytes at most. */
+static size_t first_nodes(const asked *it) { return (it->len < MOST_AT_FIRST ? it->len : MOST_AT_FIRST) + 256; }
+
 static uint8_t call_faults(room *in, const asked *it) {
-  size_t out = first_out(it), nodes = out / 4, texts = out / 2, places = 0;
-  order_place none;
-  in->nodes_used = in->texts_used = in->out_used = 0;
+  size_t nodes = first_nodes(it), texts = 8 * nodes, out = it->details ? 2 * texts : 1, places = it->places ? nodes / 8 : 1;
+  in->nodes_used = in->texts_used = in->out_used = in->places_used = 0;
   uint8_t status = ORDER_MEMORY;
   do {
-    if (!grow_out(in, out) || !grow_nodes(in, nodes) || !grow_texts(in, texts)) return ORDER_MEMORY;
-    status = order_faults_with(&in->checker, it->at, it->len, it->most, it->tag, it->tag_len, in->out, in->out_len, &in->out_used,
-                               in->nodes, in->nodes_len, &in->nodes_used, in->texts, in->texts_len, &in->texts_used, &none, 0, &places);
+    if (!grow_out(in, out) || !grow_nodes(in, nodes) || !grow_texts(in, texts) || !grow_places(in, places)) return ORDER_MEMORY;
+    status = order_faults_with(&in->checker, it->at, it->len, it->most, it->tag, it->tag_len, in->out, it->details ? in->out_len : 0,
+                               &in->out_used, in->nodes, in->nodes_len, &in->nodes_used, in->texts, in->texts_len, &in->texts_used,
+                               in->places, it->places ? in->places_len : 0, &in->places_used);
     out = in->out_used;
     nodes = in->nodes_used;
     texts = in->texts_used;
+    places = in->places_used;
   } while (!holds(in));
   return status;
 }
@@ -98,6 +98,7 @@ uint8_t ask_faults(room *in, const asked *it) { return ask(call_faults, in, it);
 static void empty(room *in) {
   order_free(&in->checker);
   free(in->nodes);
+  free(in->places);
   free(in->texts);
   free(in->out);
   *in = (room){.is_taken = in->is_taken};

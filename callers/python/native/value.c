@@ -207,3 +207,33 @@ static PyObject *shaped(walk *in, const shape *as) {
 }
 
 PyObject *made(walk *in) { return shaped(in, in->by ? in->by->shapes : &ANY); }
+
+/* The next part of a fault, behind its name. */
+static PyObject *part_of(walk *in, int part) {
+  in->at++;
+  return part == PARTS - 1 ? dict_of(in, &ANY) : text_of(in, in->at++);
+}
+
+/* A fault, whose parts come one after the other, as order.h has them. */
+static PyObject *fault_of(walk *in) {
+  state *held = in->held;
+  PyObject *fault = PyType_GenericAlloc((PyTypeObject *)held->fault, 0);
+  in->at++;
+  for (int i = 0; fault && i < PARTS; i++) {
+    PyObject *value = part_of(in, i);
+    if (!value || held->setters[i](held->parts[i], fault, value)) Py_CLEAR(fault);
+    Py_XDECREF(value);
+  }
+  return fault;
+}
+
+PyObject *faults_made(walk *in) {
+  Py_ssize_t count = (Py_ssize_t)in->at++->value;
+  PyObject *faults = PyList_New(count);
+  for (Py_ssize_t i = 0; faults && i < count; i++) {
+    PyObject *fault = fault_of(in);
+    if (!fault) Py_CLEAR(faults);
+    else PyList_SetItem(faults, i, fault);
+  }
+  return faults;
+}

@@ -24,6 +24,7 @@ pub struct Checker {
     pub(crate) raw: raw::Checker,
     pub(crate) details: Vec<u8>,
     pub(crate) nodes: Vec<raw::Node>,
+    pub(crate) places: Vec<raw::Place>,
     pub(crate) texts: Vec<u8>,
 }
 
@@ -43,6 +44,7 @@ impl Checker {
             raw: raw::Checker::EMPTY,
             details: Vec::new(),
             nodes: Vec::new(),
+            places: Vec::new(),
             texts: Vec::new(),
         }
     }

@@ -5,7 +5,7 @@ use std::fmt::{self, Debug, Display, Formatter};
 use crate::checker::Checker;
 use crate::options::Options;
 use crate::problem::Problem;
-use crate::raw;
+use crate::raw::{self, Place};
 use crate::value::{Part, Parts};
 
 /// A fault of a body: where it is, and what is wrong there.
@@ -20,6 +20,8 @@ pub struct Fault<'f> {
     pub code: &'f str,
     /// What the sentence says of the rule, by name, as `("min", "1")`.
     pub parameters: Vec<(&'f str, &'f str)>,
+    /// Where it is in the body, if places were asked for.
+    pub place: Option<Place>,
 }
 
 /// Why a body has no value. Bytes that are no JSON text have one fault, of the whole.
@@ -31,6 +33,7 @@ pub struct Faults {
     pub(crate) details: String,
     pub(crate) texts: Vec<u8>,
     pub(crate) nodes: Vec<raw::Node>,
+    pub(crate) places: Vec<Place>,
     pub(crate) body: Vec<u8>,
     pub(crate) language: String,
     pub(crate) most: std::num::NonZeroUsize,
@@ -48,6 +51,7 @@ impl Faults {
             details,
             texts: Vec::new(),
             nodes: Vec::new(),
+            places: Vec::new(),
             body: Vec::new(),
             language: String::new(),
             most: std::num::NonZeroUsize::MAX,
@@ -95,7 +99,12 @@ impl Faults {
         let mut parts = errors.unwrap_or_else(|| self.parts());
         parts.next();
         let whole = (self.status != raw::FAULTS).then(|| self.whole());
-        FaultsIter { whole, parts, left }
+        FaultsIter {
+            whole,
+            parts,
+            places: self.places.iter(),
+            left,
+        }
     }
 
     /// The fault of bytes that were not judged.
@@ -113,11 +122,12 @@ impl Faults {
             message,
             code,
             parameters: Vec::new(),
+            place: None,
         }
     }
 
     fn parts(&self) -> Parts<'_, '_> {
-        Parts::new(&self.nodes, self.details.as_bytes(), &self.texts)
+        Parts::new(&self.nodes, b"", &self.texts)
     }
 
     /// The parts from the value of a member of the details on. All members but the last one, `errors`,
@@ -159,6 +169,7 @@ impl<'f> IntoIterator for &'f Faults {
 pub struct FaultsIter<'f> {
     whole: Option<Fault<'f>>,
     parts: Parts<'f, 'f>,
+    places: std::slice::Iter<'f, Place>,
     left: usize,
 }
 
@@ -170,6 +181,7 @@ impl<'f> FaultsIter<'f> {
             message: "",
             code: "",
             parameters: Vec::new(),
+            place: self.places.next().copied(),
         };
         let Some(Part::Object(count)) = self.parts.next() else {
             return made;

@@ -26,6 +26,7 @@ pub use checker::{Checker, is_valid};
 pub use faults::{Fault, Faults, FaultsIter};
 pub use options::Options;
 pub use problem::{OutOfMemory, Problem};
+pub use raw::Place;
 pub use value::{Part, Parts, Text};
 
 /// Checks a body, and reports every fault in English.

@@ -101,39 +101,44 @@ impl Checker {
     }
 
     fn try_faults(&mut self, body: &[u8], options: Options) -> Result<Faults, OutOfMemory> {
-        let (mut len, mut nodes, mut texts) = (4096, 512, 1024);
+        let mut used = Used::FIRST;
         let status = loop {
-            grow(&mut self.details, len, 0)?;
-            grow(&mut self.nodes, nodes.max(len / 8), raw::Node::NULL)?;
-            grow(&mut self.texts, texts, 0)?;
-            let status = self.call_faults(body, options, &mut len, &mut nodes, &mut texts);
-            if len <= self.details.len() && nodes <= self.nodes.len() && texts <= self.texts.len() {
+            grow(&mut self.details, used.details, 0)?;
+            grow(&mut self.nodes, used.nodes, raw::Node::NULL)?;
+            grow(&mut self.texts, used.texts, 0)?;
+            grow(&mut self.places, used.places, raw::Place::NONE)?;
+            let status = self.call_faults(body, options, &mut used);
+            if self.holds(&used) {
                 break status;
             }
         };
         if status == raw::MEMORY {
             return Err(OutOfMemory);
         }
-        let mut found = Faults::of(status, text_of(&self.details[..len])?);
-        found.nodes = self.nodes[..nodes].to_vec();
-        found.texts = self.texts[..texts].to_vec();
+        let mut found = Faults::of(status, text_of(&self.details[..used.details])?);
+        found.nodes = self.nodes[..used.nodes].to_vec();
+        found.texts = self.texts[..used.texts].to_vec();
+        found.places = self.places[..used.places].to_vec();
         found.body = body.to_vec();
         found.language = options.language.to_owned();
         found.most = options.most;
         Ok(found)
     }
 
-    fn call_faults(
-        &mut self,
-        body: &[u8],
-        options: Options,
-        len: &mut usize,
-        nodes_used: &mut usize,
-        texts_used: &mut usize,
-    ) -> u8 {
+    fn holds(&self, used: &Used) -> bool {
+        used.details <= self.details.len()
+            && used.nodes <= self.nodes.len()
+            && used.texts <= self.texts.len()
+            && used.places <= self.places.len()
+    }
+
+    fn call_faults(&mut self, body: &[u8], options: Options, used: &mut Used) -> u8 {
         let language = options.language.as_bytes();
-        // No places are asked for.
-        let (mut none, mut places) = (raw::Place { line: 0, column: 0 }, 0);
+        let places = if options.places {
+            self.places.len()
+        } else {
+            0
+        };
         // SAFETY: as of `call_value`, with nine different `&mut`.
         unsafe {
             raw::order_faults_with(
@@ -145,17 +150,35 @@ impl Checker {
                 language.len(),
                 self.details.as_mut_ptr(),
                 self.details.len(),
-                len,
+                &mut used.details,
                 self.nodes.as_mut_ptr(),
                 self.nodes.len(),
-                nodes_used,
+                &mut used.nodes,
                 self.texts.as_mut_ptr(),
                 self.texts.len(),
-                texts_used,
-                &mut none,
-                0,
-                &mut places,
+                &mut used.texts,
+                self.places.as_mut_ptr(),
+                places,
+                &mut used.places,
             )
         }
     }
+}
+
+/// How much of each thing the faults of a body have.
+struct Used {
+    details: usize,
+    nodes: usize,
+    texts: usize,
+    places: usize,
+}
+
+impl Used {
+    /// What there is room for at first.
+    const FIRST: Used = Used {
+        details: 4096,
+        nodes: 512,
+        texts: 4096,
+        places: 64,
+    };
 }

@@ -6,6 +6,7 @@ use std::num::NonZeroUsize;
 pub struct Options<'a> {
     pub(crate) most: NonZeroUsize,
     pub(crate) language: &'a str,
+    pub(crate) places: bool,
 }
 
 impl<'a> Options<'a> {
@@ -14,6 +15,7 @@ impl<'a> Options<'a> {
         Options {
             most: NonZeroUsize::MAX,
             language: "",
+            places: false,
         }
     }
 
@@ -26,6 +28,14 @@ impl<'a> Options<'a> {
     /// English.
     pub const fn language(self, language: &'a str) -> Options<'a> {
         Options { language, ..self }
+    }
+
+    /// Where in the body each fault is, too: for those who ask for faults, and not for their text.
+    pub const fn places(self) -> Options<'a> {
+        Options {
+            places: true,
+            ..self
+        }
     }
 }
 

@@ -3,7 +3,7 @@ use std::ffi::c_void;
 use std::ptr;
 
 /// The version of the interface that is declared here.
-pub const VERSION: u32 = 3;
+pub const VERSION: u32 = 4;
 
 pub const VALID: u8 = 0;
 pub const FAULTS: u8 = 1;
@@ -33,11 +33,19 @@ pub struct Node {
     pub value: u64,
 }
 
-/// `order_place`.
+/// Where a fault is in a body: of an unknown or a repeated member its name, and else its value. A byte
+/// order mark is not counted.
 #[repr(C)]
+#[derive(Clone, Copy, Debug, PartialEq, Eq, PartialOrd, Ord, Hash)]
 pub struct Place {
+    /// The line, from 1 on.
     pub line: u64,
+    /// The column, in characters from 1 on.
     pub column: u64,
+}
+
+impl Place {
+    pub(crate) const NONE: Place = Place { line: 0, column: 0 };
 }
 
 impl Node {

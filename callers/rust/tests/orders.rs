@@ -2,7 +2,7 @@
 use std::num::NonZeroUsize;
 use std::thread;
 
-use order_check::{Checker, Options, Problem, check, check_with, is_valid};
+use order_check::{Checker, Options, Place, Problem, check, check_with, is_valid};
 
 const GOOD: &str =
     r#"{"customer":"Ada","lines":[{"code":"P1","count":1},{"code":"P22","count":99}]}"#;
@@ -41,6 +41,18 @@ fn options_choose_the_language_and_the_number_of_faults() {
     assert!(
         one.contains(r#""detail":"there are more""#) && one.matches("\"pointer\"").count() == 1
     );
+}
+
+#[test]
+fn faults_have_places_where_they_are_asked_for() {
+    let body = "{\"customer\":\"\",\n \"lines\":[],\"é\":1,\"x\":1}".as_bytes();
+    let mut checker = Checker::new();
+    let found = checker.value_with(body, Options::new().places()).unwrap_err();
+    let places: Vec<_> = found.iter().filter_map(|it| it.place).collect();
+    let wanted = [(1, 13), (2, 10), (2, 13), (2, 19)];
+    assert_eq!(places, wanted.map(|(line, column)| Place { line, column }));
+    let found = checker.value(body).unwrap_err();
+    assert!(found.iter().all(|it| it.place.is_none()));
 }
 
 #[test]

@@ -9,11 +9,11 @@ from __future__ import annotations
 import types
 from typing import Any
 
-from ._answers import Body, Fault, Faults, Invalid, NotJson, Problem, Status
+from ._answers import Body, Fault, Faults, Invalid, NotJson, Place, Problem, Status
 from ._native import check, close_room, is_valid, load, new_room, problem
 from ._shapes import Valid
 
-__all__ = ["Body", "Checker", "Fault", "Faults", "Invalid", "NotJson", "Problem", "Status", "Valid", "check", "is_valid", "load", "problem"]
+__all__ = ["Body", "Checker", "Fault", "Faults", "Invalid", "NotJson", "Place", "Problem", "Status", "Valid", "check", "is_valid", "load", "problem"]
 
 
 class Checker:
@@ -28,13 +28,13 @@ class Checker:
         """Makes room for bodies of so many bytes. It grows by need, so a checker may begin with none."""
         self._room = new_room(body_len)
 
-    def load(self, body: Body, into: Any = None, *, most: int | None = None, language: str = "") -> Any:
+    def load(self, body: Body, into: Any = None, *, most: int | None = None, language: str = "", places: bool = False) -> Any:
         """Does what the function `load` does."""
-        return load(body, into, most=most, language=language, room=self._room)
+        return load(body, into, most=most, language=language, room=self._room, places=places)
 
-    def check(self, body: Body, *, most: int | None = None, language: str = "") -> Faults:
+    def check(self, body: Body, *, most: int | None = None, language: str = "", places: bool = False) -> Faults:
         """Does what the function `check` does."""
-        return check(body, most=most, language=language, room=self._room)
+        return check(body, most=most, language=language, room=self._room, places=places)
 
     def problem(self, body: Body, *, most: int | None = None, language: str = "") -> Problem | None:
         """Does what the function `problem` does."""

@@ -3,8 +3,8 @@ from __future__ import annotations
 
 import dataclasses
 import enum
-from collections.abc import Mapping
-from typing import Union
+from collections.abc import Mapping, Sequence
+from typing import NamedTuple, Union
 
 Body = Union[bytes, bytearray, memoryview]
 """The bytes of a body. `bytes` are read where they lie. Of others a copy is made, since another thread could change them."""
@@ -28,11 +28,22 @@ class Fault:
         return Fault, (self.pointer, self.detail, self.code, self.params)
 
 
+class Place(NamedTuple):
+    """Where a fault is: of an unknown or a repeated member its name, and else its value. A byte order mark is not counted."""
+
+    line: int
+    """The line, from 1 on."""
+    column: int
+    """The column, in characters from 1 on."""
+
+
 class Faults(list[Fault]):
     """The faults of a body. The list of a valid one is empty."""
 
     more: bool = False
     """Whether the body has more faults than were asked for."""
+    places: Sequence[Place] = ()
+    """The place of each fault, where places were asked for."""
 
 
 class Status(enum.IntEnum):

@@ -8,8 +8,6 @@ import types
 import typing
 from typing import Any, Generic, Literal, TypeVar
 
-from ._answers import Fault
-
 T = TypeVar("T")
 
 # The kinds of a value, and how an object is made. The numbers are those of native.h.
@@ -23,8 +21,6 @@ AS_DICT, BY_FIELDS, BY_CALL = range(3)
 FIELDS = 64
 # A field that has nothing where the body lacks it.
 NOTHING = ...
-# What `load` takes for faults.
-FAULTS = list[Fault]
 
 
 class Valid(Generic[T]):
