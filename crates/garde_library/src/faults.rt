@@ -1,9 +1,6 @@
 //! The faults of bytes, handed over.
-ghost use Rattle.std.specs.Prelude.{◌≡◌, ◌==◌, IfOk, IsOk, string_bytes};
-ghost use Rattle.garde_library.specs.Checked.{details_json};
+ghost use Rattle.std.specs.Prelude.{◌≡◌, IfOk, IsOk, string_bytes};
 ghost use Rattle.garde_library.specs.Faults.{AreFaults, IsNoFault, text_in};
-ghost use Rattle.garde_library.specs.Places.{AreFound};
-ghost use Rattle.garde_library.specs.Value.{SpellIf};
 ghost use Rattle.garde_library.specs.declared.status.Status.TheVariants.{Valid};
 
 use crate::answer::{hand_over, status_of};
@@ -14,7 +11,6 @@ use crate::place::Place;
 use crate::places::find_places;
 use crate::status::Status;
 use crate::value::give_nothing;
-use crate::walk::Nodes;
 use garde_schema::FirstReadError;
 use std::alloc::{AllocError, Global};
 
