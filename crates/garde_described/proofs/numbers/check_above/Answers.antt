@@ -1,0 +1,9 @@
+use Rattle.std.proofs.Common.{ap, sym, ◌∙◌}
+use Rattle.std.specs.Prelude.{option_map}
+use Rattle.garde.specs.Fields.{is}
+use Rattle.garde_described.proofs.Lemmas.{of_none}
+use Rattle.garde_described.specs.Keywords.{above_found, on_number}
+use Rattle.garde_described.proofs.numbers.check_above.Goals as goal
+
+pub returns-in-None : goal.returns-in-None
+returns-in-None g c = of_none (λ bound. on_number (λ n. is (above_found bound n)) c.args.tree.now) _ (sym c.as_number.ensures ∙ ap (option_map (λ s. s.now)) c.in-None.is)

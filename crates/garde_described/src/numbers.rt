@@ -1,0 +1,210 @@
+//! `minimum` and the like: numbers are compared exactly.
+ghost use Rattle.std.specs.Prelude.{◌≡◌, IfOk};
+ghost use Rattle.std.specs.Cow.{cow_str_bytes};
+ghost use Rattle.garde.specs.Fields.{is};
+ghost use Rattle.garde.specs.Visits.{Visited};
+ghost use Rattle.garde_schema.specs.Decimals.{is_beyond};
+ghost use Rattle.garde_decimal.specs.Value.{decimal_of};
+ghost use Rattle.std.specs.Ordering.{is_gt, is_lt};
+ghost use Rattle.garde_described.specs.Keywords.{above_found, below_found, bound_asks, least_found, most_found, not_greater, not_less, on_number};
+
+use garde::fields::{AsksAs, Is, Rule, Rules};
+use garde::{I18n, Report, RuleError, Trail};
+use garde_i18n::{Code, Named, Value};
+use garde_schema::{Decimal, DecimalRange, Tree};
+use std::alloc::{AllocError, Global};
+use std::borrow::CowStr;
+
+// The handler's text of a number that is not greater than a bound.
+#[tactic(auto, unfolding(crate::specs::Keywords::not_greater))]
+fn text_of_not_greater<H: I18n>(
+    alloc: Global,
+    bound: &str,
+    h: &H,
+) -> Result<CowStr<'static>, AllocError>
+    ensures { IfOk result (λ s. cow_str_bytes s ≡ H.text h.now (not_greater bound.now)) }
+{
+    let english = format!(in alloc; "not greater than {bound}")?;
+    let code = Code {
+        name: "range_not_greater",
+        param: Some(("bound", Value::Text(bound))),
+    };
+    let fault = Named {
+        code,
+        english: english.as_str(),
+    };
+    h.named(alloc, fault)
+}
+
+// The handler's text of a number that is not less than a bound.
+#[tactic(auto, unfolding(crate::specs::Keywords::not_less))]
+fn text_of_not_less<H: I18n>(
+    alloc: Global,
+    bound: &str,
+    h: &H,
+) -> Result<CowStr<'static>, AllocError>
+    ensures { IfOk result (λ s. cow_str_bytes s ≡ H.text h.now (not_less bound.now)) }
+{
+    let english = format!(in alloc; "not less than {bound}")?;
+    let code = Code {
+        name: "range_not_less",
+        param: Some(("bound", Value::Text(bound))),
+    };
+    let fault = Named {
+        code,
+        english: english.as_str(),
+    };
+    h.named(alloc, fault)
+}
+
+// Whether a number is greater than the one that a text writes.
+fn is_above(bound: &str, number: &Decimal<'_>) -> bool
+    ensures { result ≡ is_beyond is_gt (decimal_of bound.now) number.now }
+{
+    match Decimal::read(bound) {
+        Some(bound) => number.compare(&bound).is_gt(),
+        None => true,
+    }
+}
+
+// Whether a number is less than the one that a text writes.
+fn is_below(bound: &str, number: &Decimal<'_>) -> bool
+    ensures { result ≡ is_beyond is_lt (decimal_of bound.now) number.now }
+{
+    match Decimal::read(bound) {
+        Some(bound) => number.compare(&bound).is_lt(),
+        None => true,
+    }
+}
+
+// The rule that a number is greater than the one that this text writes.
+#[derive(Clone, Copy)]
+struct Above<'b>(&'b str);
+
+impl<'a> Rule<Decimal<'a>> for Above<'_> {
+    ghost finds = { λ rule v. above_found rule.0.now v };
+
+    fn find<H: I18n>(&self, alloc: Global, value: &Decimal<'a>, h: &H) -> Result<(), RuleError> {
+        if is_above(self.0, value) {
+            Ok(())
+        } else {
+            Err(RuleError::of(alloc, text_of_not_greater(alloc, self.0, h)))
+        }
+    }
+}
+
+// The rule that a number is less than the one that this text writes.
+#[derive(Clone, Copy)]
+struct Below<'b>(&'b str);
+
+impl<'a> Rule<Decimal<'a>> for Below<'_> {
+    ghost finds = { λ rule v. below_found rule.0.now v };
+
+    fn find<H: I18n>(&self, alloc: Global, value: &Decimal<'a>, h: &H) -> Result<(), RuleError> {
+        if is_below(self.0, value) {
+            Ok(())
+        } else {
+            Err(RuleError::of(alloc, text_of_not_less(alloc, self.0, h)))
+        }
+    }
+}
+
+// Asks a rule of a number. One whose exponent's digits do not fit 64 bits is none.
+fn check_number<'t, 'a, R: Rule<Decimal<'a>> + Drop, H: I18n>(
+    rule: R,
+    tree: &Tree<'t, 'a>,
+    trail: &mut Trail<'a>,
+    report: &mut Report,
+    h: &H,
+) -> Result<(), AllocError>
+    ensures { Visited (on_number (λ n. is (R.finds rule n)) tree.now) (H.text h.now)
+        trail.old trail.new report.old report.new result }
+{
+    match tree.as_number() {
+        Some(text) => match Decimal::read(text) {
+            Some(number) => Is(rule).ask(&number, trail, report, h),
+            None => Is(AsksAs("not_a_number", "not a number", false)).ask(&(), trail, report, h),
+        },
+        None => Ok(()),
+    }
+}
+
+// Asks that a number is at least the one of a keyword's value.
+pub(crate) fn check_least<'s, 't, 'a, H: I18n>(
+    value: &Tree<'s, 'a>,
+    tree: &Tree<'t, 'a>,
+    trail: &mut Trail<'a>,
+    report: &mut Report,
+    h: &H,
+) -> Result<(), AllocError>
+    ensures { Visited (bound_asks least_found value.now tree.now) (H.text h.now)
+        trail.old trail.new report.old report.new result }
+{
+    match value.as_number() {
+        Some(bound) => {
+            let range = DecimalRange {
+                min: Some(bound),
+                max: None,
+            };
+            check_number(range, tree, trail, report, h)
+        }
+        None => Ok(()),
+    }
+}
+
+// Asks that a number is at most the one of a keyword's value.
+pub(crate) fn check_most<'s, 't, 'a, H: I18n>(
+    value: &Tree<'s, 'a>,
+    tree: &Tree<'t, 'a>,
+    trail: &mut Trail<'a>,
+    report: &mut Report,
+    h: &H,
+) -> Result<(), AllocError>
+    ensures { Visited (bound_asks most_found value.now tree.now) (H.text h.now)
+        trail.old trail.new report.old report.new result }
+{
+    match value.as_number() {
+        Some(bound) => {
+            let range = DecimalRange {
+                min: None,
+                max: Some(bound),
+            };
+            check_number(range, tree, trail, report, h)
+        }
+        None => Ok(()),
+    }
+}
+
+// Asks that a number is greater than the one of a keyword's value.
+pub(crate) fn check_above<'s, 't, 'a, H: I18n>(
+    value: &Tree<'s, 'a>,
+    tree: &Tree<'t, 'a>,
+    trail: &mut Trail<'a>,
+    report: &mut Report,
+    h: &H,
+) -> Result<(), AllocError>
+    ensures { Visited (bound_asks above_found value.now tree.now) (H.text h.now)
+        trail.old trail.new report.old report.new result }
+{
+    match value.as_number() {
+        Some(bound) => check_number(Above(bound), tree, trail, report, h),
+        None => Ok(()),
+    }
+}
+
+// Asks that a number is less than the one of a keyword's value.
+pub(crate) fn check_below<'s, 't, 'a, H: I18n>(
+    value: &Tree<'s, 'a>,
+    tree: &Tree<'t, 'a>,
+    trail: &mut Trail<'a>,
+    report: &mut Report,
+    h: &H,
+) -> Result<(), AllocError>
+    ensures { Visited (bound_asks below_found value.now tree.now) (H.text h.now)
+        trail.old trail.new report.old report.new result }
+{
+    match value.as_number() {
+        Some(bound) => check_number(Below(bound), tree, trail, report, h),
+        None => Ok(()),
+    }
+}
