@@ -1,2 +1,3 @@
 mod Lemmas
 mod Walks
+mod Ends

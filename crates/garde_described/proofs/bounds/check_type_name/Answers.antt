@@ -1,0 +1,7 @@
+use Rattle.std.proofs.Common.{ap, sym, ◌∙◌}
+use Rattle.std.specs.Prelude.{option_map}
+use Rattle.garde_described.proofs.Lemmas.{of_none}
+use Rattle.garde_described.proofs.bounds.check_type_name.Goals as goal
+
+pub returns-in-None : goal.returns-in-None
+returns-in-None g c = of_none _ _ (sym c.as_str.ensures ∙ ap (option_map (λ s. s.now)) c.in-None.is)
