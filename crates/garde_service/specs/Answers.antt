@@ -15,6 +15,7 @@ use Rattle.garde_service.specs.declared.routes.Asks.{Asks}
 use Rattle.garde_service.specs.declared.routes.Asks.TheVariants.{Answer, Rejection}
 use Rattle.garde_service.specs.declared.routes.Offer.{Offer}
 use Rattle.garde_service.specs.declared.routes.Offer.TheVariants.{Coding, MediaType, Methods, Nothing}
+use Rattle.garde_service.specs.declared.routes.Wanted.{Wanted}
 
 -- the field that says what there is in place of what was asked for
 abbrev pub offered : Offer → List Header
@@ -45,7 +46,7 @@ GivesAsked gives rejects given (Answer answer) head body response = gives answer
 GivesAsked gives rejects given (Rejection why offer) head body response = Refuses (rejects why) given why offer response
 
 -- The answer to a request with this head and this body: what the routes give to what it asks of them, at some date.
-pub record IsAnswerOf {A : Type 0} (routes : List (Entry A)) (gives : Gives A) (rejects : Rejects) (head : Parts) (body : List ℕ) (answer : Response) : Type 0 where
+pub record IsAnswerOf {G P : Type 0} (routes : List (Entry G P)) (gives : Gives (Wanted G P)) (rejects : Rejects) (head : Parts) (body : List ℕ) (answer : Response) : Type 0 where
   pub given : Response
   pub plain : Response
   pub is_given : GivesAsked gives rejects given (asked routes head) head body plain

@@ -25,7 +25,6 @@ use Rattle.http1.specs.Fields.{Header}
 use Rattle.http_server.specs.declared.response.Response.{Response}
 use Rattle.http_server.specs.Response.{IsResponse}
 use Rattle.garde_service.specs.Asked.{IsLanguage}
-use Rattle.garde_service.specs.Judged.{Judging}
 use Rattle.garde_service.specs.Said.{language_fields}
 
 -- the field that says that a body is problem details
@@ -92,16 +91,3 @@ JudgesBody spelling title voice accepted body response =
 abbrev pub IsJudged : {A : Type 0} → Spelling A → List ℕ → Catalogs → (Response → Type 0) → Parts → List ℕ → Response → Type 0
 IsJudged spelling title catalogs accepted head body response =
     (place : Option ℕ) × IsLanguage catalogs place head × JudgesBody spelling title (voice_at catalogs place) accepted body response
-
--- bodies in JSON are judged so: a valid one is answered with this status
-abbrev pub json_judging : {A : Type 0} → Spelling A → List ℕ → Catalogs → ℕ → Judging
-json_judging spelling title catalogs accepted = record {
-  report = List Entry;
-  is_in = λ place head. IsLanguage catalogs place head;
-  is_valid = λ place body. Reads spelling (voice_at catalogs place) body (Ok tt);
-  has_report = λ place body report. Reads spelling (voice_at catalogs place) body (Err (All report));
-  is_text = λ place body report text. text ≡ faults_text title report;
-  is_unread = λ place body. (error : ParseError) × Reads spelling (voice_at catalogs place) body (Err (Parse error));
-  is_short = λ body. length (without_mark body) ≤ 4294967040;
-  accepted = accepted;
-}

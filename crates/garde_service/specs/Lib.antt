@@ -1,11 +1,16 @@
 pub mod Answers
+pub mod Application
 pub mod Asked
+pub mod Author
 pub mod Dated
 pub mod Ending
 pub mod Fits
 pub mod Json
 pub mod Judged
+pub mod Kept
+pub mod Picked
 pub mod Problems
+pub mod Promised
 pub mod Reasons
 pub mod Rejected
 pub mod Room

@@ -13,6 +13,8 @@ use Rattle.garde_service.specs.declared.routes.Offer.{Offer}
 use Rattle.garde_service.specs.declared.routes.Offer.TheVariants.{Coding, MediaType, Methods, Nothing}
 use Rattle.garde_service.specs.declared.routes.Post.{Post}
 use Rattle.garde_service.specs.declared.routes.Route.{Route}
+use Rattle.garde_service.specs.declared.routes.Wanted.{Wanted}
+use Rattle.garde_service.specs.declared.routes.Wanted.TheVariants as wanted
 
 -- the media type, as fields name it
 abbrev pub media_text : Media → List ℕ
@@ -20,12 +22,12 @@ media_text Json = codes "application/json"
 media_text WebForm = codes "application/x-www-form-urlencoded"
 
 -- a route: its path, what answers `GET` and `HEAD`, and what answers `POST`
-pub record Entry (E : Type 0) : Type 0 where
+pub record Entry (G P : Type 0) : Type 0 where
   pub path : List ℕ
-  pub get : Option E
-  pub post : Option (Post E)
+  pub get : Option G
+  pub post : Option (Post P)
 
-abbrev pub entry_of : {E : Type 0} → Route E → Entry E
+abbrev pub entry_of : {G P : Type 0} → Route G P → Entry G P
 entry_of route = record { path = route.path.now; get = route.get; post = route.post }
 
 abbrev is_there : {E : Type 0} → Option E → Bool
@@ -43,28 +45,28 @@ offers (MediaType media) = media_text media
 offers Coding = IDENTITY.now
 
 -- another method than those of the path is asked for
-abbrev pub other_method : {E : Type 0} → Entry E → Asks E
+abbrev pub other_method : {G P : Type 0} → Entry G P → Asks (Wanted G P)
 other_method route = Rejection MethodNotAllowed (Methods (is_there route.get) (is_there route.post))
 
-abbrev pub asked_by_get : {E : Type 0} → Entry E → Option E → Asks E
+abbrev pub asked_by_get : {G P : Type 0} → Entry G P → Option G → Asks (Wanted G P)
 asked_by_get route None = other_method route
-asked_by_get route (Some answer) = Answer answer
+asked_by_get route (Some page) = Answer (wanted.Get page)
 
-abbrev pub asked_by_post : {E : Type 0} → Entry E → Parts → Option (Post E) → Asks E
+abbrev pub asked_by_post : {G P : Type 0} → Entry G P → Parts → Option (Post P) → Asks (Wanted G P)
 asked_by_post route head None = other_method route
 asked_by_post route head (Some post) =
     if has_type head (media_text post.media)
-    then (if has_coding head then Rejection UnsupportedMediaType Coding else Answer post.answer)
+    then (if has_coding head then Rejection UnsupportedMediaType Coding else Answer (wanted.Post post.answer))
     else Rejection UnsupportedMediaType (MediaType post.media)
 
 -- what is asked of a route, by the method, and the type and the coding of the body
-abbrev pub asked_at : {E : Type 0} → Entry E → Parts → Asks E
+abbrev pub asked_at : {G P : Type 0} → Entry G P → Parts → Asks (Wanted G P)
 asked_at route head =
     if bytes_eq head.method (codes "POST") then asked_by_post route head route.post
     else if bytes_eq head.method (codes "GET") || bytes_eq head.method (codes "HEAD") then asked_by_get route route.get
     else other_method route
 
 -- what is asked of the first route with the path
-abbrev pub asked : {E : Type 0} → List (Entry E) → Parts → Asks E
+abbrev pub asked : {G P : Type 0} → List (Entry G P) → Parts → Asks (Wanted G P)
 asked [] head = Rejection (elsewhere head) Nothing
 asked (route ∷ rest) head = if bytes_eq (path_of head) route.path then asked_at route head else asked rest head

@@ -32,19 +32,28 @@ impl Media {
 
 /// What takes the bodies that are sent by `POST`.
 #[derive(Clone, Copy, Debug)]
-pub struct Post<E> {
+pub struct Post<P> {
     /// Their media type.
     pub media: Media,
-    pub answer: E,
+    pub answer: P,
 }
 
 /// A path of a service, and what answers there.
 #[derive(Clone, Copy, Debug)]
-pub struct Route<E> {
+pub struct Route<G, P> {
     pub path: &'static str,
     /// What answers `GET` and `HEAD`.
-    pub get: Option<E>,
-    pub post: Option<Post<E>>,
+    pub get: Option<G>,
+    pub post: Option<Post<P>>,
+}
+
+/// What is there for a request, by its method.
+#[derive(Clone, Copy, Debug)]
+pub enum Wanted<G, P> {
+    /// What answers `GET` and `HEAD`.
+    Get(G),
+    /// What takes the body of a `POST`.
+    Post(P),
 }
 
 /// What there is in place of what is asked for.
@@ -85,9 +94,9 @@ pub enum Asks<E> {
     Rejection(Rejected, Offer),
 }
 
-impl<E: Copy> Route<E> {
+impl<G: Copy, P: Copy> Route<G, P> {
     /// That there is an answer to other methods.
-    fn other_method(&self) -> Asks<E>
+    fn other_method(&self) -> Asks<Wanted<G, P>>
         ensures { result ≡ other_method (entry_of self.now) }
     {
         Asks::Rejection(
@@ -97,7 +106,7 @@ impl<E: Copy> Route<E> {
     }
 
     /// What a request by `POST` asks.
-    fn asked_by_post(&self, request: &Request<Bytes>) -> Asks<E>
+    fn asked_by_post(&self, request: &Request<Bytes>) -> Asks<Wanted<G, P>>
         ensures { result ≡ asked_by_post (entry_of self.now) (head_of request.now) self.now.post }
     {
         let Some(post) = self.post else {
@@ -109,24 +118,27 @@ impl<E: Copy> Route<E> {
         } else if has_coding(request) {
             Asks::Rejection(type_is_other, Offer::Coding)
         } else {
-            Asks::Answer(post.answer)
+            Asks::Answer(Wanted::Post(post.answer))
         }
     }
 
     /// What a request asks of the route.
-    fn asked(&self, request: &Request<Bytes>) -> Asks<E>
+    fn asked(&self, request: &Request<Bytes>) -> Asks<Wanted<G, P>>
         ensures { result ≡ asked_at (entry_of self.now) (head_of request.now) }
     {
         match (request.method().as_str(), self.get) {
             ("POST", _) => self.asked_by_post(request),
-            ("GET" | "HEAD", Some(answer)) => Asks::Answer(answer),
+            ("GET" | "HEAD", Some(page)) => Asks::Answer(Wanted::Get(page)),
             _ => self.other_method(),
         }
     }
 }
 
 /// What a request asks of the first route with its path.
-pub fn asked<E: Copy>(routes: &[Route<E>], request: &Request<Bytes>) -> Asks<E>
+pub fn asked<G: Copy, P: Copy>(
+    routes: &[Route<G, P>],
+    request: &Request<Bytes>,
+) -> Asks<Wanted<G, P>>
     ensures { result ≡ asked (map (λ route. entry_of route) routes.now) (head_of request.now) }
 {
     match routes {

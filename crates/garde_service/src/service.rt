@@ -81,7 +81,7 @@ fn give_asked<H: Handler>(
         (head_of request.now)) → IsOk result }
 {
     match asked(handler.routes(), request) {
-        Asks::Answer(answer) => handler.give(answer, request, response),
+        Asks::Answer(wanted) => handler.give(wanted, request, response),
         Asks::Rejection(why, offer) => {
             reject(handler.rejected(why), why, offer, response);
             Ok(())

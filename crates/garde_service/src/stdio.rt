@@ -26,8 +26,9 @@ impl Serving {
 
     /// Takes a word of the command line: the longest body in bytes, or `--no-date`. Of another word it
     /// says what is wrong with it.
-    pub fn take(&mut self, word: &str) -> Result<(), &'static str> {
+    pub(crate) fn take(&mut self, word: &str) -> Result<(), &'static str> {
         match word {
+            "--help" => return Err("--help must be the only word"),
             "--no-date" if self.dates => self.dates = false,
             "--no-date" => return Err("there must be one --no-date at most"),
             text => match text.parse() {

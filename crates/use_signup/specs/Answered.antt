@@ -1,5 +1,5 @@
 -- What is answered to a request.
-use Rattle.std.specs.Prelude.{⊤, ℕ, List, [], ◌∷◌, ◌++◌, codes, Option, Some, None, Result, Ok, Err}
+use Rattle.std.specs.Prelude.{◌≡◌, ⊤, ℕ, List, [], ◌∷◌, ◌++◌, codes, Option, Some, None, Result, Ok, Err}
 use Rattle.json.specs.Json.{Json}
 use Rattle.garde.specs.Answers.{Answers}
 use Rattle.garde.specs.Handlers.{Datum}
@@ -18,15 +18,18 @@ use Rattle.garde_report.specs.Report.{Entry}
 use Rattle.garde_schema.specs.Forms.{FormTexts}
 use Rattle.garde_service.specs.Asked.{IsLanguage}
 use Rattle.garde_service.specs.Judged.{Judging}
-use Rattle.garde_service.specs.Routes.{Entry as RouteEntry}
+use Rattle.garde_service.specs.Routes.{Entry as RouteEntry, asked}
 use Rattle.garde_service.specs.Said.{language_fields}
+use Rattle.garde_service.specs.declared.routes.Asks.TheVariants as asks
 use Rattle.garde_service.specs.declared.routes.Media.TheVariants.{WebForm}
+use Rattle.garde_service.specs.declared.routes.Wanted.{Wanted}
+use Rattle.garde_service.specs.declared.routes.Wanted.TheVariants.{Get, Post}
 use Rattle.http.specs.declared.request.Parts.{Parts}
 use Rattle.http1.specs.Fields.{Header}
 use Rattle.http_server.specs.declared.response.Response.{Response}
 use Rattle.http_server.specs.Response.{IsResponse}
-use Rattle.use_signup.specs.declared.service.Reply.{Reply}
-use Rattle.use_signup.specs.declared.service.Reply.TheVariants as reply
+use Rattle.use_signup.specs.declared.service.Page.{Page}
+use Rattle.use_signup.specs.declared.service.Page.TheVariants as page
 use Rattle.use_signup.specs.declared.terms.Words.{Words}
 use Rattle.use_signup.specs.declared.texts.Speech.{Speech}
 use Rattle.use_signup.specs.declared.texts.Texts.{Texts}
@@ -103,27 +106,29 @@ abbrev pub InLanguage : Speech → Parts → (Voice → Type 0) → Type 0
 InLanguage speech head holds = (place : Option ℕ) × IsLanguage speech.catalogs.now place head × holds (voice_at speech place)
 
 -- the routes
-abbrev pub routes : List (RouteEntry Reply)
+abbrev pub routes : List (RouteEntry Page (Unit {0}))
 routes =
-    record { path = codes "/"; get = Some reply.Form; post = Some (record { media = WebForm; answer = reply.SignUp }) }
-    ∷ record { path = codes "/thanks"; get = Some reply.Thanks; post = None } ∷ []
+    record { path = codes "/"; get = Some page.Form; post = Some (record { media = WebForm; answer = tt }) }
+    ∷ record { path = codes "/thanks"; get = Some page.Thanks; post = None } ∷ []
 
 -- what is given to a request with this head and this body
-abbrev pub Gives : FormVisits → Speech → Reply → Parts → List ℕ → Response → Type 0
-Gives visits speech reply.Form head body response = InLanguage speech head (λ said. ShowsForm said.texts.form said.tag 200 [] [] response)
-Gives visits speech reply.SignUp head body response = InLanguage speech head (λ said. Judges visits said body response)
-Gives visits speech reply.Thanks head body response =
+abbrev pub Gives : FormVisits → Speech → Wanted Page (Unit {0}) → Parts → List ℕ → Response → Type 0
+Gives visits speech (Get page.Form) head body response = InLanguage speech head (λ said. ShowsForm said.texts.form said.tag 200 [] [] response)
+Gives visits speech (Get page.Thanks) head body response =
     InLanguage speech head (λ said. IsResponse 200 (page_fields said.tag) said.texts.thanks.now response)
+Gives visits speech (Post form) head body response = InLanguage speech head (λ said. Judges visits said body response)
 
 -- Forms are judged so: a valid one is answered with 303, and one with faults with the page of its fields and of its report.
 abbrev pub judging : FormVisits → Speech → Judging
 judging visits speech = record {
-  report = List Entry;
-  is_in = λ place head. IsLanguage speech.catalogs.now place head;
+  by = Option ℕ;
+  asks = λ place head. (asked routes head ≡ asks.Answer (Post tt)) × IsLanguage speech.catalogs.now place head;
   is_valid = λ place body. Reads visits (voice_at speech place) body (Ok tt);
+  is_accepted = λ place body status. status ≡ 303;
+  report = List Entry;
   has_report = λ place body report. Reads visits (voice_at speech place) body (Err (Report report));
   is_text = λ place body report text. IsShown (voice_at speech place).texts.form (fields_in body) report text;
   is_unread = λ place body. ⊥;
   is_short = λ body. ⊤;
-  accepted = 303;
+  is_success = λ status. status ≡ 303;
 }

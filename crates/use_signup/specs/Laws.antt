@@ -8,18 +8,20 @@ use Rattle.garde.specs.declared.validate_error.ValidateError.{ValidateError}
 use Rattle.garde.specs.declared.validate_error.ValidateError.TheVariants.{Report, Memory}
 use Rattle.garde_form.specs.WebForm.{fields_in, first_member, first_of_lists, form_json, is_listed, items_of_texts, members_of_fields, texts_of, value_of, without}
 use Rattle.garde_report.specs.Report.{Entry}
-use Rattle.garde_service.proofs.Author.{is_one_language}
-use Rattle.garde_service.proofs.Judged.{IsLawful, judged_stays, promised}
+use Rattle.garde_service.specs.Author.{is_one_language}
+use Rattle.garde_service.specs.Promised.{IsLawful, judged_stays, promised}
 use Rattle.garde_service.specs.Answers.{IsAnswerOf}
 use Rattle.garde_service.specs.Fits.{Fits}
-use Rattle.garde_service.specs.Judged.{Judges, JudgesIn, Promises}
+use Rattle.garde_service.specs.Judged.{Judges, JudgesBy, Promises}
 use Rattle.garde_service.specs.Routes.{asked}
 use Rattle.garde_service.specs.declared.routes.Asks.TheVariants.{Answer}
+use Rattle.garde_service.specs.declared.routes.Wanted.{Wanted}
+use Rattle.garde_service.specs.declared.routes.Wanted.TheVariants.{Get, Post}
 use Rattle.http.specs.declared.request.Parts.{Parts}
 use Rattle.http1.specs.Message as Wire
 use Rattle.http_server.specs.declared.response.Response.{Response}
-use Rattle.use_signup.specs.declared.service.Reply.{Reply}
-use Rattle.use_signup.specs.declared.service.Reply.TheVariants as reply
+use Rattle.use_signup.specs.declared.service.Page.{Page}
+use Rattle.use_signup.specs.declared.service.Page.TheVariants as page
 use Rattle.use_signup.specs.declared.texts.Speech.{Speech}
 use Rattle.use_signup.specs.Answered.{FormVisits, Gives, Reads, Tells, Voice, judging, routes, voice_at}
 use Rattle.use_signup.specs.Refused.{page_of}
@@ -77,37 +79,40 @@ module _ (visits : FormVisits) (speech : Speech) where
 
   lawful : IsLawful (judging visits speech)
   lawful = record {
-    one = λ place other head. is_one_language speech.catalogs.now place other head;
+    one = λ place other head is also. is_one_language speech.catalogs.now place other head is.1 also.1;
     apart = λ place body report valid has. clash (voice_at speech place) body report valid has;
     unread = λ place body short unread. absurd unread;
-    not_faults = λ e. omega (arith, e);
-    success = omega arith;
+    answers = λ place body status is. (λ e. omega (arith, e, is), λ e. omega (arith, e, is));
+    success = λ status is. omega (arith, is);
   }
 
   told : (place : Option ℕ) (body : List ℕ) (r : Response) (read : Result (Unit {0}) ValidateError) → Reads visits (voice_at speech place) body read
-      → Tells (voice_at speech place).texts.form (voice_at speech place).tag (fields_in body) read r → JudgesIn (judging visits speech) place body r
+      → Tells (voice_at speech place).texts.form (voice_at speech place).tag (fields_in body) read r → JudgesBy (judging visits speech) place body r
   told place body r (Ok done) reads tells = inl (reads, tells.status)
   told place body r (Err (Report report)) reads tells =
       inr (inl (report, reads, tells.2.status, (tells.1.0, tells.1.1, tells.2.body ∙ tells.1.2)))
   told place body r (Err Memory) reads tells = absurd tells
 
-  judges : (head : Parts) (body : List ℕ) (r : Response) → Gives visits speech reply.SignUp head body r → Judges (judging visits speech) head body r
-  judges head body r given = (given.0, given.1, told given.0 body r given.2.0 given.2.1 given.2.2)
+  judges : (form : Unit {0}) (head : Parts) (body : List ℕ) (r : Response) → asked routes head ≡ Answer (Post form)
+      → Gives visits speech (Post form) head body r → Judges (judging visits speech) head body r
+  judges tt head body r is given = (given.0, (is, given.1), told given.0 body r given.2.0 given.2.1 given.2.2)
+
+  page_status : (shown : Page) (head : Parts) (body : List ℕ) (r : Response) → Gives visits speech (Get shown) head body r → r.status ≡ 200
+  page_status page.Form head body r given = given.2.2.status
+  page_status page.Thanks head body r given = given.2.status
+
+  shows : (shown : Page) (head : Parts) (body : List ℕ) (r : Response) → Gives visits speech (Get shown) head body r → (r.status ≢ 303) × (r.status ≢ 422)
+  shows shown head body r given =
+      let is = page_status shown head body r given in (λ e. omega (arith, e, is), λ e. omega (arith, e, is))
 
   -- no answer hands the connection over
-  pub stays : (gift : Reply) (head : Parts) (body : List ℕ) (r : Response) → Gives visits speech gift head body r → r.status ≢ 101
-  stays reply.Form head body r given = λ e. omega (arith, e, given.2.2.status)
-  stays reply.SignUp head body r given = judged_stays (judging visits speech) (λ e. omega (arith, e)) head body r (judges head body r given)
-  stays reply.Thanks head body r given = λ e. omega (arith, e, given.2.status)
-
-  others : (gift : Reply) → (gift ≡ reply.SignUp) ⊎ ((gift ≢ reply.SignUp) × ((head : Parts) (body : List ℕ) (r : Response) → Gives visits speech gift head body r
-      → (r.status ≢ 303) × (r.status ≢ 422)))
-  others reply.Form = inr (λ e. cc, λ head body r given. (λ e. omega (arith, e, given.2.2.status), λ e. omega (arith, e, given.2.2.status)))
-  others reply.SignUp = inl refl
-  others reply.Thanks = inr (λ e. cc, λ head body r given. (λ e. omega (arith, e, given.2.status), λ e. omega (arith, e, given.2.status)))
+  pub stays : (wanted : Wanted Page (Unit {0})) (head : Parts) (body : List ℕ) (r : Response) → Gives visits speech wanted head body r → r.status ≢ 101
+  stays (Get shown) head body r given = λ e. omega (arith, e, page_status shown head body r given)
+  stays (Post form) head body r given =
+      judged_stays (judging visits speech) lawful given.0 body r (told given.0 body r given.2.0 given.2.1 given.2.2)
 
   pub kept : (request : Wire.Request) (response : Wire.Response)
       → Fits (IsAnswerOf routes (Gives visits speech) (λ why. (codes "text/html; charset=utf-8", page_of why))) request response
-      → Promises (judging visits speech) (λ head. asked routes head ≡ Answer reply.SignUp) request response
+      → Promises (judging visits speech) request response
   kept = promised routes (Gives visits speech) (λ why. (codes "text/html; charset=utf-8", page_of why)) (judging visits speech) lawful
-      reply.SignUp (λ e. cc, (λ e. cc, tt)) judges others
+      (λ place head is. (tt, is.0)) judges shows

@@ -69,10 +69,6 @@ impl<'w> Task<'w> {
 
     // How the words behind `--serve` ask for requests to be answered.
     fn serving(words: &[Word]) -> Result<Task<'w>, &'static str> {
-        let mut serving = Serving::new();
-        for word in words {
-            serving.take(word.name.as_str())?;
-        }
-        Ok(Task::Serve(serving))
+        Ok(Task::Serve(Serving::of(words)?))
     }
 }

@@ -4,14 +4,11 @@ ghost use Rattle.garde_catalog.specs.Catalog.{catalog_text};
 ghost use Rattle.garde_catalog.specs.Forms.{catalog_form_text};
 ghost use Rattle.garde_form.specs.WebForm.{field_texts};
 ghost use Rattle.garde_service.specs.Judged.{Promises};
-ghost use Rattle.garde_service.specs.Routes.{asked};
-ghost use Rattle.garde_service.specs.declared.routes.Asks.TheVariants as asks;
 ghost use Rattle.http.specs.Request.{head_of, body_of};
 ghost use Rattle.http_server.specs.Response.{IsBlank, IsResponse};
 ghost use Rattle.use_signup.specs.Answered.{Gives, InLanguage, Judges, ReadsFields, ShowsForm, Tells, judging, page_fields, routes, voice};
 ghost use Rattle.use_signup.specs.Laws.{kept, stays};
 ghost use Rattle.use_signup.specs.Refused.{page_of};
-ghost use Rattle.use_signup.specs.declared.service.Reply.TheVariants as replies;
 
 use crate::page::write_page;
 use crate::put::{PAGE_TYPE, put_page, put_signed_up};
@@ -25,35 +22,33 @@ use garde_catalog::Catalog;
 use garde_form::{FormField, form_fields};
 use garde_html::Form;
 use garde_schema::SpelledUnder;
-use garde_service::{Body, Handler, Media, Post, Rejected, Route, language_of};
+use garde_service::{Body, Handler, Media, Post, Rejected, Route, Wanted, language_of};
 use http::{Request, StatusCode};
 use http_server::Response;
 use std::alloc::{AllocError, Global};
 
-/// What the service gives.
+/// What the service shows.
 #[derive(Clone, Copy)]
-pub enum Reply {
+pub enum Page {
     /// The form, with no field filled in.
     Form,
-    /// What is said of a form that was sent.
-    SignUp,
     /// The page of thanks.
     Thanks,
 }
 
-/// The routes.
-const ROUTES: &[Route<Reply>] = &[
+/// The routes. There is one form to send.
+const ROUTES: &[Route<Page, ()>] = &[
     Route {
         path: "/",
-        get: Some(Reply::Form),
+        get: Some(Page::Form),
         post: Some(Post {
             media: Media::WebForm,
-            answer: Reply::SignUp,
+            answer: (),
         }),
     },
     Route {
         path: "/thanks",
-        get: Some(Reply::Thanks),
+        get: Some(Page::Thanks),
         post: None,
     },
 ];
@@ -219,13 +214,15 @@ pub struct SignUps<'a> {
 }
 
 impl<'a> Handler for SignUps<'a> {
-    type Answer = Reply;
+    type Get = Page;
+
+    type Post = ();
 
     ghost table = { λ _. routes };
 
-    ghost gives = { λ handler reply head body response.
+    ghost gives = { λ handler wanted head body response.
         Gives (λ words. (⟦<SignUp<'static> as SpelledUnder>⟧.spelled words).visits)
-        handler.speech reply head body response };
+        handler.speech wanted head body response };
 
     ghost is_free = { λ _ _. ⊥ };
 
@@ -234,22 +231,22 @@ impl<'a> Handler for SignUps<'a> {
     // 303 answers each valid form and nothing else, and 422 each form with faults and nothing else.
     ghost says = { λ handler request response.
         Promises (judging (λ words. (⟦<SignUp<'static> as SpelledUnder>⟧.spelled words).visits)
-        handler.speech) (λ head. asked routes head ≡ asks.Answer replies.SignUp) request response };
+        handler.speech) request response };
 
-    fn routes(&self) -> &[Route<Reply>] {
+    fn routes(&self) -> &[Route<Page, ()>] {
         ROUTES
     }
 
     fn give(
         &self,
-        reply: Reply,
+        wanted: Wanted<Page, ()>,
         request: &Request<Bytes>,
         response: &mut Response,
     ) -> Result<(), AllocError> {
-        match reply {
-            Reply::Form => put_empty_form(self.alloc, &self.speech, request, response),
-            Reply::SignUp => judge_form(self.alloc, &self.speech, request, response),
-            Reply::Thanks => put_thanks(self.alloc, &self.speech, request, response),
+        match wanted {
+            Wanted::Get(Page::Form) => put_empty_form(self.alloc, &self.speech, request, response),
+            Wanted::Get(Page::Thanks) => put_thanks(self.alloc, &self.speech, request, response),
+            Wanted::Post(()) => judge_form(self.alloc, &self.speech, request, response),
         }
     }
 
@@ -260,9 +257,9 @@ impl<'a> Handler for SignUps<'a> {
         }
     }
 
-    ghost stays = { λ handler reply head body response given.
+    ghost stays = { λ handler wanted head body response given.
         stays (λ words. (⟦<SignUp<'static> as SpelledUnder>⟧.spelled words).visits)
-        handler.speech reply head body response given };
+        handler.speech wanted head body response given };
 
     ghost told = { λ handler request response fits.
         kept (λ words. (⟦<SignUp<'static> as SpelledUnder>⟧.spelled words).visits)

@@ -2,7 +2,7 @@ use Rattle.std.proofs.Common.{◌++◌, refl}
 use Rattle.std.specs.contracts.io.Error as io_error
 use Rattle.http_server.specs.Connection.{history}
 use Rattle.http_server.proofs.KnownLemmas.{Appends-then}
-use Rattle.garde_service.proofs.Author.{never_upgrades}
+use Rattle.garde_service.specs.Author.{never_upgrades}
 use Rattle.garde_service.specs.Answers.{IsAnswerOf}
 use Rattle.garde_service.proofs.Talk.{closed, ended_first, failed, failed_at_once, of_err, talked}
 use Rattle.garde_service.proofs.wire.answer_all.Goals as goal

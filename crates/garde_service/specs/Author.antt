@@ -23,7 +23,8 @@ use Rattle.garde_service.specs.declared.rejected.Rejected.TheVariants.{BadReques
 use Rattle.garde_service.specs.declared.routes.Asks.{Asks}
 use Rattle.garde_service.specs.declared.routes.Asks.TheVariants.{Answer, Rejection}
 use Rattle.garde_service.specs.declared.routes.Offer.{Offer}
-use Rattle.garde_service.proofs.Picked.{picked_once}
+use Rattle.garde_service.specs.declared.routes.Wanted.{Wanted}
+use Rattle.garde_service.specs.Picked.{picked_once}
 
 is_one_place : (offered : List Language) (field : Option FieldValue) (one other : Option ℕ) → IsAskedIn offered field one → IsAskedIn offered field other
     → one ≡ other
@@ -60,9 +61,9 @@ pub rejected_status : (body : List ℕ × List ℕ) (given : Response) (why : Re
     → r.status ≡ status_of why
 rejected_status body given why offer r a = elim a [ inl whole ↦ whole.status | inr bare ↦ bare.1.status ]
 
-module _ {A : Type 0} (routes : List (Entry A)) (gives : Gives A) (rejects : Rejects)
-    (each : (a : A) (head : Parts) (body : List ℕ) (r : Response) → gives a head body r → r.status ≢ 101) where
-  given_stays : (given plain : Response) (asks : Asks A) (head : Parts) (body : List ℕ) → GivesAsked gives rejects given asks head body plain
+module _ {G P : Type 0} (routes : List (Entry G P)) (gives : Gives (Wanted G P)) (rejects : Rejects)
+    (each : (a : Wanted G P) (head : Parts) (body : List ℕ) (r : Response) → gives a head body r → r.status ≢ 101) where
+  given_stays : (given plain : Response) (asks : Asks (Wanted G P)) (head : Parts) (body : List ℕ) → GivesAsked gives rejects given asks head body plain
       → plain.status ≢ 101
   given_stays given plain (Answer a) head body x = each a head body plain x
   given_stays given plain (Rejection why offer) head body x =
