@@ -1,3 +1,4 @@
+pub mod ByHead
 pub mod Chunk
 pub mod Fitting
 pub mod Talk

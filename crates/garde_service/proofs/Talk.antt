@@ -1,6 +1,7 @@
 -- From the history of a connection to what is on the wire.
-use Rattle.std.proofs.Common.{◌≡◌, ◌≢◌, ◌<◌, ◌≤◌, ◌↔◌, arith, ℕ, Bool, true, false, zero, suc, List, [], ◌∷◌, ◌++◌, length, All, IsTrue, IsErr, IsFalse, Option, Result, Ok, Err, ◌==◌, if◌then◌else◌, refl, sym, ap, subst, ◌∙◌, append_assoc, append-nil, inl, inr}
-use Rattle.std.specs.Io.KnownBytes.{IsAtEnd}
+use Rattle.std.proofs.Common.{◌≡◌, ◌≢◌, ◌<◌, ◌≤◌, ◌↔◌, arith, ℕ, Bool, true, false, zero, suc, List, [], ◌∷◌, ◌++◌, length, All, IsTrue, IsErr, IsFalse, Option, None, Some, Result, Ok, Err, ◌==◌, if◌then◌else◌, refl, sym, ap, subst, ◌∙◌, append_assoc, append-nil, inl, inr}
+use Rattle.std.specs.Prelude.{OnSome}
+use Rattle.std.specs.Io.KnownBytes.{Consumes, IsAtEnd}
 use Rattle.std.proofs.Math.Dec.{eqb-suc-zero}
 use Rattle.std.proofs.Math.Logic.{∥∥₁_map}
 use Rattle.std.proofs.lemmas.Bool.{true≢false}
@@ -23,20 +24,44 @@ use Rattle.http_server.specs.History.{History, IsServed, Justifies, Stands, new_
 use Rattle.http_server.specs.Refusal.{refusal_text}
 use Rattle.garde_service.specs.Ending.{Ends, IsRejectionText, Rejects}
 use Rattle.garde_service.specs.Fits.{Answered}
+use Rattle.garde_service.specs.Heads.{looked}
 use Rattle.garde_service.specs.Reasons.{IsServiced, IsRefusedFor}
 use Rattle.garde_service.specs.Wire.{AreExchanges, Follows, IsConversation, IsTalk}
+use Rattle.garde_service.specs.declared.heads.Seen.TheVariants.{Found, Nothing}
 use Rattle.garde_service.proofs.Fitting.{exchange_fits}
+use Rattle.garde_service.proofs.ByHead.{not_by_head}
+
+-- a reader whose bytes were known was known to be at its end
+pub known_end : (a b c : Option (List ℕ)) (bytes : List ℕ) → Consumes a b bytes → OnSome b (IsAtEnd c) → OnSome a (IsAtEnd c)
+known_end None b c bytes consumes at_end = tt
+known_end (Some x) None c bytes consumes at_end = absurd consumes
+known_end (Some x) (Some y) c bytes consumes at_end = at_end
 
 -- of a new connection no end was found
 pub ended_first : (P : Type 0) (h : History) → h ≡ new_history → IsTrue h.ended → P
 ended_first P h fresh found = absurd (true≢false (sym found ∙ ap (λ (h : History). h.ended) fresh))
 
 -- a read that found the end
-pub end_after : (was : Bool) (more : List ℕ) (known : Option (List ℕ)) → IsFalse was → (length more ≡ 0 → IsAtEnd known)
-    → IsTrue (if was then was else (length more == 0)) → IsAtEnd known
-end_after true more known going at_end found = absurd (true≢false going)
-end_after false [] known going at_end found = at_end refl
-end_after false (byte ∷ more) known going at_end found = absurd (true≢false (sym found ∙ eqb-suc-zero (length more)))
+pub end_after : (P : Type 0) (was : Bool) (more : List ℕ) → IsFalse was → (length more ≡ 0 → P) → IsTrue (if was then was else (length more == 0)) → P
+end_after P true more going at_end found = absurd (true≢false going)
+end_after P false [] going at_end found = at_end refl
+end_after P false (byte ∷ more) going at_end found = absurd (true≢false (sym found ∙ eqb-suc-zero (length more)))
+
+-- the text of a rejection, where less is known to be by `HEAD`
+less_known : (rejects : Rejects) (P Q : Type 0) (why : Refusal) (text : List ℕ) → (¬ P → ¬ Q) → IsRejectionText rejects P why text
+    → IsRejectionText rejects Q why text
+less_known rejects P Q why text other it =
+    elim it [
+      | inl same ↦ inl same
+      | inr more ↦ inr (
+        more.0,
+        more.1,
+        more.2,
+        more.3,
+        elim more.4 [ inl none ↦ inl none | inr some ↦ inr (other some.0, some.1) ],
+        more.5,
+      )
+    ]
 
 -- where nothing is pending, no more is than may be
 pub none_pending : (wants : Bool) (len most : ℕ) → (IsTrue wants ↔ (0 < len)) → wants ≡ false → len ≤ most
@@ -220,7 +245,7 @@ module _ (answered : Answered) (rejects : Rejects) (stays : Stays answered) wher
 
   -- where the bytes of a refusal alone are pending, what stands in their place ends the conversation as well
   replaced : (config : Config) (why : Refusal) (h : History) (text : List ℕ) → All (IsServiced answered) h.calls → IsServed config h
-      → h.state ≡ Closing (Refused why) → h.pending ≡ refusal_text why → IsRejectionText rejects why text
+      → h.state ≡ Closing (Refused why) → h.pending ≡ refusal_text why → IsRejectionText rejects (looked Nothing h.received ≡ Found) why text
       → IsConversation answered rejects config (Closing (Refused why)) h.ended h.received (h.sent ++ text)
   replaced config why h text fine x closes alone stands =
       let first = first_at h.state config h x.answered x.text x.interim x.rest fine x.stands in
@@ -235,14 +260,14 @@ module _ (answered : Answered) (rejects : Rejects) (stays : Stays answered) wher
         rest = x.rest;
         exchanges = all_fit config x.answered h.received x.text x.rest first x.serves;
         last = x.interim ++ text;
-        follows = (reason_of why config h x.answered x.rest fine there.0, (x.interim, x.is_interim, (text, stands, refl)));
+        follows = (reason_of why config h x.answered x.rest fine there.0, (x.interim, x.is_interim, (text, less_known rejects _ _ why text (not_by_head config x.answered h.received x.text x.rest x.serves) stands, refl)));
         joined = ap (λ (t : List ℕ). t ++ text) sent ∙ append_assoc x.text x.interim text;
       }
 
   -- ---- what a call returned, by how much of what was to be written it wrote
 
   -- all that is written in the end, for bytes that are pending
-  whole : (config : Config) (h : History) (text : List ℕ) → All (IsServiced answered) h.calls → IsServed config h → Ends rejects h.state h.pending text
+  whole : (config : Config) (h : History) (text : List ℕ) → All (IsServiced answered) h.calls → IsServed config h → Ends rejects h.state h.received h.pending text
       → Conversed config h.state h.ended h.received (h.sent ++ text)
   whole config h text fine x ends =
       elim ends [
@@ -259,7 +284,7 @@ module _ (answered : Answered) (rejects : Rejects) (stays : Stays answered) wher
 
   -- an error, where this part of it was written
   failing : (E : Type 0) (config : Config) (h : History) (part unwritten : List ℕ) (e : E) → All (IsServiced answered) h.calls → IsServed config h
-      → Ends rejects h.state h.pending (part ++ unwritten) → IsTalk answered rejects config h.ended h.received (h.sent ++ part) (Err e)
+      → Ends rejects h.state h.received h.pending (part ++ unwritten) → IsTalk answered rejects config h.ended h.received (h.sent ++ part) (Err e)
   failing E config h part unwritten e fine x ends =
       let all = whole config h (part ++ unwritten) fine x ends in
       let joined : (h.sent ++ (part ++ unwritten)) ++ all.0 ≡ (h.sent ++ part) ++ (unwritten ++ all.0) =
@@ -285,7 +310,7 @@ module _ (answered : Answered) (rejects : Rejects) (stays : Stays answered) wher
       (subst (λ (w : List ℕ). ∥ IsTalk answered rejects (config_of last) (history last).ended (history last).received (w ++ part) result ∥₁) t.sent talk))
 
   pub failed : (E : Type 0) (config : Config) (last : Connection) (read written part unwritten : List ℕ) (e : E) → Talked answered config last read written
-      → Ends rejects (history last).state (history last).pending (part ++ unwritten) → ∥ IsTalk answered rejects config (history last).ended read (written ++ part) (Err e) ∥₁
+      → Ends rejects (history last).state (history last).received (history last).pending (part ++ unwritten) → ∥ IsTalk answered rejects config (history last).ended read (written ++ part) (Err e) ∥₁
   failed E config last read written part unwritten e t ends =
       of_bytes E config last read written part (Err e) t
       (∥∥₁_map (always_served last) (λ x. failing E _ _ part unwritten e t.all_serviced x ends))
@@ -297,14 +322,14 @@ module _ (answered : Answered) (rejects : Rejects) (stays : Stays answered) wher
       (failed E config last read written [] (history last).pending e t (inl refl))
 
   pub closed : (E : Type 0) (config : Config) (last : Connection) (read written part unwritten : List ℕ) (s : State) → Talked answered config last read written
-      → s ≡ (history last).state → (history last).state ≢ Open → Ends rejects (history last).state (history last).pending (part ++ unwritten) → unwritten ≡ []
+      → s ≡ (history last).state → (history last).state ≢ Open → Ends rejects (history last).state (history last).received (history last).pending (part ++ unwritten) → unwritten ≡ []
       → ∥ IsTalk {E = E} answered rejects config (history last).ended read (written ++ part) (Ok s) ∥₁
   closed E config last read written part unwritten s t is shut ends all =
       let text : part ++ unwritten ≡ part = ap (λ (u : List ℕ). part ++ u) all ∙ append-nil part in
       subst (λ (s : State). ∥ IsTalk {E = E} answered rejects config (history last).ended read (written ++ part) (Ok s) ∥₁) (sym is)
       (of_bytes E config last read written part (Ok (history last).state) t
       (∥∥₁_map (always_served last) (λ x. ending E (history last).state _ _ _ _ shut
-      (whole _ _ part t.all_serviced x (subst (λ (p : List ℕ). Ends rejects (history last).state (history last).pending p) text ends)))))
+      (whole _ _ part t.all_serviced x (subst (λ (p : List ℕ). Ends rejects (history last).state (history last).received (history last).pending p) text ends)))))
 
   -- an error of any kind
   pub of_err : (E : Type 0) (config : Config) (at_end : Bool) (read written : List ℕ) (result : Result State E) → IsErr result

@@ -11,7 +11,9 @@ use Rattle.http_server.specs.declared.state.Reason.TheVariants.{Refused as Refus
 use Rattle.garde_service.specs.declared.rejection.TheConstants as words
 use Rattle.garde_service.specs.declared.rejected.Rejected.{Rejected}
 use Rattle.garde_service.specs.declared.rejected.Rejected.TheVariants.{BadRequest, ContentTooLarge, UriTooLong, FieldsTooLarge, InternalServerError, NotImplemented, VersionNotSupported}
+use Rattle.garde_service.specs.Heads.{looked}
 use Rattle.garde_service.specs.Rejected.{title_of}
+use Rattle.garde_service.specs.declared.heads.Seen.TheVariants.{Found, Nothing}
 
 -- the media type and the text of the body with which a handler rejects a request, by why it is rejected
 abbrev pub Rejects : Type 0
@@ -28,26 +30,35 @@ plain_of NotImplemented = words.NOT_IMPLEMENTED.now
 plain_of VersionNotSupported = words.BAD_REQUEST.now
 plain_of _ = []
 
--- the fields of a body of this media type, and the body
-abbrev pub body_text : List ℕ → List ℕ → List ℕ
-body_text media text = words.TYPE.now ++ (media ++ (words.LENGTH.now ++ (decimal (length text) ++ (words.BODY.now ++ text))))
+-- the field of the date, where there is one
+abbrev pub date_field : Option HttpDate → List ℕ
+date_field None = []
+date_field (Some day) = words.DATE.now ++ date_text day
 
--- what stands in its place: the same, or the status of another version, with this body and perhaps a date
-abbrev pub rejection_text : Rejected → List ℕ → List ℕ → Option HttpDate → List ℕ
-rejection_text why media text None = codes "HTTP/1.1 " ++ (title_of why ++ (words.CLOSES.now ++ body_text media text))
-rejection_text why media text (Some day) =
-    codes "HTTP/1.1 " ++ (title_of why ++ (words.CLOSES.now ++ (words.DATE.now ++ (date_text day ++ body_text media text))))
+-- the fields of a body of this media type, and the body; or the field that says that there is none
+abbrev pub body_text : Option (List ℕ × List ℕ) → List ℕ
+body_text None = words.NO_BODY.now
+body_text (Some body) = words.TYPE.now ++ (body.0 ++ (words.LENGTH.now ++ (decimal (length body.1) ++ (words.BODY.now ++ body.1))))
 
--- what is written in place of the answer of `http_server`: that one, or the body of the handler with the same status, or with 505 for 400
-abbrev pub IsRejectionText : Rejects → Refusal → List ℕ → Type 0
-IsRejectionText rejects why text =
+-- what stands in its place: the same, or the status of another version, perhaps with a date and a body
+abbrev pub rejection_text : Rejected → Option (List ℕ × List ℕ) → Option HttpDate → List ℕ
+rejection_text why body date = codes "HTTP/1.1 " ++ (title_of why ++ (words.CLOSES.now ++ (date_field date ++ body_text body)))
+
+-- the body of the handler, or none: where the request is by `HEAD` it is none
+abbrev pub IsContent : Rejects → Type 0 → Rejected → Option (List ℕ × List ℕ) → Type 0
+IsContent rejects by_head kind body = (body ≡ None) ⊎ ((¬ by_head) × (body ≡ Some (rejects kind)))
+
+-- what is written in place of the answer of `http_server`: that one, or one with the same status, or with 505 for 400, perhaps with a body
+abbrev pub IsRejectionText : Rejects → Type 0 → Refusal → List ℕ → Type 0
+IsRejectionText rejects by_head why text =
     (text ≡ server.refusal_text why)
-    ⊎ ((kind : Rejected) × (date : Option HttpDate) × (plain_of kind ≡ server.refusal_text why)
-    × (text ≡ rejection_text kind (rejects kind).0 (rejects kind).1 date))
+    ⊎ ((kind : Rejected) × (body : Option (List ℕ × List ℕ)) × (date : Option HttpDate) × (plain_of kind ≡ server.refusal_text why)
+    × IsContent rejects by_head kind body × (text ≡ rejection_text kind body date))
 
--- What is written where these bytes are pending, by how the connection stands: they; or, where they are the answer of `http_server` to a
--- refusal and nothing else, what stands in its place.
-abbrev pub Ends : Rejects → State → List ℕ → List ℕ → Type 0
-Ends rejects state pending text =
+-- What is written where these bytes were received and those are pending, by how the connection stands: they; or, where they are the answer
+-- of `http_server` to a refusal and nothing else, what stands in its place, with no body where `HEAD ` was received.
+abbrev pub Ends : Rejects → State → List ℕ → List ℕ → List ℕ → Type 0
+Ends rejects state received pending text =
     (text ≡ pending)
-    ⊎ ((why : Refusal) × (state ≡ Closing (Refusing why)) × (pending ≡ server.refusal_text why) × IsRejectionText rejects why text)
+    ⊎ ((why : Refusal) × (state ≡ Closing (Refusing why)) × (pending ≡ server.refusal_text why)
+    × IsRejectionText rejects (looked Nothing received ≡ Found) why text)

@@ -5,6 +5,7 @@ pub mod Author
 pub mod Dated
 pub mod Ending
 pub mod Fits
+pub mod Heads
 pub mod Json
 pub mod Judged
 pub mod Kept

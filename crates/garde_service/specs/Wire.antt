@@ -12,6 +12,7 @@ use Rattle.http_server.specs.declared.state.Reason.TheVariants.{Asked, EndOfInpu
 use Rattle.http_server.specs.Exchange.{IsInterim, keeps_open}
 use Rattle.garde_service.specs.Ending.{Rejects, IsRejectionText}
 use Rattle.garde_service.specs.Fits.{Answered, Fits}
+use Rattle.garde_service.specs.Heads.{IsByHead}
 use Rattle.garde_service.specs.Reasons.{IsRefusedFor, HasWork}
 
 -- A client that sent a request with this method, and has room for the head, reads the text, whole, as this response.
@@ -46,7 +47,7 @@ AreExchanges answered config (suc n) stream text rest =
 
 -- What follows them, by how the connection stands, and what is written for it. `ended`: the reader has nothing more.
 -- Asked: one more exchange, which closes the connection. EndOfInput: nothing more came. Refused: what came has this reason to be
--- refused, and is. Aborted: memory ran out where there was work to do. No request hands the connection over.
+-- refused, and is, without content if it is by `HEAD`. Aborted: memory ran out where there was work to do. No request hands the connection over.
 abbrev pub Follows : Answered → Rejects → State → Config → Bool → List ℕ → List ℕ → Type 0
 Follows answered rejects Open config ended rest text = IsInterim config.limits rest text
 Follows answered rejects (Closing Asked) config ended rest text = (after : List ℕ) × IsExchange answered config false rest text after
@@ -54,7 +55,7 @@ Follows answered rejects (Closing EndOfInput) config ended rest text = IsTrue en
 Follows answered rejects (Closing (Refused why)) config ended rest text =
     IsRefusedFor answered why config ended rest
     × ((interim : List ℕ) × IsInterim config.limits rest interim
-    × ((refusal : List ℕ) × IsRejectionText rejects why refusal × (text ≡ interim ++ refusal)))
+    × ((refusal : List ℕ) × IsRejectionText rejects (IsByHead rest) why refusal × (text ≡ interim ++ refusal)))
 Follows answered rejects Upgraded config ended rest text = ⊥
 Follows answered rejects Aborted config ended rest text = IsInterim config.limits rest text × HasWork config ended rest
 

@@ -5,6 +5,7 @@ mod application;
 mod asked;
 mod date;
 mod handler;
+mod heads;
 mod json_body;
 mod problems;
 mod program;

@@ -1,7 +1,8 @@
 //! What is answered where `http_server` rejects a request: its own answer has no body, and no date.
-ghost use Rattle.std.specs.Prelude.{◌≡◌, IfOk, IsTrue, string_bytes};
+ghost use Rattle.std.specs.Prelude.{◌≡◌, IfOk, IsTrue, option_map, string_bytes};
 ghost use Rattle.http_server.specs.Refusal as server;
-ghost use Rattle.garde_service.specs.Ending.{plain_of, rejection_text};
+ghost use Rattle.garde_service.specs.Ending.{body_text, date_field, plain_of, rejection_text};
+ghost use Rattle.garde_service.specs.Said.{said};
 
 use crate::handler::Body;
 use crate::rejected::Rejected;
@@ -67,28 +68,43 @@ pub fn is_plain(why: Rejected, pending: &Rope) -> bool
     plain.len() == pending.len() && plain == pending.chunk()
 }
 
-/// The answer with this body, after which the connection closes.
+/// The field of the date, where there is one.
+fn date_field(alloc: Global, date: Option<HttpDate>) -> Result<String<Global>, AllocError>
+    ensures { IfOk result (λ text. string_bytes text ≡ date_field date) }
+{
+    match date {
+        None => Ok(String::new(alloc)),
+        Some(day) => format!(in alloc; "{DATE}{day}"),
+    }
+}
+
+/// The fields of a body and the body, or the field that says that there is none.
+fn body_text(alloc: Global, body: Option<Body>) -> Result<String<Global>, AllocError>
+    ensures { IfOk result (λ text. string_bytes text ≡ body_text (option_map said body)) }
+{
+    match body {
+        None => format!(in alloc; "{NO_BODY}"),
+        Some(body) => {
+            let (media, text) = (body.media, body.text);
+            let len = text.len();
+            format!(in alloc; "{TYPE}{media}{LENGTH}{len}{BODY}{text}")
+        }
+    }
+}
+
+/// The answer with this body or with none, after which the connection closes.
 pub fn rejection(
     alloc: Global,
     why: Rejected,
-    body: Body,
+    body: Option<Body>,
     date: Option<HttpDate>,
 ) -> Result<String<Global>, AllocError>
     ensures { IfOk result (λ text. string_bytes text
-        ≡ rejection_text why body.media.now body.text.now date) }
+        ≡ rejection_text why (option_map said body) date) }
 {
-    let (title, media, text) = (why.title(), body.media, body.text);
-    let len = text.len();
-    match date {
-        None => {
-            format!(in alloc; "HTTP/1.1 {title}{CLOSES}{TYPE}{media}{LENGTH}{len}{BODY}{text}")
-        }
-        Some(day) => {
-            format!(in alloc;
-                "HTTP/1.1 {title}{CLOSES}{DATE}{day}{TYPE}{media}{LENGTH}{len}{BODY}{text}"
-            )
-        }
-    }
+    let (title, date) = (why.title(), date_field(alloc, date)?);
+    let end = body_text(alloc, body)?;
+    format!(in alloc; "HTTP/1.1 {title}{CLOSES}{date}{end}")
 }
 
 const CLOSES: &str = "\r\nconnection: close";
@@ -100,6 +116,8 @@ const TYPE: &str = "\r\ncontent-type: ";
 const LENGTH: &str = "\r\ncontent-length: ";
 
 const BODY: &str = "\r\n\r\n";
+
+const NO_BODY: &str = "\r\ncontent-length: 0\r\n\r\n";
 
 const BAD_REQUEST: &[u8] =
     b"HTTP/1.1 400 Bad Request\r\nconnection: close\r\ncontent-length: 0\r\n\r\n";

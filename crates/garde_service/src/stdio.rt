@@ -5,7 +5,7 @@ use crate::wire::answer_all;
 use http_server::{Config, Reason, State};
 use std::hash::RandomState;
 use std::io;
-use std::io::{BufWriter, ErrorKind};
+use std::io::{BufReader, BufWriter, ErrorKind};
 use std::process::ExitCode;
 
 /// How a service is served.
@@ -57,6 +57,7 @@ pub fn serve<H: Handler>(
     };
     let clock = serving.dates.then_some(rt);
     let keys = RandomState::new(rt)?;
+    let mut input = BufReader::new(rt.alloc(), rt.stdin())?;
     let mut output = BufWriter::new(rt.alloc(), io::writer(rt))?;
     let stands = answer_all(
         rt.alloc(),
@@ -64,7 +65,7 @@ pub fn serve<H: Handler>(
         config,
         clock,
         handler,
-        &mut rt.stdin(),
+        &mut input,
         &mut output,
     );
     match stands? {

@@ -1,17 +1,22 @@
 //! The requests of a connection, and the answers to them.
-ghost use Rattle.std.specs.Prelude.{◌≡◌, ◌≢◌, ℕ, List, Bool, [], ◌++◌, length, OnOk, IsTrue};
-ghost use Rattle.std.specs.Io.KnownBytes.{Appends, Consumes, IsAtEnd};
+ghost use Rattle.std.specs.Prelude.{◌≡◌, ◌≢◌, ℕ, List, Bool, [], ◌++◌, length, Ok, IfOk, OnOk, OnErr, OnSome, IsFalse, IsTrue, option_map};
+ghost use Rattle.std.specs.Io.KnownBytes.{Appends, Consumes, IsAtEnd, Keeps};
 ghost use Rattle.http_server.specs.Connection.{config_of, history};
+ghost use Rattle.http_server.specs.History.{after_read};
 ghost use Rattle.http.specs.Request.{head_of, body_of};
 ghost use Rattle.http_server.specs.Exchange.{Calls};
 ghost use Rattle.http1.specs.Message as wire;
 ghost use Rattle.garde_service.specs.Answers.{IsAnswerOf};
-ghost use Rattle.garde_service.specs.Ending.{Ends};
+ghost use Rattle.garde_service.specs.Ending.{Ends, IsContent};
 ghost use Rattle.garde_service.specs.Fits.{Fits};
+ghost use Rattle.garde_service.specs.Heads.{looked};
+ghost use Rattle.garde_service.specs.Said.{said};
 ghost use Rattle.garde_service.specs.Wire.{IsTalk};
 
 use crate::date::date_of;
-use crate::handler::Handler;
+use crate::handler::{Body, Handler};
+use crate::heads::Seen;
+use crate::rejected::Rejected;
 use crate::rejection::{is_plain, rejected_of, rejection};
 use crate::service::respond;
 use bytes::{Buf, Bytes};
@@ -20,7 +25,7 @@ use http_server::{Config, Connection, Reason, Refusal, Response, Service, State}
 use std::alloc::{AllocError, Global};
 use std::hash::RandomState;
 use std::io;
-use std::io::{ErrorKind, Read, Write};
+use std::io::{BufRead, ErrorKind, Write};
 use std::time::Clock;
 
 /// A handler as a service of `http_server`, with the clock of its answers.
@@ -46,19 +51,47 @@ impl<'a, H: Handler, C: Clock> Service for Served<'a, H, C> {
     }
 }
 
+/// Reads once, and looks for `HEAD ` among the bytes that come.
+fn read_once<R: BufRead>(
+    connection: &mut Connection,
+    reader: &mut R,
+    seen: &mut Seen,
+) -> io::Result<usize>
+    ensures ok { IfOk result (λ n. (more : List ℕ) × (length more ≡ n)
+        × Consumes (R.remaining reader.old) (R.remaining reader.new) more
+        × (history connection.new ≡ after_read (history connection.old) more)
+        × (seen.new ≡ looked seen.old more)) }
+    ensures end { result ≡ Ok 0 → IsFalse (history connection.old).ended
+        → OnSome (R.remaining reader.old) (IsAtEnd (R.remaining reader.new)) }
+    ensures err { OnErr result ((history connection.new ≡ history connection.old)
+        × Keeps (R.remaining reader.old) (R.remaining reader.new) × (seen.new ≡ seen.old)) }
+    ensures config { config_of connection.new ≡ config_of connection.old }
+{
+    let chunk = reader.fill_buf()?;
+    let mut rest = chunk;
+    let count = connection.read_from(&mut rest)?;
+    *seen = seen.after(&chunk[..count]);
+    reader.consume(count);
+    Ok(count)
+}
+
 /// Answers requests while the connection is open. What is pending then is not yet written.
-fn talk<S: Service, R: Read, W: Write>(
+fn talk<S: Service, R: BufRead, W: Write>(
     connection: &mut Connection,
     service: &mut S,
     reader: &mut R,
     writer: &mut W,
+    seen: &mut Seen,
 ) -> io::Result<()>
     ensures closed { OnOk result ((history connection.new).state ≢ State.Open) }
     ensures read { (more : List ℕ)
         × Consumes (R.remaining reader.old) (R.remaining reader.new) more
-        × ((history connection.new).received ≡ (history connection.old).received ++ more) }
-    ensures end { (IsTrue (history connection.old).ended → IsAtEnd (R.remaining reader.old))
-        → IsTrue (history connection.new).ended → IsAtEnd (R.remaining reader.new) }
+        × ((history connection.new).received ≡ (history connection.old).received ++ more)
+        × (seen.new ≡ looked seen.old more) }
+    ensures end { (IsTrue (history connection.old).ended
+        → OnSome (R.remaining reader.old) (IsAtEnd (R.remaining reader.old)))
+        → IsTrue (history connection.new).ended
+        → OnSome (R.remaining reader.old) (IsAtEnd (R.remaining reader.new)) }
     ensures written { (more : List ℕ)
         × Appends (W.contents writer.old) (W.contents writer.new) more
         × ((history connection.new).sent ≡ (history connection.old).sent ++ more) }
@@ -75,7 +108,7 @@ fn talk<S: Service, R: Read, W: Write>(
         if !connection.wants_write() {
             // The client may wait for what the writer holds.
             writer.flush()?;
-            connection.read_from(reader)?;
+            read_once(connection, reader, seen)?;
         } else if connection.write_to(writer)? == 0 {
             return Err(ErrorKind::WriteZero.into());
         }
@@ -110,6 +143,16 @@ fn finish<W: Write>(connection: Connection, writer: &mut W) -> io::Result<()>
     write_out(&mut pending, writer)
 }
 
+/// The body of a rejection: none where the request may be by `HEAD`.
+fn content<H: Handler>(handler: &H, why: Rejected, seen: Seen) -> Option<Body>
+    ensures { IsContent (H.rejects handler.now) (seen ≡ Seen.Found) why (option_map said result) }
+{
+    match seen {
+        Seen::Found => None,
+        _ => Some(handler.rejected(why)),
+    }
+}
+
 /// Writes the last answer of a connection whose next request is rejected: where `http_server` has its
 /// own answer to it, that of the handler stands in its place.
 fn refuse<H: Handler, C: Clock, W: Write>(
@@ -117,19 +160,21 @@ fn refuse<H: Handler, C: Clock, W: Write>(
     clock: Option<&C>,
     handler: &H,
     why: Refusal,
+    seen: Seen,
     connection: Connection,
     writer: &mut W,
 ) -> io::Result<()>
-    requires { (history connection).state ≡ State.Closing (Reason.Refused why) }
+    requires state { (history connection).state ≡ State.Closing (Reason.Refused why) }
+    requires seen { seen ≡ looked Seen.Nothing (history connection).received }
     ensures { (written : List ℕ) × (unwritten : List ℕ)
         × Appends (W.contents writer.old) (W.contents writer.new) written
-        × Ends (H.rejects handler.now) (history connection).state (history connection).pending
-        (written ++ unwritten)
+        × Ends (H.rejects handler.now) (history connection).state (history connection).received
+        (history connection).pending (written ++ unwritten)
         × OnOk result (unwritten ≡ []) }
 {
     let (unread, mut pending) = connection.into_buffers();
     let kind = rejected_of(why, unread.as_slice());
-    let body = handler.rejected(kind);
+    let body = content(handler, kind, seen);
     match rejection(alloc, kind, body, date_of(clock)) {
         Ok(text) if is_plain(kind, &pending) => {
             let mut rest = text.as_str().as_bytes();
@@ -144,18 +189,20 @@ fn close<H: Handler, C: Clock, W: Write>(
     alloc: Global,
     clock: Option<&C>,
     handler: &H,
+    seen: Seen,
     connection: Connection,
     writer: &mut W,
 ) -> io::Result<()>
+    requires { seen ≡ looked Seen.Nothing (history connection).received }
     ensures { (written : List ℕ) × (unwritten : List ℕ)
         × Appends (W.contents writer.old) (W.contents writer.new) written
-        × Ends (H.rejects handler.now) (history connection).state (history connection).pending
-        (written ++ unwritten)
+        × Ends (H.rejects handler.now) (history connection).state (history connection).received
+        (history connection).pending (written ++ unwritten)
         × OnOk result (unwritten ≡ []) }
 {
     match connection.state() {
         State::Closing(Reason::Refused(why)) => {
-            refuse(alloc, clock, handler, why, connection, writer)
+            refuse(alloc, clock, handler, why, seen, connection, writer)
         }
         _ => finish(connection, writer),
     }
@@ -169,7 +216,7 @@ fn discard(connection: Connection) {
 /// Answers the requests that the reader gives, by the routes of the handler, until the connection is
 /// done, and says how it stands. The clock dates the answers.
 /// What was read and written before an error is a conversation too.
-pub fn answer_all<H: Handler, C: Clock, R: Read, W: Write>(
+pub fn answer_all<H: Handler, C: Clock, R: BufRead, W: Write>(
     alloc: Global,
     keys: RandomState,
     config: Config,
@@ -181,7 +228,7 @@ pub fn answer_all<H: Handler, C: Clock, R: Read, W: Write>(
     ensures talk { (read : List ℕ) × (written : List ℕ) × (ended : Bool)
         × Consumes (R.remaining reader.old) (R.remaining reader.new) read
         × Appends (W.contents writer.old) (W.contents writer.new) written
-        × (IsTrue ended → IsAtEnd (R.remaining reader.new))
+        × (IsTrue ended → OnSome (R.remaining reader.old) (IsAtEnd (R.remaining reader.new)))
         × ∥ IsTalk (IsAnswerOf (H.table handler.now) (H.gives handler.now) (H.rejects handler.now))
         (H.rejects handler.now) config ended read written result ∥₁ }
     ensures says { (request : wire.Request) → (response : wire.Response)
@@ -194,10 +241,11 @@ pub fn answer_all<H: Handler, C: Clock, R: Read, W: Write>(
         clock,
         handler,
     };
-    match talk(&mut connection, &mut service, reader, writer) {
+    let mut seen = Seen::Nothing;
+    match talk(&mut connection, &mut service, reader, writer, &mut seen) {
         Ok(()) => {
             let stands = connection.state();
-            close(alloc, clock, handler, connection, writer)?;
+            close(alloc, clock, handler, seen, connection, writer)?;
             Ok(stands)
         }
         Err(error) => {

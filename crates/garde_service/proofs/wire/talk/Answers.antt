@@ -3,8 +3,11 @@ use Rattle.http_server.specs.Connection.{history}
 use Rattle.http_server.specs.History.{History}
 use Rattle.http_server.proofs.KnownLemmas.{Appends-then, Appends-kept, Consumes-then}
 use Rattle.http_server.proofs.StreamLemmas.{Calls-then}
-use Rattle.garde_service.proofs.wire.talk.Goals.{in-Open, in_default, then-not-wants_write+in_ok-flush+in_ok-read_from, else-not-wants_write+in_ok-write_to+else-branch-eq0}
-use Rattle.garde_service.proofs.Talk.{end_after, none_pending}
+use Rattle.garde_service.proofs.wire.talk.Goals.{in-Open, in_default, then-not-wants_write+in_ok-flush+in_ok-read_once, else-not-wants_write+in_ok-write_to+else-branch-eq0}
+use Rattle.garde_service.specs.Heads.{looked}
+use Rattle.garde_service.specs.declared.heads.Seen.{Seen}
+use Rattle.garde_service.proofs.ByHead.{looked-append}
+use Rattle.garde_service.proofs.Talk.{end_after, known_end, none_pending}
 use Rattle.std.proofs.lemmas.Bool.{true≢false}
 use Rattle.garde_service.proofs.wire.talk.Goals as goal
 
@@ -14,10 +17,10 @@ returns-then-not-matches-clause-calls g c = Calls-then g.S.Service.answers _ _ _
 pub returns-in_err-flush-clause-calls : goal.returns-in_err-flush-clause-calls
 returns-in_err-flush-clause-calls g c = Calls-then g.S.Service.answers _ _ _ _ _ _ c.loop.invariant.2 c.advance.ensures.calls
 
-pub returns-in_err-read_from-clause-calls : goal.returns-in_err-read_from-clause-calls
-returns-in_err-read_from-clause-calls g c =
+pub returns-in_err-read_once-clause-calls : goal.returns-in_err-read_once-clause-calls
+returns-in_err-read_once-clause-calls g c =
     let all = Calls-then g.S.Service.answers _ _ _ _ _ _ c.loop.invariant.2 c.advance.ensures.calls in
-    (all.0, ap (λ (h : History). h.calls) c.in_err-read_from.ensures.err.0 ∙ all.1, all.2)
+    (all.0, ap (λ (h : History). h.calls) c.in_err-read_once.ensures.err.0 ∙ all.1, all.2)
 
 pub returns-in_err-write_to-clause-calls : goal.returns-in_err-write_to-clause-calls
 returns-in_err-write_to-clause-calls g c =
@@ -42,26 +45,28 @@ loop-preserved g c =
     ] in
     let all = Calls-then g.S.Service.answers _ _ _ _ _ _ c.loop.invariant.2 c.advance.ensures.calls in
     elim c.if-not-wants_write.branch [
-      | then-not-wants_write+in_ok-flush+in_ok-read_from w ↦
-          let came = w.in_ok-read_from.ensures.ok in
-          rw (w.connection-is, w.reader-is, w.writer-is) (
+      | then-not-wants_write+in_ok-flush+in_ok-read_once w ↦
+          let came = w.in_ok-read_once.ensures.ok in
+          rw (w.connection-is, w.reader-is, w.writer-is, w.seen-is) (
             (
               read.0 ++ came.0,
               Consumes-then _ _ _ read.0 came.0 read.1 came.2,
               ap (λ (h : History). h.received) came.3 ∙ ap (λ (t : List ℕ). t ++ came.0) (quiet.0 ∙ read.2) ∙ append_assoc _ read.0 came.0,
+              came.4 ∙ ap (λ (s : Seen). looked s came.0) read.3 ∙ sym (looked-append _ read.0 came.0),
             ),
             (written.0, Appends-kept _ _ _ written.0 written.1 w.flush.ensures.bytes, ap (λ (h : History). h.sent) came.3 ∙ quiet.2 ∙ written.2),
             (all.0, ap (λ (h : History). h.calls) came.3 ∙ all.1, all.2),
-            w.read_from.ensures.config ∙ config,
-            λ first found. end_after (history c.advance.new.self).ended came.0 _ (going w.if-not-wants_write.true)
-                (λ none. w.read_from.ensures.end (w.in_ok-read_from.was ∙ ap (λ (n : ℕ). Ok n) (sym came.1 ∙ none)) (going w.if-not-wants_write.true))
+            w.read_once.ensures.config ∙ config,
+            λ first found. end_after _ (history c.advance.new.self).ended came.0 (going w.if-not-wants_write.true)
+                (λ none. known_end _ _ _ read.0 read.1
+                (w.read_once.ensures.end (w.in_ok-read_once.was ∙ ap (λ (n : ℕ). Ok n) (sym came.1 ∙ none)) (going w.if-not-wants_write.true)))
                 (subst (λ (b : Bool). IsTrue b) (ap (λ (h : History). h.ended) came.3) found),
           )
       | else-not-wants_write+in_ok-write_to+else-branch-eq0 w ↦
           let went = w.in_ok-write_to.ensures.ok in
           let text = take w.in_ok-write_to.field-0 (history c.advance.new.self).pending in
-          rw (w.connection-is, w.reader-is, w.writer-is) (
-            (read.0, read.1, ap (λ (h : History). h.received) went.0 ∙ quiet.0 ∙ read.2),
+          rw (w.connection-is, w.reader-is, w.writer-is, w.seen-is) (
+            (read.0, read.1, ap (λ (h : History). h.received) went.0 ∙ quiet.0 ∙ read.2, read.3),
             (
               written.0 ++ text,
               Appends-then _ _ _ written.0 text written.1 went.1,
