@@ -56,20 +56,11 @@ const UNAVAILABLE: &str =
 
 /// What is done with valid bodies in JSON. It keeps nothing from one request to the next.
 pub trait Application {
-    ghost use Rattle.garde_service.specs.declared.application.Page.{Page};
-
     /// The kinds of bodies: an enum of your own, with a variant for each, or `()` where there is one.
     type Body: Copy + Drop;
 
-    // Its routes.
-    ghost table: { Self → List (Route Page Self.Body) };
-
     // What is taken as a body of this kind.
     ghost takes: { Self → Self.Body → Taking };
-
-    /// The routes. The first one with the path of a request answers it.
-    fn routes(&self) -> &[Route<Page, Self::Body>]
-        ensures { result.now ≡ table self.now };
 
     /// Reads a body of this kind and takes the valid value that it spells, or reports every fault of
     /// its form and of its rules.
@@ -139,25 +130,27 @@ fn answer_body<A: Application>(
 /// An application as a service. A body with faults is answered by problem details, in the language
 /// that the request asks for.
 #[derive(Drop)]
-pub struct Site<'c, A> {
+pub struct Site<'c, A, B> {
     pub alloc: Global,
     /// The languages in which faults are reported.
     pub catalogs: &'c Catalogs,
     /// The title of the problem details of a body with faults.
     pub title: &'static str,
+    /// The first route with the path of a request answers it.
+    pub routes: &'c [Route<Page, B>],
     pub application: A,
 }
 
-impl<'c, A: Application> Site<'c, A> {
+impl<'c, B: Copy + Drop, A: Application<Body = B>> Site<'c, A, B> {
     /// Answers a body of this kind in the language that the request asks for.
     fn judge(
         &self,
-        kind: A::Body,
+        kind: B,
         request: &Request<Bytes>,
         response: &mut Response,
     ) -> Result<(), AllocError>
         requires { IsBlank response.old }
-        ensures { OnOk result (Gives (A.table self.now.application) (A.takes self.now.application)
+        ensures { OnOk result (Gives self.now.routes.now (A.takes self.now.application)
             self.now.title.now self.now.catalogs.now (wants.Post kind) (head_of request.now)
             (body_of request.now) response.new) }
     {
@@ -179,15 +172,15 @@ impl<'c, A: Application> Site<'c, A> {
     }
 }
 
-impl<'c, A: Application> Handler for Site<'c, A> {
+impl<'c, B: Copy + Drop, A: Application<Body = B>> Handler for Site<'c, A, B> {
     type Get = Page;
 
-    type Post = A::Body;
+    type Post = B;
 
-    ghost table = { λ site. entries (A.table site.application) };
+    ghost table = { λ site. entries site.routes.now };
 
     ghost gives = { λ site wanted head body response.
-        Gives (A.table site.application) (A.takes site.application) site.title.now
+        Gives site.routes.now (A.takes site.application) site.title.now
         site.catalogs.now wanted head body response };
 
     ghost is_free = { λ _ wanted. wanted ≡ wants.Get pages.Empty };
@@ -195,21 +188,21 @@ impl<'c, A: Application> Handler for Site<'c, A> {
     ghost rejects = { λ _ why. (codes "application/problem+json", problem_of why) };
 
     ghost says = { λ site request response.
-        Promises (judging (A.table site.application) (A.takes site.application) site.title.now
+        Promises (judging site.routes.now (A.takes site.application) site.title.now
         site.catalogs.now) request response };
 
-    fn routes(&self) -> &[Route<Page, A::Body>] {
-        self.application.routes()
+    fn routes(&self) -> &[Route<Page, B>] {
+        self.routes
     }
 
     fn give(
         &self,
-        wanted: Wanted<Page, A::Body>,
+        wanted: Wanted<Page, B>,
         request: &Request<Bytes>,
         response: &mut Response,
     ) -> Result<(), AllocError>
         requires { IsBlank response.old }
-        ensures given { OnOk result (Gives (A.table self.now.application)
+        ensures given { OnOk result (Gives self.now.routes.now
             (A.takes self.now.application) self.now.title.now self.now.catalogs.now wanted
             (head_of request.now) (body_of request.now) response.new) }
         ensures free { wanted ≡ wants.Get pages.Empty → IsOk result }
@@ -228,10 +221,10 @@ impl<'c, A: Application> Handler for Site<'c, A> {
     }
 
     ghost stays = { λ site wanted head body response given.
-        stays (A.table site.application) (A.takes site.application) site.title.now
+        stays site.routes.now (A.takes site.application) site.title.now
         site.catalogs.now wanted head body response given };
 
     ghost told = { λ site request response fits.
-        kept (A.table site.application) (A.takes site.application) site.title.now
+        kept site.routes.now (A.takes site.application) site.title.now
         site.catalogs.now request response fits };
 }

@@ -1,6 +1,7 @@
 //! An application as a program.
 
-use crate::application::{Application, Site};
+use crate::application::{Application, Page, Site};
+use crate::routes::Route;
 use crate::stdio::{Serving, serve};
 use anyhow::Result;
 use garde_catalog::{Catalogs, languages};
@@ -21,11 +22,12 @@ impl Serving {
 
 /// Answers the requests of standard input on standard output, in each language that there is a catalog
 /// of. Problem details of a body with faults have this title.
-fn serve_application<A: Application + Drop>(
+fn serve_application<B: Copy + Drop, A: Application<Body = B> + Drop>(
     rt: &HostRuntime,
     serving: Serving,
     most: usize,
     title: &'static str,
+    routes: &[Route<Page, B>],
     application: A,
 ) -> Result<ExitCode> {
     let (alloc, offered) = (rt.alloc(), languages());
@@ -34,6 +36,7 @@ fn serve_application<A: Application + Drop>(
         alloc,
         catalogs,
         title,
+        routes,
         application,
     };
     Ok(serve(rt, serving, most, &site)?)
@@ -41,11 +44,12 @@ fn serve_application<A: Application + Drop>(
 
 /// Does what the command line asks for: prints the usage, or serves an application, with bodies of at
 /// most so many bytes where no word says otherwise.
-pub fn run<A: Application + Drop>(
+pub fn run<B: Copy + Drop, A: Application<Body = B> + Drop>(
     rt: &HostRuntime,
     program: &Program,
     most: usize,
     title: &'static str,
+    routes: &[Route<Page, B>],
     application: A,
 ) -> Result<ExitCode> {
     let words = program.words(rt)?;
@@ -53,7 +57,7 @@ pub fn run<A: Application + Drop>(
         return program.help(rt);
     }
     match Serving::of(&words) {
-        Ok(serving) => serve_application(rt, serving, most, title, application),
+        Ok(serving) => serve_application(rt, serving, most, title, routes, application),
         Err(why) => program.reject(rt, why),
     }
 }

@@ -5,7 +5,7 @@
 mod order;
 mod service;
 
-use crate::service::Orders;
+use crate::service::{Orders, ROUTES};
 use garde_command::Program;
 use garde_service::run;
 use std::process::ExitCode;
@@ -30,5 +30,5 @@ Answers the HTTP requests of standard input on standard output.
 };
 
 fn main(rt: HostRuntime) -> ExitCode {
-    PROGRAM.end(&rt, run(&rt, &PROGRAM, MOST, TITLE, Orders))
+    PROGRAM.end(&rt, run(&rt, &PROGRAM, MOST, TITLE, ROUTES, Orders))
 }

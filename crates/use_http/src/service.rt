@@ -2,7 +2,6 @@
 ghost use Rattle.std.specs.Prelude.{◌≡◌};
 ghost use Rattle.garde_service.specs.Application.{taking};
 ghost use Rattle.garde_service.specs.declared.application.Answer.TheVariants.{NoContent};
-ghost use Rattle.use_http.specs.declared.service.TheConstants.{ROUTES};
 
 use crate::order::{OPEN_API, Order};
 use garde::{I18n, Stated, Valid};
@@ -11,7 +10,7 @@ use garde_service::{Answer, Application, Media, Page, Post, Route};
 use std::alloc::Global;
 
 /// The routes. There is one kind of body.
-const ROUTES: &[Route<Page, ()>] = &[
+pub const ROUTES: &[Route<Page, ()>] = &[
     Route {
         path: "/orders",
         get: None,
@@ -47,14 +46,8 @@ fn accept(order: Valid<Order<'_>>) -> Answer
 impl Application for Orders {
     type Body = ();
 
-    ghost table = { λ _. ROUTES.now };
-
     ghost takes = { λ _ _. taking ⟦<Order<'static> as Spelled>⟧.spelled
         ⟦<Order<'static> as Stated>⟧.visits (λ _ answer. answer ≡ NoContent) };
-
-    fn routes(&self) -> &[Route<Page, ()>] {
-        ROUTES
-    }
 
     fn take<H: I18n + FormI18n>(
         &self,
