@@ -1,5 +1,5 @@
 //! The service: what is answered to each request.
-ghost use Rattle.std.specs.Prelude.{◌≡◌, ◌≢◌, [], Err, OnOk, codes};
+ghost use Rattle.std.specs.Prelude.{◌≡◌, ◌≢◌, [], Err, OnOk, codes, ◌∷◌, IsOk};
 ghost use Rattle.garde_catalog.specs.Catalog.{catalog_text};
 ghost use Rattle.garde_catalog.specs.Forms.{catalog_form_text};
 ghost use Rattle.garde_form.specs.WebForm.{field_texts};
@@ -242,7 +242,13 @@ impl<'a> Handler for SignUps<'a> {
         wanted: Wanted<Page, ()>,
         request: &Request<Bytes>,
         response: &mut Response,
-    ) -> Result<(), AllocError> {
+    ) -> Result<(), AllocError>
+        requires { IsBlank response.old }
+        ensures given { OnOk result (Gives
+            (λ words. (⟦<SignUp<'static> as SpelledUnder>⟧.spelled words).visits) self.now.speech
+            wanted (head_of request.now) (body_of request.now) response.new) }
+        ensures free { ⊥ → IsOk result }
+    {
         match wanted {
             Wanted::Get(Page::Form) => put_empty_form(self.alloc, &self.speech, request, response),
             Wanted::Get(Page::Thanks) => put_thanks(self.alloc, &self.speech, request, response),
