@@ -1,5 +1,6 @@
 """The page of a form with its faults, as the README of `garde_html` has it."""
 import base64
+import functools
 import hashlib
 import html
 import re
@@ -33,9 +34,17 @@ class Form(typing.NamedTuple):
 
 
 PAGE = string.Template(tables.text_of("page.html"))
-STYLE = re.search(r'\(\n +"(.*?)"\n', repository.text_of("crates/garde_html/src/style.rt"), re.DOTALL)[1]
-# The stylesheet as a policy names it (Content Security Policy, section 2.3.1).
-SOURCE = f"sha256-{base64.b64encode(hashlib.sha256(STYLE.encode()).digest()).decode()}"
+
+
+@functools.cache
+def style():
+    """The stylesheet of the pages."""
+    return re.search(r'\(\n +"(.*?)"\n', repository.text_of("crates/garde_html/src/style.rt"), re.DOTALL)[1]
+
+
+def source():
+    """The stylesheet as a policy names it (Content Security Policy, section 2.3.1)."""
+    return f"sha256-{base64.b64encode(hashlib.sha256(style().encode()).digest()).decode()}"
 
 
 def text(given):
@@ -108,7 +117,7 @@ def field_of(field, typed, faults):
 def within(main, language, direction, title, said=None):
     """A page with this in its middle, under this heading. What it says as its title is the heading, if it is nothing else."""
     texts = {"language": language, "direction": direction, "title": title, "said": said or title}
-    return PAGE.substitute({name: text(it) for name, it in texts.items()}, style=STYLE, main=main)
+    return PAGE.substitute({name: text(it) for name, it in texts.items()}, style=style(), main=main)
 
 
 def page(form, typed, faults):
