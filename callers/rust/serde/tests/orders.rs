@@ -89,6 +89,7 @@ fn a_faulty_body_has_faults() {
         message: "lower than 1",
         code: "range_lower_than",
         parameters: vec![("min", "1")],
+        place: None,
     };
     assert_eq!(found.iter().nth(2), Some(third));
     assert_eq!(
