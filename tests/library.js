@@ -51,6 +51,13 @@ function worker(folder, wanted) {
 function testAll(folder, cases) {
   const { Checker, FAULTS, FaultsError, NO_JSON, NotJsonError, check, isValid, problem, value } = require(folder);
 
+  test('names of one length and first letter', () => {
+    const { Texts, valueOf } = require(join(folder, 'nodes.js'));
+    const texts = new Texts(Buffer.from('{"ab":1,"ac":2}'));
+    const nodes = Uint32Array.of(8, 0, 2, 0, 6, 2, 2, 0, 3, 0, 1, 0, 6, 2, 9, 0, 3, 0, 2, 0);
+    assert.deepEqual(valueOf(nodes, texts, texts), { ab: 1, ac: 2 });
+  });
+
   test('places', () => {
     const body = Buffer.from('\ufeff{"customer":"",\n "lines":[{"code":"é","count":0}],"x":1}');
     const wanted = [[1, 13], [2, 19], [2, 31], [2, 35]];
