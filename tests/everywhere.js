@@ -120,8 +120,8 @@ async function* rows({ load, FaultsError, NotJsonError }, module) {
 }
 
 /** Nodes by hand, of which an order has none: each a kind, a length, and the two halves of a number. */
-function* nodes({ valueOf, textsOf }) {
-  const made = (texts, ...rows) => valueOf(Uint32Array.from(rows.flat()), textsOf(encoder.encode(texts)), textsOf(encoder.encode('č"')));
+function* nodes({ valueOf, Texts }) {
+  const made = (texts, ...rows) => valueOf(Uint32Array.from(rows.flat()), new Texts(encoder.encode(texts)), new Texts(encoder.encode('č"')));
   const text = (it) => (typeof it === 'bigint' ? `${it}n` : it);
   for (const [row, wanted] of [[[0, 0, 0, 0], null], [[1, 0, 0, 0], false], [[2, 0, 0, 0], true], [[3, 0, 7, 0], 7], [[4, 0, 7, 0], -7],
     [[3, 0, 0xffffffff, 0x1fffff], 2 ** 53 - 1], [[3, 0, 0, 0x200000], '9007199254740992n'], [[3, 0, 0xffffffff, 0xffffffff], '18446744073709551615n'],

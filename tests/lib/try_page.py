@@ -37,6 +37,7 @@ class Library:
 
     def __init__(self, path):
         self.calls, self.checker, self.out = ctypes.CDLL(path), Checker(), ctypes.create_string_buffer(1 << 20)
+        self.calls.order_faults_with.restype = ctypes.c_uint8
 
     def said(self, body, language):
         """The status of a body, its problem details, and the places of its faults."""
