@@ -9,7 +9,7 @@ SAID = {it.title: dict(line.split(": ", 1) for line in it.text.splitlines()) for
 FORM = "application/x-www-form-urlencoded"
 PAGE = "text/html; charset=utf-8"
 GUARDS = (
-    ("content-security-policy", f"default-src 'none'; style-src '{pages.SOURCE}'; form-action 'self'; frame-ancestors 'none'; base-uri 'none'"),
+    ("content-security-policy", f"default-src 'none'; style-src '{pages.source()}'; form-action 'self'; frame-ancestors 'none'; base-uri 'none'"),
     ("x-content-type-options", "nosniff"), ("referrer-policy", "same-origin"), ("cache-control", "no-store"),
 )
 REFUSED = {
