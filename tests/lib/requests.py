@@ -1,13 +1,15 @@
-"""Requests of HTTP, their bytes one behind the other, and which of them every service rejects."""
+"""Requests of HTTP and their answers, as bytes one behind the other, and which of them every service rejects."""
+import re
 import typing
 
 PHRASES = {
-    200: "OK", 303: "See Other", 400: "Bad Request", 404: "Not Found", 405: "Method Not Allowed", 413: "Content Too Large",
-    414: "URI Too Long", 415: "Unsupported Media Type", 422: "Unprocessable Entity", 431: "Request Header Fields Too Large",
-    501: "Not Implemented", 505: "HTTP Version Not Supported",
+    200: "OK", 204: "No Content", 303: "See Other", 400: "Bad Request", 404: "Not Found", 405: "Method Not Allowed", 413: "Content Too Large",
+    414: "URI Too Long", 415: "Unsupported Media Type", 422: "Unprocessable Entity",
+    431: "Request Header Fields Too Large", 501: "Not Implemented", 505: "HTTP Version Not Supported",
 }
 # Which method alone may name a host and a port, which are no path, or `*` (RFC 9112, section 3.2).
 TARGETS = {"": "CONNECT", "*": "OPTIONS"}
+FIELDS = ("Content-Type", "Accept-Language", "Content-Encoding")
 CODINGS = ("gzip", "identity", "Identity", "identity, br")
 
 
@@ -47,8 +49,8 @@ def some_coding(dice):
 
 
 def fields_of(request):
-    fields = {"Content-Type": request.media, "Accept-Language": request.language, "Content-Encoding": request.coding}
-    return {name: value for name, value in fields.items() if value}
+    values = zip(FIELDS, (request.media, request.language, request.coding))
+    return {name: value for name, value in values if value}
 
 
 def bytes_of(request):
@@ -58,13 +60,44 @@ def bytes_of(request):
 
 
 def requests_of(given):
-    """The requests of these bytes, which `bytes_of` wrote."""
+    """The requests of these bytes. Raises where one has another field, or is none."""
     while given:
         head, _, rest = given.partition(b"\r\n\r\n")
         first, *lines = head.decode().split("\r\n")
         fields = dict(line.split(": ", 1) for line in lines)
-        method, target, _ = first.split(" ")
-        length = int(fields["Content-Length"])
-        named = (fields.get(name, "") for name in ("Content-Type", "Accept-Language", "Content-Encoding"))
-        yield Request(rest[:length], method, target, *named)
-        given = rest[length:]
+        method, target, version = first.split(" ")
+        length, host = int(fields.pop("Content-Length", "0")), fields.pop("Host", "")
+        body, given, named = rest[:length], rest[length:], [fields.pop(name, "") for name in FIELDS]
+        if fields or (version, host) != ("HTTP/1.1", "x") or len(body) < length:
+            raise ValueError(head)
+        yield Request(body, method, target, *named)
+
+
+def are_requests(given):
+    """Whether these bytes are requests of this form."""
+    try:
+        list(requests_of(given))
+    except ValueError:
+        return False
+    return True
+
+
+def with_body(given, body):
+    """The bytes of requests with another body in the last one."""
+    *first, last = requests_of(given)
+    return b"".join(map(bytes_of, (*first, last._replace(body=body))))
+
+
+def written(request, status, fields, body):
+    """An answer without a date, as a pattern. Its body is bytes, or a pattern of them; that to a HEAD is left out."""
+    lines = [f"HTTP/1.1 {status} {PHRASES[status]}", *(f"{name}: {value}" for name, value in fields)]
+    head, is_known = re.escape("".join(f"{it}\r\n" for it in lines).encode()), isinstance(body, bytes)
+    if status != 204 and (fields or request.method != "HEAD"):
+        head += b"content-length: %s\r\n" % (b"%d" % len(body) if is_known else rb"\d+")
+    shown = re.escape(body) if is_known else body.pattern
+    return head + b"\r\n" + (b"" if request.method == "HEAD" else shown)
+
+
+def answers(requests, answer):
+    """What a connection with these requests is answered, as a pattern. `answer` gives the status, the fields and the body of one."""
+    return re.compile(b"".join(written(it, *answer(it)) for it in requests), re.DOTALL)

@@ -1,8 +1,8 @@
-"""The service of use_signup, by crates/use_signup/README.md: which answer a request has, as bytes, where no date is added."""
+"""The service of use_signup, by crates/use_signup/README.md: which answer a request has."""
 import re
 
 from lib import languages, pages, tables
-from lib.requests import PHRASES, Request, bytes_of, elsewhere, has_coding, path_of, requests_of, some_coding
+from lib.requests import Request, elsewhere, has_coding, path_of, some_coding
 
 # The texts of the pages in each language, by their names: of a field its label, of `FIELD?` its hint, and of `FIELD=VALUE` the label of a box.
 SAID = {it.title: dict(line.split(": ", 1) for line in it.text.splitlines()) for it in tables.cases("sign-up")}
@@ -36,9 +36,9 @@ def thanks(tag):
     return pages.within(f"<p>{said['signed_up']}</p>\n", tag, said["direction"], said["thanks"])
 
 
-def refused(status):
+def refused(status, *offers):
     title, said = REFUSED[status]
-    return pages.within(f"<p>{said}</p>\n", "en", "ltr", title)
+    return status, (("content-type", PAGE), *offers), pages.within(f"<p>{said}</p>\n", "en", "ltr", title).encode()
 
 
 def spoken(tag):
@@ -46,30 +46,22 @@ def spoken(tag):
     return ("content-type", PAGE), ("content-language", tag), ("vary", "accept-language"), *GUARDS
 
 
-def answer(request, page):
-    """The status, the fields and the text of an answer. `page` makes the page of a body in a language, or gives nothing where the body has
+def answer(page, request):
+    """The status, the fields and the body of an answer. `page` makes the page of a body in a language, or gives nothing where the body has
     no fault; of no body it makes the page of the form alone."""
-    path, tag, plain = path_of(request), tag_of(request), ("content-type", PAGE)
+    path, tag = path_of(request), tag_of(request)
     if path not in METHODS:
-        status = elsewhere(request)
-        return status, (plain,), refused(status)
+        return refused(elsewhere(request))
     if request.method in ("GET", "HEAD"):
-        return 200, spoken(tag), page(None, tag) if path == "/" else thanks(tag)
+        return 200, spoken(tag), (page(None, tag) if path == "/" else thanks(tag)).encode()
     if path != "/" or request.method != "POST":
-        return 405, (plain, ("allow", METHODS[path])), refused(405)
+        return refused(405, ("allow", METHODS[path]))
     if not re.fullmatch(f"{re.escape(FORM)}([; \t].*)?", request.media, re.IGNORECASE):
-        return 415, (plain, ("accept", FORM)), refused(415)
+        return refused(415, ("accept", FORM))
     if has_coding(request):
-        return 415, (plain, ("accept-encoding", "identity")), refused(415)
+        return refused(415, ("accept-encoding", "identity"))
     found = page(request.body, tag)
-    return (303, (("location", "/thanks"),), "") if found is None else (422, spoken(tag), found)
-
-
-def answered(request, page):
-    status, fields, text = answer(request, page)
-    body = text.encode("utf-8")
-    head = "".join(f"{name}: {value}\r\n" for name, value in (*fields, ("content-length", len(body))))
-    return f"HTTP/1.1 {status} {PHRASES[status]}\r\n{head}\r\n".encode() + (b"" if request.method == "HEAD" else body)
+    return (303, (("location", "/thanks"),), b"") if found is None else (422, spoken(tag), found.encode())
 
 
 def some_request(dice, body):
@@ -78,11 +70,3 @@ def some_request(dice, body):
         return Request(body, media=FORM, language=dice.choice(FIELDS), coding=some_coding(dice))
     method = dice.choice(("POST", "GET", "GET", "HEAD", "PUT", "DELETE", "OPTIONS"))
     return Request(body if method != "HEAD" else b"", method, dice.choice(PATHS), dice.choice(MEDIA), dice.choice(FIELDS), some_coding(dice))
-
-
-def are_requests(given):
-    """Whether these bytes are requests that `bytes_of` wrote."""
-    try:
-        return b"".join(map(bytes_of, requests_of(given))) == given
-    except (KeyError, ValueError):
-        return False

@@ -1,10 +1,11 @@
 """The program use_signup, by crates/use_signup/README.md: a web form, in any language, its page with faults, and its service. Its fields are
 those that `urllib.parse` reads."""
 import codecs
+import functools
 import re
 import urllib.parse
 
-from lib import languages, pages, repository, sign_up_service
+from lib import languages, pages, repository, requests, sign_up_service
 from lib.described import Case, pattern
 from lib.faults import ALPHANUMERIC, REQUIRED, between, chars, fault, items, length, prefix
 from lib.form import Checked, Closed, ListUnder, Member, Object, OneOf, Optional, OrEmpty, Parsed, Text, Under, read
@@ -81,8 +82,8 @@ def some(dice):
     body, ways = some_body(dice)
     if dice.random() < 0.6:
         return Case((*languages.some_words(dice), *dice.choice(((), ("--page",)))), body, ways)
-    requests = [sign_up_service.some_request(dice, it) for it in (body, *(some_body(dice)[0] for _ in range(dice.choice((0, 0, 1, 2)))))]
-    return Case(SERVE, b"".join(map(bytes_of, requests)), ways)
+    bodies = [body, *(some_body(dice)[0] for _ in range(dice.choice((0, 0, 1, 2))))]
+    return Case(SERVE, b"".join(bytes_of(sign_up_service.some_request(dice, it)) for it in bodies), ways)
 
 
 def fields_of(body):
@@ -128,10 +129,10 @@ def served(body, tag):
 
 
 def knows(case):
-    """Whether the answer to a stored case is described: of the service alone what its requests in the form of the random ones are
+    """Whether the answer to a stored case is described: of the service alone what requests with the fields of the random ones are
     answered, and no form in a file."""
     if "--serve" in case.words:
-        return case.words == SERVE and sign_up_service.are_requests(case.given)
+        return case.words == SERVE and requests.are_requests(case.given)
     return all(word.startswith("-") or before == "--language" for before, word in zip(("", *case.words), case.words))
 
 
@@ -140,15 +141,12 @@ def body_of(case):
 
 
 def with_body(case, body):
-    if "--serve" not in case.words:
-        return case._replace(given=body)
-    *first, last = requests_of(case.given)
-    return case._replace(given=b"".join(map(bytes_of, (*first, last._replace(body=body)))))
+    return case._replace(given=requests.with_body(case.given, body) if "--serve" in case.words else body)
 
 
 def wanted(case):
     if "--serve" in case.words:
-        return 0, b"".join(sign_up_service.answered(it, served) for it in requests_of(case.given)), b""
+        return 0, requests.answers(requests_of(case.given), functools.partial(sign_up_service.answer, served)), b""
     tag = languages.spoken(case.words)[1]
     if tag is None:
         return 2, b"", pattern(f"use_signup: {languages.unknown()}\n")
