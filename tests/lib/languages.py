@@ -5,8 +5,8 @@ A language is a table from codes to texts, as in `faults`.
 """
 import re
 
+from lib import catalog
 from lib.faults import ENGLISH, INTEGERS
-from side_by_side import page
 
 # Tags under which a language is offered too.
 OTHER_TAGS = {"pt": "pt-BR", "zh-CN": "zh-Hans", "zh-SG": "zh-Hans", "zh": "zh-Hans"}
@@ -20,12 +20,6 @@ TEMPLATE_FAULTS = {
     "template_brace_stray": "has a brace that does not close or does not open",
 }
 NO_JSON = {"not UTF-8": "not_utf8", "not JSON": "not_json", "nested deeper than 128": "nested_too_deep", "a lone surrogate": "lone_surrogate"}
-
-
-def texts():
-    """The texts: by their tag, and then by their code."""
-    tables = page.tables()
-    return {tag: dict(tables[table]) for table, tag in page.offered().items()}
 
 
 def wanted_code(wanted):
@@ -49,7 +43,8 @@ def language(said, english):
     }
 
 
-TEXTS = texts()
+# The texts: by their tag, and then by their code.
+TEXTS = {tag: dict(catalog.tables()[table]) for table, tag in catalog.offered().items()}
 LANGUAGES = {tag: language(said, TEXTS["en"]) for tag, said in TEXTS.items()}
 
 
