@@ -37,12 +37,8 @@ def makes(line):
 def function_at(text, at):
     """The function that a place stands in, under the name of its type or trait, or an empty name."""
     inside = [it for it in text.functions() if it.head <= at < it.end]
-    if not inside:
-        return ""
-    block = inside[-1].owner
-    owner = re.match(r"&? ?(\w+)", paths.head_of(text, block)[2]) if block and block.kind == "impl" else None
-    names = owner.groups() if owner else [block.name] if block and block.kind == "trait" else []
-    return "::".join([*names, inside[-1].name])
+    trait, of = paths.block_of(text, inside[-1]) if inside else ("", "")
+    return "::".join(filter(None, [of or trait, *(it.name for it in inside[-1:])]))
 
 
 @functools.cache

@@ -84,6 +84,17 @@ def head_of(text, block):
     return {found[1] for found in (re.search(r"(?:\bconst )?('?\w+)\s*(?::|=|$)", it) for it in split(inner)) if found}, trait, of
 
 
+def block_of(text, item):
+    """The trait and the type of the block that an item stands in. Each is empty where there is none."""
+    block = item.owner
+    if block is None or block.kind not in ("impl", "trait"):
+        return "", ""
+    if block.kind == "trait":
+        return block.name, ""
+    _, trait, of = head_of(text, block)
+    return re.search(r"\w*$", trait.partition("<")[0])[0], re.search(r"\w+|$", of)[0]
+
+
 def name_of_block(text, block):
     """The name that the prover gives an impl block, a trait, or what else functions stand in."""
     if block.kind != "impl":

@@ -2,7 +2,7 @@
 
     source = Source(text)
     for it in source.functions():
-        print(it.name, it.is_public, source.contract(it))
+        print(it.name, it.is_public, source.header(it))
 
 An item is found by its words outside comments and texts, and by the brackets that it opens and closes, not by how it is laid
 out. What stands in a function's body is read no further.
@@ -130,10 +130,6 @@ class Source:
     def header(self, item):
         """An item's words up to its body, with its clauses and without comments."""
         return self.blank[item.head : item.body]
-
-    def contract(self, function):
-        """The text of a function's head and its clauses."""
-        return self.text[function.head : function.body]
 
 
 @functools.lru_cache(maxsize=4096)

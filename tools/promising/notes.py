@@ -3,7 +3,7 @@ of what the script does not find."""
 import functools
 import re
 
-from lib import repository
+from lib import functions, repository
 
 from . import promised
 
@@ -23,14 +23,10 @@ def lines(name):
     return re.findall(r"^- `([^`]+)`: (.*)$", repository.text_of(f"{FOLDER}/{name}.md"), re.M)
 
 
+@functools.cache
 def given(name):
     """What a list gives to which function, or to what stands above it, in its order."""
     return [(what, it) for what, names in lines(name) for it in re.findall(r"`([^`]+)`", names)]
-
-
-def besides(name):
-    """What is said of a function beside its docs."""
-    return [said for other, said in lines("besides") if other == name]
 
 
 @functools.cache
@@ -43,53 +39,40 @@ def tests():
             found[name].append(test)
     without = [name for name, names in found.items() if not names]
     for test, above in given("tests"):
-        for name in without:
-            if name.startswith(f"{above}::"):
-                found[name].append(test)
+        for name in (it for it in without if it.startswith(f"{above}::")):
+            found[name].append(test)
     return found
 
 
 @functools.cache
 def mutants(crate):
     """The mutants of each public function of a crate, and the others by the path of the function that they change."""
-    found = promised.mutants(crate)
-    by_name = {name: list(found.of.get(name, [])) for name in promised.of(crate)}
+    found, handed = promised.mutants(crate), {mutant for mutant, _ in given("mutants")}
+    by_name = {name: list(found.of.get(name, [])) for name in functions.public(crate)}
     for mutant, name in given("mutants"):
         if name in by_name:
             by_name[name].append(mutant.removeprefix(f"{crate}/"))
-    handed = {mutant for mutant, _ in given("mutants")}
     others = {path: [it for it in titles if f"{crate}/{it}" not in handed] for path, titles in found.others.items()}
     return by_name, {path: titles for path, titles in others.items() if titles}
 
 
-def test_faults():
-    """The tests that are given, and are not there, or are given to what has them, or others, anyway."""
+def faults():
+    """The lines of the lists that name what is not there, or give what is found."""
     every, found = promised.every(), promised.found_tests()
     for test, name in given("tests"):
         under = [it for it in every if it.startswith(f"{name}::")]
         if test not in promised.tests():
-            yield f"there is no test {test}"
+            yield f"{FOLDER}/tests.md: there is no test {test}"
         elif name in every and test in found[name]:
-            yield f"{test} is found for {name}"
+            yield f"{FOLDER}/tests.md: {test} is found for {name}"
         elif name not in every and not any(test in tests()[it] and test not in found[it] for it in under):
-            yield f"no function under {name} lacks a test" if under else f"there is no function {name}"
-
-
-def mutant_faults():
-    """The mutants that are given, and are not there, or are given to what has them anyway."""
+            yield f"{FOLDER}/tests.md: " + (f"no function under {name} lacks a test" if under else f"there is no function {name}")
     for mutant, name in given("mutants"):
         crate, _, title = mutant.partition("/")
         if title not in promised.planted(crate):
-            yield f"there is no mutant {mutant}"
-        elif name not in promised.every():
-            yield f"there is no function {name}"
+            yield f"{FOLDER}/mutants.md: there is no mutant {mutant}"
+        elif name not in every:
+            yield f"{FOLDER}/mutants.md: there is no function {name}"
         elif title in promised.mutants(crate).of.get(name, []):
-            yield f"{mutant} is found for {name}"
-
-
-def faults():
-    """The lines of the lists that name what is not there, or give what is found."""
-    yield from (f"{FOLDER}/tests.md: {fault}" for fault in test_faults())
-    yield from (f"{FOLDER}/mutants.md: {fault}" for fault in mutant_faults())
-    unknown = [name for name, _ in lines("besides") if name not in promised.every()]
-    yield from (f"{FOLDER}/besides.md: there is no function {name}" for name in unknown)
+            yield f"{FOLDER}/mutants.md: {mutant} is found for {name}"
+    yield from (f"{FOLDER}/besides.md: there is no function {name}" for name, _ in lines("besides") if name not in every)

@@ -1,15 +1,18 @@
-"""The public functions of a crate, by the names that a user can write.
+"""The functions of a crate, and the public ones by the names that a user can write.
 
 A public function is a `pub fn` that stands free or in an impl block of a public type, or a method that a public trait
 declares. A function, a type or a trait is public where a user can name it: by `pub mod` from the root down to its module, or
 by a `pub use` in a module that is public so. In a program (src/main.rt) each that is `pub` counts. What stands under
 `#[cfg(test)]` is left out. The name of a function is its shortest public one, from the crate on.
 """
+import functools
 import re
 from dataclasses import dataclass
 
 from lib import paths, repository, source
 from vendoring.sources import IMPORT, Crate, Node, Sources
+
+CLAUSE = re.compile(r"\b(ensures|requires)\b(?:\s+(\w+))?\s*(?=\{)")
 
 
 @dataclass(frozen=True, eq=False)
@@ -26,9 +29,59 @@ class Function:
         return self.file, self.item.head
 
     @property
-    def contract(self):
-        """Its head and its clauses."""
-        return self.text.contract(self.item)
+    def crate(self):
+        return self.file.split("/")[1]
+
+    @property
+    def module(self):
+        """The last word of the path of its module."""
+        way = self.file.removesuffix(".rt").partition("/src/")[2]
+        return self.crate if way in ("lib", "main") else way.rpartition("/")[2]
+
+    @functools.cached_property
+    def block(self):
+        """The trait and the type of the block that it stands in. Each is empty where there is none."""
+        return paths.block_of(self.text, self.item)
+
+    @property
+    def owner(self):
+        """The type or the trait that it belongs to, and nothing of one that stands free."""
+        trait, of = self.block
+        return of or trait
+
+    @property
+    def method(self):
+        """The trait and the method of it that it declares or implements; the trait is empty where it is none of one."""
+        return self.block[0], self.item.name
+
+    @property
+    def is_test(self):
+        return "#[test]" in self.text.attributes(self.item)
+
+    @property
+    def body(self):
+        return self.text.blank[self.item.body : self.item.end]
+
+    def docs(self):
+        """What its `///` says, on one line."""
+        lines = [line.strip().removeprefix("///").strip() for line in self.text.attributes(self.item).splitlines()]
+        return " ".join(re.sub(r"^# (\w+)$", r"\1:", line) for line in lines if line and not line.startswith("#["))
+
+    def clauses(self, kind):
+        """Its clauses in a line: each by its name, or by its text where it has none."""
+        text, cells = self.text, {}
+        for found in CLAUSE.finditer(text.blank, self.item.head, self.item.body):
+            if found[1] == kind:
+                said = text.text[found.end() + 1 : text.close(found.end()) - 1]
+                cells[found[2] or " ".join(said.split()).replace("|", r"\|")] = True
+        return ", ".join(f"`{it}`" for it in cells)
+
+
+@functools.cache
+def of_crate(crate):
+    """Each function of a crate, tests among them."""
+    names = [name for name in repository.files() if re.match(rf"crates/{crate}/src/.*\.rt$", name)]
+    return [Function(name, text, it) for name in names for text in [source.read(repository.text_of(name))] for it in text.functions()]
 
 
 class Visible:
@@ -76,7 +129,8 @@ class Visible:
                     yield [*way, it.name], module, it
 
 
-def public_functions(crate):
+@functools.cache
+def public(crate):
     """The public functions of a crate under their names."""
     visible = Visible(crate)
     return {"::".join(way): Function(visible.folder + module.file, module.source, it) for way, module, it in visible.functions()}
