@@ -4,8 +4,7 @@ texts, which are read likewise.
 The places of faults are found in TOML by `lib.toml_positions`, and in JSON by `lib.positions`.
 Of a text that is no TOML the line and the column are not compared: two readers may stop at different places. `tomllib` reads TOML 1.0
 and the program TOML 1.1, so no line feed is put into a text, which may fall into an inline table, and a time without seconds is left
-out. An integer beyond 64 bits is no
-TOML, which `tomllib` does not ask. Before Python 3.11 there is no `tomllib`, and all settings are in JSON.
+out. An integer beyond 64 bits is no TOML, which `tomllib` does not ask.
 """
 import codecs
 import datetime
@@ -13,6 +12,7 @@ import ipaddress
 import json
 import random
 import re
+import tomllib
 import typing
 import unicodedata
 
@@ -24,11 +24,6 @@ from lib.json_values import DEEPEST, NoJson, Number, Pairs, depth, is_text, of_b
 from lib.reports import lines
 from lib.spoiled import LISTED, Raw, json_text, many, missing, renamed, repeated, some_bytes, some_json, some_of, unknown, wrong_type
 from lib.urls import Unsaid
-
-try:
-    import tomllib
-except ImportError:
-    tomllib = None
 
 
 def is_address(host):
@@ -81,8 +76,8 @@ def text_of(dice, text):
 
 
 def escaped(text):
-    short = {'"': '\\"', "\\": "\\\\", "\n": "\\n"}
-    return "".join(short.get(c) or (f"\\u{ord(c):04X}" if ord(c) < 32 or ord(c) == 127 else c) for c in text)
+    """A text between quotes: as in JSON, but for DEL."""
+    return json.dumps(text, ensure_ascii=False)[1:-1].replace("\x7f", "\\u007F")
 
 
 def key_of(dice, key):
@@ -137,14 +132,14 @@ def some(dice):
 
 def some_texts(dice):
     table = text_files.some(dice)
-    if tomllib is None or dice.random() < 0.5:
+    if dice.random() < 0.5:
         return "texts.json", json_text(dice, table).encode("utf-8")
     return "texts.toml", ("\n".join(toml_lines(dice, [], table)) + "\n").encode("utf-8")
 
 
 def some_settings(dice):
     form = placed.some_format(dice)
-    if tomllib is None or dice.random() < 0.3:
+    if dice.random() < 0.3:
         return Case(languages.some_words(dice) + dice.choice((("json", *form), (*form, "json"))), *some_json(dice, CONFIG))
     value, ways = some_of(dice, CONFIG, some_value, WAYS)
     end = dice.choice(("\n", "\n", "\r\n"))
@@ -154,18 +149,17 @@ def some_settings(dice):
 
 
 def large():
-    """A hundred limits under names of 800 characters, each in order or none, in JSON and, where it can be read, in TOML; and settings in
-    TOML whose lists and texts have several lines, behind them an array of tables."""
+    """A hundred limits under names of 800 characters, each in order or none, in JSON and in TOML; and settings in TOML whose lists and
+    texts have several lines, behind them an array of tables."""
     server = {"host": "a", "port": 1, "workers": 1, "connections": 1}
     for least in 1, 3:
         limits = {f"{number:0800}": {"min": least, "max": 2} for number in range(100)}
         yield Case(("json",), json.dumps({"server": server, "logging": {"level": "info"}, "limits": limits}).encode())
         tables = {"server": server, "logging": {"level": "info"}, **{f"limits.{name}": it for name, it in limits.items()}}
         rows = (f"[{name}]\n" + "".join(f"{key} = {json.dumps(part)}\n" for key, part in it.items()) for name, it in tables.items())
-        if tomllib is not None:
-            yield Case((), "".join(rows).encode())
+        yield Case((), "".join(rows).encode())
     dice = random.Random(1)
-    for form in placed.FORMATS * 100 if tomllib else ():
+    for form in placed.FORMATS * 100:
         value, ways = some_of(dice, CONFIG, some_value, WAYS)
         lines_of = [*toml_lines(dice, [], without_nulls(value), spread), *dice.choice(((), MORE))]
         yield Case(("--format", form), "".join(f"{it}\n" for it in lines_of).encode(), ways)

@@ -1,8 +1,8 @@
 """The program use_store, by crates/use_store/README.md: the valid rows of a list in CSV, in a SQLite file."""
-import csv
-import io
+import contextlib
 import pathlib
 import shutil
+import sqlite3
 import tempfile
 
 from lib import languages, placed
@@ -12,11 +12,6 @@ from lib.faults import fault
 from lib.form import read
 from lib.json_values import Pairs
 from lib.reports import lines
-
-try:
-    import sqlite3
-except ImportError:
-    sqlite3 = None
 
 ROW = row_of("u64", "not a number of pieces", "not a price in cents")
 HEADER = ",".join(COLUMNS).encode()
@@ -99,26 +94,18 @@ def wanted(case):
     return status, out.encode("utf-8"), err.encode("utf-8"), table
 
 
-def table_of(folder, program, alone=False):
-    """The rows of the table, as another SQLite reads a copy of the file (alone: without the log beside it); where Python has none, as
-    the program lists them."""
-    if sqlite3 is None:
-        _, out, _ = run(program, Case(("stock.db", "--list"), b""), cwd=folder)
-        _, *rows = csv.reader(io.StringIO(out.decode(), newline=""))
-        return [(code, name, int(quantity), int(price), page or None) for code, name, quantity, price, page in rows]
+def table_of(folder, alone=False):
+    """The rows of the table, as another SQLite reads a copy of the file (alone: without the log beside it)."""
     with tempfile.TemporaryDirectory() as copy:
         for name in ["stock.db"] if alone else ["stock.db", "stock.db-wal"]:
             if (pathlib.Path(folder) / name).exists():
                 shutil.copy(pathlib.Path(folder) / name, copy)
-        connection = sqlite3.connect(f"{copy}/stock.db")
-        try:
+        with contextlib.closing(sqlite3.connect(f"{copy}/stock.db")) as connection:
             if connection.execute("pragma integrity_check").fetchall() != [("ok",)]:
                 return ["pragma integrity_check is not ok"]
             return connection.execute(SELECT).fetchall() if connection.execute("select 1 from sqlite_schema").fetchall() else []
-        finally:
-            connection.close()
 
 
 def met(program, case):
     with tempfile.TemporaryDirectory() as folder:
-        return *run(program, case, cwd=folder), table_of(folder, program, alone=True)
+        return *run(program, case, cwd=folder), table_of(folder, alone=True)
