@@ -12,8 +12,6 @@ from lib.faults import ENGLISH, INTEGERS
 OTHER_TAGS = {"pt": "pt-BR", "zh-CN": "zh-Hans", "zh-SG": "zh-Hans", "zh": "zh-Hans"}
 TAG = "[A-Za-z]{1,8}(?:-[A-Za-z0-9]{1,8})*"
 RANGE = re.compile(rf"[ \t]*({TAG})[ \t]*(?:;[ \t]*[qQ]=(0(?:\.[0-9]{{0,3}})?|1(?:\.0{{0,3}})?)[ \t]*)?")
-# Tags that words ask for: of languages that are offered, of their countries, and of none, and ill-formed ones.
-TAGS = ("en", "de", "DE-at", "cs", "zh", "zh-Hant", "pt-PT", "ar", "ja", "sv", "tlh", "", "cs-", "cs--CZ", "de-\n")
 # What is wrong with a text of a file is no message of a table, so its sentence is that of the library in each language.
 TEMPLATE_FAULTS = {
     "template_place_unknown": "has a name in braces that is no parameter of this text", "template_place_missing": "lacks a parameter in braces",
@@ -64,25 +62,6 @@ def asked(field, tags=(*LANGUAGES, *OTHER_TAGS)):
         if weight > most and (tag := tag_of(found.group(1), tags)):
             best, most = tag, weight
     return best
-
-
-def some_words(dice):
-    """Words of a command line that ask for a language, or none."""
-    return ("--language", dice.choice(TAGS)) if dice.random() < 0.3 else ()
-
-
-def spoken(words):
-    """The words of a command line but for those that ask for a language, and the tag of that, or None where there is no such language."""
-    if "--language" not in words:
-        return words, "en"
-    at = words.index("--language")
-    tag = "".join(words[at + 1 : at + 2])
-    return words[:at] + words[at + 2 :], tag_of(tag) if re.fullmatch(TAG, tag) else None
-
-
-def unknown():
-    """The pattern of why a tag cannot be followed."""
-    return f"--language must be followed by one of( [A-Za-z-]+){{{len(LANGUAGES) + len(OTHER_TAGS)}}}"
 
 
 def said_in(tag):

@@ -16,12 +16,12 @@ import tomllib
 import typing
 import unicodedata
 
-from lib import languages, placed, positions, text_files, toml_positions
+from lib import command_line, languages, positions, text_files, toml_positions
 from lib.described import Case, pattern
 from lib.faults import REQUIRED, Rule, between, items, length, matches, suffix
 from lib.form import Checked, Closed, MapUnder, Member, Nullish, Object, OneOf, Text, Under, Whole, read
 from lib.json_values import DEEPEST, NoJson, Number, Pairs, depth, is_text, of_bytes
-from lib.reports import lines
+from lib.reports import lines, placed, stop_anywhere, stops_at
 from lib.spoiled import LISTED, Raw, json_text, many, missing, renamed, repeated, some_bytes, some_json, some_of, unknown, wrong_type
 from lib.urls import Unsaid
 
@@ -138,14 +138,14 @@ def some_texts(dice):
 
 
 def some_settings(dice):
-    form = placed.some_format(dice)
+    form = command_line.some_format(dice)
     if dice.random() < 0.3:
-        return Case(languages.some_words(dice) + dice.choice((("json", *form), (*form, "json"))), *some_json(dice, CONFIG))
+        return Case(command_line.some_language(dice) + dice.choice((("json", *form), (*form, "json"))), *some_json(dice, CONFIG))
     value, ways = some_of(dice, CONFIG, some_value, WAYS)
     end = dice.choice(("\n", "\n", "\r\n"))
     body, cuts = some_bytes(dice, (end.join(toml_lines(dice, [], without_nulls(value))) + end).encode("utf-8"), PIECES)
     mark = codecs.BOM_UTF8 if dice.random() < 0.1 else b""
-    return Case((*form, *dice.choice(((), ("toml",))), *languages.some_words(dice)), mark + body, ways | cuts)
+    return Case((*form, *dice.choice(((), ("toml",))), *command_line.some_language(dice)), mark + body, ways | cuts)
 
 
 def large():
@@ -159,7 +159,7 @@ def large():
         rows = (f"[{name}]\n" + "".join(f"{key} = {json.dumps(part)}\n" for key, part in it.items()) for name, it in tables.items())
         yield Case((), "".join(rows).encode())
     dice = random.Random(1)
-    for form in placed.FORMATS * 100:
+    for form in command_line.FORMATS * 100:
         value, ways = some_of(dice, CONFIG, some_value, WAYS)
         lines_of = [*toml_lines(dice, [], without_nulls(value), spread), *dice.choice(((), MORE))]
         yield Case(("--format", form), "".join(f"{it}\n" for it in lines_of).encode(), ways)
@@ -229,14 +229,14 @@ def stopped(form, source, why, said):
     if form == "plain" or why == TOO_DEEP:
         return 2, b"", pattern(f"use_config: {why}\n")
     if source.is_json:
-        return 2, placed.stops_at(form, source.name, source.given, "not_json"), b""
+        return 2, stops_at(form, source.name, source.given, "not_json"), b""
     if TOO_DEEP in why:
         raise Unsaid("either no TOML or too deep")
     try:
         source.given.decode("utf-8")
     except UnicodeDecodeError:
-        return 2, placed.stops_at(form, source.name, source.given, "not_toml"), b""
-    return 2, placed.stop_anywhere(form, source.name, "not_toml"), b""
+        return 2, stops_at(form, source.name, source.given, "not_toml"), b""
+    return 2, stop_anywhere(form, source.name, "not_toml"), b""
 
 
 def judged(form, source, of, said, status):
@@ -252,7 +252,7 @@ def judged(form, source, of, said, status):
         return None, (status, lines(faults, language).encode("utf-8"), b"")
     spots_of = positions.spots_of if source.is_json else toml_positions.spots_of
     spots = spots_of(source.given.decode("utf-8").removeprefix("\ufeff"))
-    return None, (status, placed.lines(form, source.name, spots, faults, language).encode("utf-8"), b"")
+    return None, (status, placed(form, source.name, spots, faults, language).encode("utf-8"), b"")
 
 
 def texts_of(case, form, said):
@@ -267,14 +267,13 @@ def texts_of(case, form, said):
 
 
 def wanted(case):
-    words, tag = languages.spoken(case.words)
+    words, form, tag = command_line.asked(case.words)
     if tag is None:
-        return 2, b"", pattern(f"use_config: {languages.unknown()}\n")
-    asked, form = placed.asked(words)
+        return command_line.no_language("use_config")
     said, answer = texts_of(case, form, languages.said_in(tag))
     if answer:
         return answer
-    config, answer = judged(form, Source("<stdin>", case.given, "json" in asked), CONFIG, said, 1)
+    config, answer = judged(form, Source("<stdin>", case.given, "json" in words), CONFIG, said, 1)
     if answer:
         return answer
     it = config["server"]

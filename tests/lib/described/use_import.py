@@ -3,12 +3,12 @@ import csv
 import io
 import re
 
-from lib import languages, placed, rfc4180
-from lib.described import Case, pattern
+from lib import command_line, languages, rfc4180
+from lib.described import Case
 from lib.faults import ALPHANUMERIC, URL, URLS, between, chars, fault, prefix
 from lib.form import Closed, Member, Object, OrEmpty, Parsed, Text, read
 from lib.json_values import Pairs
-from lib.reports import lines
+from lib.reports import at_place, lines
 from lib.spoiled import LISTED, cut
 
 CODES = ("P1", "P200", "Pé", "Q1", "p1", "", "P", "P 1", "P-1", "P１", "PP\n")
@@ -67,12 +67,12 @@ def some_columns(dice):
 
 
 def some(dice):
-    words, form = dice.choice(WORDS), placed.some_format(dice)
+    words, form = dice.choice(WORDS), command_line.some_format(dice)
     columns, odd = COLUMNS if "--no-header" in words else some_columns(dice), dice.choice((0, 0, 0.1, 0.4))
     rows = [some_row(dice, columns, odd) for _ in range(dice.randrange(6))]
     body, ways = several_cuts(dice, written(dice, rows if "--no-header" in words else [columns, *rows]), (0, 0, 0, 1, 2, 4))
     ways |= {way for way, is_so in (("columns", columns != COLUMNS), ("cells", odd)) if is_so}
-    return Case(languages.some_words(dice) + dice.choice((words + form, form + words)), body, ways)
+    return Case(command_line.some_language(dice) + dice.choice((words + form, form + words)), body, ways)
 
 
 def rows_of(count):
@@ -120,19 +120,16 @@ def lines_of(words, form, index, header, record, tag):
     """The lines of a record, whose place is `[N]` or `line N`."""
     language = {**languages.of_tag(tag), "not_csv": record.fault, "row_length": languages.said_in(tag)["row_length"]}
     walk = walk_of(index, header, record)
-    if form != "plain":
-        return placed.lines_at(form, "<stdin>", (record.line, 1), walk, language)
+    if form != "plain" or "--lines" not in words:
+        return at_place(form, "<stdin>", (record.line, 1), walk, language)
     said = lines(walk, language)
-    if "--lines" not in words:
-        return said
     return re.sub(r"^\[\d+\](\.?)", lambda it: f"line {record.line}{', ' if it[1] else ''}", said, flags=re.M)
 
 
 def wanted(case):
-    rest, tag = languages.spoken(case.words)
+    words, form, tag = command_line.asked(case.words)
     if tag is None:
-        return 2, b"", pattern(f"use_import: {languages.unknown()}\n")
-    words, form = placed.asked(rest)
+        return command_line.no_language("use_import")
     found, header, language = list(records(case.given)), COLUMNS, languages.of_tag(tag)
     if "--no-header" not in words:
         first, *found = found or [rfc4180.Record(1, [], None)]
@@ -140,7 +137,7 @@ def wanted(case):
             return 2, b"", f"use_import: the header: {first.fault}\n".encode()
         _, faults = read(HEADER, Pairs((name, "") for name in first.cells))
         if faults:
-            told = lines(faults, language) if form == "plain" else placed.lines_at(form, "<stdin>", (first.line, 1), faults, language)
+            told = at_place(form, "<stdin>", (first.line, 1), faults, language)
             return 2, told.encode("utf-8"), b"use_import: these are not the columns of a list\n"
         header = first.cells
     start = int(words[words.index("--first-row") + 1]) if "--first-row" in words else 0

@@ -2,13 +2,13 @@
 import json
 import random
 
-from lib import placed
+from lib import command_line
 from lib.described import Case, pattern
 from lib.faults import REQUIRED, between, chars, items, prefix
 from lib.form import Checked, Closed, ListUnder, Member, Nullish, Object, OneOf, Text, Under, Whole, read
 from lib.json_values import NoJson, of_bytes
 from lib.positions import spots_of
-from lib.reports import lines, quoted
+from lib.reports import lines, placed, quoted, stops_at
 from lib.spoiled import LISTED, some_json
 
 ADDRESS_BY_POST = Under("address", lambda it: REQUIRED.find(it["address"]) if it["delivery"] == "post" else None)
@@ -36,7 +36,7 @@ VALUES = ("0", "[]", "[1, {}]", '"\u00e9"', '{"k1": 1, "k1": 2}', "null")
 
 
 def some(dice):
-    most, form = dice.choice(((), (), (), ("1",), ("2",), ("7",), ("18446744073709551615",))), placed.some_format(dice)
+    most, form = dice.choice(((), (), (), ("1",), ("2",), ("7",), ("18446744073709551615",))), command_line.some_format(dice)
     return Case(dice.choice((most + form, form + most)), *some_json(dice, PAGE))
 
 
@@ -48,9 +48,9 @@ def large():
         order = {"customer": "x" * 80, "delivery": "post", "address": "y" * 200, "lines": lines}
         yield Case(words, json.dumps({"number": 1, "entries": [order] * 20}, indent=8).encode())
     dice = random.Random(1)
-    for form in placed.FORMATS * 4:
+    for form in command_line.FORMATS * 4:
         yield Case(("--format", form), wide(dice).encode())
-    for form in placed.FORMATS * 200:
+    for form in command_line.FORMATS * 200:
         yield Case(("--format", form), "".join(dice.choice(PIECES) for _ in range(dice.randint(0, 9))).encode())
 
 
@@ -70,18 +70,18 @@ def confirmed(order):
 
 
 def wanted(case):
-    rest, form = placed.asked(case.words)
+    rest, form, _ = command_line.asked(case.words)
     try:
         page, faults = read(PAGE, of_bytes(case.given))
     except NoJson as why:
         if form == "plain":
             return 2, b"", pattern(f"use_order: {why}\n")
-        return 2, placed.stops_at(form, "<stdin>", case.given, "not_json"), b""
+        return 2, stops_at(form, "<stdin>", case.given, "not_json"), b""
     if not faults:
         return 0, "".join(it for order in page["entries"] for it in confirmed(order)).encode("utf-8"), b""
     most = int(rest[0]) if rest else len(faults)
     more = "there are more\n" if len(faults) > most else ""
     if form == "plain":
         return 1, (lines(faults[:most]) + more).encode("utf-8"), b""
-    told = placed.lines(form, "<stdin>", spots_of(case.given.decode("utf-8-sig")), faults[:most])
+    told = placed(form, "<stdin>", spots_of(case.given.decode("utf-8-sig")), faults[:most])
     return 1, told.encode("utf-8"), (f"use_order: {more}" if more else "").encode()

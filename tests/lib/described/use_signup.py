@@ -5,8 +5,8 @@ import functools
 import re
 import urllib.parse
 
-from lib import languages, pages, repository, requests, sign_up_service
-from lib.described import Case, pattern
+from lib import command_line, languages, pages, repository, requests, sign_up_service
+from lib.described import Case
 from lib.faults import ALPHANUMERIC, REQUIRED, between, chars, fault, items, length, prefix
 from lib.form import Checked, Closed, ListUnder, Member, Object, OneOf, Optional, OrEmpty, Parsed, Text, Under, read
 from lib.json_values import Pairs
@@ -81,7 +81,7 @@ def some(dice):
     """A form, or one to three requests of one connection."""
     body, ways = some_body(dice)
     if dice.random() < 0.6:
-        return Case((*languages.some_words(dice), *dice.choice(((), ("--page",)))), body, ways)
+        return Case((*command_line.some_language(dice), *dice.choice(((), ("--page",)))), body, ways)
     bodies = [body, *(some_body(dice)[0] for _ in range(dice.choice((0, 0, 1, 2))))]
     return Case(SERVE, b"".join(bytes_of(sign_up_service.some_request(dice, it)) for it in bodies), ways)
 
@@ -147,9 +147,9 @@ def with_body(case, body):
 def wanted(case):
     if "--serve" in case.words:
         return 0, requests.answers(requests_of(case.given), functools.partial(sign_up_service.answer, served)), b""
-    tag = languages.spoken(case.words)[1]
+    tag = command_line.asked(case.words).tag
     if tag is None:
-        return 2, b"", pattern(f"use_signup: {languages.unknown()}\n")
+        return command_line.no_language("use_signup")
     # As of a file, a byte order mark at the beginning and white space at the end are left out.
     given = case.given.rstrip(b" \t\n\x0c\r").removeprefix(codecs.BOM_UTF8)
     welcome, fields, language = WORDS[tag.split("-")[0]][0], fields_of(given), language_of(tag)

@@ -5,13 +5,13 @@ import shutil
 import sqlite3
 import tempfile
 
-from lib import languages, placed
-from lib.described import Case, pattern, run
+from lib import command_line, languages
+from lib.described import Case, run
 from lib.described.use_import import COLUMNS, records, row_of, rows_of, several_cuts, some_row, written
 from lib.faults import fault
 from lib.form import read
 from lib.json_values import Pairs
-from lib.reports import lines
+from lib.reports import at_place
 
 ROW = row_of("u64", "not a number of pieces", "not a price in cents")
 HEADER = ",".join(COLUMNS).encode()
@@ -26,12 +26,6 @@ def faults_of(index, cells, codes):
     return row, walk
 
 
-def told(form, line, walk, tag):
-    """The faults of a row, which begins in this line, as they are printed in a language."""
-    language = languages.of_tag(tag)
-    return lines(walk, language) if form == "plain" else placed.lines_at(form, "<stdin>", (line, 1), walk, language)
-
-
 def answer_to(found, whole=False, batch=None, form="plain", tag="en"):
     """What a list makes of an empty table, by its records: the table, the status, the faults in a language, the last line, and the tables
     at the ends of batches."""
@@ -39,13 +33,13 @@ def answer_to(found, whole=False, batch=None, form="plain", tag="en"):
     for index, record in enumerate(found):
         if record.fault or len(record.cells) != len(COLUMNS):
             flaw = fault("own", text=str(record.fault or "not as many fields as in the header"))
-            said.append(told(form, record.line, [((index,), flaw)], tag))
+            walk = [((index,), flaw)]
         else:
             row, walk = faults_of(index, record.cells, codes)
-            said.append(told(form, record.line, walk, tag))
-            if not walk:
-                table.append(tuple(row[name] for name in COLUMNS))
-                codes.add(row["code"])
+        said.append(at_place(form, "<stdin>", (record.line, 1), walk, languages.of_tag(tag)))
+        if not walk:
+            table.append(tuple(row[name] for name in COLUMNS))
+            codes.add(row["code"])
         count += 1
         if batch and count % batch == 0:
             kept.append(list(table))
@@ -58,7 +52,7 @@ def answer_to(found, whole=False, batch=None, form="plain", tag="en"):
 
 def some(dice):
     odd, words = dice.choice((0, 0, 0.1, 0.4)), dice.choice((("--all-or-nothing",), ("--batch", "1"), ("--batch", "3"), ()))
-    form = placed.some_format(dice) + languages.some_words(dice)
+    form = command_line.some_format(dice) + command_line.some_language(dice)
     rows = [some_row(dice, COLUMNS, odd) for _ in range(dice.randrange(8))]
     body, ways = several_cuts(dice, written(dice, rows), (0, 0, 1, 2, 3))
     mark = dice.choice((b"", b"", b"\xef\xbb\xbf"))
@@ -84,10 +78,9 @@ def with_body(case, body):
 
 def wanted(case):
     """The status, the output, standard error, and the table of the file, where there is one."""
-    rest, tag = languages.spoken(case.words)
+    words, form, tag = command_line.asked(case.words)
     if tag is None:
-        return 2, b"", pattern(f"use_store: {languages.unknown()}\n"), []
-    words, form = placed.asked(rest)
+        return *command_line.no_language("use_store"), []
     _, *found = records(case.given)
     table, status, said, last, _ = answer_to(found, "--all-or-nothing" in words, form=form, tag=tag)
     out, err = (said + last, "") if form == "plain" else (said, last)
