@@ -16,3 +16,10 @@ def ends(name, faults, first=False, said="nothing found"):
     found = list(itertools.islice(faults, 1 if first else None))
     print("\n".join(found) if found else f"{name}: {said}")
     return 1 if found else 0
+
+
+def unlike(name, rows):
+    """Of rows with what it is, what was met and what is wanted, a line each for those that differ."""
+    for what, met, wanted in rows:
+        if met != wanted:
+            yield f"{name}: {what}: {str(met)[:2000]}, and not {str(wanted)[:2000]}"
