@@ -43,7 +43,8 @@ class Exchange:
     """A request of the page, and the status and the fields of its answer."""
 
     def __init__(self, request, number):
-        self.number, self.method, self.address, self.body = number, request["method"], request["url"], request.get("postData", "").encode()
+        self.number, self.method, self.address = number, request["method"], request["url"]
+        self.body = request.get("postData", "").encode()
         self.status, self.fields = None, {}
 
     def answered(self, response):
@@ -92,7 +93,8 @@ class Browser:
         answer = params.get("redirectResponse" if method == "Network.requestWillBeSent" else "response")
         if asked and answer:
             asked[-1].answered(answer)
-        if method == "Network.requestWillBeSent":
+        # An icon is asked for by the browser, and not by the page.
+        if method == "Network.requestWillBeSent" and not params["request"]["url"].endswith("/favicon.ico"):
             self.exchanges.append(Exchange(params["request"], params["requestId"]))
 
     def seen(self, message):
@@ -117,13 +119,18 @@ class Browser:
         return message["result"]
 
     def loaded(self, method, **params):
-        """Calls what loads a page, and waits until it is there."""
+        """Calls what loads a page, and waits until it is there. The exchanges are those of this page then."""
+        self.exchanges.clear()
         self.send(method, **params)
         while True:
             message = self.message()
             self.seen(message)
             if message.get("method") == "Page.loadEventFired":
                 return
+
+    def run(self, script):
+        """Runs a script that loads a page."""
+        self.loaded("Runtime.evaluate", expression=script)
 
     def value(self, script):
         """The value of an expression on the page, as JSON."""

@@ -64,47 +64,34 @@ def entry(form, path, message):
 
 def summary(form, faults):
     entries = "".join(entry(form, *fault) for fault in faults)
-    return f'<div class="summary" role="alert" tabindex="-1" autofocus="">\n<h2>{text(form.summary)}</h2>\n<ul>\n{entries}</ul>\n</div>\n' if faults else ""
+    head = f'<div class="summary" role="alert" tabindex="-1" autofocus="">\n<h2>{text(form.summary)}</h2>\n'
+    return f"{head}<ul>\n{entries}</ul>\n</div>\n" if faults else ""
 
 
-def attributes(said):
-    return "".join(f' {name}="{text(value)}"' for name, value in said if value is not None)
-
-
-def marks(field):
-    """What a browser is told of a field besides its name and its type."""
-    return attributes([("autocomplete", field.autocomplete or None), ("inputmode", field.inputmode or None), ("aria-required", "true" if field.required else None)])
-
-
-def described(field, faulty):
-    """Whether a field has faults, and the elements that describe it."""
-    by = [f"{part}-{field.name}" for part, there in (("hint", field.hint), ("faults", faulty)) if there]
-    return attributes([("aria-invalid", "true" if faulty else None), ("aria-describedby", " ".join(by) or None)])
-
-
-def hint(field):
-    return f'<p class="hint" id="hint-{text(field.name)}">{text(field.hint)}</p>\n' if field.hint else ""
-
-
-def line(field, typed, faulty):
-    name, shown = text(field.name), "" if field.kind == "password" else text(next((it for at, it in typed if at == field.name), ""))
-    label = f'<label for="field-{name}">{text(field.label)}</label>\n{hint(field)}'
-    said = f'dir="auto" type="{text(field.kind)}" value="{shown}"{marks(field)}{described(field, faulty)}'
-    return f'{label}<input id="field-{name}" name="{name}" {said}>'
-
-
-def box(field, value, label, typed, faulty):
-    said = attributes([("checked", "" if (field.name, value) in typed else None), ("aria-required", "true" if field.required else None)])
-    said += described(field, faulty)
-    return f'<label><input type="checkbox" name="{text(field.name)}" value="{text(value)}"{said}> {text(label)}</label>\n'
+def attributes(**said):
+    """Attributes, but for those that are None or False. One that is True has no text."""
+    there = {name.replace("_", "-"): "" if it is True else text(it) for name, it in said.items() if it not in (None, False)}
+    return "".join(f' {name}="{it}"' for name, it in there.items())
 
 
 def control(field, typed, faulty):
+    """The line or the boxes of a field, with what was typed, and with what a browser and a screen reader are told."""
+    name, label = text(field.name), text(field.label)
+    hint = f'<p class="hint" id="hint-{name}">{text(field.hint)}</p>\n' if field.hint else ""
+    told = attributes(
+        autocomplete=field.autocomplete or None, inputmode=field.inputmode or None, aria_required="true" if field.required else None,
+        aria_invalid="true" if faulty else None,
+        aria_describedby=" ".join(f"{part}-{field.name}" for part, is_there in (("hint", field.hint), ("faults", faulty)) if is_there) or None,
+    )
     if not field.boxes:
-        return line(field, typed, faulty)
-    boxes = "".join(box(field, *it, typed, faulty) for it in field.boxes)
-    legend = f"<legend>{text(field.label)}</legend>\n{hint(field)}"
-    return f'<fieldset id="field-{text(field.name)}" tabindex="-1">{legend}{boxes}</fieldset>'
+        shown = "" if field.kind == "password" else text(next((it for at, it in typed if at == field.name), ""))
+        line = f'<input id="field-{name}" name="{name}" dir="auto" type="{text(field.kind)}" value="{shown}"{told}>'
+        return f'<label for="field-{name}">{label}</label>\n{hint}{line}'
+    boxes = ""
+    for value, said in field.boxes:
+        checked = attributes(checked=(field.name, value) in typed)
+        boxes += f'<label><input type="checkbox" name="{name}" value="{text(value)}"{checked}{told}> {text(said)}</label>\n'
+    return f'<fieldset id="field-{name}" tabindex="-1"><legend>{label}</legend>\n{hint}{boxes}</fieldset>'
 
 
 def field_of(field, typed, faults):
@@ -123,5 +110,5 @@ def within(main, language, direction, title, said=None):
 def page(form, typed, faults):
     """The page of a form, with each name that was sent and its text, and with faults, each a path and a message."""
     fields = "".join(field_of(it, typed, faults) for it in form.fields)
-    main = f'{summary(form, faults)}<form method="post" action="{text(form.action)}" novalidate>\n{fields}<button>{text(form.send)}</button>\n</form>\n'
-    return within(main, form.language, form.direction, form.title, form.faulty_title if faults else form.title)
+    head, end = f'<form method="post" action="{text(form.action)}" novalidate>\n', f"<button>{text(form.send)}</button>\n</form>\n"
+    return within(f"{summary(form, faults)}{head}{fields}{end}", form.language, form.direction, form.title, form.faulty_title if faults else form.title)

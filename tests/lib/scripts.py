@@ -18,8 +18,8 @@ def ends(name, faults, first=False, said="nothing found"):
     return 1 if found else 0
 
 
-def unlike(name, rows):
-    """Of rows with what it is, what was met and what is wanted, a line each for those that differ."""
+def unlike(begins, rows):
+    """Of rows with what it is, what was met and what is wanted, a line for each that differs, which begins so."""
     for what, met, wanted in rows:
         if met != wanted:
-            yield f"{name}: {what}: {str(met)[:2000]}, and not {str(wanted)[:2000]}"
+            yield f"{begins}{what}: {str(met)[:2000]}, and not {str(wanted)[:2000]}"

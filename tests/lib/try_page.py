@@ -84,7 +84,6 @@ class Page(browser.Browser):
         self.call("Emulation.setEmulatedMedia", features=[{"name": "prefers-color-scheme", "value": scheme}])
 
     def opened(self, url):
-        self.exchanges.clear()
         self.loaded("Page.navigate", url=url)
         ends = time.monotonic() + 30
         while not self.value("document.body.dataset.state"):
