@@ -1,8 +1,11 @@
 """The programs that `rt ci`, or `rt run` in a crate's folder, left in crates/NAME/out, and runs of them. What a run answers is its status,
 its output and what it says on standard error."""
 import contextlib
+import functools
 import os
+import resource
 import shutil
+import signal
 import subprocess
 import sys
 import tempfile
@@ -12,6 +15,7 @@ from lib.repository import ROOT
 
 # The stored cases. `tests/uses` says what the files of a case are.
 CASES = ROOT / "tests" / "used"
+LIMITS = {"stack": resource.RLIMIT_STACK, "fsize": resource.RLIMIT_FSIZE, "memory": resource.RLIMIT_AS}
 
 
 def program_of(name):
@@ -37,6 +41,24 @@ def answer_of(command, given=b"", cwd=None, limit=None, env=None, **streams):
     how = {"stdout": subprocess.PIPE, "stderr": subprocess.PIPE, **({} if "stdin" in streams else {"input": given}), **streams}
     ran = subprocess.run(command, cwd=cwd, preexec_fn=limit, env=env, timeout=600, **how)
     return ran.returncode, ran.stdout, ran.stderr
+
+
+def limit(most):
+    """Sets limits: the most bytes of the stack, of a file and of memory. A write beyond them is refused and not punished."""
+    signal.signal(signal.SIGXFSZ, signal.SIG_IGN)
+    for kind, size in most.items():
+        resource.setrlimit(LIMITS[kind], (size, size))
+
+
+def limited(**most):
+    """What sets limits in a process before it begins."""
+    return functools.partial(limit, most)
+
+
+def as_nobody():
+    """Gives up the rights of root, who can write anywhere."""
+    if os.geteuid() == 0:
+        os.setuid(65534)
 
 
 def loaded_before(folder, name):
