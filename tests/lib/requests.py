@@ -3,8 +3,8 @@ import re
 import typing
 
 PHRASES = {
-    200: "OK", 204: "No Content", 303: "See Other", 400: "Bad Request", 404: "Not Found", 405: "Method Not Allowed", 413: "Content Too Large",
-    414: "URI Too Long", 415: "Unsupported Media Type", 422: "Unprocessable Entity",
+    200: "OK", 204: "No Content", 303: "See Other", 400: "Bad Request", 404: "Not Found", 405: "Method Not Allowed",
+    413: "Content Too Large", 414: "URI Too Long", 415: "Unsupported Media Type", 422: "Unprocessable Entity",
     431: "Request Header Fields Too Large", 501: "Not Implemented", 505: "HTTP Version Not Supported",
 }
 # Which method alone may name a host and a port, which are no path, or `*` (RFC 9112, section 3.2).
@@ -32,15 +32,18 @@ def path_of(request):
     return target.partition("?")[0]
 
 
-def elsewhere(request):
-    """The status of the answer to a request for no path of a service."""
+def rejected(request, methods, media):
+    """The status of the answer to a request that a service rejects before it reads the body, and the fields that say what would do; or
+    nothing. It has these methods by its paths, and its bodies are of this type. No service undoes a coding."""
     path = path_of(request)
-    return (501 if request.method == TARGETS[path] else 400) if path in TARGETS else 404
-
-
-def has_coding(request):
-    """Whether the body has a coding, which no service undoes."""
-    return request.coding.lower() not in ("", "identity")
+    if path not in methods:
+        return (501 if request.method == TARGETS[path] else 400) if path in TARGETS else 404, ()
+    if request.method not in methods[path].split(", "):
+        return 405, [("allow", methods[path])]
+    if request.method == "POST" and not re.fullmatch(f"{re.escape(media)}([; \t].*)?", request.media, re.IGNORECASE):
+        return 415, [("accept", media)]
+    is_plain = request.method != "POST" or request.coding.lower() in ("", "identity")
+    return None if is_plain else (415, [("accept-encoding", "identity")])
 
 
 def some_coding(dice):

@@ -9,7 +9,7 @@ from lib.faults import between, chars, items, prefix
 from lib.form import Closed, ListUnder, Member, Object, Text, Whole, read
 from lib.json_values import NoJson, of_bytes, printed
 from lib.reports import details
-from lib.requests import PHRASES, Request, are_requests, bytes_of, elsewhere, has_coding, path_of, requests_of, some_coding
+from lib.requests import PHRASES, Request, are_requests, bytes_of, path_of, rejected, requests_of, some_coding
 from lib.spoiled import some_json
 
 ORDER = Object(Closed(
@@ -36,7 +36,7 @@ WEIGHTS = ("", "", ";q=0.5", ";q=0", "; q=1.000", " ;Q=0.1", ";q=0.501", ";q=1.0
 PROBLEM = ("content-type", "application/problem+json")
 
 
-def refused(status, *offers):
+def refused(status, offers=()):
     """The answer in which no order is judged: problem details of the type `about:blank` (RFC 9457, section 4.2.1)."""
     return status, (PROBLEM, *offers), printed({"type": "about:blank", "title": PHRASES[status], "status": status})
 
@@ -65,26 +65,20 @@ def judged(body, tag):
         return 204, (), b""
     found = details(faults, languages.of_tag(tag))
     for it in found:
-        resolved(json.loads(body.decode("utf-8-sig")), it["pointer"].rpartition("/")[0] if it["code"] == "member_missing" else it["pointer"])
+        above = it["pointer"].rpartition("/")[0]
+        resolved(json.loads(body.decode("utf-8-sig")), above if it["code"] == "member_missing" else it["pointer"])
     return 422, spoken, printed({"title": "the order has faults", "status": 422, "errors": found})
 
 
 def answer(request):
     """The status, the fields and the body of the answer to a request."""
-    path = path_of(request)
-    if path not in METHODS:
-        return refused(elsewhere(request))
-    if request.method not in METHODS[path].split(", "):
-        return refused(405, ("allow", METHODS[path]))
-    if path == "/health":
+    if found := rejected(request, METHODS, ORDERS.media):
+        return refused(*found)
+    if request.method == "POST":
+        return judged(request.body, languages.asked(request.language) or "en")
+    if path_of(request) == "/health":
         return 200, (), b""
-    if path == "/openapi.json":
-        return 200, (("content-type", "application/json"),), repository.text_of(DESCRIPTION).encode()
-    if not re.fullmatch(r"application/json([; \t].*)?", request.media, re.IGNORECASE):
-        return refused(415, ("accept", "application/json"))
-    if has_coding(request):
-        return refused(415, ("accept-encoding", "identity"))
-    return judged(request.body, languages.asked(request.language) or "en")
+    return 200, (("content-type", "application/json"),), repository.text_of(DESCRIPTION).encode()
 
 
 # ---- random requests

@@ -1,35 +1,36 @@
-"""The program use_signup, by crates/use_signup/README.md: a web form, in any language, its page with faults, and its service. Its fields are
-those that `urllib.parse` reads."""
+"""The program use_signup, by crates/use_signup/README.md: a web form, in any language, its page with faults, and its service. Its
+fields are those that `urllib.parse` reads."""
 import codecs
-import functools
 import re
 import urllib.parse
 
-from lib import command_line, languages, pages, repository, requests, sign_up_service
+from lib import command_line, languages, pages, repository, requests, tables
 from lib.described import Case
 from lib.faults import ALPHANUMERIC, REQUIRED, between, chars, fault, items, length, prefix
 from lib.form import Checked, Closed, ListUnder, Member, Object, OneOf, Optional, OrEmpty, Parsed, Text, Under, read
 from lib.json_values import Pairs
 from lib.reports import lines, quoted
-from lib.requests import bytes_of, requests_of
-from lib.sign_up_service import SAID
+from lib.requests import Request, bytes_of, path_of, rejected, requests_of, some_coding
 from lib.spoiled import LISTED, many, missing, renamed, repeated, some_bytes, some_of, unknown, wrong_type
 
+PHONES = ("+420777123456", "+42077712", "+4207771", "+" + "4" * 16, "420777123456")
 PASSWORDS = ("analytical engine", "é" * 128, "a+b=c&d%e f?")
-REPEATED = Under("password_again", lambda it: None if it["password_again"] == it["password"] else fault("matches_field_mismatch", field="password"))
+OTHER = fault("matches_field_mismatch", field="password")
+REPEATED = Under("password_again", lambda it: None if it["password_again"] == it["password"] else OTHER)
 ACCEPTED = Under("terms", lambda it: None if it["terms"] else fault("terms"))
 FORM = Object(Closed(
     Member("name", Text(chars(1, 40), like=("Ada Lovelace", "Zoë O'Brien", 'a"b\\\n\x1b'))),
     Member("username", Text(ALPHANUMERIC, chars(3, 25))),
     Checked((Member("password", Text(chars(12, 128), like=PASSWORDS)), Member("password_again", Text(like=PASSWORDS))), REPEATED),
     Member("age", Checked(OrEmpty(Parsed("u8", between(18, 120))), REQUIRED)),
-    Optional("phone", OrEmpty(Text(prefix("+"), length(9, 16), like=("+420777123456", "+42077712", "+4207771", "+" + "4" * 16, "420777123456")))),
+    Optional("phone", OrEmpty(Text(prefix("+"), length(9, 16), like=PHONES))),
     Optional("topics", ListUnder([items(0, 2)], OneOf("news", "events"))),
     Checked(Optional("terms", OneOf("on")), ACCEPTED),
 ))
 LISTS = ("topics",)
 # The words of the program's own, by the first subtag of their language.
-WORDS = {it[0]: it[1:] for it in re.findall(r"^\| `(\w+)` \| ([^|]+) \| ([^|]+) \|$", repository.text_of("crates/use_signup/README.md"), re.MULTILINE)}
+README = repository.text_of("crates/use_signup/README.md")
+WORDS = {tag: said for tag, *said in re.findall(r"^\| `(\w+)` \| ([^|]+) \| ([^|]+) \|$", README, re.MULTILINE)}
 NAMES = ("name", "username", "password", "password_again", "age", "phone", "topics", "terms")
 KINDS = {"password": "password", "password_again": "password", "phone": "tel"}
 # What a browser is told of the fields, whatever the language is.
@@ -42,6 +43,30 @@ TOLD = {
     "phone": {"autocomplete": "tel"},
 }
 OPTIONAL = ("phone", "topics")
+# The texts of the pages in each language, by their names: of a field its label, of `FIELD?` its hint, and of `FIELD=VALUE` the label of
+# a box.
+SAID = {it.title: dict(line.split(": ", 1) for line in it.text.splitlines()) for it in tables.cases("sign-up")}
+MEDIA = "application/x-www-form-urlencoded"
+PAGE = ("content-type", "text/html; charset=utf-8")
+POLICY = f"default-src 'none'; style-src '{pages.source()}'; form-action 'self'; frame-ancestors 'none'; base-uri 'none'"
+GUARDS = (
+    ("content-security-policy", POLICY), ("x-content-type-options", "nosniff"), ("referrer-policy", "same-origin"),
+    ("cache-control", "no-store"),
+)
+REFUSED = {
+    400: ("Bad request", "What came is no request."),
+    404: ("Not found", "There is no such page."),
+    405: ("Method not allowed", "This page has other methods."),
+    413: ("Content too large", "The form is too long."),
+    415: ("Unsupported media type", "The body is no web form."),
+    501: ("Not implemented", "The method or the coding is not known."),
+}
+METHODS = {"/": "GET, HEAD, POST", "/thanks": "GET, HEAD"}
+OTHER_MEDIA = (MEDIA.upper(), f"{MEDIA}; charset=utf-8", f"{MEDIA}x", "multipart/form-data; boundary=x", "text/plain", "")
+PATHS = ("/", "/", "/", "/?x=1", "/thanks", "/thanks?", "/thank", "/thanks/", "//", "/form", "form", "x:80", "*", "http://x/thanks")
+ASKED = (
+    "", "cs", "ar", "ar-EG", "cs-CZ,cs;q=0.9,en;q=0.8", "de", "en;q=0.5, ar", "cs;q=0", "de, *", "AR;q=0.2,CS;q=0.3", "cs,,ar", "x;q=2",
+)
 SERVE = ("--serve", "--no-date")
 TEXTS = [it.decode() for it in LISTED["texts of a web form"]]
 # Pieces of bodies as no browser sends them.
@@ -77,13 +102,22 @@ def some_body(dice):
     return body, how | cuts
 
 
+def some_request(dice, body):
+    """A request, most often with a form."""
+    asked, coding = dice.choice(ASKED), some_coding(dice)
+    if dice.random() < 0.7:
+        return Request(body, media=MEDIA, language=asked, coding=coding)
+    method, media = dice.choice(("POST", "GET", "GET", "HEAD", "PUT", "DELETE", "OPTIONS")), dice.choice((MEDIA, MEDIA, MEDIA, *OTHER_MEDIA))
+    return Request(body if method != "HEAD" else b"", method, dice.choice(PATHS), media, asked, coding)
+
+
 def some(dice):
     """A form, or one to three requests of one connection."""
     body, ways = some_body(dice)
     if dice.random() < 0.6:
         return Case((*command_line.some_language(dice), *dice.choice(((), ("--page",)))), body, ways)
     bodies = [body, *(some_body(dice)[0] for _ in range(dice.choice((0, 0, 1, 2))))]
-    return Case(SERVE, b"".join(bytes_of(sign_up_service.some_request(dice, it)) for it in bodies), ways)
+    return Case(SERVE, b"".join(bytes_of(some_request(dice, it)) for it in bodies), ways)
 
 
 def fields_of(body):
@@ -121,11 +155,27 @@ def language_of(tag):
     return {**languages.of_tag(tag), "terms": WORDS[tag.split("-")[0]][1]}
 
 
-def served(body, tag):
-    """The page with which a body is answered, or nothing where it has no fault; of no body the page of the form."""
-    fields = fields_of(body or b"")
-    faults = read(FORM, object_of(fields))[1] if body is not None else []
-    return page_of(tag, fields, faults, language_of(tag)) if faults or body is None else None
+def fields_of_page(tag):
+    """The fields of a page in a language."""
+    return PAGE, ("content-language", tag), ("vary", "accept-language"), *GUARDS
+
+
+def answer(request):
+    """The status, the fields and the body of the answer to a request."""
+    tag = languages.asked(request.language, tuple(SAID)) or "en"
+    said, fields = SAID[tag], fields_of(request.body)
+    if found := rejected(request, METHODS, MEDIA):
+        title, text = REFUSED[found[0]]
+        return found[0], (PAGE, *found[1]), pages.within(f"<p>{text}</p>\n", "en", "ltr", title).encode()
+    if path_of(request) == "/thanks":
+        page = pages.within(f"<p>{said['signed_up']}</p>\n", tag, said["direction"], said["thanks"])
+        return 200, fields_of_page(tag), page.encode()
+    if request.method != "POST":
+        return 200, fields_of_page(tag), page_of(tag, [], [], language_of(tag)).encode()
+    _, faults = read(FORM, object_of(fields))
+    if not faults:
+        return 303, (("location", "/thanks"),), b""
+    return 422, fields_of_page(tag), page_of(tag, fields, faults, language_of(tag)).encode()
 
 
 def knows(case):
@@ -146,7 +196,7 @@ def with_body(case, body):
 
 def wanted(case):
     if "--serve" in case.words:
-        return 0, requests.answers(requests_of(case.given), functools.partial(sign_up_service.answer, served)), b""
+        return 0, requests.answers(requests_of(case.given), answer), b""
     tag = command_line.asked(case.words).tag
     if tag is None:
         return command_line.no_language("use_signup")
