@@ -14,9 +14,10 @@ def lacks():
 
 def headers(room):
     """A folder with the headers of Python, where pyconfig.h is not that of a processor: what it says is the same on all that are meant."""
-    made, config = room / "include", sysconfig.get_config_h_filename()
+    made = room / "include"
     shutil.copytree(sysconfig.get_path("include"), made)
-    found = [it for it in (config, *pathlib.Path("/usr/include").glob(f"*-linux-gnu/{made.parent.name}/pyconfig.h")) if pathlib.Path(it).is_file()]
+    configs = [pathlib.Path(sysconfig.get_config_h_filename()), *pathlib.Path("/usr/include").glob(f"*-linux-gnu/{room.name}/pyconfig.h")]
+    found = [it for it in configs if it.is_file()]
     shutil.copy(found[0], made / "pyconfig.h")
     return made
 

@@ -100,7 +100,8 @@ def suffix(pattern):
 
 def matches(pattern, *near):
     """A pattern of the toolchain's `regex`, whose `$` is the end of the text alone."""
-    return of_texts(lambda text: re.search(pattern.replace("$", r"\Z"), text) is not None, fault("pattern_no_match", pattern=pattern), *near)
+    compiled = re.compile(pattern.replace("$", r"\Z"))
+    return of_texts(lambda text: compiled.search(text) is not None, fault("pattern_no_match", pattern=pattern), *near)
 
 
 def is_alphanumeric(letter):
@@ -109,7 +110,8 @@ def is_alphanumeric(letter):
 
 
 ASCII = of_texts(str.isascii, fault("ascii_invalid"), "é", "\x7f", "\x80")
-ALPHANUMERIC = of_texts(lambda text: all(map(is_alphanumeric, text)), fault("alphanumeric_invalid"), "漢字½", "Ⅷ", "a-1", "a b", "é٣", "a\n")
+LETTERS = ("漢字½", "Ⅷ", "a-1", "a b", "é٣", "a\n")
+ALPHANUMERIC = of_texts(lambda text: all(map(is_alphanumeric, text)), fault("alphanumeric_invalid"), *LETTERS)
 REQUIRED = Rule(lambda value: fault("required_not_set") if value is None else None)
 URLS = ("https://example.org/screw", "x", "http://", "https://é.example/", "mailto:a@example.org")
 URL = Rule(lambda text: fault("url_invalid", reason=urls.url_fault(text)) if urls.url_fault(text) else None, URLS)

@@ -12,7 +12,8 @@ from lib.faults import INTEGERS, fault, first
 from lib.json_values import Number, Pairs, is_text, kind
 
 NO = object()
-TEXTS = ["", "a", "ab", "P", "p1", "abcde", "é", "𝄞" * 5, "漢字", "a b", "1", "null", "\n", "\x00", "\x1b[2K", 'q"\\/\b\t', "\u202e", "a.b[0]"]
+TEXTS = ["", "a", "ab", "P", "p1", "abcde", "é", "𝄞" * 5, "漢字", "a b", "1", "null", "\n", "\x00", "\x1b[2K", 'q"\\/\b\t', "\u202e"]
+TEXTS += ["a.b[0]"]
 NUMBERS = "0 -0 1 -1 1.0 0.5 1e2 1E0 -7.25E-3 99.0 127 128 255 256 65535 65536".split() + ["1234567890" * 4, "-" + "9" * 40]
 NUMBERS += [str(sign * 2**power + by) for sign in (1, -1) for power in (31, 32, 63, 64) for by in (-1, 0)]
 

@@ -14,10 +14,13 @@ TAG = "[A-Za-z]{1,8}(?:-[A-Za-z0-9]{1,8})*"
 RANGE = re.compile(rf"[ \t]*({TAG})[ \t]*(?:;[ \t]*[qQ]=(0(?:\.[0-9]{{0,3}})?|1(?:\.0{{0,3}})?)[ \t]*)?")
 # What is wrong with a text of a file is no message of a table, so its sentence is that of the library in each language.
 TEMPLATE_FAULTS = {
-    "template_place_unknown": "has a name in braces that is no parameter of this text", "template_place_missing": "lacks a parameter in braces",
+    "template_place_unknown": "has a name in braces that is no parameter of this text",
+    "template_place_missing": "lacks a parameter in braces",
     "template_brace_stray": "has a brace that does not close or does not open",
 }
-NO_JSON = {"not UTF-8": "not_utf8", "not JSON": "not_json", "nested deeper than 128": "nested_too_deep", "a lone surrogate": "lone_surrogate"}
+NO_JSON = {
+    "not UTF-8": "not_utf8", "not JSON": "not_json", "nested deeper than 128": "nested_too_deep", "a lone surrogate": "lone_surrogate",
+}
 
 
 def wanted_code(wanted):

@@ -81,7 +81,7 @@ def control(field, typed, faulty):
     told = attributes(
         autocomplete=field.autocomplete or None, inputmode=field.inputmode or None, aria_required="true" if field.required else None,
         aria_invalid="true" if faulty else None,
-        aria_describedby=" ".join(f"{part}-{field.name}" for part, is_there in (("hint", field.hint), ("faults", faulty)) if is_there) or None,
+        aria_describedby=" ".join(f"{part}-{field.name}" for part, it in (("hint", field.hint), ("faults", faulty)) if it) or None,
     )
     if not field.boxes:
         shown = "" if field.kind == "password" else text(next((it for at, it in typed if at == field.name), ""))
@@ -111,4 +111,5 @@ def page(form, typed, faults):
     """The page of a form, with each name that was sent and its text, and with faults, each a path and a message."""
     fields = "".join(field_of(it, typed, faults) for it in form.fields)
     head, end = f'<form method="post" action="{text(form.action)}" novalidate>\n', f"<button>{text(form.send)}</button>\n</form>\n"
-    return within(f"{summary(form, faults)}{head}{fields}{end}", form.language, form.direction, form.title, form.faulty_title if faults else form.title)
+    main = f"{summary(form, faults)}{head}{fields}{end}"
+    return within(main, form.language, form.direction, form.title, form.faulty_title if faults else form.title)

@@ -9,6 +9,7 @@ import unicodedata
 
 from lib import browser, tables
 from lib.described import use_http
+from lib.scripts import unlike
 from lib.spoiled import some_json
 
 MOST, BODIES = 500, 200
@@ -95,7 +96,8 @@ class Page(browser.Browser):
         for key in keys:
             text = {"text": "\r"} if key == "Enter" else {}
             for kind in ("keyDown", "keyUp"):
-                self.call("Input.dispatchKeyEvent", type=kind, key=key, code=key, windowsVirtualKeyCode=KEYS[key], **(text if kind == "keyDown" else {}))
+                typed = text if kind == "keyDown" else {}
+                self.call("Input.dispatchKeyEvent", type=kind, key=key, code=key, windowsVirtualKeyCode=KEYS[key], **typed)
 
     def pictured(self, path):
         path.write_bytes(base64.b64decode(self.call("Page.captureScreenshot", format="png")["data"]))
@@ -119,9 +121,9 @@ def of_bodies(page, library):
             text = said["text"].encode("utf-16", "surrogatepass").decode("utf-16", "replace")
             wanted = library.faults(text.encode(), language) if text else []
             begins = [offset_of(text, *it[2:]) for it in wanted]
-            rows = [("faults", said["faults"], wanted), ("selected", said["selected"], begins), ("marked", said["marked"], sorted(set(begins))),
-                    ("what is behind the marks", said["behind"], said["text"] + "\n")]
-            yield from (f"body {number} in {language}: {what}: {met} and not {want}" for what, met, want in rows if met != want)
+            rows = [("faults", said["faults"], wanted), ("selected", said["selected"], begins)]
+            rows += [("marked", said["marked"], sorted(set(begins))), ("what is behind the marks", said["behind"], said["text"] + "\n")]
+            yield from unlike(f"body {number} in {language}: ", rows)
 
 
 def of_examples(page, library):
@@ -164,17 +166,16 @@ def of_looks(page):
 
 def of_keys(page):
     """What is wrong where the page is used by keys alone: what has the focus, each time with a ring around it."""
-    steps = (("Tab",), "example"), (("Tab",), "language"), (("ArrowDown", "Tab"), "body"), (("Tab",), "tab-faults"), (("ArrowRight",), "tab-details"), \
-        (("ArrowRight",), "tab-rules"), (("ArrowRight",), "tab-faults"), (("Tab", "Tab"), "hodnota je menší než 1"), (("Enter",), "body")
+    steps = (
+        ("Tab", "example"), ("Tab", "language"), ("ArrowDown Tab", "body"), ("Tab", "tab-faults"), ("ArrowRight", "tab-details"),
+        ("ArrowRight", "tab-rules"), ("ArrowRight", "tab-faults"), ("Tab Tab", "hodnota je menší než 1"), ("Enter", "body"),
+    )
     for keys, wanted in steps:
-        page.press(*keys)
-        met = page.asked(FOCUS)
-        if met != [wanted, True]:
-            yield f"keys {keys}: {met} and not {wanted}"
+        page.press(*keys.split())
+        yield from unlike("keys ", [(keys, page.asked(FOCUS), [wanted, True])])
     page.call("Input.insertText", text="7")
     met = page.value("[document.getElementById('body').value.split('\\n')[3].trim(), document.querySelectorAll('li').length]")
-    if met != ['{"code": "P22", "count": 7},', 6]:
-        yield f"where a count is typed: {met}"
+    yield from unlike("", [("where a count is typed", met, ['{"code": "P22", "count": 7},', 6])])
 
 
 def of_policy(page, url):

@@ -36,7 +36,8 @@ class Sides:
         found += [(line, f"field `{name}`: `visits` does not name it") for name, line in self.coded if name not in stated]
         if not found and not self.is_enum:
             both = zip(self.stated, self.coded)
-            found = [(line, f"field `{name}`: the code has `{other}` in its place (line {at})") for (name, line), (other, at) in both if name != other][:1]
+            others = [(line, name, other, at) for (name, line), (other, at) in both if name != other][:1]
+            found = [(line, f"field `{name}`: the code has `{other}` in its place (line {at})") for line, name, other, at in others]
         return [f"{self.file}:{line}: {text}" for line, text in found]
 
     @property
@@ -84,6 +85,7 @@ def named(read, words, item):
 def kept(read):
     """A source with spaces for its comments."""
     text = source.without_comments(read.text)
-    for first, last in (it.span() for ghost in read.all_items() if ghost.kind == "ghost" for it in COMMENT.finditer(read.blank, ghost.head, ghost.end)):
-        text = text[:first] + source.spaces(text[first:last]) + text[last:]
+    for ghost in (it for it in read.all_items() if it.kind == "ghost"):
+        for first, last in (it.span() for it in COMMENT.finditer(read.blank, ghost.head, ghost.end)):
+            text = text[:first] + source.spaces(text[first:last]) + text[last:]
     return text

@@ -25,13 +25,16 @@ LEFT_OUT = ("README.md", "stdin", "stdout", "status", "src/order.garde.rs", "src
 OPTIONS = re.compile(r"^//@ (.*)$", re.M)
 DOCS = re.compile(r"(?://!.*\n)*")
 BODY = re.compile(r"^impl(?:<'a>)? ReadBody<'a> for (\w+)(<'a>)? \{", re.M)
-READ = re.compile(r"^pub fn (read_\w+)<(?:'a, )?H: I18n \+ FormI18n>\([^)]*most: usize,\s*(?:patterns: &(\w+Patterns),\s*)?h: &H,?\s*\) -> Result<(.+), FirstReadError>", re.M)
+READ = re.compile(
+    r"^pub fn (read_\w+)<(?:'a, )?H: I18n \+ FormI18n>\([^)]*most: usize,\s*(?:patterns: &(\w+Patterns),\s*)?h: &H,?\s*\)"
+    r" -> Result<(.+), FirstReadError>", re.M,
+)
 IN_CONTEXT = re.compile(r"^pub fn read_\w+<[^>]*>\([^)]*most: usize,\s*\w+: &[^)]*\s*h: &H,?\s*\) -> Result<(?:\w+<)?(\w+)", re.M)
 RELY, READ_BODY, PATTERNS, OF_BODY = sections(pathlib.Path(__file__).with_name("begun.txt")).values()
 # What the program says otherwise of a type with patterns.
 WITH_PATTERNS = (
     (b"use crate::rely::{accept, read_input};", b"use crate::rely::{accept, patterns, read_input};"),
-    (b"    let mut scratch = Scratch::new(rt.alloc());\n", b"    let patterns = patterns(rt.alloc())?;\n    let mut scratch = Scratch::new(rt.alloc());\n"),
+    (b"    let mut scratch =", b"    let patterns = patterns(rt.alloc())?;\n    let mut scratch ="),
     (b"options.most, h)", b"options.most, &patterns, h)"),
 )
 
@@ -100,7 +103,8 @@ def begun_of(root, path, crate):
     if not found and (held := IN_CONTEXT.search(written[f"src/{module}.rt"])):
         raise Refusal(f"{path}: the rules of `{held[1]}` have a context, which your code makes: copy {PROGRAM}, and write src/rely.rt")
     if not found:
-        raise Refusal(f"{path}: of its line `//@ ` the program is not known: write `--spelled TYPE --first`, or `--schema --no-walk --first` of a type that holds itself; or copy {PROGRAM} and write src/rely.rt")
+        ways = "`--spelled TYPE --first`, or `--schema --no-walk --first` of a type that holds itself"
+        raise Refusal(f"{path}: of its line `//@ ` the program is not known: write {ways}; or copy {PROGRAM} and write src/rely.rt")
     rely, kind = found
     return Begun(module, text, written, kind, rely, says)
 
@@ -143,7 +147,8 @@ def ported(root, text, crate, module):
         source.parent.mkdir(parents=True)
         source.write_text(text, encoding="utf-8")
         (source.parent / "main.rt").write_text(f"mod {module};\nmod {OWN};\n", encoding="utf-8")
-        ended = subprocess.run([sys.executable, pathlib.Path(root, "tools/port-garde"), "--write", source.parent.parent], capture_output=True, check=False)
+        port = [sys.executable, pathlib.Path(root, "tools/port-garde"), "--write", source.parent.parent]
+        ended = subprocess.run(port, capture_output=True, check=False)
         (source.parent / "main.rt").unlink()
         written = {f"src/{it.name}": it.read_text(encoding="utf-8") for it in sorted(source.parent.glob("*.rt"))}
     says = ended.stderr.decode(errors="replace").replace(f"{source.parent}/", "").splitlines()

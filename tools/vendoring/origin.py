@@ -149,7 +149,8 @@ class Origin:
     def tool_paths(self):
         """Where the files of the commands stand here, by their paths in a copy."""
         shared = {f"tools/explaining/lib/{it}.py": f"tests/lib/{it}.py" for it in SHARED}
-        return {it: it for it in self.texts if it.startswith(TOOL) and not it.endswith(".md")} | {place: it for place, it in shared.items() if it in self.texts}
+        own = {it: it for it in self.texts if it.startswith(TOOL) and not it.endswith(".md")}
+        return own | {place: it for place, it in shared.items() if it in self.texts}
 
     def crate_files(self, name):
         """The files of a crate by their paths in it, but for its mutants."""

@@ -20,8 +20,8 @@ def first_check(root, folder, plan, brings):
     takes = f"rt check takes {' '.join(taken)}, as proved in {root}"
     if not left:
         return takes
-    proves = f"rt check first proves {len(left)} of {len(names)} libraries, but for those that a check elsewhere on this machine has proved, "
-    proves += f"and prints a line `crate NAME: ..` as each is done: {' '.join(left)}"
+    proves = f"rt check first proves {len(left)} of {len(names)} libraries, but for those that a check elsewhere on this machine has "
+    proves += f"proved, and prints a line `crate NAME: ..` as each is done: {' '.join(left)}"
     proves = f"{takes}. {proves}" if taken else proves
     return f"{proves} ({why})" if why else proves
 

@@ -8,8 +8,8 @@ import re
 from lib.described import Case, run
 from lib.faults import ALPHANUMERIC, ASCII, ENGLISH, REQUIRED, between, chars, items, length
 from lib.form import (
-    All, Any, Checked, Closed, Flag, ListUnder, MapUnder, Member, Null, Nullable, Nullish, Object, OneOf, Optional, Tagged, Text, Under, Whole,
-    WithDefault, read,
+    All, Any, Checked, Closed, Flag, ListUnder, MapUnder, Member, Null, Nullable, Nullish, Object, OneOf, Optional, Tagged, Text, Under,
+    Whole, WithDefault, read,
 )
 from lib.json_values import NoJson, of_bytes
 from lib.spoiled import some_json
@@ -54,7 +54,8 @@ def value_of(it):
     plan = ("free", "paid", "").index(it["plan"])
     lists = "" if it["tags"] is None else "[" + "".join(f"{tag}," for tag in it["tags"]) + "]"
     lists += "" if it["limits"] is None else "{" + "".join(f"{name}:{limit}," for name, limit in it["limits"]) + "}"
-    texts = [it["name"], it["age"], *("none" if it[name] is None else it[name] for name in ("phone", "motto")), flag(it["news"]), it["count"], debug(it["low"]), plan]
+    phone, motto = ("none" if it[name] is None else it[name] for name in ("phone", "motto"))
+    texts = [it["name"], it["age"], phone, motto, flag(it["news"]), it["count"], debug(it["low"]), plan]
     address = f"{at['street']} {debug(at['zip'])} {flag(at['end'])} {flag(at['any'])}"
     return "value " + "|".join(map(str, [*texts, address, payment])) + lists
 

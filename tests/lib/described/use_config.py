@@ -55,8 +55,8 @@ CONFIG = Object(Closed(Member("server", SERVER), Member("logging", LOGGING), Mem
 # ---- random settings in TOML
 
 NUMBERS, BARE, BAD = ([it.decode() for it in LISTED[f"{title} of TOML"]] for title in ("numbers", "bare values", "no values"))
-OTHERS = ["", "a", "A", "a.b", "::1", "256.1.1.1", "a.pem", "debug", "Info", "é" * 127, "é" * 128, "\n", "\x1b[2K", '"', "\\", "𝄞", True, False]
-OTHERS += [[], [Number(1)], ["a", Pairs()], Pairs(), Pairs([("min", Number(2)), ("max", Number(1))])]
+OTHERS = ["", "a", "A", "a.b", "::1", "256.1.1.1", "a.pem", "debug", "Info", "é" * 127, "é" * 128, "\n", "\x1b[2K", '"', "\\", "𝄞"]
+OTHERS += [True, False, [], [Number(1)], ["a", Pairs()], Pairs(), Pairs([("min", Number(2)), ("max", Number(1))])]
 WAYS = (missing, repeated, wrong_type, wrong_type, unknown, renamed, many)
 PIECES = LISTED["pieces of TOML"]
 

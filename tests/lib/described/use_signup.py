@@ -107,7 +107,8 @@ def some_request(dice, body):
     asked, coding = dice.choice(ASKED), some_coding(dice)
     if dice.random() < 0.7:
         return Request(body, media=MEDIA, language=asked, coding=coding)
-    method, media = dice.choice(("POST", "GET", "GET", "HEAD", "PUT", "DELETE", "OPTIONS")), dice.choice((MEDIA, MEDIA, MEDIA, *OTHER_MEDIA))
+    method = dice.choice(("POST", "GET", "GET", "HEAD", "PUT", "DELETE", "OPTIONS"))
+    media = dice.choice((MEDIA, MEDIA, MEDIA, *OTHER_MEDIA))
     return Request(body if method != "HEAD" else b"", method, dice.choice(PATHS), media, asked, coding)
 
 
