@@ -144,34 +144,67 @@ class Values(unittest.TestCase):
         thread.join()
 
 
+class Again:
+    code: str
+
+    def __init__(self, code):
+        self.both = code, load(body_of([0]))
+
+
+# Of values and annotations, what `load` makes of them, and what it says of those that do not fit.
+MADE = [
+    ({"code": "a", "count": 1, "tags": ["b"]}, Line, Line("a", 1, ["b"])),
+    ({"tags": [], "code": "a"}, Line, Line("a")),
+    ({"line": {"code": "b"}, "code": "a"}, Slotted, Slotted("a", Line("b"))),
+    ({"line": None, "code": "a"}, Slotted, Slotted("a", None)),
+    ({"below": {"all": [{}, {"below": None}]}}, Deep, Deep(Deep(None, [Deep(), Deep()]))),
+    ({"size": 1, "code": "a"}, Named, {"size": 1.0, "code": "a"}),
+    ({}, Named, {}),
+    *(([1, 2], into, [1, 2]) for into in (typing.Any, object, list[int], typing.List[int], typing.Sequence[int])),
+    ({"a": {"code": "b"}}, typing.Dict[str, Line], {"a": Line("b")}),
+    ("a", typing.Literal["a", 1], "a"),
+    (1, typing.Union[str, int, None], 1),
+    (None, type(None), None),
+    ([None, 2.5, 2], typing.List[typing.Union[float, None]], [None, 2.5, 2.0]),
+    (2**70, int, 2**70),
+    ({"code": "a"}, Checked, Checked("a")),
+]
+MANY = dataclasses.make_dataclass("Many", [(f"a{n}", int) for n in range(65)])
+NO_ANNOTATIONS = (
+    Colour, typing.Set[int], typing.Dict[int, str], bytes, 5, "Line", typing.Union[typing.List[int], typing.List[str]],
+)
+REFUSED = [
+    ({"code": 1}, Line, "^the field 'code' of <class '.*Line'> is str, and the body has an int$"),
+    ({"code": "a", "count": 1.5}, Line, "'count' of .* is int, and the body has a float"),
+    ({"code": "a", "count": True}, Line, "'count' of .* is int, and the body has a bool"),
+    ({"code": "a", "tags": [None]}, Line, "'tags' of .* is str, and the body has null"),
+    ({"code": "a", "other": 1}, Line, "Line'> has no field 'other'$"),
+    ({"count": 1}, Line, "Line'> wants a field 'code', and the body has no such member$"),
+    ([], Line, "^Line is wanted, and the body has a list$"),
+    ({"other": 1}, Named, "has no field 'other'"),
+    ("a", typing.Literal[1], "is wanted, and the body has a text"),
+    *(([], into, "`into` is ") for into in NO_ANNOTATIONS),
+    ({}, MANY, "has 65 fields, and `load` takes 64 at most"),
+]
+
+
 class Classes(unittest.TestCase):
     """Objects by annotations."""
 
-    def makes(self, value, into, wanted):
-        found = load(body_of(value), into=into)
-        self.assertEqual((found, type(found)), (wanted, type(wanted)))
-        self.assertEqual(order_check.Checker().load(body_of(value), into), wanted)
+    def test_made(self):
+        for value, into, wanted in MADE:
+            found = load(body_of(value), into=into)
+            self.assertEqual((repr(found), type(found)), (repr(wanted), type(wanted)))
+            self.assertEqual((found, order_check.Checker().load(body_of(value), into)), (wanted, wanted))
 
-    def refuses(self, value, into, says):
-        for _ in range(3):
+    def test_refused(self):
+        for value, into, says in REFUSED * 3:
             with self.assertRaisesRegex(TypeError, says):
                 load(body_of(value), into=into)
 
-    def test_dataclasses(self):
-        self.makes({"code": "a", "count": 1, "tags": ["b"]}, Line, Line("a", 1, ["b"]))
-        self.makes({"tags": [], "code": "a"}, Line, Line("a"))
-        self.makes({"line": {"code": "b"}, "code": "a"}, Slotted, Slotted("a", Line("b")))
-        self.makes({"line": None, "code": "a"}, Slotted, Slotted("a", None))
+    def test_defaults_are_made_anew(self):
         one, other = (load(body_of({"code": "a"}), into=Line) for _ in range(2))
         self.assertIsNot(one.tags, other.tags)
-
-    def test_recursive(self):
-        self.makes({"below": {"all": [{}, {"below": None}]}}, Deep, Deep(Deep(None, [Deep(), Deep()])))
-
-    def test_typed_dicts(self):
-        self.makes({"size": 1, "code": "a"}, Named, {"size": 1.0, "code": "a"})
-        self.makes({}, Named, {})
-        self.assertIsInstance(load(body_of({"size": 1}), into=Named)["size"], float)
 
     def test_classes_with_annotations(self):
         found = load(body_of({"code": "a"}), into=Plain)
@@ -179,16 +212,6 @@ class Classes(unittest.TestCase):
         self.assertEqual(load(body_of({"code": "a"}), into=Called).both, ("a", 5))
         self.assertEqual(load(body_of({"code": "a", "count": 2}), into=Called).both, ("a", 2))
         self.assertRaises(TypeError, load, body_of({"count": 2}), Called)
-
-    def test_others(self):
-        for into in (typing.Any, object, "list[int]", typing.List[int], typing.Sequence[int]):
-            self.makes([1, 2], eval(into) if isinstance(into, str) else into, [1, 2])
-        self.makes({"a": {"code": "b"}}, typing.Dict[str, Line], {"a": Line("b")})
-        self.makes("a", typing.Literal["a", 1], "a")
-        self.makes(1, typing.Union[str, int, None], 1)
-        self.makes(None, type(None), None)
-        self.makes([None, 2.5, 2], typing.List[typing.Union[float, None]], [None, 2.5, 2.0])
-        self.makes(2**70, int, 2**70)
 
     def test_valid(self):
         found = load(body_of({"code": "a"}), into=Valid[Line])
@@ -201,38 +224,11 @@ class Classes(unittest.TestCase):
         for way in (copy.copy, copy.deepcopy, pickle.dumps):
             self.assertRaises((AttributeError, TypeError), way, found)
 
-    def test_classes_that_do_not_fit(self):
-        self.refuses({"code": 1}, Line, "^the field 'code' of <class '.*Line'> is str, and the body has an int$")
-        self.refuses({"code": "a", "count": 1.5}, Line, "'count' of .* is int, and the body has a float")
-        self.refuses({"code": "a", "count": True}, Line, "'count' of .* is int, and the body has a bool")
-        self.refuses({"code": "a", "tags": [None]}, Line, "'tags' of .* is str, and the body has null")
-        self.refuses({"code": "a", "other": 1}, Line, "Line'> has no field 'other'$")
-        self.refuses({"count": 1}, Line, "Line'> wants a field 'code', and the body has no such member$")
-        self.refuses([], Line, "^Line is wanted, and the body has a list$")
-        self.refuses({"other": 1}, Named, "has no field 'other'")
-        self.refuses("a", typing.Literal[1], "is wanted, and the body has a text")
-
-    def test_what_is_no_annotation(self):
-        for into in (Colour, typing.Set[int], typing.Dict[int, str], bytes, 5, "Line", typing.Union[typing.List[int], typing.List[str]]):
-            self.refuses([], into, "`into` is ")
-        many = dataclasses.make_dataclass("Many", [(f"a{n}", int) for n in range(65)])
-        self.refuses({}, many, "has 65 fields, and `load` takes 64 at most")
-
-    def test_a_class_that_raises(self):
+    def test_classes_that_raise_or_call_again(self):
         with self.assertRaises(ArithmeticError):
             load(body_of([{"code": "a"}] * 100 + [{"code": "refused"}]), into=typing.List[Checked])
-        self.assertEqual(load(body_of({"code": "a"}), into=Checked), Checked("a"))
-
-    def test_a_class_that_calls_again(self):
         found = load(body_of([{"code": "a"}, {"code": "b"}]), into=typing.List[Again])
         self.assertEqual([it.both for it in found], [("a", [0]), ("b", [0])])
-
-
-class Again:
-    code: str
-
-    def __init__(self, code):
-        self.both = code, load(body_of([0]))
 
 
 class Nothing(unittest.TestCase):
