@@ -8,8 +8,7 @@ import re
 import typing
 from dataclasses import dataclass
 
-QUOTED = re.compile(r'"((?:[^"]|"")*)"(?=[,\r\n]|\Z)')
-PLAIN = re.compile(r'[^",\r\n]*(?=[,\r\n]|\Z)')
+CELL = re.compile(r'(?:"(?P<quoted>(?:[^"]|"")*)"|(?P<plain>[^",\r\n]*))(?=[,\r\n]|\Z)')
 END = re.compile(r"\r\n|\r|\n|\Z")
 REST_OF_CELL = re.compile(r"[^,\r\n]*")
 CLOSED = re.compile(r'"(?:[^"]|"")*"(?!")')
@@ -42,12 +41,8 @@ def lenient_cell(text, place):
 
 def cell_at(text, place):
     """The cell at a place, what is wrong with it, and where it ends."""
-    quoted = QUOTED.match(text, place)
-    if quoted:
-        return quoted[1].replace('""', '"'), None, quoted.end()
-    plain = PLAIN.match(text, place)
-    if plain:
-        return plain[0], None, plain.end()
+    if found := CELL.match(text, place):
+        return (found["plain"] or (found["quoted"] or "").replace('""', '"')), None, found.end()
     return ("", *lenient_cell(text, place))
 
 
