@@ -40,15 +40,11 @@ def brought(root, folder, names):
     except SystemExit:
         return [], " ".join(told.getvalue().split())
     taken = [it for it in names if there[it].is_built() or gives(rtlib, here[it], there[it])]
-    if any(here[it].is_built() and is_busy(here[it]) for it in names if it not in taken):
+    with contextlib.ExitStack() as held:
+        rest = [held.enter_context(at_rest(here[it].folder)) for it in names if it not in taken and here[it].is_built()]
+    if not all(rest):
         return taken, f"`rt` is at work in {root}: call this again when it has ended, and what is proved there is taken"
     return taken, "" if taken else f"none of these files is proved in {root}"
-
-
-def is_busy(crate):
-    """Whether `rt` works in a crate."""
-    with at_rest(crate.folder) as rests:
-        return not rests
 
 
 def are_proved(root, names):
@@ -114,20 +110,13 @@ def at_rest(folder):
 def linked(source, out):
     """Gives a library's files a second name, or copies them onto another disk: `rt` never writes into such a file."""
     part = out / PART
-    shutil.rmtree(part, ignore_errors=True)
-    try:
-        shutil.copytree(source / "rlib", part, copy_function=link_or_copy)
-        shutil.rmtree(out / "rlib", ignore_errors=True)
-        part.rename(out / "rlib")
-        return True
-    except (OSError, shutil.Error):
-        return False
-    finally:
+    for give in (os.link, shutil.copy2):
         shutil.rmtree(part, ignore_errors=True)
-
-
-def link_or_copy(source, to):
-    try:
-        os.link(source, to)
-    except OSError:
-        shutil.copy2(source, to)
+        try:
+            shutil.copytree(source / "rlib", part, copy_function=give)
+            shutil.rmtree(out / "rlib", ignore_errors=True)
+            part.rename(out / "rlib")
+            return True
+        except (OSError, shutil.Error):
+            shutil.rmtree(part, ignore_errors=True)
+    return False
