@@ -51,14 +51,10 @@ def some_coding(dice):
     return dice.choice(CODINGS) if dice.random() < 0.1 else ""
 
 
-def fields_of(request):
-    values = zip(FIELDS, (request.media, request.language, request.coding))
-    return {name: value for name, value in values if value}
-
-
 def bytes_of(request):
-    fields = {"Host": "x", "Content-Length": len(request.body), **fields_of(request)}
-    head = "".join(f"{name}: {value}\r\n" for name, value in fields.items())
+    named = zip(FIELDS, (request.media, request.language, request.coding))
+    fields = [("Host", "x"), ("Content-Length", len(request.body)), *((name, value) for name, value in named if value)]
+    head = "".join(f"{name}: {value}\r\n" for name, value in fields)
     return f"{request.method} {request.target} HTTP/1.1\r\n{head}\r\n".encode() + request.body
 
 
