@@ -2,18 +2,17 @@
 borrow from the input; and what of them no form reads."""
 from dataclasses import replace
 
-from .defaults import WAY, Defaults, Value, fitted, is_skipped
-from .derives import CASES, OPTIONS, OWN, all_types, fields_of, options, reading_case, type_names
+from .defaults import WAY, Defaults, Value, fitted
+from .derives import CASES, OPTIONS, OWN, all_types, fields_of, is_skipped, options, reading_case, type_names
 from .everyday import plain
 from .expressions import SIGNED, UNSIGNED
-from .flattened import always_there, faults as faults_of_flattened, flat_part, held_part, names_of
-from .groups import is_flat, is_rest, others_of, own_rules, shared_rules
 from .holes import BY_IMPL, Hole, Holes, nothing, optional
-from .kinds import DECIMAL, KEPT, LIFE, canonical, is_any, is_float, kind_of
-from .parsed import WAYS, place_of
-from .scope import is_option, is_path, is_text
+from .kinds import DECIMAL, KEPT, LIFE, WAYS, canonical, is_any, is_float, kind_of, place_of
+from .members import always_there, faults as faults_of_flattened, flat_part, held_part, is_flat, is_rest
+from .members import names_of, others_of, own_rules, shared_rules
 from .quoted import BESIDE_CONTEXT
 from .rules import Attributes
+from .scope import is_option, is_path, is_text
 from .source import Item, Param, Type, all_rules, is_ported, named_type, with_doc, with_fields
 from .templates import TABLES, names
 from .tokens import Refusal, meant

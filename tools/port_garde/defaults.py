@@ -3,12 +3,11 @@ gives its code, its statement and its JSON, and says which of the rules it break
 import re
 from dataclasses import dataclass, replace
 
-from .derives import options
+from .derives import is_skipped, of_field, of_variant, options
 from .expressions import SIGNED, UNSIGNED, inside_of, number_of, range_of, resolved
-from .groups import own_rules
+from .kinds import is_declared
 from .layout import Method, Word, call, ghost, holding, literal, statement
-from .names import of_field, of_variant
-from .prelude import is_declared
+from .members import own_rules
 from .scope import is_option, is_path, is_text
 from .source import Parser, named_type
 from .templates import fill
@@ -60,11 +59,6 @@ def stripped(kind):
     while is_path(kind, *WRAPPERS) and not is_text(kind) and kind.args:
         kind = kind.args[-1]
     return kind
-
-
-def is_skipped(it):
-    """Whether serde reads no member of a field."""
-    return "skip" in options(it) or "skip_deserializing" in options(it)
 
 
 class Constants:

@@ -6,8 +6,7 @@ from .defaults import Constants, NoConstant
 from .derives import options
 from .expressions import SIGNED, UNSIGNED, VALUE, Expression, range_of
 from .holes import BY_FUNCTION, BY_IMPL, Hole
-from .parsed import place_of, with_moments
-from .prelude import NOTHING, NUMBERS
+from .kinds import NOTHING, NUMBERS, place_of, with_moments
 from .rules import REPEATED, Rule
 from .scope import is_option, is_path, is_text
 from .source import Type, named_type, with_fields

@@ -2,13 +2,10 @@
 import functools
 
 from .borrowed import is_map, of_whole, within_option
-from .defaults import is_skipped
-from .derives import options
-from .flattened import held_part, is_closed
-from .groups import Group, grouped, is_flat, is_rest, own_rules
+from .derives import is_skipped, of_field, options
 from .inputs import may_be_missing
-from .names import of_field
 from .kinds import WHOLE, kind_of
+from .members import Group, grouped, held_part, is_closed, is_flat, is_rest, own_rules
 from .scope import Seen, is_option, is_path
 from .unions import TESTS, Shapes, beside_units, is_list, is_other, is_tuple, is_unit, names_of, nested, paths_of, units_of
 from .words import Checks

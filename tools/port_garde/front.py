@@ -4,11 +4,10 @@ a name that is a keyword or a word of the statements."""
 from dataclasses import replace
 
 from .borrowed import RESERVED, is_read
-from .derives import Said, all_types, fields_of, options, type_names
+from .derives import Said, all_types, fields_of, of_field, options, reading, type_names
 from .expressions import VALUE, with_places
 from .holes import BY_FUNCTION
-from .names import of_field, reading
-from .prelude import declared
+from .kinds import declared
 from .scope import is_path
 from .source import Parser, Type, is_ported, named_type, with_doc, with_fields, with_variants
 from .templates import TABLES, names

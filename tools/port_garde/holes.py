@@ -5,8 +5,7 @@ import re
 from collections import namedtuple
 from dataclasses import replace
 
-from .defaults import is_skipped
-from .derives import all_options, options
+from .derives import all_options, is_skipped, options
 from .rules import Rule
 from .scope import is_option, is_path, is_text
 from .source import Type, named_type, with_variants

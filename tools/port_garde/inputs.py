@@ -2,11 +2,10 @@
 import textwrap
 from collections import namedtuple
 
-from .defaults import is_skipped
+from .derives import is_skipped, of_field
 from .expressions import SIGNED, UNSIGNED
+from .kinds import KNOWN
 from .layout import WIDTH, Word, call, statement
-from .names import of_field
-from .parsed import KNOWN
 from .scope import is_option, is_path, is_text
 from .source import is_ported
 from .templates import fill, rows

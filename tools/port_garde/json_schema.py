@@ -4,16 +4,14 @@ import re
 from fractions import Fraction
 
 from .borrowed import fields_of, is_held, is_map, is_named, of_whole, within_option
-from .defaults import in_json, is_skipped
-from .derives import options, type_names
+from .defaults import in_json
+from .derives import is_skipped, of_field, options, type_names
 from .everyday import UNKNOWN
 from .expressions import SIGNED, range_of
 from .forms import beside_dive, items_rules
 from .front import OF_CODE
-from .flattened import fields_among, flat_part, held_part, is_closed, own_part
-from .groups import is_flat, is_rest, own_rules, shared_rules
-from .names import of_field
 from .kinds import WHOLE, kind_of
+from .members import fields_among, flat_part, held_part, is_closed, is_flat, is_rest, own_part, own_rules, shared_rules
 from .rules import END
 from .scope import is_option, is_path, is_text
 from .tokens import Refusal

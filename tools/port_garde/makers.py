@@ -3,8 +3,8 @@ import functools
 from dataclasses import replace
 
 from .borrowed import below
-from .groups import filled, grouped
 from .layout import WIDTH, Parts, Word, angles, arm, call, flat, ghost, literal, may_be_flat, statement, wide_call
+from .members import filled, grouped
 from .templates import fill
 from .unions import SIDES, along, paths_of, tree_of
 

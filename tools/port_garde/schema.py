@@ -5,19 +5,17 @@ from dataclasses import replace
 
 from .borrowed import below, fields_of, is_held, is_named
 from .defaults import Making
-from .derives import all_types, type_names
-from .flattened import fields_among, own_part, part_of
+from .derives import all_types, of_field, type_names
 from .forms import Forms
-from .groups import filled, grouped, groups_in, numbers_in, shared_rules
-from .layout import WIDTH, Method, Word, call, flat, ghost, head_of_method, rows as lent_rows, statement
-from .makers import Makers, places, side_pattern, tuple_of, wide
-from .parsed import form as parsed_form
-from .names import of_field
 from .implementation import OWN
 from .inputs import Reader
+from .kinds import parsed_form
+from .layout import WIDTH, Method, Word, call, flat, ghost, head_of_method, rows as lent_rows, statement
+from .makers import Makers, places, side_pattern, tuple_of, wide
+from .members import fields_among, filled, grouped, groups_in, numbers_in, own_part, part_of, shared_rules
 from .scope import Place, Seen
-from .templates import fill
 from .spelled import Spellings
+from .templates import fill
 from .words import Checks, camel, together
 
 

@@ -4,14 +4,13 @@ import functools
 from collections import namedtuple
 
 from .borrowed import is_named
-from .flattened import part_of
+from .derives import of_field
 from .forms import Forms
-from .groups import filled, numbers_in, shared_rules
 from .inputs import Reader
+from .kinds import parsed_words
 from .layout import WIDTH
 from .makers import places
-from .names import of_field
-from .parsed import stated
+from .members import filled, numbers_in, part_of, shared_rules
 from .scope import Place, Seen
 from .source import is_ported
 from .templates import fill, names
@@ -224,7 +223,7 @@ class Spellings(Forms):
         return said(*spelling.rsplit(" ", 1)) if is_under else Said(spelling)
 
     def parsed(self, parser):
-        return said(*stated(parser, self.writer.uses))
+        return said(*parsed_words(parser, self.writer.uses))
 
     def kept(self):
         self.writer.uses.paths.add("Rattle.garde_schema.specs.Kept.{any_value}")

@@ -2,9 +2,8 @@
 import functools
 from dataclasses import dataclass, field
 
-from .derives import all_options, options
+from .derives import all_options, of_field, of_variant, options
 from .expressions import SIGNED, UNSIGNED
-from .names import of_field, of_variant
 from .scope import is_option, is_path, is_text
 
 # The kinds of values: whole numbers are those without a sign, those behind a minus, and those of more than 64 bits.

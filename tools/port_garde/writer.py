@@ -7,10 +7,10 @@ from .derives import OWN as OWN_DERIVES, SERDE, Derives, all_types, fields_of, l
 from .expressions import SIGNED, resolved
 from .front import Front, place_named
 from .implementation import Implementation
+from .kinds import KNOWN
 from .layout import CALL, VARIANT, WIDTH, Method, Word, call, ghost, head_of_method, holding, lifetimes_of, literal, statement, use_line
-from .own import read_function
-from .parsed import KNOWN
 from .quoted import BESIDE_CONTEXT, turn as quoted_of
+from .rules import read_function
 from .schema import Schema, snake, within_rule
 from .scope import Scope, Uses
 from .second import faults_of_values, lost_of_names, lost_of_serde, passed_by
