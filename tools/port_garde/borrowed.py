@@ -3,17 +3,17 @@ borrow from the input; and what of them no form reads."""
 from dataclasses import replace
 
 from .defaults import WAY, Defaults, Value, fitted
-from .derives import CASES, OPTIONS, OWN, all_types, fields_of, is_skipped, options, reading_case, type_names
+from .derives import CASES, OPTIONS, OWN, all_types, fields_of, is_skipped, options, reached, reading_case, type_names
 from .everyday import plain
 from .expressions import SIGNED, UNSIGNED
 from .holes import BY_IMPL, Hole, Holes, nothing, optional
 from .kinds import DECIMAL, KEPT, LIFE, WAYS, canonical, is_any, is_float, kind_of, place_of
-from .members import always_there, faults as faults_of_flattened, flat_part, held_part, is_flat, is_rest
-from .members import names_of, others_of, own_rules, shared_rules
+from .members import always_there, faults as faults_of_flattened, flat_part, held_part, is_flat, is_rest, names_of, others_of, own_rules
+from .members import shared_rules
 from .quoted import BESIDE_CONTEXT
 from .rules import Attributes
 from .scope import is_option, is_path, is_text
-from .source import Item, Param, Type, all_rules, is_ported, named_type, with_doc, with_fields
+from .source import Item, Param, Type, all_rules, is_ported, named_type, with_doc, with_fields, with_rules
 from .templates import TABLES, names
 from .tokens import Refusal, meant
 from .unions import Shapes, faults_of_tuple, is_other, is_tuple, is_unit, names_of as names_of_variant
@@ -130,7 +130,7 @@ class Borrowed:
         """The types whose reading stands elsewhere, by their names, each with why that is so. They are types of the source from here on, and
         those are no more that the type which is read does not hold."""
         held = {it.name: it for it in self.source.items}
-        nested = {name for name, it in self.items.items() if root and name != root and self.holds_itself(it, it, ())}
+        nested = {name for name, it in self.items.items() if root and name != root and self.holds(it, it)}
         self.items = {name: it for name, it in self.items.items() if name not in nested and not any(word in options(it) for word in BY_IMPL)}
         reads = lambda kind: is_option(kind) or is_path(kind, "Vec", *self.items) or is_map(kind) or kind_of(kind, self.source) is not None
         holes = Holes(held, reads, lambda it: is_rest(it) or flat_part(it, self.items), self.own, self.source.notes)
@@ -151,8 +151,7 @@ class Borrowed:
     def with_rules_of_sets(self, it):
         """A field of which no set asks that its items differ, where they are of a type that is not compared."""
         rules = tuple(self.rules_of_sets(it.type, it.attributes.rules))
-        skip = it.attributes.skip or not rules and bool(it.attributes.rules)
-        return replace(it, attributes=replace(it.attributes, rules=rules, skip=skip))
+        return with_rules(it, rules, skip=it.attributes.skip or not rules and bool(it.attributes.rules))
 
     def rules_of_sets(self, kind, rules):
         """Rules of a type, but for those of sets whose items are not compared."""
@@ -169,25 +168,13 @@ class Borrowed:
 
     def found_borrowing(self):
         """The names of the types that hold a text or a map, or such a type."""
-        found, more = set(self.holes), True
-        while more:
-            held = {it.name for it in self.items.values() if any(self.borrows(field.type, found) for field in fields_of(it))}
-            more, found = held - found, found | held
-        return found
-
-    def borrows(self, kind, known):
-        names = ("BTreeMap", "HashMap", "TextRef", "Entries", DECIMAL, KEPT, *known)
-        return any(is_text(it) or is_float(it) or is_any(it) or is_path(it, *names) for it in all_types(kind))
+        own = {it.name for it in self.items.values() if any(map(borrows, (one for field in fields_of(it) for one in all_types(field.type))))}
+        return {name for name in self.items if reached([name], self.items) & (own | set(self.holes))}
 
     def unwalked(self):
         """The names of the types that a form reads, but for those that stand in a type with a walk."""
-        found = set(self.items)
-        walked = [it for it in self.source.items if is_ported(it) and it.name not in found]
-        while walked:
-            held = {name for field in fields_of(walked.pop()) for name in type_names(field.type)} & found
-            walked += [self.items[name] for name in held]
-            found -= held
-        return found
+        walked = [it for it in self.source.items if is_ported(it) and it.name not in self.items]
+        return set(self.items) - reached((name for it in walked for field in fields_of(it) for name in type_names(field.type)), self.items)
 
     def turn(self):
         """Puts the types of the source in their new form, and notes what no form reads."""
@@ -236,7 +223,7 @@ class Borrowed:
         nested = any(name in self.items and below(self.items[name]) for name in type_names(it.type))
         if nested and not below(item):
             rules = without_dive(it.attributes.rules)
-            it = replace(it, attributes=replace(it.attributes, rules=rules, skip=not rules))
+            it = with_rules(it, rules, skip=not rules)
         is_told = any(self.unread(it.type, None)) or any(self.of_lists(it.type, own_rules(it)))
         return replace(it, type=Type("unread", "", it.line) if is_told else self.type_of(it.type), serde=(), flat=is_flat(it))
 
@@ -262,7 +249,7 @@ class Borrowed:
         for variant in item.variants:
             for it in variant.fields:
                 yield from self.of_field(it, item)
-        if self.holds_itself(item, item, ()):
+        if self.holds(item, item):
             yield from self.of_nested(item)
 
     def of_context(self, line, tokens):
@@ -277,7 +264,7 @@ class Borrowed:
     def of_nested(self, item):
         """What a form wants of a type that holds itself."""
         held, others = below(item), [it for it in fields_of(item) if self.items.get(it.type.name) is not item]
-        if held is None or any(self.holds_itself(self.items[name], item, ()) for it in others if it is not held for name in type_names(it.type) if name in self.items):
+        if held is None or any(self.holds(self.items[name], item) for it in others if it is not held for name in type_names(it.type) if name in self.items):
             yield item.line, f"`{item.name}`, whose values hold values of its own type otherwise than in one list, beside other fields"
             return
         if any(rule.name != "dive" for rule in held.attributes.rules) or any(held.name in others_of(rule) for it in fields_of(item) for rule in it.attributes.rules):
@@ -432,13 +419,15 @@ class Borrowed:
         elif kind.name in self.items and (not is_named(self.items[kind.name]) or "tag" in options(self.items[kind.name])):
             yield f"the type `{kind.name}`, which has fields"
 
-    def holds_itself(self, item, whole, seen):
+    def holds(self, item, whole):
         """Whether values of a type hold values of another one."""
-        for name in (name for it in fields_of(item) for name in type_names(it.type)):
-            found = self.items.get(name)
-            if found is whole or (found and name not in seen and self.holds_itself(found, whole, (*seen, name))):
-                return True
-        return False
+        held = {name for it in fields_of(item) for name in type_names(it.type)}
+        return self.items.get(whole.name) is whole and whole.name in reached(held, self.items)
+
+
+def borrows(kind):
+    names = ("BTreeMap", "HashMap", "TextRef", "Entries", DECIMAL, KEPT)
+    return is_text(kind) or is_float(kind) or is_any(kind) or is_path(kind, *names)
 
 
 def of_whole(rules):

@@ -79,6 +79,16 @@ def type_names(kind):
     return {it.name for it in all_types(kind)}
 
 
+def reached(names, items):
+    """These names of types, and those of all types that are held by such of the file."""
+    found, more = set(), set(names)
+    while more:
+        found |= more
+        held = [it for name in more if name in items for it in fields_of(items[name])]
+        more = {name for it in held for name in type_names(it.type)} - found
+    return found
+
+
 def literal_function(text):
     """A function that gives a number or a truth value, as it is laid out here, or nothing."""
     found = LITERAL.fullmatch(text.strip())
@@ -203,7 +213,7 @@ class Derives:
             return
         for told in sorted(set(self.unread(it.type, item))):
             yield it.line, f"serde of {told}, which it does not know here"
-        if "Deserialize" in item.derives and self.leads_back(it.type, item.name, set()):
+        if "Deserialize" in item.derives and item.name in reached(type_names(it.type), self.items):
             told = f"`Deserialize` of `{item.name}`, whose values hold values of its own type"
             yield it.line, f"{told}: it wants `#[serde(recursive)]` here, at the type and at the field"
 
@@ -228,19 +238,6 @@ class Derives:
                 yield "a tuple of more than 4 parts"
             if it.kind == "ref" and it.args[0].name != "str" and "Deserialize" in item.derives:
                 yield "a reference that is no `&str`"
-
-    def leads_back(self, kind, name, seen):
-        """Whether values of a type hold values of the type of this name."""
-        if kind.name in seen:
-            return False
-        if kind.kind == "path" and kind.name == name:
-            return True
-        if any(self.leads_back(it, name, seen) for it in kind.args):
-            return True
-        found = self.items.get(kind.name) if kind.kind == "path" else None
-        if found is None:
-            return False
-        return any(self.leads_back(it.type, name, {*seen, kind.name}) for it in fields_of(found))
 
 
 def words_joined(name, mark):

@@ -9,7 +9,7 @@ from .holes import BY_FUNCTION, BY_IMPL, Hole
 from .kinds import NOTHING, NUMBERS, place_of, with_moments
 from .rules import REPEATED, Rule
 from .scope import is_option, is_path, is_text
-from .source import Type, named_type, with_fields
+from .source import Type, named_type, with_fields, with_rules
 from .tokens import Refusal
 from .unions import is_other, names_of
 
@@ -47,7 +47,7 @@ def plain_field(it, item, source):
     whole, skip = of_names((*rules, *it.attributes.rules)), it.attributes.skip and not rules
     if kind is it.type and whole == it.attributes.rules:
         return it
-    return replace(it, type=kind, attributes=replace(it.attributes, rules=whole, skip=skip))
+    return with_rules(replace(it, type=kind), whole, skip=skip)
 
 
 def of_names(rules):

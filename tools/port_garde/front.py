@@ -71,7 +71,7 @@ class Front:
         items = [found for name in self.declared for found in self.forms_of(self.items[name]) if found.name in named]
         items += [found for it in self.source.items for found in self.forms_of(it)]
         if self.is_form:
-            items = [it for it in items if it.name in reached(items)]
+            items = [it for it in items if it.name in concerned(items)]
         for it in items:
             self.notes.faults += [*it.faults, *(() if self.reads(it) else it.later)]
         self.source.items[:] = [self.named(it) for it in items]
@@ -306,7 +306,7 @@ def place_named(expression, found):
     return with_places(expression, change)
 
 
-def reached(items):
+def concerned(items):
     """The names of the types that a form or a walk has to do with, and of those that they name. What a type that a form reads holds has to
     be read too, so of the others its context alone is reached from it."""
     found, more = set(), [it for it in items if is_read(it) or is_ported(it)]

@@ -8,7 +8,7 @@ from dataclasses import replace
 from .derives import all_options, is_skipped, options
 from .rules import Rule
 from .scope import is_option, is_path, is_text
-from .source import Type, named_type, with_variants
+from .source import Type, named_type, with_rules, with_variants
 from .templates import TABLES
 from .tokens import Notes
 from .words import camel
@@ -29,14 +29,13 @@ Hole = namedtuple("Hole", "line reason name", defaults=("",))
 
 def optional(it):
     """A field as an option of what is there, with the rules of that."""
-    rules = tuple(Rule("inner", rule.line, rules=(rule,), added=rule.added) if rule.name in WITHIN else rule for rule in it.attributes.rules)
-    return replace(it, type=named_type("Option", it.line, it.type), attributes=replace(it.attributes, rules=rules), unmade=True)
+    rules = [Rule("inner", rule.line, rules=(rule,), added=rule.added) if rule.name in WITHIN else rule for rule in it.attributes.rules]
+    return with_rules(replace(it, type=named_type("Option", it.line, it.type), unmade=True), rules)
 
 
 def nothing(it):
     """A field that is not read, with no value."""
-    kind, attributes = Type("tuple", "()", it.line), replace(it.attributes, rules=(), skip=True)
-    return replace(without(it, *BY_FUNCTION), type=kind, attributes=attributes, unmade=True)
+    return with_rules(replace(without(it, *BY_FUNCTION), type=Type("tuple", "()", it.line), unmade=True), (), skip=True)
 
 
 def without(it, *words):

@@ -5,7 +5,7 @@ from dataclasses import replace
 from .derives import is_skipped, of_field, options
 from .expressions import places_in
 from .scope import is_option
-from .source import all_rules, with_doc
+from .source import all_rules, with_doc, with_rules
 
 MOST = 6
 
@@ -172,7 +172,7 @@ def always_there(it, borrowed):
         return it
     rules = [one for rule in it.attributes.rules if rule.name != "required" for one in (rule.rules if rule.name == "inner" else [rule])]
     docs = with_doc(it.docs, "Each of its members may be missing, so there is always one.")
-    return replace(it, type=it.type.args[0], attributes=replace(it.attributes, rules=tuple(rules)), docs=docs)
+    return with_rules(replace(it, type=it.type.args[0], docs=docs), rules)
 
 
 def faults(item, borrowed):
@@ -208,7 +208,7 @@ def of_field_faults(it, variant, item, borrowed):
         yield f"its type is no struct of this file with named fields, no option of one and no map, so write `{it.name}` as a member, without `flatten`{way}"
     if part is None:
         return
-    if borrowed.holds_itself(part, part, ()):
+    if borrowed.holds(part, part):
         yield f"`{part.name}` holds itself, so write it as a member"
     if any(is_rest(one) for one in part.variants[0].fields) and variant.fields[-1] is not it:
         yield f"`{part.name}` takes every other member, so write this field last"

@@ -2,9 +2,9 @@
 that asks for one, or that holds such a type."""
 from dataclasses import replace
 
-from .derives import fields_of, type_names
+from .derives import fields_of, reached, type_names
 from .expressions import Expression
-from .source import Parser, all_rules, is_ported, with_fields
+from .source import Parser, all_rules, is_ported, with_fields, with_rules, with_variants
 from .tokens import tokens_of
 
 NAME = "patterns"
@@ -31,15 +31,9 @@ def turn(source, root):
 
 def with_holders(source, names):
     """Types with those that validate them as parts."""
-    held = {it.name: parts_of(it) for it in source.items if is_ported(it)}
-    while more := {name for name, parts in held.items() if parts & names} - names:
-        names = names | more
-    return names
-
-
-def parts_of(item):
-    """The names of the types of fields with `dive`."""
-    return {name for it in fields_of(item) if any(rule.name == "dive" for rule in all_rules(it.attributes.rules)) for name in type_names(it.type)}
+    dives = lambda it: any(rule.name == "dive" for rule in all_rules(it.attributes.rules))
+    divers = {it.name: with_variants(it, lambda variant: filter(dives, variant.fields)) for it in source.items if is_ported(it)}
+    return {name for name in divers if reached([name], divers) & names}
 
 
 class Quoted:
@@ -58,8 +52,7 @@ class Quoted:
 
     def field(self, it):
         is_handed_on = bool(type_names(it.type) & self.holders)
-        rules = tuple(self.rule(rule, it.name or "value", is_handed_on) for rule in it.attributes.rules)
-        return replace(it, attributes=replace(it.attributes, rules=rules))
+        return with_rules(it, (self.rule(rule, it.name or "value", is_handed_on) for rule in it.attributes.rules))
 
     def rule(self, rule, field, is_handed_on):
         """A rule of a field; a part without a pattern has no context."""

@@ -634,6 +634,11 @@ def with_fields(item, change):
     return with_variants(item, lambda variant: map(change, variant.fields))
 
 
+def with_rules(it, rules, **others):
+    """A field with other rules, and other attributes besides."""
+    return replace(it, attributes=replace(it.attributes, rules=tuple(rules), **others))
+
+
 def all_rules(rules):
     """Rules with those within them."""
     return [found for rule in rules for found in (rule, *all_rules(rule.rules))]
