@@ -15,7 +15,7 @@ MADE_OF = {"+": int.__add__, "-": int.__sub__, "*": int.__mul__}
 # The types of addresses that a condition may name, and the rules that say whether a text is one.
 ADDRESSES = {"IpAddr": ("is_ipv4", "is_ipv6"), "Ipv4Addr": ("is_ipv4",), "Ipv6Addr": ("is_ipv6",)}
 # The marks that join parts from the left, those that bind least first, with the kind of what each makes; comparisons bind between.
-JOINED = ({"||": "or"}, {"&&": "and"}, {it: it for it in "+-"}, {it: it for it in "*%/"})
+JOINED = ({"||": "or"}, {"&&": "and"}, {}, {it: it for it in "+-"}, {it: it for it in "*%/"})
 COMPARED = 2
 
 
@@ -59,21 +59,14 @@ class Expressions(Tokens):
         """Reads an expression: parts with marks between them, from the left."""
         if depth == len(JOINED):
             return self.read_unary()
-        found = self.read_part(depth)
-        while any(map(self.sees, JOINED[depth])):
-            mark = self.take()
-            found = Expression(JOINED[depth][mark.text], mark.line, parts=(found, self.read_part(depth)))
-        return found
-
-    def read_part(self, depth):
-        return self.read_comparison() if depth + 1 == COMPARED else self.read_expression(depth + 1)
-
-    def read_comparison(self):
-        found = self.read_expression(COMPARED)
-        for mark in ("==", "!=", "<=", "<", ">"):
+        found = self.read_expression(depth + 1)
+        for mark in ("==", "!=", "<=", "<", ">") if depth == COMPARED else ():
             if self.takes(mark):
                 mark += "=" if mark == ">" and self.takes("=") else ""
-                return compared(mark, self.line, (found, self.read_expression(COMPARED)))
+                return compared(mark, self.line, (found, self.read_expression(depth + 1)))
+        while any(map(self.sees, JOINED[depth])):
+            mark = self.take()
+            found = Expression(JOINED[depth][mark.text], mark.line, parts=(found, self.read_expression(depth + 1)))
         return found
 
     def read_unary(self):

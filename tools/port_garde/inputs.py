@@ -14,17 +14,9 @@ from .tokens import Refusal
 # What reads a type that holds no text and no map. The borrow checker wants the lifetime of the input in what a form makes, so the value
 # is read beside it, by a function of its own.
 TACTIC = "#[tactic(auto, unfolding(garde::specs::Fields::Known))]\n"
-# The answers for the goals of what reads a web form: the lists that it was read by are those that the promise speaks of.
-COLUMNS = "/// The columns of the table, which may stand in any order.\n"
-
-
 # An input: how it is called, the parameters beside the handler, the call that reads it, its error, and what the call promises of the spelling `S`.
 Input = namedtuple("Input", "told lives params call error answer value uses ghosts")
 PARTS = ("params", "answer", "value", "uses", "ghosts")
-
-
-def input_of(kind):
-    return Input(**{name: text.split(" | ") if name in PARTS else text for name, text in rows(f"input {kind}").items()})
 
 
 def may_be_missing(kind, input):
@@ -41,7 +33,8 @@ class Reader:
     def __init__(self, schema, item):
         self.schema, self.writer, self.item = schema, schema.writer, item
         self.kind = self.writer.input
-        self.input = input_of("first of json" if self.kind == "json" and self.writer.first else self.kind)
+        said = rows("input first of json" if self.kind == "json" and self.writer.first else f"input {self.kind}")
+        self.input = Input(**{name: text.split(" | ") if name in PARTS else text for name, text in said.items()})
 
     def text(self, spelling=None, context=None):
         """The function, of a spelling as it is stated, where it is, under a context: its type and its name, or nothing."""
@@ -118,11 +111,10 @@ class Reader:
             stated = self.stated().removeprefix("(").removesuffix(")")
             return fill("lists of a web form", count=len(names), names=stated, texts=", ".join(names)) + "\n\n"
         names = self.names(self.item.variants[0].fields)
-        line = f"{self.item.vis}const COLUMNS: [&str; {len(names)}] = [{', '.join(names)}];"
-        if len(line) > WIDTH:
-            rows = "".join(f"    {it},\n" for it in names)
-            line = f"{self.item.vis}const COLUMNS: [&str; {len(names)}] = [\n{rows}];"
-        return f"{COLUMNS}{line}\n\n"
+        head, line = f"{self.item.vis}const COLUMNS: [&str; {len(names)}] = [", ", ".join(names)
+        if len(head + line) + len("];") > WIDTH:
+            line = "\n" + "".join(f"    {it},\n" for it in names)
+        return f"/// The columns of the table, which may stand in any order.\n{head}{line}];\n\n"
 
     def names(self, fields):
         return [f'"{of_field(it, self.item.variants[0], self.item)}"' for it in fields if not is_skipped(it)]

@@ -46,31 +46,30 @@ RFC3339 = ("time::serde::rfc3339", "time::serde::iso8601")
 
 @dataclass(frozen=True)
 class Parser:
-    """A parser: its name, the type of its values, the word that states what it reads, and what a JSON Schema says. The texts of a `layout`
-    alone are read, where it has one; `takes` says that it may allocate, and `crate` has it."""
+    """A parser: its name, the path of the type of its values, the word that states what it reads, and what a JSON Schema says. The texts
+    of a `layout` alone are read, where it has one; one that `takes` may allocate, and `crate` has it."""
 
     name: str
-    path: tuple
+    path: str
     word: str
-    schema: dict
     layout: str
-    takes: bool
     crate: str
+    takes: str
+    said: str
     form, is_written = "Parsed", True
+
+    @property
+    def schema(self):
+        return json.loads(self.said)
 
     def turned(self, kind):
         """The type of its values."""
-        return Type("path", self.path[-1], kind.line, path=self.path)
-
-
-def of_row(row):
-    """The parser of a row, whose cells are these."""
-    name, path, word, layout, crate, takes, schema = row.split(" | ")
-    return Parser(name, tuple(path.split("::")), word, json.loads(schema), layout, bool(takes), crate)
+        path = tuple(self.path.split("::"))
+        return Type("path", path[-1], kind.line, path=path)
 
 
 # By the crate and the name of a type.
-KNOWN = {tuple(name.split("::")): of_row(row) for name, row in rows("types that a parser reads").items()}
+KNOWN = {tuple(name.split("::")): Parser(*row.split(" | ")) for name, row in rows("types that a parser reads").items()}
 # What is said of types that are texts in JSON, and that no parser reads, with the way out.
 WAYS = {tuple(name.split("::")): way for name, way in rows("texts that no parser reads").items()}
 # The modules of the toolchain's crates that have these types.
@@ -96,11 +95,6 @@ def place_of(kind, source):
     # an import may give it another name than it has in its crate
     names = (path[-1] for path, name in source.imports if len(kind.path) == 1 and name == kind.name and name != "*")
     return crate_of(kind, source), next(names, kind.name)
-
-
-def parser_of(kind, source):
-    """The parser that reads a type, or nothing."""
-    return KNOWN.get(place_of(kind, source))
 
 
 def with_moments(it):
@@ -174,7 +168,7 @@ def kind_of(kind, source):
     """The kind of a type or the parser that reads it, or nothing."""
     if is_text(kind):
         return TEXT
-    if parser := parser_of(kind, source):
+    if parser := KNOWN.get(place_of(kind, source)):
         return parser
     if is_float(kind) or is_any(kind):
         return FRACTION if is_float(kind) else ANY

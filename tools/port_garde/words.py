@@ -70,7 +70,7 @@ class Checks:
             held = seen.part(seen.type.args[0])
             code, spec = self.of(group, held)
             return call(self.field("IfSome"), code), self.say("if_some (λ {}. {}) {}", held.name, spec, seen.name)
-        parts = {"dive": self.dive, "inner": self.inner, "if": self.under, "custom": self.custom, "unique": self.unique, "keys": self.keys}
+        parts = {"dive": self.dive, "inner": self.each, "if": self.under, "custom": self.custom, "unique": self.unique, "keys": self.keys}
         ours = "asks" if rule.source.startswith("asks") else rule.name
         if ours in OURS and ours in self.writer.source.functions:
             raise Refusal(rule.line, f"`{ours}`, which is a rule here and a function of this file: give the function another name")
@@ -95,12 +95,10 @@ class Checks:
         code, spec = self.of(rule.rules, seen, adapter)
         return call(self.field("When"), condition, code), self.say("when {} ({})", stated, spec)
 
-    def inner(self, rule, seen, adapter):
-        return self.each(rule, seen, rule.rules, adapter)
-
-    def each(self, rule, seen, rules, adapter):
+    def each(self, rule, seen, adapter):
+        """The rules within `inner`, or a `dive`, of each item."""
         held, word, name = self.items_of(rule, seen)
-        code, spec = self.of(rules, held, adapter)
+        code, spec = self.of([rule] if rule.name == "dive" else rule.rules, held, adapter)
         return call(self.field("Each"), code), f"{word} (λ {held.name}. {spec}) {name}"
 
     def items_of(self, rule, seen):
@@ -166,7 +164,7 @@ class Checks:
         if is_option(kind):
             return self.part([rule], seen, ())
         if kind.name in (*EACH, *EACH_VALUE, "Entries") or is_lent_slice(kind):
-            return self.each(rule, seen, [rule], ())
+            return self.each(rule, seen, ())
         lent, context = self.context_of(rule)
         name = seen.name
         while (is_path(kind, "Box", "Rc") and len(kind.args) == 1) or kind.kind == "ref":

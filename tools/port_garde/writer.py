@@ -173,8 +173,11 @@ class Writer:
             head = f"{item.vis}struct {item.name}{params}"
             return "\n".join([*lines, head + self.body(item.variants[0], len(head))])
         tall = any("\n" in self.variant_text(it, False) for it in item.variants)
-        variants = [f"    {line}" for it in item.variants for line in (*self.heads(it), f"{self.variant_text(it, tall)},")]
-        return "\n".join([*lines, f"{item.vis}enum {item.name}{params} {{", *variants, "}"])
+        lines.append(f"{item.vis}enum {item.name}{params} {{")
+        for it in item.variants:
+            default = ["#[default]"] if "Default" in item.derives and any(name == "default" for _, name in it.others) else []
+            lines += [f"    {line}" for line in (*it.docs, *default, *serde_lines(it.serde), f"{self.variant_text(it, tall)},")]
+        return "\n".join([*lines, "}"])
 
     def body(self, variant, before):
         """The fields of a struct, behind its name."""
@@ -199,10 +202,6 @@ class Writer:
             elif name:
                 head = f"fn {name}() -> {kind}" if said.word == "default" else f"fn {name}(value: &{kind}) -> bool"
                 self.skeletons[name] = ("", f"{begun('function', source)}\n{head} {{\n    todo\n}}")
-
-    def heads(self, variant):
-        default = ["#[default]"] if "Default" in self.item.derives and any(name == "default" for _, name in variant.others) else []
-        return [*variant.docs, *default, *serde_lines(variant.serde)]
 
     def in_tuple(self, it):
         """A field without a name, behind its attributes."""
