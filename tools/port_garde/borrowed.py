@@ -16,7 +16,7 @@ from .scope import is_option, is_path, is_text
 from .source import Item, Param, Type, all_rules, is_ported, named_type, with_doc, with_fields, with_rules
 from .templates import TABLES, names
 from .tokens import Refusal, meant
-from .unions import Shapes, faults_of_tuple, is_other, is_tuple, is_unit, names_of as names_of_variant
+from .unions import Shapes, is_other, is_tuple, is_unit, names_of as names_of_variant
 
 # What each type that borrows has of the derives.
 HAS = {"TextRef": ("Debug", "PartialEq", "Eq"), "Items": ("Debug",), "Entries": ("Debug",), "Url": ("Debug", "PartialEq"), DECIMAL: ("Debug",), KEPT: ("Debug",)}
@@ -44,11 +44,8 @@ def is_named(item):
     return item.kind == "enum" and all(map(is_unit, item.variants)) and not {"content", "untagged"} & set(options(item))
 
 
-def seen_in(vis):
-    """How far a visibility goes."""
-    return 0 if not vis else 2 if vis == "pub " else 1
-
-
+# A tuple of more items is a tuple in a tuple, whose value is another one.
+MOST_ITEMS = 6
 # The rules of lists and of maps that a form asks.
 OF_LISTS = {True: ("inner", "dive", "length", "unique", "custom"), False: ("inner", "dive", "length", "keys", "custom")}
 
@@ -78,7 +75,7 @@ class Borrowed:
         self.source, self.left_out, self.is_stated, self.is_walked = source, left_out, is_stated, is_walked
         self.has_context, self.input, self.own, self.root, self.context = has_context, input, own, root, None
         # a type of values of any kind is known by one name
-        known = lambda it: replace(it, type=canonical(it.type, source.imports))
+        known = lambda it: replace(it, type=canonical(it.type))
         source.items[:] = [with_fields(it, known) if is_read(it) else it for it in source.items]
         plain(source, bool(own))
         self.items = {it.name: it for it in source.items if is_read(it)}
@@ -96,11 +93,11 @@ class Borrowed:
         """Lets the type that is read be seen, and a part wherever the type is that holds it, since what makes a value of that type names it."""
         if root in self.items and not self.items[root].vis:
             self.items[root] = replace(self.items[root], vis="pub ")
-        hidden = [None]
-        while hidden:
-            hidden = [(name, it.vis) for it in self.items.values() for field in fields_of(it) for name in type_names(field.type) if name in self.items and seen_in(self.items[name].vis) < seen_in(it.vis)]
-            for name, vis in hidden:
-                self.items[name] = replace(self.items[name], vis=vis)
+        held = [(name, it.name) for it in self.items.values() for field in fields_of(it) for name in type_names(field.type) if name in self.items]
+        seen = lambda name: ("pub " == self.items[name].vis, self.items[name].vis != "")
+        while hidden := [(part, whole) for part, whole in held if seen(part) < seen(whole)]:
+            for part, whole in hidden:
+                self.items[part] = replace(self.items[part], vis=self.items[whole].vis)
         self.source.items[:] = [self.items[it.name] if it.name in self.items and it.name not in self.holes else it for it in self.source.items]
 
     def each_field(self, change):
@@ -253,7 +250,6 @@ class Borrowed:
             yield from self.of_nested(item)
 
     def of_context(self, line, tokens):
-        """Why a form has no such context."""
         text = " ".join(it.text for it in tokens.tokens)
         if not self.has_context:
             yield line, "a context: the form of `--schema` has none, so say `--spelled TYPE`"
@@ -262,7 +258,6 @@ class Borrowed:
         self.context = text
 
     def of_nested(self, item):
-        """What a form wants of a type that holds itself."""
         held, others = below(item), [it for it in fields_of(item) if self.items.get(it.type.name) is not item]
         if held is None or any(self.holds(self.items[name], item) for it in others if it is not held for name in type_names(it.type) if name in self.items):
             yield item.line, f"`{item.name}`, whose values hold values of its own type otherwise than in one list, beside other fields"
@@ -273,7 +268,6 @@ class Borrowed:
             yield item.line, f"`{item.name}`, which holds itself: {'what JSON spells of it is not stated' if self.is_stated else 'it has no walk'}, so say `--schema --no-walk`"
 
     def of_serde(self, item):
-        """The attributes of serde that no form has."""
         parts = [(item, "type")] + [(it, "variant") for it in item.variants if item.kind == "enum"]
         parts += [(it, "field" if it.name else "field without a name") for it in fields_of(item)]
         for part, place in parts:
@@ -324,7 +318,6 @@ class Borrowed:
                 yield line, f"the attribute `{name}`, which changes what a field is read of: {READ_BY_HAND}"
 
     def of_field(self, it, item):
-        """What no form of a field asks or reads."""
         yield from self.of_rules(it)
         if it.attributes.adapter:
             yield it.line, "`adapt`, of which `--schema` writes no form"
@@ -393,7 +386,11 @@ class Borrowed:
         elif is_map(kind):
             yield from self.unread(kind.args[1], item)
         elif is_tuple(kind):
-            yield from faults_of_tuple(kind)
+            if len(kind.args) == 1:
+                yield "a tuple of one value, which no form of `--schema` reads: write the value, or a list"
+            if len(kind.args) > MOST_ITEMS:
+                told = f"a tuple of more than {MOST_ITEMS} values, which no form of `--schema` reads"
+                yield f"{told}: write a struct with fields without names, as `struct Row(..);`"
             for it in kind.args:
                 yield from self.unread(it, item)
                 if it.name in self.items and asks(self.items[it.name]):

@@ -94,7 +94,6 @@ class Conditions:
         return (code, spec) if it.kind == "==" else (denied, self.say("(not {})", spec))
 
     def variants(self, it):
-        """Whether a value is one of some variants of an enum of the file."""
         place = it.parts[0]
         code, spec, kind = self.scope.place(place.value, it.line)
         item = self.writer.enum(kind.name if kind is not None and kind.kind == "path" else it.value[0][0])
@@ -189,7 +188,6 @@ class Conditions:
         return self.equal(it, code, other, f"(⟦<{self.writer.type_text(kind)} as PartialEq>⟧.eq {spec} {like})")
 
     def equal(self, it, code, other, stated):
-        """That two values are equal, or that they are not."""
         return f"{code} {it.kind} {other}", stated if it.kind == "==" else self.say("(not {})", stated)
 
     def in_order(self, it, are_places):
@@ -320,7 +318,6 @@ class Conditions:
     # Conditions of the items of a list.
 
     def over_items(self, it):
-        """Whether the items of a list have what a closure asks."""
         scope, (place, condition) = self.scope, it.parts
         code, spec, kind = scope.place(place.value, it.line)
         if kind is None or not is_path(kind, "Vec", "Items") or not kind.args:
@@ -342,7 +339,7 @@ class Conditions:
         places = {key: place for key, place, _ in held}
         fields = {key: place for key, place in places.items() if key not in (CONTEXT, VALUE)}
         inner = Scope(scope.context, fields, scope.params, scope.unit or CONTEXT not in places, places.get(VALUE), scope.fields)
-        inner.add_item(ITEM + it.value, Place(it.value, it.value, kind), writer.fields_within(kind))
+        inner = inner.with_item(ITEM + it.value, Place(it.value, it.value, kind), writer.fields_within(kind))
         code, stated = Conditions(inner, writer).whole(it.parts[1])
         if CONTEXT in places:
             stated = re.sub(rf"(?<![\w.]){scope.context}(?!\w)", places[CONTEXT].name, stated)
@@ -392,7 +389,7 @@ def same_by(checks, rule, kind):
     def compared(*names):
         scope = Scope(checks.scope.context, {}, checks.scope.params, True)
         for item, called in zip(("one", "other"), names):
-            scope.add_item(ITEM + item, Place(item, called, kind), writer.fields_within(kind))
+            scope = scope.with_item(ITEM + item, Place(item, called, kind), writer.fields_within(kind))
         return Conditions(scope, writer).of(Expression("==", rule.line, parts=both))
 
     code, stated = compared("one", "other")

@@ -1,10 +1,11 @@
 """Defaults: the values that stand for members that are missing or skipped, where they are constant expressions of the source. One value
 gives its code, its statement and its JSON, and says which of the rules it breaks."""
+import operator
 import re
 from dataclasses import dataclass, replace
 
 from .derives import is_skipped, of_field, of_variant, options
-from .expressions import SIGNED, UNSIGNED, inside_of, number_of, range_of, resolved
+from .expressions import SIGNED, UNSIGNED, VALUE, inside_of, number_of, range_of, resolved
 from .kinds import is_declared
 from .layout import Method, Word, call, ghost, holding, literal, statement
 from .members import own_rules
@@ -12,7 +13,45 @@ from .scope import is_option, is_path, is_text
 from .source import Parser, named_type
 from .templates import fill
 from .tokens import Refusal, Refusals, tokens_of
-from .tried import holds
+
+COMPARISONS = {"==": operator.eq, "!=": operator.ne, "<": operator.lt, "<=": operator.le, ">": operator.gt, ">=": operator.ge}
+
+
+def holds(it, found, numbers):
+    """Whether a condition holds of a value: nothing where that does not depend on this value alone."""
+    if it.kind == "not":
+        part = holds(it.parts[0], found, numbers)
+        return None if part is None else not part
+    if it.kind in ("and", "or"):
+        parts, decides = [holds(part, found, numbers) for part in it.parts], it.kind == "or"
+        return decides if decides in parts else None if None in parts else not decides
+    if it.kind in COMPARISONS:
+        one, other = (known(part, found, numbers) for part in it.parts)
+        return COMPARISONS[it.kind](one, other) if type(one) is type(other) and one is not None else None
+    if it.kind == "matches":
+        name = known(it.parts[0], found, numbers)
+        return None if name is None else name in {path[-1] for path in it.value}
+    answer = known(it, found, numbers)
+    return answer if isinstance(answer, bool) else None
+
+
+def known(it, found, numbers):
+    """A part of a condition as a number, a text, a truth value or the name of a variant, or nothing."""
+    it = resolved(it, numbers)
+    if it.kind in ("number", "text"):
+        return it.value
+    if it.kind == "bool":
+        return it.value == "true"
+    if it.kind == "path":
+        return it.value[-1]
+    if it.kind == "place" and it.value == (VALUE,):
+        return found.value if found.form in ("number", "bool", "text", "made") else None
+    if it.kind != "call" or it.parts[0].value != (VALUE,):
+        return None
+    if it.value == "len":
+        return len(found.value.encode()) if found.form == "text" else 0 if found.form == "empty" else None
+    return (found.form == "some") == (it.value == "is_some") if found.form in ("some", "none") else None
+
 
 COLLECTIONS = ("Vec", "BTreeMap", "HashMap", "IndexMap", "BTreeSet", "HashSet", "IndexSet", "VecDeque", "LinkedList")
 WRAPPERS = ("Box", "Rc", "Arc", "Cow")
@@ -127,10 +166,6 @@ class Constants:
 
     # What a type gives.
 
-    def value_of(self, text, kind):
-        """The value of a text of the source, as one of a type."""
-        return Reader(self, Parser(tokens_of(text), text, self.source.notes)).whole(kind)
-
     def of_type(self, kind):
         kind = stripped(kind)
         known = (
@@ -242,9 +277,13 @@ class Reader:
         if token.text in ("true", "false"):
             return self.wanted(Value("bool", kind, tokens.take().text == "true"), is_path(kind, "bool"), token)
         names = tokens.path("a path")
-        if tokens.takes("!"):
-            return self.list(names, kind)
-        return self.called(names, kind) if tokens.opens("(") else self.named(names, kind)
+        if not tokens.takes("!"):
+            return self.called(names, kind) if tokens.opens("(") else self.named(names, kind)
+        if names != ["vec"]:
+            raise NoConstant(f"the macro `{names[-1]}!` is not read")
+        if not tokens.group().ended():
+            raise NoConstant("memory is needed for a list with items")
+        return self.constants.of_type(kind)
 
     def wanted(self, found, is_one, token):
         if not is_one:
@@ -258,14 +297,6 @@ class Reader:
             raise NoConstant("a text has a quote, a backslash or a character that does not show")
         return self.wanted(Value("text", kind, text), is_text(kind), token)
 
-    def list(self, names, kind):
-        """The list that a macro makes, which has no item."""
-        if names != ["vec"]:
-            raise NoConstant(f"the macro `{names[-1]}!` is not read")
-        if not self.tokens.group().ended():
-            raise NoConstant("memory is needed for a list with items")
-        return self.constants.of_type(kind)
-
     def called(self, names, kind):
         """A call: of a constructor with its parts, or of a function without arguments."""
         if names[-1] == "Some" and is_option(kind):
@@ -278,17 +309,13 @@ class Reader:
         if variant is not None and variant.shape == "tuple":
             return Value("made", kind, variant.name, given.in_turn([it.type for it in variant.fields]), item)
         if names[0] == kind.name and names[-1] in SPANS and is_declared(item, "Duration"):
-            return given.span(names[-1], kind)
+            name, count = names[-1], given.ended(given.number(named_type("u64", kind.line))).value
+            numbers = (count // SPANS[name], count % SPANS[name] * (10**9 // SPANS[name]))
+            parts = tuple(Value("number", it.type, number) for it, number in zip(item.variants[0].fields, numbers))
+            return Value("made", kind, item.variants[0].name, parts, item)
         if not given.tokens.ended():
             raise NoConstant(f"the function `{'::'.join(names)}` has arguments")
         return self.constants.called(names, kind, self.owner)
-
-    def span(self, name, kind):
-        """A `Duration` of so many seconds, or parts of one."""
-        count = self.ended(self.number(named_type("u64", kind.line))).value
-        item = self.constants.items[kind.name]
-        parts = zip((it.type for it in item.variants[0].fields), (count // SPANS[name], count % SPANS[name] * (10**9 // SPANS[name])))
-        return Value("made", kind, item.variants[0].name, tuple(Value("number", it, number) for it, number in parts), item)
 
     def in_turn(self, kinds):
         """The parts of a tuple, or of a constructor without names."""
@@ -540,10 +567,8 @@ def in_json(found, is_map):
     if found.form in ("none", "empty"):
         return None if found.form == "none" else {} if is_map(found.kind) else []
     parts = [in_json(it, is_map) for it in found.parts]
-    return parts if found.form == "tuple" else parts[0] if found.form == "some" else of_made(found, parts)
-
-
-def of_made(found, parts):
+    if found.form in ("tuple", "some"):
+        return parts if found.form == "tuple" else parts[0]
     item, variant, said = found.item, found.variant(), options(found.item)
     names = [of_field(it, variant, item) if it.name else None for it in variant.fields]
     members = {name: part for name, it, part in zip(names, variant.fields, parts) if not is_skipped(it) and not (it.unmade and part is None)}
@@ -577,7 +602,6 @@ class Making:
         return is_path(kind, *UNSIGNED, *SIGNED, "bool") or item is not None and all(one.shape == "unit" for one in item.variants)
 
     def given(self, found, it, variant, item):
-        """The form of a member that is not read."""
         self.writer.uses.others.add("std::marker::PhantomData")
         kind = self.writer.type_text(self.borrowed.type_of(it.type)).replace("'t", "'_")
         return call(self.schema.use("Given"), self.maker(found, it, variant, item), f"PhantomData::<&{kind}>")
@@ -590,7 +614,6 @@ class Making:
                 yield self.text(found, it, variant, item)
 
     def text(self, found, it, variant, item):
-        """What makes a value, as a type."""
         name = self.schema.name_at(it, variant, item, "Default")
         if name in self.schema.turned:
             self.writer.notes.refuse(it.line, f"the field `{it.name}`, whose default is made by a type `{name}`: give that of the file another name")

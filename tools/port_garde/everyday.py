@@ -2,15 +2,15 @@
 rules of its names, and a path is a text."""
 from dataclasses import replace
 
-from .defaults import Constants, NoConstant
+from .defaults import Constants, NoConstant, Reader
 from .derives import options
 from .expressions import SIGNED, UNSIGNED, VALUE, Expression, range_of
 from .holes import BY_FUNCTION, BY_IMPL, Hole
 from .kinds import NOTHING, NUMBERS, place_of, with_moments
 from .rules import REPEATED, Rule
 from .scope import is_option, is_path, is_text
-from .source import Type, named_type, with_fields, with_rules
-from .tokens import Refusal
+from .source import Parser, Type, named_type, with_fields, with_rules
+from .tokens import Refusal, tokens_of
 from .unions import is_other, names_of
 
 PATHS = ("PathBuf", "Utf8PathBuf", "Path", "Utf8Path")
@@ -45,7 +45,7 @@ def plain_field(it, item, source):
         return replace(it, type=Type("unread", "", it.line))
     rules = tuple(replace(one, added=True) for one in found)
     whole, skip = of_names((*rules, *it.attributes.rules)), it.attributes.skip and not rules
-    if kind is it.type and whole == it.attributes.rules:
+    if kind == it.type and whole == it.attributes.rules:
         return it
     return with_rules(replace(it, type=kind), whole, skip=skip)
 
@@ -64,7 +64,8 @@ def plain_type(kind, source):
     if place_of(kind, source) in NUMBERS or is_path(kind, "NonZero"):
         return of_number(kind, source)
     if is_path(kind, "ArrayVec", "ArrayString") and kind.path[0] == "arrayvec":
-        return of_room(kind, source)
+        most = Rule("length", kind.line, mode="simple", bounds={"max": size_of(replace(kind, size=kind.args[-1].name), source)})
+        return (named_type("String", kind.line), (most,)) if kind.name == "ArrayString" else of_list(kind, source, most)
     if place_of(kind, source) == NOTHING:
         return Type("tuple", "()", kind.line), ()
     if is_path(kind, "IgnoredAny"):
@@ -76,21 +77,15 @@ def plain_type(kind, source):
     if is_path(kind, *MAPS) and len(kind.args) >= 2:
         return of_map(kind, source)
     if kind.kind == "tuple":
-        return of_tuple(kind, source), ()
+        read = [plain_type(it, source) for it in kind.args]
+        if any(rules for _, rules in read):
+            raise Refusal(kind.line, "an array, a set or a map with other keys within a tuple: give the tuple a name, as `struct Row(..);`")
+        return replace(kind, args=tuple(it for it, _ in read)), ()
     if is_option(kind) or is_path(kind, "Vec") and len(kind.args) == 1:
         held, rules = plain_type(kind.args[0], source)
         asked = tuple(it if is_option(kind) and it.name in THROUGH else within((it,)) for it in rules)
-        return (kind, ()) if held is kind.args[0] else (replace(kind, args=(held,)), asked)
+        return replace(kind, args=(held,)), asked
     return kind, ()
-
-
-def of_tuple(kind, source):
-    """A tuple, of whose items nothing more is asked than by their types."""
-    read = [plain_type(it, source) for it in kind.args]
-    if any(rules for _, rules in read):
-        raise Refusal(kind.line, "an array, a set or a map with other keys within a tuple: give the tuple a name, as `struct Row(..);`")
-    held = tuple(it for it, _ in read)
-    return kind if all(one is other for one, other in zip(held, kind.args)) else replace(kind, args=held)
 
 
 def within(rules):
@@ -109,13 +104,6 @@ def of_number(kind, source):
     return number, (Rule("range", kind.line, bounds={word: Expression("number", kind.line, it) for word, it in bounds.items() if it is not None}),)
 
 
-def of_room(kind, source):
-    """A list or a text of so many items or bytes at most."""
-    most = size_of(replace(kind, size=kind.args[-1].name), source)
-    asked = Rule("length", kind.line, mode="simple", bounds={"max": most})
-    return (named_type("String", kind.line), (asked,)) if kind.name == "ArrayString" else of_list(kind, source, asked)
-
-
 def of_list(kind, source, *asked):
     held, rules = plain_type(kind.args[0], source)
     return named_type("Vec", kind.line, held), (*asked, *([within(rules)] if rules else []))
@@ -124,7 +112,8 @@ def of_list(kind, source, *asked):
 def size_of(kind, source):
     """The length of an array: numbers and constants of the file."""
     try:
-        found = Constants(source).value_of(kind.size, named_type("usize", kind.line))
+        tokens = Parser(tokens_of(kind.size), kind.size, source.notes)
+        found = Reader(Constants(source), tokens).whole(named_type("usize", kind.line))
     except NoConstant as why:
         raise Refusal(kind.line, f"an array of `{kind.size}` items, which is no number and no constant of this file: write the number") from why
     return Expression("number", kind.line, found.value)
@@ -134,13 +123,12 @@ def of_map(kind, source):
     """A map, whose names are texts under rules."""
     asked, (held, rules) = of_key(kind.args[0], source), plain_type(kind.args[1], source)
     rules = (*([Rule("keys", kind.line, rules=asked)] if asked else []), *([within(rules)] if rules else []))
-    if is_text(kind.args[0]) and held is kind.args[1] and len(kind.args) == 2:
+    if is_text(kind.args[0]) and held == kind.args[1] and len(kind.args) == 2:
         return kind, ()
     return named_type(kind.name, kind.line, named_type("String", kind.line), held), rules
 
 
 def of_key(kind, source):
-    """The rules of a map's names."""
     held = next((it for it in source.items if it.name == kind.name), None) if kind.kind == "path" else None
     held = held if held is not None and "Deserialize" in held.derives and not set(BY_IMPL) & set(options(held)) else None
     if is_text(kind) or is_path(kind, *PATHS):

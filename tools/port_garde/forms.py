@@ -86,11 +86,9 @@ class Forms:
         return self.make("TextOr", self.texts_of(units, item, lambda it: self.side(sides[it.name])), whole)
 
     def paired(self, name, forms):
-        """Forms in pairs, of which the last holds those that are left."""
         return nested(forms, functools.partial(self.make, name))
 
     def of_untagged(self, item):
-        """A union whose variants are told apart by tests."""
         *front, whole = [self.inside(it, item) for it in item.variants]
         for form, test in reversed([*zip(front, Shapes(self.borrowed).tests(item))]):
             whole = self.make("Choice", self.test(test), form, whole)
@@ -174,7 +172,9 @@ class Forms:
             form = self.make("Nullable" if is_json else "OrEmpty", self.form(kind.args[0], within_option(rules)))
             return self.ruled(form, kind, of_whole(rules))
         if is_tuple(kind):
-            return self.ruled(self.tuple(kind), kind, rules)
+            parts = [self.make("Nth", str(at), self.form(it, ())) for at, it in enumerate(kind.args)]
+            form = self.make("InOrder", str(len(parts)), self.in_turn(parts)) if parts else self.make("Null")
+            return self.ruled(form, kind, rules)
         if is_path(kind, "Vec") or is_map(kind):
             return self.several(kind, rules)
         if kind.name in self.items:
@@ -187,13 +187,6 @@ class Forms:
         if known.form == "Flag":
             return self.ruled(self.make("Flag") if is_json else self.written_flag(), kind, rules)
         return self.ruled(self.kept() if known.form == "Kept" else self.parsed(known), kind, rules)
-
-    def tuple(self, kind):
-        """A tuple, whose items are under no rules, or `()`."""
-        if not kind.args:
-            return self.make("Null")
-        parts = [self.make("Nth", str(at), self.form(it, ())) for at, it in enumerate(kind.args)]
-        return self.make("InOrder", str(len(parts)), self.in_turn(parts))
 
     def several(self, kind, rules):
         """A list or a map: rules of how many there are, those of each item or value, those of the names of a map, and then those of the whole."""

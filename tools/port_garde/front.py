@@ -27,10 +27,7 @@ ALIKE = {
 }
 BORROWED = {"Path": "PathBuf", "Utf8Path": "Utf8PathBuf", "str": "String"}
 # The types of std and of a form that the port goes by the names of: one of the file that has such a name gets another one.
-BY_NAME = {
-    "String", "Vec", "Option", "Cow", "Box", "Rc", "BTreeMap", "HashMap", "BTreeSet", "HashSet", "VecDeque", "LinkedList", "TextRef", "Items",
-    "Entries",
-}
+BY_NAME = set(TABLES["types by the names of which the port goes"].split())
 KEYWORDS = frozenset(TABLES["keywords"].split())
 # The further names that no field has in a statement; behind them those that no variable of a pattern has.
 WORDS = KEYWORDS.union(RESERVED, ("Type",))
@@ -154,9 +151,13 @@ class Front:
         """A type by its path: one of the file, of the libraries, or of another crate or module, which has its path as its name."""
         full = self.full(kind.path)
         last = full[-1]
-        if is_form and last not in self.declared and declared(full):
-            self.declare(declared(full))
-        if last in self.declared and declared(full):
+        known = declared(full)
+        if is_form and known and last not in (*self.declared, *self.items):
+            # a type of another crate is taken for one of the file, unless that has one of its name
+            self.declared.append(last)
+            self.items[last] = known
+            self.read.update({} if self.is_generic(known) else {last: known})
+        if last in self.declared and known:
             return replace(kind, name=last, path=(last,))
         # one of this name in another module: it came under another name, or the file names both
         is_of_both = len(kind.path) > 1 and (last in self.plain or last == item.name)
@@ -168,14 +169,6 @@ class Front:
         if last in KNOWN.get(full[0], ()):
             return replace(kind, name=last, path=full if is_form else kind.path)
         return replace(kind, name="::".join(full))
-
-    def declare(self, item):
-        """Takes a type of another crate for one of the file, unless that has one of its name."""
-        if item.name not in self.items:
-            self.declared.append(item.name)
-            self.items[item.name] = item
-            if not self.is_generic(item):
-                self.read[item.name] = item
 
     # Types with parameters.
 
@@ -208,8 +201,10 @@ class Front:
         if key not in self.made:
             self.made[key] = self.free_name(name or f"{item.name}Of{'And'.join(map(camel_name, given))}", item)
             self.depth += 1
-            itself = named_type(self.made[key], kind.line)
-            self.write_instance(item, {"Self": itself, **dict(zip((it.name for it in wanted), given))}, key)
+            values = {"Self": named_type(self.made[key], kind.line), **dict(zip((it.name for it in wanted), given))}
+            made = with_fields(item, lambda it: replace(it, type=substituted(it.type, values)))
+            params, docs = tuple(it for it in item.params if it.kind == "lifetime"), told_docs(item.docs, f"{key[0]}<{key[1]}>")
+            self.read[self.made[key]] = replace(self.resolved(replace(made, params=params, docs=docs), True), name=self.made[key])
             self.depth -= 1
         return replace(kind, name=self.made[key], path=(self.made[key],), args=())
 
@@ -217,13 +212,6 @@ class Front:
         while name in self.items and name != item.name or name in self.made.values():
             name += "_"
         return name
-
-    def write_instance(self, item, values, key):
-        """The type that a use of one with parameters is."""
-        docs = told_docs(item.docs, f"{key[0]}<{key[1]}>")
-        made = with_fields(item, lambda it: replace(it, type=substituted(it.type, values)))
-        made = replace(made, params=tuple(it for it in item.params if it.kind == "lifetime"), docs=docs)
-        self.read[self.made[key]] = replace(self.resolved(made, True), name=self.made[key])
 
     # Names that stand for something else.
 

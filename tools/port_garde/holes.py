@@ -56,12 +56,13 @@ class Holes:
         self.why, self.wholes = {}, {}
 
     def of_item(self, item):
-        """An item whose fields have the types of their holes."""
         return with_variants(item, lambda variant: [found for it in variant.fields for found in self.of_names(it, item)])
 
     def of_names(self, it, item):
         """A field for each name that a member may have. One that is not read has no hole."""
-        if is_skipped(it) and self.has_hole(it):
+        trial = Holes(self.items, self.reads, self.has_members, self.own, Notes())
+        trial.of_type(it.type, "")
+        if is_skipped(it) and (trial.why or any(word in options(it) for word in BY_FUNCTION)):
             self.notes.holes.append(Hole(it.line, f"{it.name}: it is not read, and its type is not known: it is `()`; fill it in by your code"))
             return [nothing(it)]
         names = [one for one in all_options(it) if one.word == "alias"]
@@ -72,12 +73,6 @@ class Holes:
         one = optional(self.of_field(without(it, "alias", "default"), item))
         copies = [replace(without(one, "rename"), name=name) for name in others]
         return [one, *(replace(copy, serde=(*copy.serde, (replace(name, word="rename"),))) for copy, name in zip(copies, names))]
-
-    def has_hole(self, it):
-        """Whether a field would be a hole, or have one in its type."""
-        found = Holes(self.items, self.reads, self.has_members, self.own, Notes())
-        found.of_type(it.type, "")
-        return bool(found.why) or any(word in options(it) for word in BY_FUNCTION)
 
     def of_field(self, it, item):
         """A field with the types of its holes, or one that is a hole as a whole."""

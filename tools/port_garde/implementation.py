@@ -88,12 +88,11 @@ class Implementation:
         return ghost("visits", f"λ v {ctx}. {' and '.join(stated)}", laid)
 
     def of_struct(self):
-        """The body and the statements of a struct."""
         variant = self.item.variants[0]
         stated_names = [f"v.{it.name or at}" for at, it in enumerate(variant.fields)]
         pattern, code, stated, _ = self.of_variant(variant, "Self", self.bindings(variant), stated_names)
-        lines = [statement(pattern, 8, "let ", " = self;")] if variant.fields else []
-        return "\n".join([*lines, statement(self.visit(code), 8)]), stated
+        head = statement(pattern, 8, "let ", " = self;") + "\n" if variant.fields else ""
+        return head + statement(self.visit(code), 8), stated
 
     def of_enum(self):
         """The body and the statements of an enum: an arm and a case for each variant."""
@@ -121,18 +120,13 @@ class Implementation:
         return self.pattern(head, variant, names, scope), code, stated, scope
 
     def bindings(self, variant):
-        """The name of each field in the code, which hides no name of the method's own."""
-        return [f"the_{it}" if it in (*OWN, self.context[1]) else it for it in self.plain_names(variant)]
-
-    def plain_names(self, variant):
-        """The names of the fields; those of a tuple are words or, of many, letters."""
-        if variant.shape == "named":
-            return [it.name for it in variant.fields]
-        if len(variant.fields) > len(LETTERS):
+        """The name of each field in the code, which hides no name of the method's own. Those of a tuple are words or, of many, letters."""
+        count = len(variant.fields)
+        if variant.shape != "named" and count > len(LETTERS):
             raise Refusal(variant.line, f"a tuple of more than {len(LETTERS)} fields")
-        if len(variant.fields) == 1:
-            return ["value"]
-        return list(ORDINALS if len(variant.fields) <= len(ORDINALS) else LETTERS)[: len(variant.fields)]
+        of_tuple = ["value"] if count == 1 else ORDINALS if count <= len(ORDINALS) else LETTERS
+        names = [it.name for it in variant.fields] if variant.shape == "named" else of_tuple[:count]
+        return [f"the_{it}" if it in (*OWN, self.context[1]) else it for it in names]
 
     def is_bound(self, it, scope):
         return bool(it.attributes.rules) or it.name in scope.bound

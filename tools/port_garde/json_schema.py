@@ -1,4 +1,5 @@
 """The JSON Schema (draft 2020-12) of a source's type: it accepts what the form of `--schema` reads, but for what a `$comment` names."""
+import json
 import operator
 import re
 from fractions import Fraction
@@ -7,13 +8,15 @@ from .borrowed import fields_of, is_held, is_map, is_named, of_whole, within_opt
 from .defaults import in_json
 from .derives import is_skipped, of_field, options, type_names
 from .everyday import UNKNOWN
-from .expressions import SIGNED, range_of
+from .expressions import SIGNED, UNSIGNED, range_of
 from .forms import beside_dive, items_rules
 from .front import OF_CODE
 from .kinds import WHOLE, kind_of
 from .members import fields_among, flat_part, held_part, is_closed, is_flat, is_rest, own_part, own_rules, shared_rules
 from .rules import END
 from .scope import is_option, is_path, is_text
+from .source import all_rules
+from .templates import fill
 from .tokens import Refusal
 from .unions import Shapes, beside_units, is_list, is_other, is_tuple, is_unit, names_of, units_of
 from .words import camel
@@ -134,13 +137,14 @@ class JsonSchema:
             return self.of_untagged(item)
         variants = [self.names_in(units_of(item), item)] if units_of(item) else []
         for it in beside_units(item):
-            by_name = self.by_name(it, item)
+            names, others = names_of(it, item), [name for one in item.variants if one is not it for name in names_of(one, item)]
+            by_name = {"type": "string", "not": {"enum": others}} if is_other(it) else {"enum": names} if names[1:] else {"const": names[0]}
             if part := held_part(it, item, self.items):
                 variants.append(self.object(part.variants[0], part, {tag.value: by_name}, is_closed(it, item, self.items)))
                 continue
             inside = self.inside(it, item)
             if not tag:
-                variants += [{"type": "object", **with_member(name, inside), "maxProperties": 1} for name in names_of(it, item)]
+                variants += [{"type": "object", **with_member(name, inside), "maxProperties": 1} for name in names]
             elif content:
                 needed = [tag.value, *([] if is_unit(it) else [content.value])]
                 variants.append(self.closed({"type": "object", "properties": {tag.value: by_name, content.value: inside}, "required": needed}, "deny_unknown_fields" in options(item)))
@@ -157,12 +161,6 @@ class JsonSchema:
         if variant.shape == "named" and not (item.kind == "struct" and "transparent" in options(item)):
             return self.object(variant, item)
         return self.value(variant.fields[0].type, variant.fields[0].attributes.rules)
-
-    def by_name(self, variant, item):
-        if is_other(variant):
-            return {"type": "string", "not": {"enum": [name for it in item.variants if it is not variant for name in names_of(it, item)]}}
-        names = names_of(variant, item)
-        return {"const": names[0]} if len(names) == 1 else {"enum": names}
 
     def of_untagged(self, item):
         """A union whose variants are told apart by their kinds, or by tests, each of which chooses its variant."""
@@ -432,3 +430,48 @@ class JsonSchema:
         if found is None:
             raise Unsaid(f"a condition on `{'.'.join(place.value)}`")
         return found
+
+
+COMPONENTS = "#/components/schemas/"
+# The codes of the bounds of `length` and `range`.
+CODES_OF_BOUNDS = {"min": ("lower_than",), "max": ("greater_than",), "equal": ("lower_than", "greater_than")}
+# The rules whose message is the author's, so that it has a code of the author's or none.
+OF_AUTHORS = ("custom", "unique")
+
+
+def document(schema, of, route):
+    """The description (OpenAPI 3.1) of a route that takes a type as JSON, and answers by problem details (RFC 9457)."""
+    whole = schema.of(of)
+    root, defs = schema.root, whole.pop("$defs", {})
+    del whole["$schema"]
+    held = {name: among_components(it, root) for name, it in {root: whole, **defs}.items()}
+    codes, has_own = codes_of([schema.items[it] for it in held])
+    code = {"type": "string", "examples": codes} if has_own else {"enum": codes}
+    found = json.loads(fill("description of a route", dialect=DRAFT, root=root, route=json.dumps(route), code=json.dumps(code)))
+    return {**found, "components": {"schemas": {**held, **found["components"]["schemas"]}}}
+
+
+def among_components(schema, root):
+    """A schema whose parts stand among the components."""
+    if isinstance(schema, list):
+        return [among_components(it, root) for it in schema]
+    if not isinstance(schema, dict):
+        return schema
+    found = {word: among_components(it, root) for word, it in schema.items()}
+    if isinstance(found.get("$ref"), str):
+        found["$ref"] = COMPONENTS + (found["$ref"].removeprefix("#/$defs/") if "/" in found["$ref"] else root)
+    return found
+
+
+def codes_of(items):
+    """The codes that faults of these types have, in order, and whether a rule has a message of its author."""
+    rules = [rule for it in items for field in fields_of(it) for rule in all_rules(field.attributes.rules)]
+    found = {"wrong_form", "member_missing", "member_repeated"}
+    found |= {"value_unknown"} if any(is_named(it) or it.kind == "enum" for it in items) else set()
+    found |= {"member_unknown"} if any("deny_unknown_fields" in options(it) or it.kind == "enum" for it in items) else set()
+    names = {name for it in items for field in fields_of(it) for name in type_names(field.type)}
+    found |= {"out_of_range"} if names & {*UNSIGNED, *SIGNED} else set()
+    found |= {"not_a_number"} if names & {"f32", "f64"} else set()
+    found |= {it.known.code for it in rules if it.known.code}
+    found |= {f"{it.name}_{end}" for it in rules if it.name in ("length", "range") for word in it.bounds for end in CODES_OF_BOUNDS[word]}
+    return sorted(found), any(it.name in OF_AUTHORS for it in rules)

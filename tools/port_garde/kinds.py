@@ -5,7 +5,6 @@ from dataclasses import dataclass, replace
 
 from .derives import options
 from .expressions import SIGNED, UNSIGNED
-from .layout import Word, call
 from .scope import is_option, is_path, is_text
 from .source import Type, named_type, read_source
 from .templates import names, rows
@@ -110,35 +109,10 @@ def with_moments(it):
     return replace(it, type=replace(it.type, args=(moment,)) if is_option(it.type) else moment, serde=serde)
 
 
-def parsed_form(parser, schema):
-    """The form of a text that a parser reads."""
-    others, read = schema.writer.uses.others, Word(parser.name)
-    others.add(f"{parser.crate}::{parser.name}")
-    if parser.takes:
-        others.add("garde_parsed::ParsedInMemory")
-        return call("ParsedInMemory", parser.name, "()")
-    if parser.layout:
-        others |= {"garde_parsed::InText", "garde_parsed::Layout"}
-        read = call("InText", read, f"Layout::{parser.layout}")
-    return call(schema.use("Parsed", crate="garde_form"), read, "()")
-
-
-def parsed_words(parser, uses):
-    """The word that states what a parser reads, with the layout that it is given, where it has one."""
-    module = "Parsed" if parser.crate == "garde_form" else "Spelling"
-    uses.state(f"{parser.crate}.specs.{module}", parser.word)
-    if not parser.layout:
-        return (parser.word,)
-    uses.paths.add("Rattle.garde_parsed.specs.declared.layout.Layout.TheVariants as layouts")
-    return parser.word, f"layouts.{parser.layout}"
-
-
 # The lifetime of what is read.
 LIFE = "'t"
 # What a number with a fraction and a value of any kind is where a form reads it.
 DECIMAL, KEPT = "Decimal", "KeptValue"
-# The crates whose values of any kind are read, with the paths behind them; the last name of an object's type is the other one.
-OF_ANY = {"serde_json": ("Value", "Map"), "toml": ("Value", "Table")}
 
 
 @dataclass(frozen=True)
@@ -192,35 +166,24 @@ def is_made(kind, *names):
     return is_path(kind, *names) and kind.path == (kind.name,) and not kind.args and len(kind.lives) == 1
 
 
-def canonical(kind, imports):
+def canonical(kind):
     """A type of the source in which each value of any kind is `serde_json::Value`, each object of such a map, and each number of serde_json an
-    `f64`. `imports` are those of the source, each a path with the name that it gets."""
-    if kind.kind == "unread":
-        return kind
-    if kind.kind == "ref" and kind.args and crate_and_name(kind.args[0], imports)[1:] == ("RawValue",):
+    `f64`."""
+    if kind.kind == "ref" and kind.args and kind.args[0].path[-1:] == ("RawValue",):
         kind = kind.args[0]
-    if is_path(kind, "Box") and len(kind.args) == 1 and crate_and_name(kind.args[0], imports) == ("serde_json", "RawValue"):
+    if is_path(kind, "Box") and len(kind.args) == 1 and kind.args[0].path[:1] + kind.args[0].path[-1:] == ("serde_json", "RawValue"):
         kind = kind.args[0]
-    crate, name = crate_and_name(kind, imports)
+    crate, name = (kind.path[0], kind.path[-1]) if kind.path[1:] else (None, None)
     known = Type("path", "Value", kind.line, path=("serde_json", "Value"))
     if name in ("Value", "RawValue") and (crate == "serde_json" or name == "Value" and crate == "toml"):
         return known
     if crate == "serde_json" and name == "Number":
         return named_type("f64", kind.line)
-    if crate == "toml" and name == "Table" or crate in OF_ANY and name == "Map" and (not kind.args or len(kind.args) == 2 and is_text(kind.args[0])):
-        held = canonical(kind.args[1], imports) if kind.args else known
+    is_object = crate in ("serde_json", "toml") and name == "Map" and (not kind.args or len(kind.args) == 2 and is_text(kind.args[0]))
+    if is_object or crate == "toml" and name == "Table":
+        held = canonical(kind.args[1]) if kind.args else known
         return named_type("HashMap", kind.line, named_type("String", kind.line), held)
-    return replace(kind, args=tuple(canonical(it, imports) for it in kind.args))
-
-
-def crate_and_name(kind, imports):
-    """The crate that a type is of, where an import or its path says that, and its name there."""
-    if kind.kind != "path":
-        return None, None
-    path = kind.path
-    found = next((whole for whole, name in imports if name == path[0] and whole[0] != path[0]), None)
-    path = (*found, *path[1:]) if found else path
-    return (path[0], path[-1]) if len(path) > 1 else (None, path[-1])
+    return replace(kind, args=tuple(map(canonical, kind.args)))
 
 
 def text_of(it):

@@ -31,14 +31,6 @@ def literal(head, fields):
     return Parts(head, tuple(parts), LITERAL, (" { ", " }"))
 
 
-def rows(parts):
-    return Parts("", tuple(parts), CALL, ("&[", "]"))
-
-
-def angles(head, parts):
-    return Parts(head, tuple(parts), WIDTH, ("<", ">"))
-
-
 def flat(tree):
     """The code on one line."""
     if isinstance(tree, Word):
@@ -113,7 +105,6 @@ def ghost(name, text, laid):
 
 
 def use_line(path, names):
-    """A `use` line, or lines."""
     names = sorted(names, key=lambda it: [int(part) if part.isdigit() else part for part in re.split(r"(\d+)", it)])
     if len(names) == 1:
         return f"use {path}::{names[0]};"

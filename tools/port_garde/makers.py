@@ -3,7 +3,7 @@ import functools
 from dataclasses import replace
 
 from .borrowed import below
-from .layout import WIDTH, Parts, Word, angles, arm, call, flat, ghost, literal, may_be_flat, statement, wide_call
+from .layout import WIDTH, Parts, Word, arm, call, flat, ghost, literal, may_be_flat, statement, wide_call
 from .members import filled, grouped
 from .templates import fill
 from .unions import SIDES, along, paths_of, tree_of
@@ -102,7 +102,6 @@ class Makers:
         return fill("maker", **{"kept": KEPT, **made}, **head, parts=statement(types, 4, "type Parts = ", ";"))
 
     def nested(self, item):
-        """How a value of a type that holds itself is made."""
         self.schema.use("FromNested")
         self.writer.uses.prelude.add("◌≡◌")
         self.writer.uses.paths.add("Rattle.std.proofs.Common.{rules}")
@@ -152,7 +151,6 @@ class Makers:
         return taken + "\n" + statement(self.made(item.name, variant, names), 8)
 
     def of_enum(self, item):
-        """The same of an enum, by cases."""
         tree = tree_of(self.schema.items[item.name])
         sides = paths_of(tree)
         if len(item.variants) > 1:
@@ -185,7 +183,7 @@ class Makers:
     def of_tree(self, tree, variants):
         if not isinstance(tree, tuple):
             return self.types(variants[tree.name])
-        return angles("Either", (self.of_tree(it, variants) for it in tree))
+        return Parts("Either", tuple(self.of_tree(it, variants) for it in tree), WIDTH, ("<", ">"))
 
     def made(self, head, variant, names):
         """A struct or a variant, made of the names of its parts."""

@@ -21,52 +21,41 @@ def rules_of(item):
 
 def turn(source, root):
     """Gives the patterns by their names, and the types that ask for them a context. A source with a context of its own stays."""
-    asking = {it.name for it in source.items if is_ported(it) and any(map(is_quoted, rules_of(it)))}
+    ported = [it for it in source.items if is_ported(it)]
+    asking = {it.name for it in ported if any(map(is_quoted, rules_of(it)))}
     if not asking or any(it.attributes.context for it in source.items):
         return {}
-    quoted = Quoted(source, root, with_holders(source, asking))
-    source.items[:] = [quoted.item(it) if is_ported(it) else it for it in source.items]
-    return quoted.texts
-
-
-def with_holders(source, names):
-    """Types with those that validate them as parts."""
     dives = lambda it: any(rule.name == "dive" for rule in all_rules(it.attributes.rules))
-    divers = {it.name: with_variants(it, lambda variant: filter(dives, variant.fields)) for it in source.items if is_ported(it)}
-    return {name for name in divers if reached([name], divers) & names}
+    divers = {it.name: with_variants(it, lambda variant: filter(dives, variant.fields)) for it in ported}
+    # the types that ask for one, and those that validate such as parts
+    holders, texts = {name for name in divers if reached([name], divers) & asking}, {}
+    text = f"{root}Patterns as {NAME}"
+    context = Parser(tokens_of(text), text, source.notes)
+
+    def of_field(it):
+        is_handed_on = bool(type_names(it.type) & holders)
+        return with_rules(it, (with_place(rule, texts, it.name or "value", is_handed_on) for rule in it.attributes.rules))
+
+    for at, it in enumerate(source.items):
+        if is_ported(it) and it.name in holders:
+            source.items[at] = replace(with_fields(it, of_field), attributes=replace(it.attributes, context=(it.line, context)))
+    return texts
 
 
-class Quoted:
-    """The patterns of a source, by the names of the fields that ask for them, and the types whose context holds them."""
+def with_place(rule, texts, field, is_handed_on):
+    """A rule of a field whose pattern is a place of the context; a part without a pattern has no context."""
+    place, inside = rule.place, tuple(with_place(it, texts, field, is_handed_on) for it in rule.rules)
+    if is_quoted(rule):
+        place = Expression("place", rule.line, (NAME, pattern_name(texts, field, rule.text)))
+    elif rule.name == "dive" and place is None and not is_handed_on:
+        place = Expression("unit", rule.line)
+    return replace(rule, place=place, rules=inside)
 
-    def __init__(self, source, root, holders):
-        self.source, self.holders, self.texts = source, holders, {}
-        text = f"{root}Patterns as {NAME}"
-        self.context = Parser(tokens_of(text), text, source.notes)
 
-    def item(self, item):
-        """A type in whose rules each pattern is a place of its context."""
-        if item.name not in self.holders:
-            return item
-        return replace(with_fields(item, self.field), attributes=replace(item.attributes, context=(item.line, self.context)))
-
-    def field(self, it):
-        is_handed_on = bool(type_names(it.type) & self.holders)
-        return with_rules(it, (self.rule(rule, it.name or "value", is_handed_on) for rule in it.attributes.rules))
-
-    def rule(self, rule, field, is_handed_on):
-        """A rule of a field; a part without a pattern has no context."""
-        place, inside = rule.place, tuple(self.rule(it, field, is_handed_on) for it in rule.rules)
-        if is_quoted(rule):
-            place = Expression("place", rule.line, (NAME, self.name(field, rule.text)))
-        elif rule.name == "dive" and place is None and not is_handed_on:
-            place = Expression("unit", rule.line)
-        return replace(rule, place=place, rules=inside)
-
-    def name(self, field, text):
-        """The name of a pattern: that of its field, with a number where another pattern has it."""
-        name, number = field, 1
-        while self.texts.setdefault(name, text) != text:
-            number += 1
-            name = f"{field}_{number}"
-        return name
+def pattern_name(texts, name, text):
+    """The name of a pattern among such: that of its field, with a number where another pattern has it."""
+    found, number = name, 1
+    while texts.setdefault(found, text) != text:
+        number += 1
+        found = f"{name}_{number}"
+    return found

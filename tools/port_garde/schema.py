@@ -9,8 +9,7 @@ from .derives import all_types, of_field, type_names
 from .forms import Forms
 from .implementation import OWN
 from .inputs import Reader
-from .kinds import parsed_form
-from .layout import WIDTH, Method, Word, call, flat, ghost, head_of_method, rows as lent_rows, statement
+from .layout import WIDTH, Method, Parts, Word, call, flat, ghost, head_of_method, statement
 from .makers import Makers, places, side_pattern, tuple_of, wide
 from .members import fields_among, filled, grouped, groups_in, numbers_in, own_part, part_of, shared_rules
 from .scope import Place, Seen
@@ -41,6 +40,7 @@ class Schema(Forms):
     def __init__(self, writer):
         super().__init__(writer)
         self.makers, self.making = Makers(self), Making(self)
+        self.given, self.default = self.making.given, self.making.maker
         self.holding, self.lent = set(), set()
         self.spellings = Spellings(self, writer.checked) if writer.checked else None
 
@@ -182,19 +182,18 @@ class Schema(Forms):
         return parts[0] if len(parts) == 1 else call("", *parts) if parts else Word("()")
 
     def asked_of_all(self, members, group, variant, item):
-        asked = [(of_field(it, variant, item), self.rules_of(it, variant, item)) for it in (variant.fields[at] for at in group.asked)]
-        return self.make("Checked", members, together([self.make("Under", f'"{name}"', rules) for name, rules in asked]))
+        asked = []
+        for it in (variant.fields[at] for at in group.asked):
+            name = self.name_at(it, variant, item, "Rules")
+            rules = call(name, self.writer.context_of(item)[1]) if name in self.holding else Word(name)
+            asked.append(self.make("Under", f'"{of_field(it, variant, item)}"', rules))
+        return self.make("Checked", members, together(asked))
 
     def asked_of_member(self, form, name, kind, rules):
         return self.make("Checked", form, self.make("Under", name, self.asked(kind, rules)))
 
-    def rules_of(self, it, variant, item):
-        """What a field asks of a group, as a value."""
-        name = self.name_at(it, variant, item, "Rules")
-        return call(name, self.writer.context_of(item)[1]) if name in self.holding else Word(name)
-
     def rows(self, rows):
-        return lent_rows(call("", f'"{name}"', value) for name, value in rows)
+        return Parts("", tuple(call("", f'"{name}"', value) for name, value in rows), brackets=("&[", "]"))
 
     def named(self, variant, item):
         return f"{item.name}::{variant.name}"
@@ -209,12 +208,6 @@ class Schema(Forms):
     def among(self, names):
         return names
 
-    def given(self, default, it, variant, item):
-        return self.making.given(default, it, variant, item)
-
-    def default(self, default, it, variant, item):
-        return self.making.maker(default, it, variant, item)
-
     def of_item(self, kind):
         """The form of a type of the file, which stands before."""
         return self.before(f"{snake(kind.name)}_form", is_named(self.items[kind.name]))
@@ -228,7 +221,12 @@ class Schema(Forms):
         return Word(f"{'&' if name in self.lent and not is_copied else ''}{name}")
 
     def parsed(self, parser):
-        return parsed_form(parser, self)
+        read = Word(self.use(parser.name, crate=parser.crate))
+        if parser.takes:
+            return call(self.use("ParsedInMemory", crate="garde_parsed"), read, "()")
+        if parser.layout:
+            read = call(self.use("InText", "Layout", crate="garde_parsed"), read, f"Layout::{parser.layout}")
+        return self.make("Parsed", read, "()")
 
     def kept(self):
         return self.make("Kept")

@@ -94,12 +94,8 @@ class Scope:
     def with_item(self, name, place, fields):
         """The same, and an item of a list, which is a place with these fields."""
         found = Scope(self.context, self.places, self.params, self.unit, self.value, self.fields)
-        found.items = dict(self.items)
-        found.add_item(name, place, fields)
+        found.items = {**self.items, name: (place, dict(fields))}
         return found
-
-    def add_item(self, name, place, fields):
-        self.items[name] = (place, dict(fields))
 
     def the_context(self):
         self.asks_context = True

@@ -7,7 +7,6 @@ from .borrowed import is_named
 from .derives import of_field
 from .forms import Forms
 from .inputs import Reader
-from .kinds import parsed_words
 from .layout import WIDTH
 from .makers import places
 from .members import filled, numbers_in, part_of, shared_rules
@@ -136,7 +135,6 @@ class Spellings(Forms):
     # Types.
 
     def of_type(self, item):
-        """What JSON spells of a type."""
         if is_named(item):
             return self.of_names(item)
         if item.kind == "enum":
@@ -217,13 +215,15 @@ class Spellings(Forms):
     # Values.
 
     def of_item(self, kind):
-        """What JSON spells of a type of the file."""
         name = self.writer.type_text(self.borrowed.type_of(kind), True)
         spelling, is_under = self.spelling_of(self.items[kind.name], name)
         return said(*spelling.rsplit(" ", 1)) if is_under else Said(spelling)
 
     def parsed(self, parser):
-        return said(*parsed_words(parser, self.writer.uses))
+        uses, module = self.writer.uses, "Parsed" if parser.crate == "garde_form" else "Spelling"
+        uses.state(f"{parser.crate}.specs.{module}", parser.word)
+        uses.paths |= {"Rattle.garde_parsed.specs.declared.layout.Layout.TheVariants as layouts"} if parser.layout else set()
+        return said(parser.word, *([f"layouts.{parser.layout}"] if parser.layout else []))
 
     def kept(self):
         self.writer.uses.paths.add("Rattle.garde_schema.specs.Kept.{any_value}")

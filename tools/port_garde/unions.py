@@ -16,8 +16,6 @@ TESTS = {"has": "Has", "has_with": "HasWith", "any": "AnyOf", "both": "Both", "n
 SIDES = {"l": "Left", "r": "Right"}
 # How two tests are joined.
 ANY, BOTH = (lambda it, rest: ("any", it, rest)), (lambda it, rest: ("both", it, rest))
-# A tuple of more items is a tuple in a tuple, whose value is another one.
-MOST_ITEMS = 6
 
 
 def is_unit(variant):
@@ -31,14 +29,6 @@ def is_tuple(kind):
 def is_list(variant):
     """Whether the fields of a variant, or of a struct, are a list in JSON."""
     return variant.shape == "tuple" and len(variant.fields) != 1
-
-
-def faults_of_tuple(kind):
-    """Why no form reads a tuple."""
-    if len(kind.args) == 1:
-        yield "a tuple of one value, which no form of `--schema` reads: write the value, or a list"
-    if len(kind.args) > MOST_ITEMS:
-        yield f"a tuple of more than {MOST_ITEMS} values, which no form of `--schema` reads: write a struct with fields without names, as `struct Row(..);`"
 
 
 def is_other(variant):

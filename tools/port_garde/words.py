@@ -6,10 +6,11 @@ from .conditions import Conditions, same_by
 from .derives import type_names
 from .expressions import CONTEXT, SIGNED, UNSIGNED, places_in, range_of as whole_range
 from .kinds import DECIMAL, KEPT, is_made, text_of
-from .layout import Behind, Word, call, literal
+from .layout import Behind, Word, call, lifetimes_of, literal
 from .rules import OURS, REPEATED, RULES
 from .scope import Place, Scope, Seen, is_option, is_path, is_text
 from .source import named_type
+from .templates import fill
 from .tokens import Refusal
 
 # The word for what a `length` counts of a text.
@@ -234,7 +235,9 @@ class Checks:
         """A rule of a text that a view shows of the value."""
         _, *path = adapter
         name, kind = camel(path[-1]), self.writer.type_text(seen.type)
-        self.writer.own_view(name, "::".join(path), kind)
+        docs = f"/// A view to be written, in place of the module `{'::'.join(path)}`: the text of which the rules are asked."
+        view = fill("view to be written", docs=docs, vis=self.writer.item.vis, name=name, kind=kind, bound=lifetimes_of(kind))
+        self.writer.skeletons[name] = ("View", view)
         text = named_type("String", rule.line)
         shown = Seen(text, f"(⟦<{name} as garde::fields::View<{kind}>>⟧.seen (record {{}}) {seen.name})", seen.depth)
         value, fault, taking = self.value(rule, shown)

@@ -9,20 +9,17 @@ from .front import Front, place_named
 from .implementation import Implementation
 from .kinds import KNOWN
 from .layout import CALL, VARIANT, WIDTH, Method, Word, call, ghost, head_of_method, holding, lifetimes_of, literal, statement, use_line
-from .quoted import BESIDE_CONTEXT, turn as quoted_of
+from .quoted import BESIDE_CONTEXT, pattern_name, turn as quoted_of
 from .rules import read_function
 from .schema import Schema, snake, within_rule
 from .scope import Scope, Uses
 from .second import faults_of_values, lost_of_names, lost_of_serde, passed_by
 from .source import all_rules, is_ported, read_source
-from .templates import fill
+from .templates import fill, names
 from .tokens import Refusal, Refusals
 from .words import camel
 
-COLLECTIONS = ("BTreeMap", "BTreeSet", "BinaryHeap", "HashMap", "HashSet", "LinkedList", "VecDeque")
-IMPORTS = {name: f"std::collections::{name}" for name in COLLECTIONS}
-IMPORTS.update({name: f"garde_schema::{name}" for name in ("TextRef", "Items", "Entries", "Decimal", "KeptValue")})
-IMPORTS.update({"Rc": "std::rc::Rc", **{name: f"std::net::{name}" for name in ("IpAddr", "Ipv4Addr", "Ipv6Addr")}, "Regex": "garde::rules::pattern::regex::Regex"})
+IMPORTS = {name: f"{module}::{name}" for module, listed in names("modules of the types that are written").items() for name in listed}
 # The crates whose names are imported as the output has them.
 WRITTEN = ("std", "core", "alloc", "garde", "regex", "serde", "serde_derive")
 GARDE = {"I18n", "Report", "Stated", "Trail", "Validate", "AllocError", "Global", "Rule", "View", "RuleError"}
@@ -295,13 +292,7 @@ class Writer:
         """A place in the context of the type for a pattern in quotes, and its name."""
         if self.item.attributes.context:
             raise Refusal(rule.line, BESIDE_CONTEXT)
-        places = self.patterns.setdefault(self.item.name, {})
-        name, number = self.spot, 1
-        while places.get(name, rule.text) != rule.text:
-            number += 1
-            name = f"{self.spot}_{number}"
-        places[name] = rule.text
-        return name
+        return pattern_name(self.patterns.setdefault(self.item.name, {}), self.spot, rule.text)
 
     def pattern_struct(self, item):
         """The context that holds the compiled patterns of a type, and what compiles them."""
@@ -416,11 +407,6 @@ class Writer:
         if self.copied.setdefault(name, text) != text:
             raise Refusal(line, f"`{function or name}` of values of two types: write a function for each")
 
-    def own_view(self, name, path, kind):
-        docs = f"/// A view to be written, in place of the module `{path}`: the text of which the rules are asked."
-        text = fill("view to be written", docs=docs, vis=self.item.vis, name=name, kind=kind, bound=lifetimes_of(kind))
-        self.skeletons[name] = ("View", text)
-
     def hole(self, name, is_among=False):
         """The form of a type whose reading stands in the module of one's own, with the type itself; or that of its members, where they stand
         among those of another type."""
@@ -456,7 +442,13 @@ class Writer:
         return ".".join(["Rattle", crate, "specs", "declared", *modules, item.name])
 
     def use_lines(self):
-        paths = {f"garde::fields::{name}" for name in self.uses.fields | self.uses.kept_fields} | self.uses.others | self.uses.kept_others | self.crate_imports()
+        paths = {f"garde::fields::{name}" for name in self.uses.fields | self.uses.kept_fields} | self.uses.others | self.uses.kept_others
+        named = {name for item in self.source.items for name in names_of(item)}
+        holes = self.borrowed.holes if self.borrowed else ()
+        # what the types here still name of its own crate and of others
+        for path, name in self.source.imports:
+            if path[0] not in WRITTEN and name in named and (path[0], path[-1]) not in KNOWN and name not in holes:
+                paths.add("::".join(path) + (f" as {name}" if name != path[-1] else ""))
         paths |= {"garde::Stated"} if any(is_ported(it) and not self.is_nested(it) for it in self.source.items) else set()
         if self.own:
             paths |= {f"{self.own}::{name}" for name in self.skeletons}
@@ -469,15 +461,6 @@ class Writer:
             grouped.setdefault(module, set()).add(name)
         order = sorted(grouped, key=lambda it: [(part[:1].islower() is False, part) for part in it.split("::")] + [(True, "~")])
         return "\n".join(use_line(module, grouped[module]) for module in order)
-
-    def crate_imports(self):
-        """The imports of the source from its own crate and from others that the types here still name."""
-        named = {name for item in self.source.items for name in names_of(item)}
-        kept = set()
-        for path, name in self.source.imports:
-            if path[0] not in WRITTEN and name in named and (path[0], path[-1]) not in KNOWN and not (self.borrowed and name in self.borrowed.holes):
-                kept.add("::".join(path) + (f" as {name}" if name != path[-1] else ""))
-        return kept
 
 
 def ghost_use(module, words):
