@@ -6,7 +6,6 @@ from dataclasses import dataclass, replace
 
 from .derives import is_skipped, of_field, of_variant, options
 from .expressions import SIGNED, UNSIGNED, VALUE, inside_of, number_of, range_of, resolved
-from .kinds import is_declared
 from .layout import Method, Word, call, ghost, holding, literal, statement
 from .members import own_rules
 from .scope import is_option, is_path, is_text
@@ -308,7 +307,7 @@ class Reader:
             return self.constants.of_type(kind)
         if variant is not None and variant.shape == "tuple":
             return Value("made", kind, variant.name, given.in_turn([it.type for it in variant.fields]), item)
-        if names[0] == kind.name and names[-1] in SPANS and is_declared(item, "Duration"):
+        if names[0] == kind.name and names[-1] in SPANS and item is not None and item.known == "Duration" and not item.end:
             name, count = names[-1], given.ended(given.number(named_type("u64", kind.line))).value
             numbers = (count // SPANS[name], count % SPANS[name] * (10**9 // SPANS[name]))
             parts = tuple(Value("number", it.type, number) for it, number in zip(item.variants[0].fields, numbers))

@@ -57,11 +57,6 @@ def output_of(source):
     return source.with_name(source.name[: -len(END)] + ".rt")
 
 
-def answers_of(crate, source, function):
-    """The file of the answers for a function that a source gives."""
-    return crate.joinpath("proofs", *names_of(crate, source), function, "Answers.antt")
-
-
 def old(output):
     """What stands in an output, or nothing."""
     try:

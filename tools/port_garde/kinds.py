@@ -27,11 +27,6 @@ NUMBERS = {
 NOTHING = ("std", "PhantomData")
 
 
-def is_declared(item, name):
-    """Whether a type is that one of these which has this name."""
-    return item is not None and item.known == name and not item.end
-
-
 def declared(path):
     """The type that a whole path names, as it would be declared, or nothing."""
     home, *modules = HOMES.get(path[-1], ("",))
@@ -75,25 +70,19 @@ WAYS = {tuple(name.split("::")): way for name, way in rows("texts that no parser
 CRATES = {"std": "std", "core": "std", "alloc": "std", **dict.fromkeys(("uuid", "url", "chrono", "jiff", "time", "semver", "http", "js_int"), "")}
 
 
-def crate_of(kind, source):
-    """The crate that a type of a path is from, by its path or by the imports of the file."""
-    if kind.path == ("char",):
-        return ""
-    first = kind.path[0]
-    if len(kind.path) > 1 and first in CRATES:
-        return CRATES[first] or first
-    imported = [path[0] for path, name in source.imports if name in (first, "*") and path[0] in CRATES]
-    known = [it for it in imported if (CRATES[it] or it, kind.name) in (*KNOWN, *WAYS, *NUMBERS, NOTHING)]
-    return (CRATES[known[0]] or known[0]) if known else None
-
-
 def place_of(kind, source):
-    """The crate and the name of a type that no item of the file declares."""
+    """The crate and the name of a type that no item of the file declares, by its path or by the imports of the file."""
     if kind.kind != "path" or any(it.name == kind.name for it in source.items):
         return None
     # an import may give it another name than it has in its crate
     names = (path[-1] for path, name in source.imports if len(kind.path) == 1 and name == kind.name and name != "*")
-    return crate_of(kind, source), next(names, kind.name)
+    first, name = kind.path[0], next(names, kind.name)
+    if kind.path == ("char",):
+        return "", name
+    if len(kind.path) > 1 and first in CRATES:
+        return CRATES[first] or first, name
+    homes = [CRATES[path[0]] or path[0] for path, known in source.imports if known in (first, "*") and path[0] in CRATES]
+    return next((it for it in homes if (it, kind.name) in (*KNOWN, *WAYS, *NUMBERS, NOTHING)), None), name
 
 
 def with_moments(it):

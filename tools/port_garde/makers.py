@@ -6,7 +6,7 @@ from .borrowed import below
 from .layout import WIDTH, Parts, Word, arm, call, flat, ghost, literal, may_be_flat, statement, wide_call
 from .members import filled, grouped
 from .templates import fill
-from .unions import SIDES, along, paths_of, tree_of
+from .unions import SIDES, along, beside_units, nested, paths_of, units_of
 
 KEPT = "    ghost kept = { λ _. refl };"
 
@@ -151,7 +151,8 @@ class Makers:
         return taken + "\n" + statement(self.made(item.name, variant, names), 8)
 
     def of_enum(self, item):
-        tree = tree_of(self.schema.items[item.name])
+        known = self.schema.items[item.name]
+        tree = nested([nested(it) for it in (units_of(known), beside_units(known)) if it])
         sides = paths_of(tree)
         if len(item.variants) > 1:
             self.schema.use("Either")

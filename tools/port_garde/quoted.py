@@ -15,14 +15,10 @@ def is_quoted(rule):
     return rule.name == "pattern" and rule.place is None
 
 
-def rules_of(item):
-    return [rule for it in fields_of(item) for rule in all_rules(it.attributes.rules)]
-
-
 def turn(source, root):
     """Gives the patterns by their names, and the types that ask for them a context. A source with a context of its own stays."""
     ported = [it for it in source.items if is_ported(it)]
-    asking = {it.name for it in ported if any(map(is_quoted, rules_of(it)))}
+    asking = {it.name for it in ported for field in fields_of(it) if any(map(is_quoted, all_rules(field.attributes.rules)))}
     if not asking or any(it.attributes.context for it in source.items):
         return {}
     dives = lambda it: any(rule.name == "dive" for rule in all_rules(it.attributes.rules))

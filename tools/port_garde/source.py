@@ -480,18 +480,17 @@ class Parser(Rules):
         line, name = self.line, self.name("a variant")
         if outer.attributes.asked:
             self.notes.refuse(line, f"an attribute at the variant `{name}`: attributes stand at types and at fields")
-        variant = self.read_variant_body(name, line, outer.docs)
-        return replace(variant, serde=outer.serde, others=outer.others, number=self.read_discriminant(name) if self.takes("=") else "")
-
-    def read_discriminant(self, name):
-        """Reads the number of a variant, which stands there as it is."""
+        variant = replace(self.read_variant_body(name, line, outer.docs), serde=outer.serde, others=outer.others)
+        if not self.takes("="):
+            return variant
+        # its number stands there as it is
         line, number = self.line, "-" * self.takes("-")
         if self.first.kind == "number":
             number += self.take().text
         if not self.ended() and not self.sees(",") or number in ("", "-"):
             self.notes.refuse_walk(line, f"the variant `{name}` whose number is computed: write the number itself")
             self.skip_to(",")
-        return number
+        return replace(variant, number=number)
 
     def read_variant_body(self, name, line, docs):
         self.no_where()

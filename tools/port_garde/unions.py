@@ -57,12 +57,6 @@ def nested(parts, join=lambda it, rest: (it, rest)):
     return functools.reduce(lambda rest, it: join(it, rest), reversed(parts))
 
 
-def tree_of(item):
-    """The variants as the value of the form holds them: one alone, or two sides."""
-    sides = [nested(it) for it in (units_of(item), beside_units(item)) if it]
-    return nested(sides)
-
-
 def paths_of(tree, path=""):
     """Each variant of a tree, by its name, with its sides from the root."""
     if not isinstance(tree, tuple):

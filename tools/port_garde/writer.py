@@ -238,10 +238,8 @@ class Writer:
             return f"[{inside[0]}; {kind.size}]"
         if kind.kind == "tuple":
             return f"({', '.join(inside)}{',' * (len(inside) == 1)})"
-        return self.path_text(kind, [*lives, *inside])
-
-    def path_text(self, kind, inside):
-        """A type by its path: those of std by their last name, which is imported."""
+        # by its path: those of std by their last name, which is imported
+        inside = [*lives, *inside]
         if kind.name == "Arc":
             self.notes.refuse(kind.line, "the type `Arc`, which is not there: write `Rc`")
         if kind.name == "Cow" and inside[1:] == ["str"]:
