@@ -1,4 +1,4 @@
-"""The derives of a type and its attributes beside those of garde: which are kept, and why each other one is not."""
+"""The derives of a type and its attributes beside those of garde: which are kept, why each other one is not, and the names in JSON."""
 import re
 from dataclasses import dataclass
 

@@ -1,4 +1,5 @@
-"""The JSON Schema (draft 2020-12) of a source's type: it accepts what the form of `--schema` reads, but for what a `$comment` names."""
+"""The JSON Schema (draft 2020-12) of a source's type: it accepts what the form of `--schema` reads, but for what a `$comment` names. The
+description (OpenAPI 3.1) of a route has it."""
 import json
 import operator
 import re

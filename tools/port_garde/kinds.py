@@ -1,4 +1,5 @@
-"""The kinds of types whose values have no parts in JSON: by which form each is read, what that makes, and what a JSON Schema says of it."""
+"""The kinds of types whose values have no parts in JSON: by which form each is read, what that makes, and what a JSON Schema says of it. Some
+are texts that a parser reads; other types of std and of other crates are read as types of the file, as declared.rs has them."""
 import json
 import pathlib
 from dataclasses import dataclass, replace
@@ -10,9 +11,9 @@ from .source import Type, named_type, read_source
 from .templates import names, rows
 from .tokens import Refusal
 
-# The crates and the modules that these types are of. Those that have `-` too are there without an import.
+# The crates and the modules of the types of declared.rs. Those that have `-` too are there without an import.
 HOMES = names("modules of declared types")
-# They stand nowhere in the text of a source.
+# These types, which stand nowhere in the text of a source.
 DECLARED = pathlib.Path(__file__).with_name("declared.rs").read_text(encoding="utf-8")
 ITEMS = {it.name: replace(it, start=0, end=0) for it in read_source(DECLARED).items}
 # The greatest number up to which a float holds each whole number.

@@ -1,5 +1,6 @@
 """The members of a form that rules look at together. A rule of a field that speaks of other fields is asked of a run of members: from the
-first one that it speaks of to the last. A map under `flatten` stands behind a group of all others."""
+first one that it speaks of to the last. A map under `flatten` stands behind a group of all others. Members of one type stand among those of
+another one under `flatten`, and under a `tag` whose variant holds a struct."""
 from dataclasses import replace
 
 from .derives import is_skipped, of_field, options

@@ -1,5 +1,5 @@
 """What a crate lacks of what its written modules name: a line that declares a module, items that are written by hand, and names of a copy
-of `garde` in which what was not needed is left out."""
+of `garde` in which what was not needed is left out. Skeletons that compile as they are, those of holes, are written where they lack."""
 import re
 
 from .kept import WRITTEN, names_of, put

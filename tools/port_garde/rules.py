@@ -1,4 +1,5 @@
-"""What the attributes `#[garde(..)]` ask."""
+"""What the attributes `#[garde(..)]` ask. A rule of one's own that the port reads is a message, and the condition under which it is not said:
+written as `asks("..", ..)`, or as a closure or a function that gives `Ok(())` where the condition holds, and else an error."""
 import re
 from dataclasses import dataclass, field, replace
 from fractions import Fraction

@@ -1,4 +1,4 @@
-"""The items of a Rust source file: structs, enums, constants, functions and imports."""
+"""The items of a Rust source file: structs, enums, constants, functions and imports, under the conditions of the build."""
 from collections import namedtuple
 from dataclasses import dataclass, field, replace
 
