@@ -66,21 +66,17 @@ def lay(tree, column, indent, after=0):
     if isinstance(tree, Behind):
         return tree.text + lay(tree.part, column + len(tree.text), indent, after)
     if isinstance(tree, Method):
-        return lay_method(tree, column, indent)
+        receiver, arguments = lay(tree.receiver, column, indent), commas(tree.parts)
+        if "\n" not in receiver:
+            # behind one of one line the arguments go on
+            return f"{receiver}.{tree.name}(\n{' ' * (indent + 4)}{arguments},\n{' ' * indent})"
+        hangs = isinstance(tree.receiver, Parts) and tree.receiver.brackets[0] == "(" and not tree.receiver.head
+        return f"{receiver}\n{' ' * (indent + 4 * hangs)}.{tree.name}({arguments})"
     opening, closing = tree.brackets
     if opening == "(" and len(tree.parts) == 1 and tree.head and not isinstance(tree.parts[0], Word):
         return f"{tree.head}({lay(tree.parts[0], column + len(tree.head) + 1, indent, after + 1)})"
     inside = "".join(f"{' ' * (indent + 4)}{lay(it, indent + 4, indent + 4, 1)},\n" for it in tree.parts)
     return f"{tree.head}{opening.rstrip()}\n{inside}{' ' * indent}{closing.lstrip()}"
-
-
-def lay_method(tree, column, indent):
-    """A call of a method behind a receiver that does not leave room for it: behind one of one line the arguments go on."""
-    receiver, tail = lay(tree.receiver, column, indent), f".{tree.name}({commas(tree.parts)})"
-    if "\n" not in receiver:
-        return f"{receiver}.{tree.name}(\n{' ' * (indent + 4)}{commas(tree.parts)},\n{' ' * indent})"
-    hangs = isinstance(tree.receiver, Parts) and tree.receiver.brackets[0] == "(" and not tree.receiver.head
-    return f"{receiver}\n{' ' * (indent + 4 * hangs)}{tail}"
 
 
 def statement(tree, indent, before="", after=""):

@@ -49,9 +49,9 @@ def taking(pattern, indent):
     return f"{head}\n{line}" if fits else statement(pattern, indent, "let ", " = parts;")
 
 
-def ghost_tuple(name, head, parts):
+def ghost_tuple(first, parts):
     """A ghost member that is a tuple: on its own line or the next one where it fits, and else with a line for each part."""
-    first, rest, rows = f"    ghost {name} = {{ {head}", f"{tuple_text(parts)} }};", tuple_rows(parts, 6)
+    rest, rows = f"{tuple_text(parts)} }};", tuple_rows(parts, 6)
     if len(first) + 1 + len(rest) <= WIDTH or len(rows) == 1:
         return f"{first} {rest}"
     return f"{first}\n        {rest}" if 8 + len(rest) <= WIDTH else "\n".join([f"{first} (", *rows, "    ) };"])
@@ -139,7 +139,7 @@ class Makers:
         rows = [f"{name} = {place}" for name, place in zip(names, places(self.tree(variant, names), "parts"))]
         laid = " λ parts. record {\n" + "".join(f"      {it};\n" for it in rows) + "    }"
         builds = ghost("builds", f"λ parts. record {{ {'; '.join(rows)} }}", laid)
-        parts_of = ghost_tuple("parts_of", "λ v.", self.tree(variant, [f"v.{it}" for it in names]))
+        parts_of = ghost_tuple("    ghost parts_of = { λ v.", self.tree(variant, [f"v.{it}" for it in names]))
         return self.types(variant), {"builds": builds, "parts_of": parts_of, "body": self.body(item, variant)}
 
     def body(self, item, variant):

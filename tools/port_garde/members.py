@@ -201,7 +201,12 @@ def of_field_faults(it, variant, item, borrowed):
     if shared_rules(it):
         yield "its rules speak of other fields, so write them at one of those"
     if is_rest(it):
-        yield from of_rest_faults(it, variant)
+        if variant.fields[-1] is not it:
+            yield "it takes every other member, so write this field last"
+        if len(variant.fields) == 1:
+            yield "it is the only field, so write `#[serde(transparent)]` at the type"
+        asked = sorted({rule.name for rule in it.attributes.rules} - {"inner", "dive"})
+        yield from (f"a form asks rules of its values alone, so take out `{name}`" for name in asked[:1])
         return
     part = flat_part(it, borrowed.items)
     if part is None and not (borrowed.own and own_part(it, borrowed.items)):
@@ -215,14 +220,3 @@ def of_field_faults(it, variant, item, borrowed):
         yield f"`{part.name}` takes every other member, so write this field last"
     if is_always_there(it, borrowed):
         yield f"each member of `{part.name}` may be missing, so serde always gives a value: write `{part.name}` in place of the option"
-
-
-def of_rest_faults(it, variant):
-    """Why a map has no form under `flatten`."""
-    if variant.fields[-1] is not it:
-        yield "it takes every other member, so write this field last"
-    if len(variant.fields) == 1:
-        yield "it is the only field, so write `#[serde(transparent)]` at the type"
-    asked = sorted({rule.name for rule in it.attributes.rules} - {"inner", "dive"})
-    if asked:
-        yield f"a form asks rules of its values alone, so take out `{asked[0]}`"

@@ -98,23 +98,21 @@ class Checks:
 
     def each(self, rule, seen, adapter):
         """The rules within `inner`, or a `dive`, of each item."""
-        held, word, name = self.items_of(rule, seen)
+        kind, key = seen.type, seen.type.args[0].name if len(seen.type.args) == 2 else ""
+        if is_lent_slice(kind):
+            item, word = kind.args[0].args[0], "each"
+        elif kind.name in EACH and kind.args:
+            item, word = kind.args[0], EACH[kind.name]
+        elif kind.name in EACH_VALUE and key in KEYS:
+            item, word = kind.args[1], f"{EACH_VALUE[kind.name]} {KEYS[key]}"
+        elif kind.name == "Entries":
+            item, word = kind.args[0], "each_value key_part"
+        else:
+            raise Refusal(rule.line, f"`{rule.name}` of the type `{self.writer.type_text(kind, True)}`, whose items the port does not know")
+        held, word = seen.part(item), self.say(word)
+        name = f"{seen.name}.now" if is_lent_slice(kind) else self.held(kind, seen)
         code, spec = self.of([rule] if rule.name == "dive" else rule.rules, held, adapter)
         return call(self.field("Each"), code), f"{word} (λ {held.name}. {spec}) {name}"
-
-    def items_of(self, rule, seen):
-        """The items of a collection: one of them, and the word for each with what it is given."""
-        kind = seen.type
-        if is_lent_slice(kind):
-            return seen.part(kind.args[0].args[0]), self.say("each"), f"{seen.name}.now"
-        if kind.name in EACH and kind.args:
-            return seen.part(kind.args[0]), self.say(EACH[kind.name]), self.held(kind, seen)
-        key = kind.args[0].name if len(kind.args) == 2 else ""
-        if kind.name in EACH_VALUE and key in KEYS:
-            return seen.part(kind.args[1]), self.say(f"{EACH_VALUE[kind.name]} {KEYS[key]}"), self.held(kind, seen)
-        if kind.name == "Entries":
-            return seen.part(kind.args[0]), self.say("each_value key_part"), seen.name
-        raise Refusal(rule.line, f"`{rule.name}` of the type `{self.writer.type_text(kind, True)}`, whose items the port does not know")
 
     def unique(self, rule, seen, adapter):
         """That no two items of a list are the same."""
