@@ -1,6 +1,5 @@
 /** Measures checks of orders by turns, in a browser and in Node: bench/in_browser prints the least microseconds of each. */
 import Ajv from './ajv.js';
-import { load } from './wasm/index.js';
 
 const isNode = typeof process === 'object';
 const module = isNode
@@ -64,6 +63,7 @@ function order(lines, line) {
 
 /** The least milliseconds from the bytes of a module to a first answer. Each has a section of its own, so none is found compiled. */
 async function started() {
+  const { load } = await import('./wasm/index.js');
   let least = Infinity;
   for (let n = 0; n < 20; n++) {
     const bytes = new Uint8Array([...module, 0, 3, 1, 120, n]);
@@ -74,11 +74,16 @@ async function started() {
   return least;
 }
 
+/** An instance with a copy of the JavaScript for itself, as in a program that loads one: so V8 compiles each for what it does. */
+async function instance(name, bits) {
+  const { load } = await import(`./wasm/index.js?${name}`);
+  return load(new URL('wasm/order.wasm', import.meta.url), { bits });
+}
+
 const start = await started();
-const narrow = await load(module);
-const ways = { 'by hand': byHand, ajv: byAjv, '32 bits': narrow.check, '32 bits, value': valueBy(narrow.value) };
-const wide = await load();
-if (WebAssembly.validate(Uint8Array.of(0, 97, 115, 109, 1, 0, 0, 0, 5, 3, 1, 4, 1))) ways['64 bits'] = wide.check;
+const ways = { 'by hand': byHand, ajv: byAjv, '32 bits': (await instance('check', 32)).check, '32 bits, value': valueBy((await instance('value', 32)).value) };
+const memory64 = Uint8Array.of(0, 97, 115, 109, 1, 0, 0, 0, 5, 3, 1, 4, 1);
+if (WebAssembly.validate(memory64)) ways['64 bits'] = (await instance('wide', 64)).check;
 if (isNode) {
   const addon = (await import('node:module')).createRequire(import.meta.url)('./node/index.js');
   Object.assign(ways, { addon: ofBytes(addon.check), 'addon, value': ofBytes(valueBy(addon.value)), 'ajv of bytes': ofBytes(byAjv) });

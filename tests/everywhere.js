@@ -147,6 +147,17 @@ function worker() {
   });
 }
 
+/** The bits of the module that is loaded: Node reads a file, and a browser fetches one. */
+async function bitsOf({ load }, wide, options) {
+  const { compile, compileStreaming } = WebAssembly;
+  let bits;
+  WebAssembly.compile = (it) => { bits = it.length === wide.length ? 64 : 32; return compile(it); };
+  WebAssembly.compileStreaming = (it) => { bits = it.url.includes('.32.wasm') ? 32 : 64; return compileStreaming(it); };
+  const said = await load(new URL('wasm/order.wasm?1', import.meta.url), options).then((it) => it.check(BAD).length, (it) => it.name);
+  Object.assign(WebAssembly, { compile, compileStreaming });
+  return [bits, said];
+}
+
 /** What is wrong, and the hashes that each module gives. */
 async function tried(library, stream, some) {
   const found = { wrong: [], hashes: {} };
@@ -163,10 +174,9 @@ async function tried(library, stream, some) {
     found.hashes[name] = await hashes(await library.load(module), stream);
   }
   for (const [what, ...both] of nodes(await import(new URL('wasm/nodes.js', import.meta.url)))) compare(what, ...both);
-  const validate = WebAssembly.validate;
-  WebAssembly.validate = () => false;
-  compare('no memory64', (await library.load(new URL('wasm/order.wasm?1', import.meta.url))).check(BAD).length, 4);
-  WebAssembly.validate = validate;
+  const wide = await read('wasm/order.wasm');
+  for (const [options, ...wanted] of [[undefined, 32, 4], [{}, 32, 4], [{ bits: 64 }, 64, WebAssembly.validate(wide) ? 4 : 'CompileError'],
+    [{ bits: 16 }, undefined, 'RangeError']]) compare(`bits: ${JSON.stringify(options)}`, await bitsOf(library, wide, options), wanted);
   const wanted = await hashes(await library.load(), some);
   compare('two workers', await Promise.all([worker(), worker()]), [wanted, wanted]);
   return found;

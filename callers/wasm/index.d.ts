@@ -83,8 +83,12 @@ export interface Instance {
   readonly held: number;
 }
 
-/**
- * Loads the module of a URL, or the one beside this file, or takes its bytes, or one that is compiled. Of a URL the module with a
- * memory of 64 bits is loaded where that runs, and else the one beside it whose name ends in `.32.wasm`.
- */
-export function load(source?: string | URL | Uint8Array | ArrayBuffer | WebAssembly.Module): Promise<Instance>;
+export interface Loading {
+  /** Of a URL: 32 (if it is left out) loads the module whose name ends in `.32.wasm`. 64 loads the one beside it, with a memory of 64
+   * bits. It is slower, and does not run everywhere. `wasm-opt` has no part in it. Another number throws a `RangeError`.
+   */
+  bits?: 32 | 64;
+}
+
+/** Loads the module of a URL, or the one beside this file, or takes its bytes, or one that is compiled. */
+export function load(source?: string | URL | Uint8Array | ArrayBuffer | WebAssembly.Module, options?: Loading): Promise<Instance>;

@@ -1,22 +1,14 @@
-/**
- * Checks bodies in JSON by a library that was proved, as a WebAssembly module, and reports every fault. `index.d.ts` says what each
- * function does.
- */
+/** Checks bodies in JSON by a library that was proved, as a WebAssembly module, and reports every fault. `index.d.ts` says more. */
 import { Texts, valueOf } from './nodes.js';
 
 const VERSION = 3;
-const VALID = 0;
-const FAULTS = 1;
-const NO_JSON = 2;
-const MEMORY = 3;
+const [VALID, FAULTS, NO_JSON, MEMORY] = [0, 1, 2, 3];
 // A longer text is encoded before its room is made, which is three bytes for each unit else.
 const SHORT = 65536;
 // Room for so many places, where they are asked for. Where there are more faults, the module checks once more.
 const PLACES = 64;
 // Memory of a module only grows. After a call that took more than this, a fresh instance takes its place.
 const KEPT = 16 * 1024 * 1024;
-// A module that has a memory with addresses of 64 bits, and nothing else.
-const WIDE = Uint8Array.of(0, 97, 115, 109, 1, 0, 0, 0, 5, 3, 1, 4, 1);
 
 const encoder = new TextEncoder();
 const decoder = new TextDecoder();
@@ -41,9 +33,9 @@ export class FaultsError extends Error {
   }
 }
 
-/** A module that is beside others, of which the one is taken that this machine runs. It is compiled while it comes. */
-async function fetched(url) {
-  if (!WebAssembly.validate(WIDE)) url.pathname = url.pathname.replace(/(\.32)?\.wasm$/, '.32.wasm');
+/** The module of two that lie side by side whose memory has so many bits. It is compiled while it comes. */
+async function fetched(url, bits) {
+  url.pathname = url.pathname.replace(/(\.32)?\.wasm$/, bits === 64 ? '.wasm' : '.32.wasm');
   if (url.protocol === 'file:') return WebAssembly.compile(await (await import('node:fs/promises')).readFile(url));
   const answer = await fetch(url);
   if (!answer.ok) throw new Error(`${url}: status ${answer.status}`);
@@ -51,64 +43,67 @@ async function fetched(url) {
   return isNamed ? WebAssembly.compileStreaming(answer) : WebAssembly.compile(await answer.arrayBuffer());
 }
 
-function compiled(source) {
+function compiled(source, bits) {
+  if (bits !== 32 && bits !== 64) throw new RangeError(`bits is ${bits}, and not 32 or 64`);
   if (source instanceof WebAssembly.Module) return source;
   if (typeof source !== 'string' && !(source instanceof URL)) return WebAssembly.compile(source);
-  return fetched(new URL(source, globalThis.location?.href ?? import.meta.url));
+  return fetched(new URL(source, globalThis.location?.href ?? import.meta.url), bits);
 }
 
+/** What an instance exports, with its stack at rest and a view of its memory, which the first call makes. */
 async function started(module) {
   const { exports } = await WebAssembly.instantiate(module);
   const version = exports.version?.();
   if (version !== VERSION) throw new Error(`the module has version ${version} of its calls, and not ${VERSION}`);
-  return { exports, stack: exports.__stack_pointer.value };
+  return { ...exports, stack: exports.__stack_pointer.value, view: new Uint8Array() };
 }
 
 function outOfMemory() {
   return Object.assign(new Error('out of memory'), { code: 'ERR_MEMORY_ALLOCATION_FAILED' });
 }
 
-export async function load(source = new URL('./order.wasm', import.meta.url)) {
-  const module = await compiled(source);
-  let { exports, stack } = await started(module);
+export async function load(source = new URL('./order.wasm', import.meta.url), { bits = 32 } = {}) {
+  const module = await compiled(source, bits);
+  let it = await started(module);
   let isRenewed = false;
 
-  /** Calls an export. Where JavaScript has no more stack, that of the module is put back. */
-  function called(name, ...given) {
-    try {
-      return exports[name](...given);
-    } catch (error) {
-      exports.__stack_pointer.value = stack;
-      throw error;
-    }
-  }
-
   function bytes(at, length) {
-    return new Uint8Array(exports.memory.buffer, at, length);
+    return new Uint8Array(it.memory.buffer, at, length);
   }
 
-  /** Copies a body and a tag into an empty heap. Gives their lengths in bytes. */
+  /** Copies a body into an empty heap, and a tag behind it. Gives their lengths in bytes. */
   function put(body, language) {
-    const it = typeof body === 'string' && body.length > SHORT ? encoder.encode(body) : body;
-    if (typeof it !== 'string' && tagOf.call(it) !== 'Uint8Array') throw new TypeError('a body is a string or a Uint8Array');
-    const most = typeof it === 'string' ? 3 * it.length : lengthOf.call(it);
-    const at = called('begin', most + 3 * language.length);
+    const given = typeof body === 'string' && body.length > SHORT ? encoder.encode(body) : body;
+    if (typeof given !== 'string' && tagOf.call(given) !== 'Uint8Array') throw new TypeError('a body is a string or a Uint8Array');
+    const most = typeof given === 'string' ? 3 * given.length : lengthOf.call(given);
+    const at = it.begin(most + 3 * language.length);
     if (at === 0) throw outOfMemory();
-    const length = typeof it === 'string' ? encoder.encodeInto(it, bytes(at, most)).written : most;
-    if (typeof it !== 'string') bytes(at, most).set(it);
-    return [length, language === '' ? 0 : encoder.encodeInto(language, bytes(at + length, 3 * language.length)).written];
+    // A view is kept until memory grows, which makes its offset 0.
+    if (it.view.byteOffset !== at) it.view = bytes(at);
+    const length = typeof given === 'string' ? encoder.encodeInto(given, it.view).written : most;
+    if (typeof given !== 'string') it.view.set(given);
+    return { length, tag: language === '' ? 0 : encoder.encodeInto(language, it.view.subarray(length)).written };
   }
 
   /** Puts a fresh instance in the place of one that holds much memory. */
   function renew() {
-    if (isRenewed || exports.memory.buffer.byteLength <= KEPT) return;
+    const { byteOffset, length } = it.view;
+    const isKept = (length !== 0 ? byteOffset + length : it.memory.buffer.byteLength) <= KEPT;
+    if (isKept || isRenewed) return;
     isRenewed = true;
-    started(module).then((it) => { ({ exports, stack } = it); }, () => {}).finally(() => { isRenewed = false; });
+    started(module).then((fresh) => { it = fresh; }, () => {}).finally(() => { isRenewed = false; });
   }
 
-  /** Calls an export on a body. */
-  function asked(name, body, language, ...given) {
-    const status = called(name, ...put(body, language), ...given);
+  /** Calls an export on a body. Where JavaScript has no more stack, that of the module is put back. */
+  function asked(name, body, language, most, places) {
+    let status;
+    try {
+      const { length, tag } = put(body, language);
+      status = it[name](length, tag, most, places);
+    } catch (error) {
+      it.__stack_pointer.value = it.stack;
+      throw error;
+    }
     renew();
     if (status === MEMORY) throw outOfMemory();
     return status;
@@ -119,13 +114,13 @@ export async function load(source = new URL('./order.wasm', import.meta.url)) {
     if (!(most === Infinity || Number.isInteger(most)) || most < 1) throw new RangeError(`most is ${most}, and not 1, 2, ..`);
     const status = asked('check', body, String(language), most, places ? PLACES : 0);
     if (status === VALID) return null;
-    return { status, httpStatus: status === FAULTS ? 422 : 400, details: decoder.decode(bytes(exports.details(), exports.length())) };
+    return { status, httpStatus: status === FAULTS ? 422 : 400, details: decoder.decode(bytes(it.details(), it.length())) };
   }
 
   /** Gives faults their places: of each two numbers of 64 bits, which fit 32. */
   function place(faults) {
-    const found = new Uint32Array(exports.memory.buffer, exports.places_at(), 4 * exports.places_length());
-    faults.forEach((it, n) => Object.assign(it, { line: found[4 * n], column: found[4 * n + 2] }));
+    const found = new Uint32Array(it.memory.buffer, it.places_at(), 4 * it.places_length());
+    faults.forEach((fault, n) => Object.assign(fault, { line: found[4 * n], column: found[4 * n + 2] }));
   }
 
   function check(body, options) {
@@ -138,9 +133,9 @@ export async function load(source = new URL('./order.wasm', import.meta.url)) {
 
   function value(body, options) {
     if (asked('value', body, '') !== VALID) throw new FaultsError(check(body, options));
-    const nodes = new Uint32Array(exports.memory.buffer, exports.nodes_at(), 4 * exports.nodes_length());
-    const plain = new Texts(bytes(exports.body(), exports.body_length()), typeof body === 'string' ? body : undefined);
-    return valueOf(nodes, plain, new Texts(bytes(exports.texts_at(), exports.texts_length())));
+    const nodes = new Uint32Array(it.memory.buffer, it.nodes_at(), 4 * it.nodes_length());
+    const plain = new Texts(bytes(it.body(), it.body_length()), typeof body === 'string' ? body : undefined);
+    return valueOf(nodes, plain, new Texts(bytes(it.texts_at(), it.texts_length())));
   }
 
   return {
@@ -148,6 +143,6 @@ export async function load(source = new URL('./order.wasm', import.meta.url)) {
     problem,
     value,
     isValid: (body) => asked('is_valid', body, '') === VALID,
-    get held() { return exports.memory.buffer.byteLength; },
+    get held() { return it.memory.buffer.byteLength; },
   };
 }

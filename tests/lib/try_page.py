@@ -14,7 +14,7 @@ from lib.spoiled import some_json
 
 MOST, BODIES = 500, 200
 LANGUAGES = ("en", "cs")
-FILES = {"/page/", "/page/style.css", "/page/page.js", "/page/examples.js", "/page/rules.rs", "/index.js", "/nodes.js", "/order.wasm"}
+FILES = {"/page/", "/page/style.css", "/page/page.js", "/page/examples.js", "/page/rules.rs", "/index.js", "/nodes.js", "/order.32.wasm"}
 # What is asked of the page: its faults where a body is put into it, its colours, the sizes of its controls, how wide it is, what has the
 # focus, an example, and all of them.
 FAULTS, COLOURS, TARGETS, WIDTH, FOCUS, EXAMPLE, EXAMPLES = (it.text for it in tables.cases("try-page"))
@@ -181,7 +181,7 @@ def of_keys(page):
 def of_policy(page, url):
     """What is wrong with what the page asks for, and with a script that is planted in it."""
     asked = {it.address.removeprefix(url.removesuffix("/page/")) for it in page.exchanges}
-    if asked - {"/order.32.wasm"} - FILES or FILES - {"/order.wasm"} - asked:
+    if asked != FILES:
         yield f"requests: {sorted(asked)}"
     for planted in PLANTED:
         page.value(f"try {{ {planted} }} catch {{}}")
