@@ -5,6 +5,7 @@
 'use strict';
 
 const assert = require('node:assert/strict');
+const { execFileSync } = require('node:child_process');
 const { readFileSync, readdirSync } = require('node:fs');
 const { join } = require('node:path');
 const { setImmediate } = require('node:timers/promises');
@@ -56,6 +57,31 @@ function testAll(folder, cases) {
     const texts = new Texts(Buffer.from('{"ab":1,"ac":2}'));
     const nodes = Uint32Array.of(8, 0, 2, 0, 6, 2, 2, 0, 3, 0, 1, 0, 6, 2, 9, 0, 3, 0, 2, 0);
     assert.deepEqual(valueOf(nodes, texts, texts), { ab: 1, ac: 2 });
+  });
+
+  test('objects of names that came often', () => {
+    const { Texts } = require(join(folder, 'nodes.js'));
+    const { valueOf } = require(join(folder, 'shapes.js'));
+    const read = (names, mark = 0) => {
+      const texts = new Texts(Buffer.from(names.join('')));
+      const from = (n) => names.slice(0, n).join('').length;
+      return valueOf(Uint32Array.from([8, 0, names.length, 0, ...names.flatMap((it, n) => [6 + (n && mark), it.length, from(n), 0, 3, 0, n, 0])]), texts, texts);
+    };
+    const rows = [['ab', 'cd', 'e'], ['ab', 'cd', 'f'], ['ab', 'ce', 'e'], ['ab', 'cde', 'e'], ['ac', 'cd', 'e'], ['ab', '__proto__', 'e'], ['a-b', 'x'],
+      ['__proto__'], ['2', '1'], [], ['class', 'constructor'], Array.from({ length: 32 }, (_, n) => `n${n}`), Array.from({ length: 40 }, (_, n) => `n${n}`)];
+    for (const often of rows) {
+      for (let n = 0; n < 40; n++) read(often);
+      for (const names of [...rows, often]) {
+        const wanted = Object.fromEntries(names.map((it, n) => [it, n]));
+        for (const mark of [0, 0x100, 0xabcd0000]) {
+          const found = read(names, mark);
+          assert.deepEqual(found, wanted);
+          assert.deepEqual([Object.keys(found), Object.getPrototypeOf(found)], [Object.keys(wanted), Object.prototype]);
+        }
+      }
+    }
+    const words = ['--disallow-code-generation-from-strings', '-e', `console.log(JSON.stringify(require(${JSON.stringify(folder)}).value(Buffer.from(${JSON.stringify(String(ofLines(50)))}))))`];
+    assert.equal(String(execFileSync(process.execPath, words)).trim(), JSON.stringify(JSON.parse(ofLines(50))));
   });
 
   test('places', () => {

@@ -5,7 +5,8 @@
 
 const { isSharedArrayBuffer, isUint8Array } = require('node:util').types;
 const addon = require('./order_check.node');
-const { Texts, valueOf } = require('./nodes.js');
+const { Texts } = require('./nodes.js');
+const { valueOf } = require('./shapes.js');
 
 const VALID = 0;
 const FAULTS = 1;

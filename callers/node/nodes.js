@@ -63,8 +63,8 @@ class Reader {
     return made;
   }
 
-  object(count) {
-    const made = {};
+  /** Reads so many members into an object. */
+  members(made, count) {
     for (let n = 0; n < count; n++) {
       const at = this.next;
       this.next += 4;
@@ -74,6 +74,10 @@ class Reader {
       else made[name] = this.read();
     }
     return made;
+  }
+
+  object(count) {
+    return this.members({}, count);
   }
 
   read() {
@@ -98,4 +102,4 @@ function valueOf(nodes, plain, escaped) {
   return new Reader(nodes, plain, escaped).read();
 }
 
-module.exports = { Texts, valueOf };
+module.exports = { Reader, Texts, valueOf };

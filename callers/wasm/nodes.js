@@ -39,7 +39,7 @@ function numberOf(text) {
 }
 
 /** Reads the nodes of a value one by one, from where its texts without an escape lie, and those with one. */
-class Reader {
+export class Reader {
   constructor(nodes, plain, escaped) {
     this.nodes = nodes;
     this.plain = plain;
@@ -61,8 +61,8 @@ class Reader {
     return made;
   }
 
-  object(count) {
-    const made = {};
+  /** Reads so many members into an object. */
+  members(made, count) {
     for (let n = 0; n < count; n++) {
       const at = this.next;
       this.next += 4;
@@ -72,6 +72,10 @@ class Reader {
       else made[name] = this.read();
     }
     return made;
+  }
+
+  object(count) {
+    return this.members({}, count);
   }
 
   read() {
