@@ -1,8 +1,8 @@
 -- From the history of a connection to what is on the wire.
-use Rattle.std.proofs.Common.{◌≡◌, ◌≢◌, ◌<◌, ◌≤◌, ◌↔◌, arith, ℕ, Bool, true, false, zero, suc, List, [], ◌∷◌, ◌++◌, length, All, IsTrue, IsErr, IsFalse, Option, None, Some, Result, Ok, Err, ◌==◌, if◌then◌else◌, refl, sym, ap, subst, ◌∙◌, append_assoc, append-nil, inl, inr}
-use Rattle.std.specs.Prelude.{OnSome}
-use Rattle.std.specs.Io.KnownBytes.{Consumes, IsAtEnd}
-use Rattle.std.proofs.Math.Dec.{eqb-suc-zero}
+use Rattle.std.proofs.Common.{◌≡◌, ◌≢◌, ◌<◌, ◌≤◌, ◌↔◌, arith, ℕ, Bool, true, false, zero, suc, List, [], ◌∷◌, ◌++◌, length, All, IsTrue, IsErr, Option, None, Some, Result, Ok, Err, refl, sym, ap, subst, subst₂, ◌∙◌, append_assoc, append-nil, inl, inr}
+use Rattle.std.specs.Prelude.{⊤, OnOk}
+use Rattle.std.specs.Io.KnownBytes as Known
+use Rattle.std.specs.Io.KnownBytes.{Consumes}
 use Rattle.std.proofs.Math.Logic.{∥∥₁_map}
 use Rattle.std.proofs.lemmas.Bool.{true≢false}
 use Rattle.std.proofs.lemmas.List.{append_cancel_right}
@@ -19,49 +19,46 @@ use Rattle.http_server.specs.declared.state.Refusal.{Refusal}
 use Rattle.http_server.specs.declared.state.Refusal.TheVariants.{Truncated, Unreadable, BodyTooLarge, InvalidPart, InvalidHost, UnknownCoding, InvalidResponse}
 use Rattle.http_server.specs.Connection.{config_of, history}
 use Rattle.http_server.specs.Exchange.{Call, Calls, Chain, IsInterim, Serves}
+use Rattle.http_server.proofs.KnownLemmas.{Consumes-then}
+use Rattle.http_server.proofs.StreamLemmas.{IsInterim-append, Serves-append}
 use Rattle.http_server.proofs.Theorems.{always_served}
 use Rattle.http_server.specs.History.{History, IsServed, Justifies, Stands, new_history}
 use Rattle.http_server.specs.Refusal.{refusal_text}
 use Rattle.garde_service.specs.Ending.{Ends, IsRejectionText, Rejects}
 use Rattle.garde_service.specs.Fits.{Answered}
-use Rattle.garde_service.specs.Heads.{looked}
+use Rattle.garde_service.specs.Heads.{HasHead, IsByHead}
 use Rattle.garde_service.specs.Reasons.{IsServiced, IsRefusedFor}
+use Rattle.garde_service.specs.Received.{Loses}
 use Rattle.garde_service.specs.Wire.{AreExchanges, Follows, IsConversation, IsTalk}
-use Rattle.garde_service.specs.declared.heads.Seen.TheVariants.{Found, Nothing}
 use Rattle.garde_service.proofs.Fitting.{exchange_fits}
-use Rattle.garde_service.proofs.ByHead.{not_by_head}
-
--- a reader whose bytes were known was known to be at its end
-pub known_end : (a b c : Option (List ℕ)) (bytes : List ℕ) → Consumes a b bytes → OnSome b (IsAtEnd c) → OnSome a (IsAtEnd c)
-known_end None b c bytes consumes at_end = tt
-known_end (Some x) None c bytes consumes at_end = absurd consumes
-known_end (Some x) (Some y) c bytes consumes at_end = at_end
+use Rattle.garde_service.proofs.ByHead.{came_by_head}
 
 -- of a new connection no end was found
 pub ended_first : (P : Type 0) (h : History) → h ≡ new_history → IsTrue h.ended → P
 ended_first P h fresh found = absurd (true≢false (sym found ∙ ap (λ (h : History). h.ended) fresh))
 
--- a read that found the end
-pub end_after : (P : Type 0) (was : Bool) (more : List ℕ) → IsFalse was → (length more ≡ 0 → P) → IsTrue (if was then was else (length more == 0)) → P
-end_after P true more going at_end found = absurd (true≢false going)
-end_after P false [] going at_end found = at_end refl
-end_after P false (byte ∷ more) going at_end found = absurd (true≢false (sym found ∙ eqb-suc-zero (length more)))
+-- an error says nothing of what holds on success
+pub on_err : {T E : Type 0} (result : Result T E) (P : Type 0) → IsErr result → OnOk result P
+on_err (Ok value) P is = absurd (true≢false (sym is))
+on_err (Err e) P is = tt
 
--- the text of a rejection, where less is known to be by `HEAD`
-less_known : (rejects : Rejects) (P Q : Type 0) (why : Refusal) (text : List ℕ) → (¬ P → ¬ Q) → IsRejectionText rejects P why text
-    → IsRejectionText rejects Q why text
-less_known rejects P Q why text other it =
-    elim it [
-      | inl same ↦ inl same
-      | inr more ↦ inr (
-        more.0,
-        more.1,
-        more.2,
-        more.3,
-        elim more.4 [ inl none ↦ inl none | inr some ↦ inr (other some.0, some.1) ],
-        more.5,
-      )
-    ]
+pub nothing_lost : (u v : Option (List ℕ)) (came lost : List ℕ) → lost ≡ [] → Consumes u v (came ++ lost) → Consumes u v came
+nothing_lost u v came lost none x =
+    subst (λ (t : List ℕ). Consumes u v t) (ap (λ (l : List ℕ). came ++ l) none ∙ append-nil came) x
+
+pub none_lost : (u v : Option (List ℕ)) (came : List ℕ) → Consumes u v came → Consumes u v (came ++ [])
+none_lost u v came x = subst (λ (t : List ℕ). Consumes u v t) (sym (append-nil came)) x
+
+pub some_lost : (u v w : Option (List ℕ)) (all came lost : List ℕ) → Consumes u v all → Consumes v w (came ++ lost)
+    → Consumes u w ((all ++ came) ++ lost)
+some_lost u v w all came lost x y =
+    subst (λ (t : List ℕ). Consumes u w t) (sym (append_assoc all came lost)) (Consumes-then u v w all (came ++ lost) x y)
+
+-- what is kept is read as no byte
+pub kept : (u v : Option (List ℕ)) → Known.Keeps u v → Consumes u v []
+kept None v x = tt
+kept (Some a) None x = absurd x
+kept (Some a) (Some b) x = sym x
 
 -- where nothing is pending, no more is than may be
 pub none_pending : (wants : Bool) (len most : ℕ) → (IsTrue wants ↔ (0 < len)) → wants ≡ false → len ≤ most
@@ -116,6 +113,24 @@ talked by gives of each x config first last old new at read written is fresh kep
   sent = sent ∙ ap (λ (h : History). h.sent ++ written) fresh;
   all_serviced = serviced by gives of each x first last old new at fresh calls;
 }
+
+-- more that came while the connection was open
+more_came : (config : Config) (h : History) (lost : List ℕ) → IsServed config h → h.state ≡ Open
+    → IsServed config (record h { received = h.received ++ lost })
+more_came config h lost x is_open = record {
+  answered = x.answered;
+  text = x.text;
+  rest = x.rest ++ lost;
+  serves = Serves-append config x.answered h.received x.text x.rest lost x.serves;
+  interim = x.interim;
+  is_interim = IsInterim-append config.limits x.rest x.interim lost x.is_interim;
+  stands = subst (λ (s : State). Stands s config (record h { received = h.received ++ lost }) x.answered x.text x.interim (x.rest ++ lost)) (sym is_open)
+      (subst (λ (s : State). Stands s config h x.answered x.text x.interim x.rest) is_open x.stands);
+}
+
+-- what may be written last, where more may
+abbrev pub IsAllowed : Type 0 → State → Type 0
+IsAllowed plain s = (why : Refusal) → s ≡ Closing (Refused why) → plain
 
 module _ (answered : Answered) (rejects : Rejects) (stays : Stays answered) where
   -- the exchanges of the calls
@@ -187,33 +202,33 @@ module _ (answered : Answered) (rejects : Rejects) (stays : Stays answered) wher
   Keeps state lost = lost ≡ []
 
   -- what follows the exchanges, by the state: what was handed out, what is pending and what was lost are the answers and the rest
-  abbrev Ending : State → Config → History → List ℕ → List ℕ → Type 0
-  Ending s config h text rest =
-      (last : List ℕ) × Follows answered rejects s config h.ended rest last × (lost : List ℕ) × ((h.sent ++ h.pending) ++ lost ≡ text ++ last) × Keeps s lost
+  abbrev Ending : Type 0 → State → Config → History → List ℕ → List ℕ → Type 0
+  Ending plain s config h text rest =
+      (last : List ℕ) × Follows answered rejects plain s config h.ended h.received rest last × (lost : List ℕ) × ((h.sent ++ h.pending) ++ lost ≡ text ++ last) × Keeps s lost
 
-  ends_at : (s : State) (config : Config) (h : History) (calls : List Call) (text interim rest : List ℕ)
-      → IsInterim config.limits rest interim → All (IsServiced answered) h.calls → Stands s config h calls text interim rest
-      → Ending s config h text rest
-  ends_at Open config h calls text interim rest waits fine x = (interim, waits, [], append-nil (h.sent ++ h.pending) ∙ x.1, refl)
-  ends_at (Closing Asked) config h calls text interim rest waits fine x = (
+  ends_at : (plain : Type 0) (s : State) (config : Config) (h : History) (calls : List Call) (text interim rest : List ℕ)
+      → IsAllowed plain s → (IsByHead rest → HasHead h.received) → IsInterim config.limits rest interim → All (IsServiced answered) h.calls → Stands s config h calls text interim rest
+      → Ending plain s config h text rest
+  ends_at plain Open config h calls text interim rest may by_head waits fine x = (interim, waits, [], append-nil (h.sent ++ h.pending) ∙ x.1, refl)
+  ends_at plain (Closing Asked) config h calls text interim rest may by_head waits fine x = (
     x.1,
     (x.2, exchange_fits answered config false rest x.1 x.2 x.0 (last_of calls x.0 (moved _ _ x.4 fine)) x.3),
     [],
     append-nil (h.sent ++ h.pending) ∙ x.5,
     refl,
   )
-  ends_at (Closing EndOfInput) config h calls text interim rest waits fine x =
+  ends_at plain (Closing EndOfInput) config h calls text interim rest may by_head waits fine x =
       ([], (x.1, x.2, refl), [], append-nil (h.sent ++ h.pending) ∙ x.3 ∙ sym (append-nil text), refl)
-  ends_at (Closing (Refused why)) config h calls text interim rest waits fine x = (
+  ends_at plain (Closing (Refused why)) config h calls text interim rest may by_head waits fine x = (
     interim ++ refusal_text why,
-    (reason_of why config h calls rest fine x.0, (interim, waits, (refusal_text why, inl refl, refl))),
+    (reason_of why config h calls rest fine x.0, by_head, (interim, waits, (refusal_text why, inl (may why refl, refl), refl))),
     [],
     append-nil (h.sent ++ h.pending) ∙ x.1 ∙ append_assoc text interim (refusal_text why),
     refl,
   )
-  ends_at Upgraded config h calls text interim rest waits fine x =
+  ends_at plain Upgraded config h calls text interim rest may by_head waits fine x =
       absurd (stays _ _ _ (last_of calls x.last.call (moved _ _ x.last.calls fine)) x.accepted)
-  ends_at Aborted config h calls text interim rest waits fine x = (
+  ends_at plain Aborted config h calls text interim rest may by_head waits fine x = (
     interim,
     (waits, x.had_work),
     x.lost,
@@ -222,14 +237,16 @@ module _ (answered : Answered) (rejects : Rejects) (stays : Stays answered) wher
   )
 
   -- what a connection read and wrote, has yet to write, and lost
-  abbrev pub Conversed : Config → State → Bool → List ℕ → List ℕ → Type 0
-  Conversed config state ended read text = (lost : List ℕ) × IsConversation answered rejects config state ended read (text ++ lost) × Keeps state lost
+  abbrev pub Conversed : Type 0 → Config → State → Bool → List ℕ → List ℕ → Type 0
+  Conversed plain config state ended read text =
+      (lost : List ℕ) × IsConversation answered rejects plain config state ended read (text ++ lost) × Keeps state lost
 
-  conversation : (config : Config) (h : History) → All (IsServiced answered) h.calls → IsServed config h
-      → Conversed config h.state h.ended h.received (h.sent ++ h.pending)
-  conversation config h fine x =
+  conversation : (plain : Type 0) (config : Config) (h : History) → IsAllowed plain h.state → All (IsServiced answered) h.calls → IsServed config h
+      → Conversed plain config h.state h.ended h.received (h.sent ++ h.pending)
+  conversation plain config h may fine x =
       let first = first_at h.state config h x.answered x.text x.interim x.rest fine x.stands in
-      let end = ends_at h.state config h x.answered x.text x.interim x.rest x.is_interim fine x.stands in (
+      let by_head = came_by_head config x.answered h.received x.text x.rest x.serves in
+      let end = ends_at plain h.state config h x.answered x.text x.interim x.rest may by_head x.is_interim fine x.stands in (
         end.2,
         record {
           count = length x.answered;
@@ -243,93 +260,127 @@ module _ (answered : Answered) (rejects : Rejects) (stays : Stays answered) wher
         end.4,
       )
 
-  -- where the bytes of a refusal alone are pending, what stands in their place ends the conversation as well
-  replaced : (config : Config) (why : Refusal) (h : History) (text : List ℕ) → All (IsServiced answered) h.calls → IsServed config h
-      → h.state ≡ Closing (Refused why) → h.pending ≡ refusal_text why → IsRejectionText rejects (looked Nothing h.received ≡ Found) why text
-      → IsConversation answered rejects config (Closing (Refused why)) h.ended h.received (h.sent ++ text)
-  replaced config why h text fine x closes alone stands =
+  -- where the bytes that are pending end in a refusal, what stands in its place ends the conversation as well
+  replaced : (plain : Type 0) (config : Config) (why : Refusal) (h : History) (front text : List ℕ) → All (IsServiced answered) h.calls → IsServed config h
+      → h.state ≡ Closing (Refused why) → h.pending ≡ front ++ refusal_text why → IsRejectionText rejects (HasHead h.received) why text
+      → IsConversation answered rejects plain config (Closing (Refused why)) h.ended h.received (h.sent ++ (front ++ text))
+  replaced plain config why h front text fine x closes ends stands =
       let first = first_at h.state config h x.answered x.text x.interim x.rest fine x.stands in
       let there : Stands (Closing (Refused why)) config h x.answered x.text x.interim x.rest =
       subst (λ (s : State). Stands s config h x.answered x.text x.interim x.rest) closes x.stands in
-      let sent : h.sent ≡ x.text ++ x.interim =
-      append_cancel_right h.sent (x.text ++ x.interim) (refusal_text why)
-      (ap (λ (p : List ℕ). h.sent ++ p) (sym alone) ∙ there.1) in
+      let sent : h.sent ++ front ≡ x.text ++ x.interim =
+      append_cancel_right (h.sent ++ front) (x.text ++ x.interim) (refusal_text why)
+      (append_assoc h.sent front (refusal_text why) ∙ ap (λ (p : List ℕ). h.sent ++ p) (sym ends) ∙ there.1) in
       record {
         count = length x.answered;
         answers = x.text;
         rest = x.rest;
         exchanges = all_fit config x.answered h.received x.text x.rest first x.serves;
         last = x.interim ++ text;
-        follows = (reason_of why config h x.answered x.rest fine there.0, (x.interim, x.is_interim, (text, less_known rejects _ _ why text (not_by_head config x.answered h.received x.text x.rest x.serves) stands, refl)));
-        joined = ap (λ (t : List ℕ). t ++ text) sent ∙ append_assoc x.text x.interim text;
+        follows = (
+          reason_of why config h x.answered x.rest fine there.0,
+          came_by_head config x.answered h.received x.text x.rest x.serves,
+          (x.interim, x.is_interim, (text, inr stands, refl)),
+        );
+        joined = sym (append_assoc h.sent front text) ∙ ap (λ (t : List ℕ). t ++ text) sent ∙ append_assoc x.text x.interim text;
       }
 
   -- ---- what a call returned, by how much of what was to be written it wrote
 
   -- all that is written in the end, for bytes that are pending
-  whole : (config : Config) (h : History) (text : List ℕ) → All (IsServiced answered) h.calls → IsServed config h → Ends rejects h.state h.received h.pending text
-      → Conversed config h.state h.ended h.received (h.sent ++ text)
-  whole config h text fine x ends =
+  whole : (was plain : Type 0) (config : Config) (h : History) (text : List ℕ) → (was → plain) → All (IsServiced answered) h.calls → IsServed config h
+      → Ends rejects was h.state h.received h.pending text → Conversed plain config h.state h.ended h.received (h.sent ++ text)
+  whole was plain config h text so fine x ends =
       elim ends [
         | inl same ↦
-            subst (λ (p : List ℕ). Conversed config h.state h.ended h.received (h.sent ++ p)) (sym same) (conversation config h fine x)
+            subst (λ (p : List ℕ). Conversed plain config h.state h.ended h.received (h.sent ++ p)) (sym same.0)
+            (conversation plain config h (λ why is. so (same.1 why is)) fine x)
         | inr other ↦
-            subst (λ (s : State). Conversed config s h.ended h.received (h.sent ++ text)) (sym other.1) (
+            subst₂ (λ (s : State) (t : List ℕ). Conversed plain config s h.ended h.received (h.sent ++ t)) (sym other.3) (sym other.6) (
               [],
-              subst (λ (t : List ℕ). IsConversation answered rejects config (Closing (Refused other.0)) h.ended h.received t) (sym (append-nil (h.sent ++ text)))
-                  (replaced config other.0 h text fine x other.1 other.2 other.3),
+              subst (λ (t : List ℕ). IsConversation answered rejects plain config (Closing (Refused other.0)) h.ended h.received t) (sym (append-nil (h.sent ++ (other.1 ++ other.2))))
+                  (replaced plain config other.0 h other.1 other.2 fine x other.3 other.4 other.5),
               refl,
             )
       ]
 
   -- an error, where this part of it was written
-  failing : (E : Type 0) (config : Config) (h : History) (part unwritten : List ℕ) (e : E) → All (IsServiced answered) h.calls → IsServed config h
-      → Ends rejects h.state h.received h.pending (part ++ unwritten) → IsTalk answered rejects config h.ended h.received (h.sent ++ part) (Err e)
-  failing E config h part unwritten e fine x ends =
-      let all = whole config h (part ++ unwritten) fine x ends in
+  failing : (E was : Type 0) (config : Config) (h : History) (part unwritten : List ℕ) (e : E) → All (IsServiced answered) h.calls → IsServed config h
+      → Ends rejects was h.state h.received h.pending (part ++ unwritten) → IsTalk answered rejects config h.ended h.received (h.sent ++ part) (Err e)
+  failing E was config h part unwritten e fine x ends =
+      let all = whole was ⊤ config h (part ++ unwritten) (λ _. tt) fine x ends in
       let joined : (h.sent ++ (part ++ unwritten)) ++ all.0 ≡ (h.sent ++ part) ++ (unwritten ++ all.0) =
       ap (λ (t : List ℕ). t ++ all.0) (sym (append_assoc h.sent part unwritten)) ∙ append_assoc (h.sent ++ part) unwritten all.0 in
-      (h.state, unwritten ++ all.0, subst (λ (t : List ℕ). IsConversation answered rejects config h.state h.ended h.received t) joined all.1)
+      (h.state, unwritten ++ all.0, subst (λ (t : List ℕ). IsConversation answered rejects ⊤ config h.state h.ended h.received t) joined all.1)
 
   -- all of it was written
-  ending : (E : Type 0) (s : State) (config : Config) (at_end : Bool) (read text : List ℕ) → s ≢ Open → Conversed config s at_end read text
+  ending : (E : Type 0) (s : State) (config : Config) (at_end : Bool) (read text : List ℕ) → s ≢ Open → Conversed ⊥ config s at_end read text
       → IsTalk {E = E} answered rejects config at_end read text (Ok s)
   ending E Open config at_end read text shut all = absurd (shut refl)
   ending E (Closing why) config at_end read text shut all =
-      subst (λ (t : List ℕ). IsConversation answered rejects config (Closing why) at_end read t) (ap (λ (l : List ℕ). text ++ l) all.2 ∙ append-nil text) all.1
+      subst (λ (t : List ℕ). IsConversation answered rejects ⊥ config (Closing why) at_end read t) (ap (λ (l : List ℕ). text ++ l) all.2 ∙ append-nil text) all.1
   ending E Upgraded config at_end read text shut all = absurd all.1.follows
   ending E Aborted config at_end read text shut all = (all.0, all.1)
 
   -- the same of the bytes that were read and written
-  of_bytes : (E : Type 0) (config : Config) (last : Connection) (read written part : List ℕ) (result : Result State E) → Talked answered config last read written
+  of_bytes : (E : Type 0) (config : Config) (last : Connection) (read written lost part : List ℕ) (result : Result State E) → Talked answered config last read written
+      → ∥ IsTalk answered rejects (config_of last) (history last).ended ((history last).received ++ lost) ((history last).sent ++ part) result ∥₁
+      → ∥ IsTalk answered rejects config (history last).ended (read ++ lost) (written ++ part) result ∥₁
+  of_bytes E config last read written lost part result t talk =
+      subst (λ (k : Config). ∥ IsTalk answered rejects k (history last).ended (read ++ lost) (written ++ part) result ∥₁) t.is_asked
+      (subst (λ (r : List ℕ). ∥ IsTalk answered rejects (config_of last) (history last).ended (r ++ lost) (written ++ part) result ∥₁) t.received
+      (subst (λ (w : List ℕ). ∥ IsTalk answered rejects (config_of last) (history last).ended ((history last).received ++ lost) (w ++ part) result ∥₁) t.sent talk))
+
+  -- where nothing that was read was lost
+  of_all : (E : Type 0) (config : Config) (last : Connection) (read written part : List ℕ) (result : Result State E) → Talked answered config last read written
       → ∥ IsTalk answered rejects (config_of last) (history last).ended (history last).received ((history last).sent ++ part) result ∥₁
       → ∥ IsTalk answered rejects config (history last).ended read (written ++ part) result ∥₁
-  of_bytes E config last read written part result t talk =
-      subst (λ (k : Config). ∥ IsTalk answered rejects k (history last).ended read (written ++ part) result ∥₁) t.is_asked
-      (subst (λ (r : List ℕ). ∥ IsTalk answered rejects (config_of last) (history last).ended r (written ++ part) result ∥₁) t.received
-      (subst (λ (w : List ℕ). ∥ IsTalk answered rejects (config_of last) (history last).ended (history last).received (w ++ part) result ∥₁) t.sent talk))
+  of_all E config last read written part result t talk =
+      subst (λ (r : List ℕ). ∥ IsTalk answered rejects config (history last).ended r (written ++ part) result ∥₁) (append-nil read)
+      (of_bytes E config last read written [] part result t
+      (subst (λ (r : List ℕ). ∥ IsTalk answered rejects (config_of last) (history last).ended r ((history last).sent ++ part) result ∥₁)
+      (sym (append-nil (history last).received)) talk))
 
-  pub failed : (E : Type 0) (config : Config) (last : Connection) (read written part unwritten : List ℕ) (e : E) → Talked answered config last read written
-      → Ends rejects (history last).state (history last).received (history last).pending (part ++ unwritten) → ∥ IsTalk answered rejects config (history last).ended read (written ++ part) (Err e) ∥₁
-  failed E config last read written part unwritten e t ends =
-      of_bytes E config last read written part (Err e) t
-      (∥∥₁_map (always_served last) (λ x. failing E _ _ part unwritten e t.all_serviced x ends))
+  pub failed : (E was : Type 0) (config : Config) (last : Connection) (read written part unwritten : List ℕ) (e : E) → Talked answered config last read written
+      → Ends rejects was (history last).state (history last).received (history last).pending (part ++ unwritten)
+      → ∥ IsTalk answered rejects config (history last).ended read (written ++ part) (Err e) ∥₁
+  failed E was config last read written part unwritten e t ends =
+      of_all E config last read written part (Err e) t
+      (∥∥₁_map (always_served last) (λ x. failing E was _ _ part unwritten e t.all_serviced x ends))
 
-  pub failed_at_once : (E : Type 0) (config : Config) (last : Connection) (read written : List ℕ) (e : E) → Talked answered config last read written
-      → ∥ IsTalk answered rejects config (history last).ended read written (Err e) ∥₁
-  failed_at_once E config last read written e t =
-      subst (λ (w : List ℕ). ∥ IsTalk answered rejects config (history last).ended read w (Err e) ∥₁) (append-nil written)
-      (failed E config last read written [] (history last).pending e t (inl refl))
+  at_once : (E : Type 0) (config : Config) (h : History) (e : E) → All (IsServiced answered) h.calls → IsServed config h
+      → IsTalk answered rejects config h.ended h.received (h.sent ++ []) (Err e)
+  at_once E config h e fine x = failing E ⊤ config h [] h.pending e fine x (inl (refl, λ why is. tt))
 
-  pub closed : (E : Type 0) (config : Config) (last : Connection) (read written part unwritten : List ℕ) (s : State) → Talked answered config last read written
-      → s ≡ (history last).state → (history last).state ≢ Open → Ends rejects (history last).state (history last).received (history last).pending (part ++ unwritten) → unwritten ≡ []
+  lost_then : (E : Type 0) (config : Config) (h : History) (lost : List ℕ) (e : E) → Loses h.state lost → All (IsServiced answered) h.calls
+      → IsServed config h → IsTalk answered rejects config h.ended (h.received ++ lost) (h.sent ++ []) (Err e)
+  lost_then E config h lost e loses fine x =
+      elim loses [
+        | inl none ↦
+            subst (λ (r : List ℕ). IsTalk answered rejects config h.ended r (h.sent ++ []) (Err e))
+            (sym (ap (λ (l : List ℕ). h.received ++ l) none ∙ append-nil h.received)) (at_once E config h e fine x)
+        | inr is_open ↦ at_once E config (record h { received = h.received ++ lost }) e fine (more_came config h lost x is_open)
+      ]
+
+  -- an error before the connection was done
+  pub failed_at_once : (E : Type 0) (config : Config) (last : Connection) (read lost written : List ℕ) (e : E) → Talked answered config last read written
+      → Loses (history last).state lost → ∥ IsTalk answered rejects config (history last).ended (read ++ lost) written (Err e) ∥₁
+  failed_at_once E config last read lost written e t loses =
+      subst (λ (w : List ℕ). ∥ IsTalk answered rejects config (history last).ended (read ++ lost) w (Err e) ∥₁) (append-nil written)
+      (of_bytes E config last read written lost [] (Err e) t
+      (∥∥₁_map (always_served last) (λ x. lost_then E _ (history last) lost e loses t.all_serviced x)))
+
+  pub closed : (E was : Type 0) (config : Config) (last : Connection) (read written part unwritten : List ℕ) (s : State) → Talked answered config last read written
+      → s ≡ (history last).state → (history last).state ≢ Open → (was → ⊥)
+      → Ends rejects was (history last).state (history last).received (history last).pending (part ++ unwritten) → unwritten ≡ []
       → ∥ IsTalk {E = E} answered rejects config (history last).ended read (written ++ part) (Ok s) ∥₁
-  closed E config last read written part unwritten s t is shut ends all =
+  closed E was config last read written part unwritten s t is shut done ends all =
       let text : part ++ unwritten ≡ part = ap (λ (u : List ℕ). part ++ u) all ∙ append-nil part in
       subst (λ (s : State). ∥ IsTalk {E = E} answered rejects config (history last).ended read (written ++ part) (Ok s) ∥₁) (sym is)
-      (of_bytes E config last read written part (Ok (history last).state) t
+      (of_all E config last read written part (Ok (history last).state) t
       (∥∥₁_map (always_served last) (λ x. ending E (history last).state _ _ _ _ shut
-      (whole _ _ part t.all_serviced x (subst (λ (p : List ℕ). Ends rejects (history last).state (history last).received (history last).pending p) text ends)))))
+      (whole was ⊥ _ _ part done t.all_serviced x
+      (subst (λ (p : List ℕ). Ends rejects was (history last).state (history last).received (history last).pending p) text ends)))))
 
   -- an error of any kind
   pub of_err : (E : Type 0) (config : Config) (at_end : Bool) (read written : List ℕ) (result : Result State E) → IsErr result

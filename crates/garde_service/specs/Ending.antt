@@ -11,9 +11,8 @@ use Rattle.http_server.specs.declared.state.Reason.TheVariants.{Refused as Refus
 use Rattle.garde_service.specs.declared.rejection.TheConstants as words
 use Rattle.garde_service.specs.declared.rejected.Rejected.{Rejected}
 use Rattle.garde_service.specs.declared.rejected.Rejected.TheVariants.{BadRequest, ContentTooLarge, UriTooLong, FieldsTooLarge, InternalServerError, NotImplemented, VersionNotSupported}
-use Rattle.garde_service.specs.Heads.{looked}
+use Rattle.garde_service.specs.Heads.{HasHead}
 use Rattle.garde_service.specs.Rejected.{title_of}
-use Rattle.garde_service.specs.declared.heads.Seen.TheVariants.{Found, Nothing}
 
 -- the media type and the text of the body with which a handler rejects a request, by why it is rejected
 abbrev pub Rejects : Type 0
@@ -44,21 +43,21 @@ body_text (Some body) = words.TYPE.now ++ (body.0 ++ (words.LENGTH.now ++ (decim
 abbrev pub rejection_text : Rejected → Option (List ℕ × List ℕ) → Option HttpDate → List ℕ
 rejection_text why body date = codes "HTTP/1.1 " ++ (title_of why ++ (words.CLOSES.now ++ (date_field date ++ body_text body)))
 
--- the body of the handler, or none: where the request is by `HEAD` it is none
+-- the body of the handler, or none where the request is by `HEAD`
 abbrev pub IsContent : Rejects → Type 0 → Rejected → Option (List ℕ × List ℕ) → Type 0
-IsContent rejects by_head kind body = (body ≡ None) ⊎ ((¬ by_head) × (body ≡ Some (rejects kind)))
+IsContent rejects by_head kind body = (by_head × (body ≡ None)) ⊎ ((¬ by_head) × (body ≡ Some (rejects kind)))
 
--- what is written in place of the answer of `http_server`: that one, or one with the same status, or with 505 for 400, perhaps with a body
+-- what is written in place of the answer of `http_server`: one with the same status, or with 505 for 400, perhaps with a date
 abbrev pub IsRejectionText : Rejects → Type 0 → Refusal → List ℕ → Type 0
 IsRejectionText rejects by_head why text =
-    (text ≡ server.refusal_text why)
-    ⊎ ((kind : Rejected) × (body : Option (List ℕ × List ℕ)) × (date : Option HttpDate) × (plain_of kind ≡ server.refusal_text why)
-    × IsContent rejects by_head kind body × (text ≡ rejection_text kind body date))
+    (kind : Rejected) × (body : Option (List ℕ × List ℕ)) × (date : Option HttpDate) × (plain_of kind ≡ server.refusal_text why)
+    × IsContent rejects by_head kind body × (text ≡ rejection_text kind body date)
 
--- What is written where these bytes were received and those are pending, by how the connection stands: they; or, where they are the answer
--- of `http_server` to a refusal and nothing else, what stands in its place, with no body where `HEAD ` was received.
-abbrev pub Ends : Rejects → State → List ℕ → List ℕ → List ℕ → Type 0
-Ends rejects state received pending text =
-    (text ≡ pending)
-    ⊎ ((why : Refusal) × (state ≡ Closing (Refusing why)) × (pending ≡ server.refusal_text why)
-    × IsRejectionText rejects (looked Nothing received ≡ Found) why text)
+-- What is written where these bytes were received and those are pending, by how the connection stands: they, or what stands in place of
+-- the answer of `http_server` to a refusal, with which they end. It has no body exactly where `HEAD ` was received. The answer of
+-- `http_server` itself is written only if `plain`.
+abbrev pub Ends : Rejects → Type 0 → State → List ℕ → List ℕ → List ℕ → Type 0
+Ends rejects plain state received pending text =
+    ((text ≡ pending) × ((why : Refusal) → state ≡ Closing (Refusing why) → plain))
+    ⊎ ((why : Refusal) × (front : List ℕ) × (rejection : List ℕ) × (state ≡ Closing (Refusing why))
+    × (pending ≡ front ++ server.refusal_text why) × IsRejectionText rejects (HasHead received) why rejection × (text ≡ front ++ rejection))

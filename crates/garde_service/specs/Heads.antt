@@ -21,6 +21,10 @@ abbrev pub looked : Seen → List ℕ → Seen
 looked seen [] = seen
 looked seen (byte ∷ bytes) = looked (next seen byte) bytes
 
+-- `HEAD ` is among the bytes
+abbrev pub HasHead : List ℕ → Type 0
+HasHead bytes = (front : List ℕ) × (more : List ℕ) × (bytes ≡ front ++ (codes "HEAD " ++ more))
+
 -- the bytes begin a request by `HEAD`
 abbrev pub IsByHead : List ℕ → Type 0
 IsByHead bytes = (more : List ℕ) × (bytes ≡ codes "HEAD " ++ more)

@@ -13,6 +13,7 @@ pub mod Picked
 pub mod Problems
 pub mod Promised
 pub mod Reasons
+pub mod Received
 pub mod Rejected
 pub mod Room
 pub mod Routes

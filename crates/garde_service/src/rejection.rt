@@ -46,7 +46,7 @@ fn has_other_version(text: &[u8]) -> bool {
 }
 
 /// The answer of `http_server` in whose place this one stands.
-fn plain_answer(why: Rejected) -> &'static [u8]
+pub fn plain_answer(why: Rejected) -> &'static [u8]
     ensures { result.now ≡ plain_of why }
 {
     match why {

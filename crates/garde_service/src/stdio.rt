@@ -5,7 +5,7 @@ use crate::wire::answer_all;
 use http_server::{Config, Reason, State};
 use std::hash::RandomState;
 use std::io;
-use std::io::{BufReader, BufWriter, ErrorKind};
+use std::io::{BufWriter, ErrorKind};
 use std::process::ExitCode;
 
 /// How a service is served.
@@ -49,7 +49,7 @@ pub fn serve<H: Handler>(
     most: usize,
     handler: &H,
 ) -> io::Result<ExitCode> {
-    // No request is read while an answer is pending, so a refusal of `http_server` is pending alone.
+    // No request is read while an answer is pending.
     let config = Config {
         max_body_len: serving.most.unwrap_or(most),
         max_pending: 0,
@@ -57,7 +57,6 @@ pub fn serve<H: Handler>(
     };
     let clock = serving.dates.then_some(rt);
     let keys = RandomState::new(rt)?;
-    let mut input = BufReader::new(rt.alloc(), rt.stdin())?;
     let mut output = BufWriter::new(rt.alloc(), io::writer(rt))?;
     let stands = answer_all(
         rt.alloc(),
@@ -65,7 +64,7 @@ pub fn serve<H: Handler>(
         config,
         clock,
         handler,
-        &mut input,
+        &mut rt.stdin(),
         &mut output,
     );
     match stands? {

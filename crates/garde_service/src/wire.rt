@@ -1,8 +1,7 @@
 //! The requests of a connection, and the answers to them.
-ghost use Rattle.std.specs.Prelude.{◌≡◌, ◌≢◌, ℕ, List, Bool, [], ◌++◌, length, Ok, IfOk, OnOk, OnErr, OnSome, IsFalse, IsTrue, option_map};
-ghost use Rattle.std.specs.Io.KnownBytes.{Appends, Consumes, IsAtEnd, Keeps};
+ghost use Rattle.std.specs.Prelude.{◌≡◌, ◌≢◌, ℕ, ◌≤◌, List, Bool, [], ◌++◌, length, IsErr, OnOk, IsFalse, IsTrue, option_map};
+ghost use Rattle.std.specs.Io.KnownBytes.{Appends, Consumes, IsAtEnd};
 ghost use Rattle.http_server.specs.Connection.{config_of, history};
-ghost use Rattle.http_server.specs.History.{after_read};
 ghost use Rattle.http.specs.Request.{head_of, body_of};
 ghost use Rattle.http_server.specs.Exchange.{Calls};
 ghost use Rattle.http1.specs.Message as wire;
@@ -10,6 +9,7 @@ ghost use Rattle.garde_service.specs.Answers.{IsAnswerOf};
 ghost use Rattle.garde_service.specs.Ending.{Ends, IsContent};
 ghost use Rattle.garde_service.specs.Fits.{Fits};
 ghost use Rattle.garde_service.specs.Heads.{looked};
+ghost use Rattle.garde_service.specs.Received.{Gets, Loses};
 ghost use Rattle.garde_service.specs.Said.{said};
 ghost use Rattle.garde_service.specs.Wire.{IsTalk};
 
@@ -17,7 +17,7 @@ use crate::date::date_of;
 use crate::handler::{Body, Handler};
 use crate::heads::Seen;
 use crate::rejected::Rejected;
-use crate::rejection::{is_plain, rejected_of, rejection};
+use crate::rejection::{is_plain, plain_answer, rejected_of, rejection};
 use crate::service::respond;
 use bytes::{Buf, Bytes};
 use http::Request;
@@ -25,7 +25,7 @@ use http_server::{Config, Connection, Reason, Refusal, Response, Service, State}
 use std::alloc::{AllocError, Global};
 use std::hash::RandomState;
 use std::io;
-use std::io::{BufRead, ErrorKind, Write};
+use std::io::{ErrorKind, Read, Write};
 use std::time::Clock;
 
 /// A handler as a service of `http_server`, with the clock of its answers.
@@ -51,32 +51,49 @@ impl<'a, H: Handler, C: Clock> Service for Served<'a, H, C> {
     }
 }
 
-/// Reads once, and looks for `HEAD ` among the bytes that come.
-fn read_once<R: BufRead>(
+/// The most bytes that are read at once.
+const ROOM: usize = 8192;
+
+/// Gives bytes to a connection. Where there are none, that is the end of its input.
+fn receive(connection: &mut Connection, bytes: &[u8]) -> io::Result<()>
+    requires { IsFalse (history connection.old).ended }
+    ensures taken { (came : List ℕ) × (lost : List ℕ) × (bytes.now ≡ came ++ lost)
+        × Gets (history connection.old) (history connection.new) came × OnOk result (lost ≡ []) }
+    ensures end { IsTrue (history connection.new).ended → bytes.now ≡ [] }
+    ensures config { config_of connection.new ≡ config_of connection.old }
+{
+    let mut rest = bytes;
+    connection.read_from(&mut rest)?;
+    while !rest.is_empty() {
+        connection.read_from(&mut rest)?;
+    }
+    Ok(())
+}
+
+/// Reads once, looks for `HEAD ` among the bytes that come, and gives them to a connection. Where that
+/// has no memory for them, some are lost.
+fn read_once<R: Read>(
     connection: &mut Connection,
     reader: &mut R,
     seen: &mut Seen,
-) -> io::Result<usize>
-    ensures ok { IfOk result (λ n. (more : List ℕ) × (length more ≡ n)
-        × Consumes (R.remaining reader.old) (R.remaining reader.new) more
-        × (history connection.new ≡ after_read (history connection.old) more)
-        × (seen.new ≡ looked seen.old more)) }
-    ensures end { result ≡ Ok 0 → IsFalse (history connection.old).ended
-        → OnSome (R.remaining reader.old) (IsAtEnd (R.remaining reader.new)) }
-    ensures err { OnErr result ((history connection.new ≡ history connection.old)
-        × Keeps (R.remaining reader.old) (R.remaining reader.new) × (seen.new ≡ seen.old)) }
+) -> io::Result<()>
+    requires { IsFalse (history connection.old).ended }
+    ensures taken { (came : List ℕ) × (lost : List ℕ)
+        × Consumes (R.remaining reader.old) (R.remaining reader.new) (came ++ lost)
+        × Gets (history connection.old) (history connection.new) came
+        × OnOk result ((lost ≡ []) × (seen.new ≡ looked seen.old came)) }
+    ensures end { IsTrue (history connection.new).ended → IsAtEnd (R.remaining reader.new) }
     ensures config { config_of connection.new ≡ config_of connection.old }
 {
-    let chunk = reader.fill_buf()?;
-    let mut rest = chunk;
-    let count = connection.read_from(&mut rest)?;
-    *seen = seen.after(&chunk[..count]);
-    reader.consume(count);
-    Ok(count)
+    let mut room = [0; ROOM];
+    let count = reader.read(&mut room)?;
+    let (bytes, _) = room.split_at(count);
+    *seen = seen.after(bytes);
+    receive(connection, bytes)
 }
 
 /// Answers requests while the connection is open. What is pending then is not yet written.
-fn talk<S: Service, R: BufRead, W: Write>(
+fn talk<S: Service, R: Read, W: Write>(
     connection: &mut Connection,
     service: &mut S,
     reader: &mut R,
@@ -84,14 +101,13 @@ fn talk<S: Service, R: BufRead, W: Write>(
     seen: &mut Seen,
 ) -> io::Result<()>
     ensures closed { OnOk result ((history connection.new).state ≢ State.Open) }
-    ensures read { (more : List ℕ)
-        × Consumes (R.remaining reader.old) (R.remaining reader.new) more
-        × ((history connection.new).received ≡ (history connection.old).received ++ more)
-        × (seen.new ≡ looked seen.old more) }
-    ensures end { (IsTrue (history connection.old).ended
-        → OnSome (R.remaining reader.old) (IsAtEnd (R.remaining reader.old)))
-        → IsTrue (history connection.new).ended
-        → OnSome (R.remaining reader.old) (IsAtEnd (R.remaining reader.new)) }
+    ensures read { (came : List ℕ) × (lost : List ℕ)
+        × Consumes (R.remaining reader.old) (R.remaining reader.new) (came ++ lost)
+        × ((history connection.new).received ≡ (history connection.old).received ++ came)
+        × Loses (history connection.new).state lost
+        × OnOk result ((lost ≡ []) × (seen.new ≡ looked seen.old came)) }
+    ensures end { (IsTrue (history connection.old).ended → IsAtEnd (R.remaining reader.old))
+        → IsTrue (history connection.new).ended → IsAtEnd (R.remaining reader.new) }
     ensures written { (more : List ℕ)
         × Appends (W.contents writer.old) (W.contents writer.new) more
         × ((history connection.new).sent ≡ (history connection.old).sent ++ more) }
@@ -116,6 +132,25 @@ fn talk<S: Service, R: BufRead, W: Write>(
     Err(ErrorKind::TimedOut.into())
 }
 
+/// Writes all bytes but the last `left`.
+fn write_but<B: Buf, W: Write>(bytes: &mut B, left: usize, writer: &mut W) -> io::Result<()>
+    ensures written { (written : List ℕ)
+        × Appends (W.contents writer.old) (W.contents writer.new) written
+        × (B.unread bytes.old ≡ written ++ B.unread bytes.new) }
+    ensures all { OnOk result (length (B.unread bytes.new) ≤ left) }
+{
+    while bytes.remaining() > left {
+        let chunk = bytes.chunk();
+        let most = chunk.len().min(bytes.remaining() - left);
+        let (front, _) = chunk.split_at(most);
+        match writer.write(front)? {
+            0 => return Err(ErrorKind::WriteZero.into()),
+            count => bytes.advance(count),
+        }
+    }
+    Ok(())
+}
+
 /// Writes bytes, and flushes the writer.
 fn write_out<B: Buf, W: Write>(bytes: &mut B, writer: &mut W) -> io::Result<()>
     ensures written { (written : List ℕ)
@@ -123,12 +158,7 @@ fn write_out<B: Buf, W: Write>(bytes: &mut B, writer: &mut W) -> io::Result<()>
         × (B.unread bytes.old ≡ written ++ B.unread bytes.new) }
     ensures all { OnOk result (B.unread bytes.new ≡ []) }
 {
-    while bytes.has_remaining() {
-        match writer.write(bytes.chunk())? {
-            0 => return Err(ErrorKind::WriteZero.into()),
-            count => bytes.advance(count),
-        }
-    }
+    write_but(bytes, 0, writer)?;
     writer.flush()
 }
 
@@ -143,7 +173,7 @@ fn finish<W: Write>(connection: Connection, writer: &mut W) -> io::Result<()>
     write_out(&mut pending, writer)
 }
 
-/// The body of a rejection: none where the request may be by `HEAD`.
+/// The body of a rejection: none where `HEAD ` came, so that the request may be by that method.
 fn content<H: Handler>(handler: &H, why: Rejected, seen: Seen) -> Option<Body>
     ensures { IsContent (H.rejects handler.now) (seen ≡ Seen.Found) why (option_map said result) }
 {
@@ -153,8 +183,9 @@ fn content<H: Handler>(handler: &H, why: Rejected, seen: Seen) -> Option<Body>
     }
 }
 
-/// Writes the last answer of a connection whose next request is rejected: where `http_server` has its
-/// own answer to it, that of the handler stands in its place.
+/// Writes the last answer of a connection whose next request is rejected: that of the handler, in place
+/// of the one of `http_server`. Where memory runs out for it, the latter is written, and the error says
+/// so.
 fn refuse<H: Handler, C: Clock, W: Write>(
     alloc: Global,
     clock: Option<&C>,
@@ -168,19 +199,24 @@ fn refuse<H: Handler, C: Clock, W: Write>(
     requires seen { seen ≡ looked Seen.Nothing (history connection).received }
     ensures { (written : List ℕ) × (unwritten : List ℕ)
         × Appends (W.contents writer.old) (W.contents writer.new) written
-        × Ends (H.rejects handler.now) (history connection).state (history connection).received
-        (history connection).pending (written ++ unwritten)
+        × Ends (H.rejects handler.now) (IsErr result) (history connection).state
+        (history connection).received (history connection).pending (written ++ unwritten)
         × OnOk result (unwritten ≡ []) }
 {
     let (unread, mut pending) = connection.into_buffers();
     let kind = rejected_of(why, unread.as_slice());
     let body = content(handler, kind, seen);
-    match rejection(alloc, kind, body, date_of(clock)) {
+    let text = rejection(alloc, kind, body, date_of(clock));
+    write_but(&mut pending, plain_answer(kind).len(), writer)?;
+    match text {
         Ok(text) if is_plain(kind, &pending) => {
             let mut rest = text.as_str().as_bytes();
             write_out(&mut rest, writer)
         }
-        _ => write_out(&mut pending, writer),
+        _ => {
+            write_out(&mut pending, writer)?;
+            Err(ErrorKind::OutOfMemory.into())
+        }
     }
 }
 
@@ -196,8 +232,8 @@ fn close<H: Handler, C: Clock, W: Write>(
     requires { seen ≡ looked Seen.Nothing (history connection).received }
     ensures { (written : List ℕ) × (unwritten : List ℕ)
         × Appends (W.contents writer.old) (W.contents writer.new) written
-        × Ends (H.rejects handler.now) (history connection).state (history connection).received
-        (history connection).pending (written ++ unwritten)
+        × Ends (H.rejects handler.now) (IsErr result) (history connection).state
+        (history connection).received (history connection).pending (written ++ unwritten)
         × OnOk result (unwritten ≡ []) }
 {
     match connection.state() {
@@ -216,7 +252,7 @@ fn discard(connection: Connection) {
 /// Answers the requests that the reader gives, by the routes of the handler, until the connection is
 /// done, and says how it stands. The clock dates the answers.
 /// What was read and written before an error is a conversation too.
-pub fn answer_all<H: Handler, C: Clock, R: BufRead, W: Write>(
+pub fn answer_all<H: Handler, C: Clock, R: Read, W: Write>(
     alloc: Global,
     keys: RandomState,
     config: Config,
@@ -228,7 +264,7 @@ pub fn answer_all<H: Handler, C: Clock, R: BufRead, W: Write>(
     ensures talk { (read : List ℕ) × (written : List ℕ) × (ended : Bool)
         × Consumes (R.remaining reader.old) (R.remaining reader.new) read
         × Appends (W.contents writer.old) (W.contents writer.new) written
-        × (IsTrue ended → OnSome (R.remaining reader.old) (IsAtEnd (R.remaining reader.new)))
+        × (IsTrue ended → IsAtEnd (R.remaining reader.new))
         × ∥ IsTalk (IsAnswerOf (H.table handler.now) (H.gives handler.now) (H.rejects handler.now))
         (H.rejects handler.now) config ended read written result ∥₁ }
     ensures says { (request : wire.Request) → (response : wire.Response)

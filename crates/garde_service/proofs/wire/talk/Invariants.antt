@@ -1,5 +1,5 @@
 use Rattle.std.proofs.Common.{◌≡◌, ℕ, List, ◌++◌}
-use Rattle.std.specs.Prelude.{IsTrue, OnSome}
+use Rattle.std.specs.Prelude.{IsTrue}
 use Rattle.std.specs.Io.KnownBytes.{Appends, Consumes, IsAtEnd}
 use Rattle.http_server.specs.Connection.{config_of, history}
 use Rattle.http_server.specs.Exchange.{Calls}
@@ -17,5 +17,4 @@ invariant-loop g l =
     × (new.sent ≡ old.sent ++ more))
     × Calls g.S.Service.answers l.fn.service l.service old.calls new.calls
     × (config_of l.connection ≡ config_of l.fn.connection)
-    × ((IsTrue old.ended → OnSome (g.R.Read.remaining l.fn.reader) (IsAtEnd (g.R.Read.remaining l.fn.reader)))
-    → IsTrue new.ended → OnSome (g.R.Read.remaining l.fn.reader) (IsAtEnd (g.R.Read.remaining l.reader)))
+    × ((IsTrue old.ended → IsAtEnd (g.R.Read.remaining l.fn.reader)) → IsTrue new.ended → IsAtEnd (g.R.Read.remaining l.reader))

@@ -1,6 +1,6 @@
 use Rattle.std.proofs.Common.{◌≡◌, ℕ, List, ◌++◌, length}
 use Rattle.std.specs.Io.KnownBytes.{Appends}
-use Rattle.garde_service.proofs.wire.write_out.Given as goal
+use Rattle.garde_service.proofs.wire.write_but.Given as goal
 
 -- what was written so far, and then what is left, are the bytes
 abbrev pub invariant-loop-bytes : goal.invariant-loop-bytes
