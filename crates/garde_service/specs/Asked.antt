@@ -1,5 +1,5 @@
 -- What a request asks for.
-use Rattle.std.specs.Prelude.{◌≡◌, ◌==◌, Bool, false, not, ◌||◌, ◌&&◌, nat_le, ℕ, List, [], length, map, take, slice_index, codes, Option, Some, None, if◌then◌else◌}
+use Rattle.std.specs.Prelude.{◌≡◌, ◌==◌, Bool, true, false, not, ◌||◌, ◌&&◌, nat_le, ℕ, List, [], length, map, take, drop, slice_index, codes, Option, Some, None, if◌then◌else◌}
 use Rattle.std.specs.List.{list_any}
 use Rattle.std.specs.Str.{bytes_eq}
 use Rattle.std.specs.Char.{to_ascii_lowercase}
@@ -41,6 +41,31 @@ is_coding value = not (bytes_eq (map to_ascii_lowercase value) (map to_ascii_low
 -- the body has a coding, by any field of that name
 abbrev pub has_coding : Parts → Bool
 has_coding head = list_any (λ (value : FieldValue). is_coding value.bytes) (get_all head.headers (codes "content-encoding"))
+
+-- an origin is that of this host, by one of the schemes that have pages
+abbrev pub is_of : List ℕ → List ℕ → List ℕ → Bool
+is_of origin scheme host =
+    nat_le (length scheme) (length origin)
+    && (bytes_eq (take (length scheme) origin) scheme && bytes_eq (map to_ascii_lowercase (drop (length scheme) origin)) (map to_ascii_lowercase host))
+
+abbrev pub is_origin_of : List ℕ → List ℕ → Bool
+is_origin_of origin host = is_of origin (codes "https://") host || is_of origin (codes "http://") host
+
+-- by a field `Origin`: it is there, and not that of the host
+abbrev pub is_foreign_origin : Option FieldValue → Option FieldValue → Bool
+is_foreign_origin None host = false
+is_foreign_origin (Some origin) None = true
+is_foreign_origin (Some origin) (Some host) = not (is_origin_of origin.bytes host.bytes)
+
+-- by a field `Sec-Fetch-Site`, or without it by `Origin`
+abbrev pub is_foreign_site : Option FieldValue → Bool → Bool
+is_foreign_site None by_origin = by_origin
+is_foreign_site (Some site) by_origin = not (bytes_eq site.bytes (codes "same-origin") || bytes_eq site.bytes (codes "none"))
+
+-- a page of another site made the request, by the first fields of these names
+abbrev pub is_foreign : Parts → Bool
+is_foreign head =
+    is_foreign_site (get head.headers (codes "sec-fetch-site")) (is_foreign_origin (get head.headers (codes "origin")) (get head.headers (codes "host")))
 
 -- the place of the language that a field asks for, among those that are offered: none where it asks for none, or where there is no field
 abbrev pub IsAskedIn : List Language → Option FieldValue → Option ℕ → Type 0

@@ -19,7 +19,7 @@ use Rattle.garde_service.specs.Fits.{Answered, Fits}
 use Rattle.garde_service.specs.Rejected.{status_of}
 use Rattle.garde_service.specs.Routes.{Entry, asked}
 use Rattle.garde_service.specs.declared.rejected.Rejected.{Rejected}
-use Rattle.garde_service.specs.declared.rejected.Rejected.TheVariants.{BadRequest, NotFound, MethodNotAllowed, ContentTooLarge, UriTooLong, UnsupportedMediaType, FieldsTooLarge, InternalServerError, NotImplemented, VersionNotSupported}
+use Rattle.garde_service.specs.declared.rejected.Rejected.TheVariants.{BadRequest, Forbidden, NotFound, MethodNotAllowed, ContentTooLarge, UriTooLong, UnsupportedMediaType, FieldsTooLarge, InternalServerError, NotImplemented, VersionNotSupported}
 use Rattle.garde_service.specs.declared.routes.Asks.{Asks}
 use Rattle.garde_service.specs.declared.routes.Asks.TheVariants.{Answer, Rejection}
 use Rattle.garde_service.specs.declared.routes.Offer.{Offer}
@@ -46,6 +46,7 @@ posted_body answered request response x posted =
 -- a rejection is an error, and not of faults
 pub is_error : (why : Rejected) → (400 ≤ status_of why) × (status_of why ≢ 422)
 is_error BadRequest = (omega arith, λ e. omega (arith, e))
+is_error Forbidden = (omega arith, λ e. omega (arith, e))
 is_error NotFound = (omega arith, λ e. omega (arith, e))
 is_error MethodNotAllowed = (omega arith, λ e. omega (arith, e))
 is_error ContentTooLarge = (omega arith, λ e. omega (arith, e))

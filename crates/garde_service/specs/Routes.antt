@@ -1,9 +1,9 @@
 -- What a request asks of the routes of a service.
-use Rattle.std.specs.Prelude.{Bool, true, false, ◌||◌, List, [], ◌∷◌, ℕ, codes, Option, Some, None, if◌then◌else◌}
+use Rattle.std.specs.Prelude.{Bool, true, false, ◌||◌, ◌&&◌, List, [], ◌∷◌, ℕ, codes, Option, Some, None, if◌then◌else◌}
 use Rattle.std.specs.Str.{bytes_eq}
 use Rattle.http.specs.declared.request.Parts.{Parts}
-use Rattle.garde_service.specs.Asked.{elsewhere, has_coding, has_type, path_of}
-use Rattle.garde_service.specs.declared.rejected.Rejected.TheVariants.{MethodNotAllowed, UnsupportedMediaType}
+use Rattle.garde_service.specs.Asked.{elsewhere, has_coding, has_type, is_foreign, path_of}
+use Rattle.garde_service.specs.declared.rejected.Rejected.TheVariants.{Forbidden, MethodNotAllowed, UnsupportedMediaType}
 use Rattle.garde_service.specs.declared.routes.Asks.{Asks}
 use Rattle.garde_service.specs.declared.routes.Asks.TheVariants.{Answer, Rejection}
 use Rattle.garde_service.specs.declared.routes.Media.{Media}
@@ -13,6 +13,8 @@ use Rattle.garde_service.specs.declared.routes.Offer.{Offer}
 use Rattle.garde_service.specs.declared.routes.Offer.TheVariants.{Coding, MediaType, Methods, Nothing}
 use Rattle.garde_service.specs.declared.routes.Post.{Post}
 use Rattle.garde_service.specs.declared.routes.Route.{Route}
+use Rattle.garde_service.specs.declared.routes.Sites.{Sites}
+use Rattle.garde_service.specs.declared.routes.Sites.TheVariants.{Own, Any}
 use Rattle.garde_service.specs.declared.routes.Wanted.{Wanted}
 use Rattle.garde_service.specs.declared.routes.Wanted.TheVariants as wanted
 
@@ -52,14 +54,20 @@ abbrev pub asked_by_get : {G P : Type 0} → Entry G P → Option G → Asks (Wa
 asked_by_get route None = other_method route
 asked_by_get route (Some page) = Answer (wanted.Get page)
 
+-- the body may not come from another site
+abbrev pub is_own : Sites → Bool
+is_own Own = true
+is_own Any = false
+
 abbrev pub asked_by_post : {G P : Type 0} → Entry G P → Parts → Option (Post P) → Asks (Wanted G P)
 asked_by_post route head None = other_method route
 asked_by_post route head (Some post) =
-    if has_type head (media_text post.media)
+    if is_own post.sites && is_foreign head then Rejection Forbidden Nothing
+    else if has_type head (media_text post.media)
     then (if has_coding head then Rejection UnsupportedMediaType Coding else Answer (wanted.Post post.answer))
     else Rejection UnsupportedMediaType (MediaType post.media)
 
--- what is asked of a route, by the method, and the type and the coding of the body
+-- what is asked of a route, by the method, and the site, the type and the coding of the body
 abbrev pub asked_at : {G P : Type 0} → Entry G P → Parts → Asks (Wanted G P)
 asked_at route head =
     if bytes_eq head.method (codes "POST") then asked_by_post route head route.post

@@ -1,7 +1,7 @@
 //! What a request asks for.
-ghost use Rattle.std.specs.Prelude.{◌≡◌, ◌≤◌, length};
+ghost use Rattle.std.specs.Prelude.{◌≡◌, ◌≤◌, codes, length};
 ghost use Rattle.http.specs.Request.{head_of};
-ghost use Rattle.garde_service.specs.Asked.{IsLanguage, begins_with, elsewhere, ends_at, field_begins_with, has_coding, has_type, is_coding};
+ghost use Rattle.garde_service.specs.Asked.{IsLanguage, begins_with, elsewhere, ends_at, field_begins_with, has_coding, has_type, is_coding, is_foreign, is_foreign_origin, is_of, is_origin_of};
 ghost use Rattle.http_header.specs.HeaderMap.{get};
 
 use crate::rejected::Rejected;
@@ -48,6 +48,56 @@ pub fn has_type(request: &Request<Bytes>, media: &str) -> bool
     ensures { result ≡ has_type (head_of request.now) media.now }
 {
     field_begins_with(request, header::CONTENT_TYPE, media.as_bytes(), TYPE_ENDS)
+}
+
+/// Whether an origin is this scheme and this host.
+fn is_of(origin: &[u8], scheme: &[u8], host: &[u8]) -> bool
+    ensures { result ≡ is_of origin.now scheme.now host.now }
+{
+    let len = scheme.len();
+    if origin.len() < len {
+        return false;
+    }
+    let (front, back) = origin.split_at(len);
+    front == scheme && back.eq_ignore_ascii_case(host)
+}
+
+/// Whether an origin is that of a page of this host.
+fn is_origin_of(origin: &[u8], host: &[u8]) -> bool
+    ensures { result ≡ is_origin_of origin.now host.now }
+{
+    is_of(origin, b"https://", host) || is_of(origin, b"http://", host)
+}
+
+/// Whether there is a field `Origin` (RFC 6454, section 7) that is not that of the host.
+fn is_foreign_origin(request: &Request<Bytes>) -> bool
+    ensures { result ≡ is_foreign_origin (get (head_of request.now).headers (codes "origin"))
+        (get (head_of request.now).headers (codes "host")) }
+{
+    let Some(origin) = request.headers().get(header::ORIGIN) else {
+        return false;
+    };
+    match request.headers().get(header::HOST) {
+        Some(host) => !is_origin_of(origin.as_bytes(), host.as_bytes()),
+        None => true,
+    }
+}
+
+/// What a browser says of a page's request to its own site, and of one that no page made.
+const SAME_ORIGIN: &[u8] = b"same-origin";
+
+const NO_SITE: &[u8] = b"none";
+
+/// Whether a page of another site made the request: by its first field `Sec-Fetch-Site` (Fetch Metadata
+/// Request Headers, section 2.2), or without it by `Origin`.
+pub fn is_foreign(request: &Request<Bytes>) -> bool
+    ensures { result ≡ is_foreign (head_of request.now) }
+{
+    let name = HeaderName::from_static("sec-fetch-site");
+    match request.headers().get(name) {
+        Some(site) => site.as_bytes() != SAME_ORIGIN && site.as_bytes() != NO_SITE,
+        None => is_foreign_origin(request),
+    }
 }
 
 /// The only coding of a body that is read (RFC 9110, section 8.4.1): none.

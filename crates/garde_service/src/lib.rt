@@ -25,6 +25,6 @@ pub use problems::{PROBLEM_TYPE, problem_body};
 pub use program::run;
 pub use put::{put_field, put_language, put_text};
 pub use rejected::Rejected;
-pub use routes::{Asks, Media, Offer, Post, Route, Wanted};
+pub use routes::{Asks, Media, Offer, Post, Route, Sites, Wanted};
 pub use stdio::{Serving, serve};
 pub use wire::answer_all;

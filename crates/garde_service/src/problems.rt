@@ -28,6 +28,7 @@ fn problem_of(why: Rejected) -> &'static str
 {
     match why {
         Rejected::BadRequest => BAD_REQUEST,
+        Rejected::Forbidden => FORBIDDEN,
         Rejected::NotFound => NOT_FOUND,
         Rejected::MethodNotAllowed => METHOD_NOT_ALLOWED,
         Rejected::ContentTooLarge => CONTENT_TOO_LARGE,
@@ -41,6 +42,8 @@ fn problem_of(why: Rejected) -> &'static str
 }
 
 const BAD_REQUEST: &str = "{\"type\":\"about:blank\",\"title\":\"Bad Request\",\"status\":400}";
+
+const FORBIDDEN: &str = "{\"type\":\"about:blank\",\"title\":\"Forbidden\",\"status\":403}";
 
 const NOT_FOUND: &str = "{\"type\":\"about:blank\",\"title\":\"Not Found\",\"status\":404}";
 

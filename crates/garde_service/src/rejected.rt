@@ -8,6 +8,8 @@ use http::StatusCode;
 pub enum Rejected {
     /// What came is no request, or its target has no form that fits its method.
     BadRequest,
+    /// Another site sent the body. `http_server` has no such reason.
+    Forbidden,
     /// The path leads nowhere. `http_server` has no such reason.
     NotFound,
     /// The path has other methods. `http_server` has no such reason.
@@ -37,6 +39,7 @@ impl Rejected {
     {
         match self {
             Rejected::BadRequest => StatusCode::BAD_REQUEST,
+            Rejected::Forbidden => StatusCode::FORBIDDEN,
             Rejected::NotFound => StatusCode::NOT_FOUND,
             Rejected::MethodNotAllowed => StatusCode::METHOD_NOT_ALLOWED,
             Rejected::ContentTooLarge => StatusCode::PAYLOAD_TOO_LARGE,
@@ -55,6 +58,7 @@ impl Rejected {
     {
         match self {
             Rejected::BadRequest => "400 Bad Request",
+            Rejected::Forbidden => "403 Forbidden",
             Rejected::NotFound => "404 Not Found",
             Rejected::MethodNotAllowed => "405 Method Not Allowed",
             Rejected::ContentTooLarge => "413 Content Too Large",

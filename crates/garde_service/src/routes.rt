@@ -4,7 +4,7 @@ ghost use Rattle.http.specs.Request.{head_of};
 ghost use Rattle.http_header.specs.FieldValue.{is_visible_text};
 ghost use Rattle.garde_service.specs.Routes.{asked, asked_at, asked_by_get, asked_by_post, entry_of, media_text, offers, other_method};
 
-use crate::asked::{IDENTITY, elsewhere, has_coding, has_type};
+use crate::asked::{IDENTITY, elsewhere, has_coding, has_type, is_foreign};
 use crate::rejected::Rejected;
 use bytes::Bytes;
 use http::Request;
@@ -30,11 +30,22 @@ impl Media {
     }
 }
 
+/// Whose bodies are taken.
+#[derive(Clone, Copy, Debug)]
+pub enum Sites {
+    /// What a page of the service sends, or no page.
+    Own,
+    /// What any page sends.
+    Any,
+}
+
 /// What takes the bodies that are sent by `POST`.
 #[derive(Clone, Copy, Debug)]
 pub struct Post<P> {
     /// Their media type.
     pub media: Media,
+    /// Who may send them.
+    pub sites: Sites,
     pub answer: P,
 }
 
@@ -113,7 +124,9 @@ impl<G: Copy, P: Copy> Route<G, P> {
             return self.other_method();
         };
         let type_is_other = Rejected::UnsupportedMediaType;
-        if !has_type(request, post.media.text()) {
+        if matches!(post.sites, Sites::Own) && is_foreign(request) {
+            Asks::Rejection(Rejected::Forbidden, Offer::Nothing)
+        } else if !has_type(request, post.media.text()) {
             Asks::Rejection(type_is_other, Offer::MediaType(post.media))
         } else if has_coding(request) {
             Asks::Rejection(type_is_other, Offer::Coding)

@@ -6,7 +6,7 @@ ghost use Rattle.garde_service.specs.declared.application.Answer.TheVariants.{No
 use crate::order::{OPEN_API, Order};
 use garde::{I18n, Stated, Valid};
 use garde_schema::{FirstReadError, FormI18n, ReadBody, Scratch, Spelled};
-use garde_service::{Answer, Application, Media, Page, Post, Route};
+use garde_service::{Answer, Application, Media, Page, Post, Route, Sites};
 use std::alloc::Global;
 
 /// The routes. There is one kind of body.
@@ -16,6 +16,7 @@ pub const ROUTES: &[Route<Page, ()>] = &[
         get: None,
         post: Some(Post {
             media: Media::Json,
+            sites: Sites::Any,
             answer: (),
         }),
     },

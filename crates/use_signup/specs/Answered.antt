@@ -22,6 +22,7 @@ use Rattle.garde_service.specs.Routes.{Entry as RouteEntry, asked}
 use Rattle.garde_service.specs.Said.{language_fields}
 use Rattle.garde_service.specs.declared.routes.Asks.TheVariants as asks
 use Rattle.garde_service.specs.declared.routes.Media.TheVariants.{WebForm}
+use Rattle.garde_service.specs.declared.routes.Sites.{Sites}
 use Rattle.garde_service.specs.declared.routes.Wanted.{Wanted}
 use Rattle.garde_service.specs.declared.routes.Wanted.TheVariants.{Get, Post}
 use Rattle.http.specs.declared.request.Parts.{Parts}
@@ -105,10 +106,10 @@ Judges visits voice body response =
 abbrev pub InLanguage : Speech → Parts → (Voice → Type 0) → Type 0
 InLanguage speech head holds = (place : Option ℕ) × IsLanguage speech.catalogs.now place head × holds (voice_at speech place)
 
--- the routes
-abbrev pub routes : List (RouteEntry Page (Unit {0}))
-routes =
-    record { path = codes "/"; get = Some page.Form; post = Some (record { media = WebForm; answer = tt }) }
+-- the routes, where these sites may send forms
+abbrev pub routes : Sites → List (RouteEntry Page (Unit {0}))
+routes sites =
+    record { path = codes "/"; get = Some page.Form; post = Some (record { media = WebForm; sites = sites; answer = tt }) }
     ∷ record { path = codes "/thanks"; get = Some page.Thanks; post = None } ∷ []
 
 -- what is given to a request with this head and this body
@@ -119,10 +120,10 @@ Gives visits speech (Get page.Thanks) head body response =
 Gives visits speech (Post form) head body response = InLanguage speech head (λ said. Judges visits said body response)
 
 -- Forms are judged so: a valid one is answered with 303, and one with faults with the page of its fields and of its report.
-abbrev pub judging : FormVisits → Speech → Judging
-judging visits speech = record {
+abbrev pub judging : FormVisits → Sites → Speech → Judging
+judging visits sites speech = record {
   by = Option ℕ;
-  asks = λ place head. (asked routes head ≡ asks.Answer (Post tt)) × IsLanguage speech.catalogs.now place head;
+  asks = λ place head. (asked (routes sites) head ≡ asks.Answer (Post tt)) × IsLanguage speech.catalogs.now place head;
   is_valid = λ place body. Reads visits (voice_at speech place) body (Ok tt);
   is_accepted = λ place body status. status ≡ 303;
   report = List Entry;

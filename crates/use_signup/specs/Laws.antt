@@ -15,6 +15,7 @@ use Rattle.garde_service.specs.Fits.{Fits}
 use Rattle.garde_service.specs.Judged.{Judges, JudgesBy, Promises}
 use Rattle.garde_service.specs.Routes.{asked}
 use Rattle.garde_service.specs.declared.routes.Asks.TheVariants.{Answer}
+use Rattle.garde_service.specs.declared.routes.Sites.{Sites}
 use Rattle.garde_service.specs.declared.routes.Wanted.{Wanted}
 use Rattle.garde_service.specs.declared.routes.Wanted.TheVariants.{Get, Post}
 use Rattle.http.specs.declared.request.Parts.{Parts}
@@ -69,7 +70,7 @@ object_alike one other e fields =
     ap (λ (ms : Members). object (first_of_lists one ms)) (members_alike one other e fields fields)
     ∙ ap (λ (ms : Members). object ms) (firsts_alike one other e (members_of_fields other fields fields))
 
-module _ (visits : FormVisits) (speech : Speech) where
+module _ (visits : FormVisits) (sites : Sites) (speech : Speech) where
   -- a body has no fault and a report of none
   clash : (voice : Voice) (body : List ℕ) (report : List Entry) → Reads visits voice body (Ok tt) → Reads visits voice body (Err (Report report)) → ⊥
   clash voice body report none some =
@@ -77,7 +78,7 @@ module _ (visits : FormVisits) (speech : Speech) where
       (object_alike some.lists none.lists (some.named ∙ sym none.named) (fields_in body)) some.is in
       true≢false (sym found.2 ∙ none.is found.0 found.1)
 
-  lawful : IsLawful (judging visits speech)
+  lawful : IsLawful (judging visits sites speech)
   lawful = record {
     one = λ place other head is also. is_one_language speech.catalogs.now place other head is.1 also.1;
     apart = λ place body report valid has. clash (voice_at speech place) body report valid has;
@@ -87,14 +88,14 @@ module _ (visits : FormVisits) (speech : Speech) where
   }
 
   told : (place : Option ℕ) (body : List ℕ) (r : Response) (read : Result (Unit {0}) ValidateError) → Reads visits (voice_at speech place) body read
-      → Tells (voice_at speech place).texts.form (voice_at speech place).tag (fields_in body) read r → JudgesBy (judging visits speech) place body r
+      → Tells (voice_at speech place).texts.form (voice_at speech place).tag (fields_in body) read r → JudgesBy (judging visits sites speech) place body r
   told place body r (Ok done) reads tells = inl (reads, tells.status)
   told place body r (Err (Report report)) reads tells =
       inr (inl (report, reads, tells.2.status, (tells.1.0, tells.1.1, tells.2.body ∙ tells.1.2)))
   told place body r (Err Memory) reads tells = absurd tells
 
-  judges : (form : Unit {0}) (head : Parts) (body : List ℕ) (r : Response) → asked routes head ≡ Answer (Post form)
-      → Gives visits speech (Post form) head body r → Judges (judging visits speech) head body r
+  judges : (form : Unit {0}) (head : Parts) (body : List ℕ) (r : Response) → asked (routes sites) head ≡ Answer (Post form)
+      → Gives visits speech (Post form) head body r → Judges (judging visits sites speech) head body r
   judges tt head body r is given = (given.0, (is, given.1), told given.0 body r given.2.0 given.2.1 given.2.2)
 
   page_status : (shown : Page) (head : Parts) (body : List ℕ) (r : Response) → Gives visits speech (Get shown) head body r → r.status ≡ 200
@@ -109,10 +110,10 @@ module _ (visits : FormVisits) (speech : Speech) where
   pub stays : (wanted : Wanted Page (Unit {0})) (head : Parts) (body : List ℕ) (r : Response) → Gives visits speech wanted head body r → r.status ≢ 101
   stays (Get shown) head body r given = λ e. omega (arith, e, page_status shown head body r given)
   stays (Post form) head body r given =
-      judged_stays (judging visits speech) lawful given.0 body r (told given.0 body r given.2.0 given.2.1 given.2.2)
+      judged_stays (judging visits sites speech) lawful given.0 body r (told given.0 body r given.2.0 given.2.1 given.2.2)
 
   pub kept : (request : Wire.Request) (response : Wire.Response)
-      → Fits (IsAnswerOf routes (Gives visits speech) (λ why. (codes "text/html; charset=utf-8", page_of why))) request response
-      → Promises (judging visits speech) request response
-  kept = promised routes (Gives visits speech) (λ why. (codes "text/html; charset=utf-8", page_of why)) (judging visits speech) lawful
+      → Fits (IsAnswerOf (routes sites) (Gives visits speech) (λ why. (codes "text/html; charset=utf-8", page_of why))) request response
+      → Promises (judging visits sites speech) request response
+  kept = promised (routes sites) (Gives visits speech) (λ why. (codes "text/html; charset=utf-8", page_of why)) (judging visits sites speech) lawful
       (λ place head is. (tt, is.0)) judges shows

@@ -1,7 +1,7 @@
 //! What the command line asks for.
 
 use garde_command::{Program, Spoken, Word};
-use garde_service::Serving;
+use garde_service::{Serving, Sites};
 
 /// A longer body is rejected, where the command line names no other length.
 pub const MOST: usize = 64 * 1024;
@@ -11,7 +11,7 @@ pub const PROGRAM: Program = Program {
     name: "use_signup",
     usage: "\
 usage: use_signup [--language TAG] [--page] [FILE | -]
-       use_signup --serve [BYTES] [--no-date]
+       use_signup --serve [--any-site] [BYTES] [--no-date]
 Reads a web form, and welcomes who signs up or prints every fault of the form.
 
   FILE            reads this file, and without a name or with - standard input
@@ -19,6 +19,7 @@ Reads a web form, and welcomes who signs up or prints every fault of the form.
   --page          prints faults on a page with the form, what was sent but for passwords, and each fault
                   beside its field; its labels are Czech or Arabic where the language is, and else English
   --serve         answers the HTTP requests of standard input on standard output: the form, and what is sent
+  --any-site      takes a form that a page of another site sent, which is rejected without it
   BYTES           reads bodies of so many bytes at most, 65536 without it
   --no-date       leaves out the dates of answers
   --help          prints this",
@@ -35,8 +36,8 @@ pub enum Task<'w> {
         page: bool,
         file: Option<&'w str>,
     },
-    /// Requests are answered.
-    Serve(Serving),
+    /// Requests are answered, with forms of these sites.
+    Serve(Sites, Serving),
 }
 
 impl<'w> Task<'w> {
@@ -69,6 +70,11 @@ impl<'w> Task<'w> {
 
     // How the words behind `--serve` ask for requests to be answered.
     fn serving(words: &[Word]) -> Result<Task<'w>, &'static str> {
-        Ok(Task::Serve(Serving::of(words)?))
+        match words {
+            [word, rest @ ..] if word.name.as_str() == "--any-site" => {
+                Ok(Task::Serve(Sites::Any, Serving::of(rest)?))
+            }
+            _ => Ok(Task::Serve(Sites::Own, Serving::of(words)?)),
+        }
     }
 }

@@ -28,7 +28,7 @@ use garde_form::{FormField, form_fields};
 use garde_html::Form;
 use garde_problem::Escaped;
 use garde_schema::FormI18n;
-use garde_service::{Serving, serve};
+use garde_service::{Serving, Sites, serve};
 use std::alloc::Global;
 use std::process::ExitCode;
 
@@ -122,8 +122,9 @@ fn catalogs(alloc: Global) -> Result<Catalogs, CatalogError> {
     Catalogs::new(alloc, &[english, czech, arabic], english)
 }
 
-/// Answers all requests of standard input, in the languages that the pages have.
-fn answer_input(rt: &HostRuntime, serving: Serving) -> Result<ExitCode> {
+/// Answers all requests of standard input, in the languages that the pages have, with forms of these
+/// sites.
+fn answer_input(rt: &HostRuntime, sites: Sites, serving: Serving) -> Result<ExitCode> {
     let texts = [*texts_in("en"), *texts_in("cs"), *texts_in("ar")];
     let catalogs = catalogs(rt.alloc())?;
     let handler = SignUps {
@@ -133,6 +134,7 @@ fn answer_input(rt: &HostRuntime, serving: Serving) -> Result<ExitCode> {
             texts: &texts,
             otherwise: &texts[0],
         },
+        sites,
     };
     Ok(serve(rt, serving, MOST, &handler)?)
 }
@@ -144,7 +146,7 @@ fn run(rt: &HostRuntime) -> Result<ExitCode> {
     }
     match Task::of(&words) {
         Ok(Task::Judge { spoken, page, file }) => judge_in(rt, spoken, page, file),
-        Ok(Task::Serve(serving)) => answer_input(rt, serving),
+        Ok(Task::Serve(sites, serving)) => answer_input(rt, sites, serving),
         Err(why) => PROGRAM.reject(rt, why),
     }
 }

@@ -12,6 +12,7 @@ pub fn page_of(why: Rejected) -> &'static str
 {
     match why {
         Rejected::BadRequest => BAD_REQUEST,
+        Rejected::Forbidden => FORBIDDEN,
         Rejected::NotFound => NOT_FOUND,
         Rejected::MethodNotAllowed => METHOD_NOT_ALLOWED,
         Rejected::ContentTooLarge => CONTENT_TOO_LARGE,
@@ -32,6 +33,8 @@ macro_rules! page {
 }
 
 const BAD_REQUEST: &str = page!("Bad request", "What came is no request.");
+
+const FORBIDDEN: &str = page!("Forbidden", "Another site sent the form.");
 
 const NOT_FOUND: &str = page!("Not found", "There is no such page.");
 

@@ -22,7 +22,7 @@ use garde_catalog::Catalog;
 use garde_form::{FormField, form_fields};
 use garde_html::Form;
 use garde_schema::SpelledUnder;
-use garde_service::{Body, Handler, Media, Post, Rejected, Route, Wanted, language_of};
+use garde_service::{Body, Handler, Media, Post, Rejected, Route, Sites, Wanted, language_of};
 use http::{Request, StatusCode};
 use http_server::Response;
 use std::alloc::{AllocError, Global};
@@ -36,22 +36,31 @@ pub enum Page {
     Thanks,
 }
 
-/// The routes. There is one form to send.
-const ROUTES: &[Route<Page, ()>] = &[
-    Route {
-        path: "/",
-        get: Some(Page::Form),
-        post: Some(Post {
-            media: Media::WebForm,
-            answer: (),
-        }),
-    },
-    Route {
-        path: "/thanks",
-        get: Some(Page::Thanks),
-        post: None,
-    },
-];
+/// The routes, where these sites may send the form. There is one form to send.
+macro_rules! routes {
+    ($sites:expr) => {
+        &[
+            Route {
+                path: "/",
+                get: Some(Page::Form),
+                post: Some(Post {
+                    media: Media::WebForm,
+                    sites: $sites,
+                    answer: (),
+                }),
+            },
+            Route {
+                path: "/thanks",
+                get: Some(Page::Thanks),
+                post: None,
+            },
+        ]
+    };
+}
+
+const ROUTES: &[Route<Page, ()>] = routes!(Sites::Own);
+
+const ROUTES_OF_ANY_SITE: &[Route<Page, ()>] = routes!(Sites::Any);
 
 /// Answers with the page of the form, with these fields and these faults.
 fn put_form(
@@ -211,6 +220,8 @@ pub struct SignUps<'a> {
     pub alloc: Global,
     /// The languages in which it answers.
     pub speech: Speech<'a>,
+    /// Whose forms it takes.
+    pub sites: Sites,
 }
 
 impl<'a> Handler for SignUps<'a> {
@@ -218,7 +229,7 @@ impl<'a> Handler for SignUps<'a> {
 
     type Post = ();
 
-    ghost table = { λ _. routes };
+    ghost table = { λ handler. routes handler.sites };
 
     ghost gives = { λ handler wanted head body response.
         Gives (λ words. (⟦<SignUp<'static> as SpelledUnder>⟧.spelled words).visits)
@@ -228,13 +239,17 @@ impl<'a> Handler for SignUps<'a> {
 
     ghost rejects = { λ _ why. (codes "text/html; charset=utf-8", page_of why) };
 
-    // 303 answers each valid form and nothing else, and 422 each form with faults and nothing else.
+    // 303 answers each valid form that may be sent and nothing else, and 422 each with faults and
+    // nothing else.
     ghost says = { λ handler request response.
         Promises (judging (λ words. (⟦<SignUp<'static> as SpelledUnder>⟧.spelled words).visits)
-        handler.speech) request response };
+        handler.sites handler.speech) request response };
 
     fn routes(&self) -> &[Route<Page, ()>] {
-        ROUTES
+        match self.sites {
+            Sites::Own => ROUTES,
+            Sites::Any => ROUTES_OF_ANY_SITE,
+        }
     }
 
     fn give(
@@ -265,9 +280,9 @@ impl<'a> Handler for SignUps<'a> {
 
     ghost stays = { λ handler wanted head body response given.
         stays (λ words. (⟦<SignUp<'static> as SpelledUnder>⟧.spelled words).visits)
-        handler.speech wanted head body response given };
+        handler.sites handler.speech wanted head body response given };
 
     ghost told = { λ handler request response fits.
         kept (λ words. (⟦<SignUp<'static> as SpelledUnder>⟧.spelled words).visits)
-        handler.speech request response fits };
+        handler.sites handler.speech request response fits };
 }
