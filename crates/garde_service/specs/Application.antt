@@ -1,5 +1,5 @@
 -- What an application takes and shows, and what it keeps of the bodies that it takes.
-use Rattle.std.specs.Prelude.{◌≡◌, ◌^◌, ◌-◌, ◌≤◌, ℕ, ◌⊎◌, List, [], ◌∷◌, length, Option, Some, Ok, Err, codes, map}
+use Rattle.std.specs.Prelude.{◌≡◌, ◌≤◌, ℕ, ◌⊎◌, List, [], ◌∷◌, length, Option, Some, Ok, Err, codes, map}
 use Rattle.garde.specs.Validated.{IsValid}
 use Rattle.garde.specs.Visits.{Visits}
 use Rattle.garde_catalog.specs.declared.catalogs.Catalogs.{Catalogs}

@@ -1,5 +1,5 @@
 -- What is answered to a body that is judged as JSON.
-use Rattle.std.specs.Prelude.{◌≡◌, ◌^◌, ◌-◌, ◌≤◌, ℕ, ◌⊎◌, List, [], ◌∷◌, ◌++◌, length, Option, Result, Ok, Err, codes}
+use Rattle.std.specs.Prelude.{◌^◌, ◌-◌, ℕ, ◌⊎◌, List, [], ◌∷◌, ◌++◌, Option, Result, Ok, Err, codes}
 use Rattle.std.specs.Fmt.{decimal}
 use Rattle.json.specs.Json.{string, number, array, object, no_members, member}
 use Rattle.garde.specs.Handlers.{Datum}

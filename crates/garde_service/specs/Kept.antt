@@ -1,5 +1,5 @@
 -- What an application promises of the bodies that it takes.
-use Rattle.std.proofs.Common.{◌≡◌, ◌≢◌, ◌≤◌, ◌<◌, ◌⊎◌, ◌^◌, ◌-◌, ℕ, List, [], ◌∷◌, length, None, Some, Option, Ok, Err, IsSomeAnd, sym, ap, ◌∙◌, subst, codes, arith, inl, inr}
+use Rattle.std.proofs.Common.{◌≡◌, ◌≢◌, ◌≤◌, ◌⊎◌, ◌^◌, ◌-◌, ℕ, List, length, None, Some, Option, Ok, Err, IsSomeAnd, sym, ap, ◌∙◌, codes, arith, inl, inr}
 use Rattle.std.proofs.lemmas.Bool.{true≢false}
 use Rattle.json.specs.Json.{Json as JsonValue, document}
 use Rattle.garde.specs.Answers.{AnswersFirst}

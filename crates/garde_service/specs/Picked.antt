@@ -1,11 +1,11 @@
 -- The ranges of a field ask for one language.
-use Rattle.std.proofs.Common.{◌≡◌, ◌≤◌, ◌<◌, ◌∷◌, ◌++◌, ℕ, List, [], All, Option, Some, None, length, get_or, slice_get, take, ◌⊎◌, refl, sym, ap, ◌∙◌, subst, arith, rules, inl, inr}
+use Rattle.std.proofs.Common.{◌≡◌, ◌≤◌, ◌<◌, ◌∷◌, ◌++◌, ℕ, List, [], All, Option, Some, None, length, slice_get, take, ◌⊎◌, refl, sym, ap, ◌∙◌, subst, arith, inl, inr}
 use Rattle.std.proofs.lemmas.Bool.{cases_lt}
 use Rattle.std.proofs.lemmas.List.{get_or-take, length-take-le}
-use Rattle.std.proofs.lemmas.List.Elements.{All-append, All-cons, All-head, All-tail, All-nil}
+use Rattle.std.proofs.lemmas.List.Elements.{All-head, All-tail}
 use Rattle.std.proofs.lemmas.Option.{get_or_from_slice_get, slice_get_within}
 use Rattle.garde_catalog.specs.Field.{Want}
-use Rattle.garde_catalog.specs.Lookup.{Fits, HasNone, IsAsked, IsBest, IsLookup, IsPicked}
+use Rattle.garde_catalog.specs.Lookup.{Fits, IsAsked, IsBest, IsLookup, IsPicked}
 use Rattle.garde_catalog.specs.declared.language.Language.{Language}
 
 -- what holds of all in front holds of one that stands there

@@ -1,5 +1,5 @@
 -- A service that judges the bodies of `POST` keeps what it promises of them.
-use Rattle.std.proofs.Common.{◌≡◌, ◌≢◌, ◌<◌, ◌⊎◌, arith, ℕ, Bool, true, false, List, [], ◌∷◌, Option, Some, None, codes, refl, sym, ap, subst, ◌∙◌, ◌||◌, if◌then◌else◌, inl, inr}
+use Rattle.std.proofs.Common.{◌≡◌, ◌≢◌, ◌<◌, arith, ℕ, Bool, true, false, List, [], ◌∷◌, Option, Some, None, codes, refl, sym, ap, subst, ◌∙◌, ◌||◌, if◌then◌else◌, inl, inr}
 use Rattle.std.proofs.lemmas.Slice.Eq.{bytes_eq-Decides}
 use Rattle.std.specs.Str.{bytes_eq}
 use Rattle.http.specs.declared.request.Parts.{Parts}
@@ -9,7 +9,7 @@ use Rattle.garde_service.specs.Answers.{Gives, GivesAsked, IsAnswerOf}
 use Rattle.garde_service.specs.Asked.{path_of}
 use Rattle.garde_service.specs.Ending.{Rejects}
 use Rattle.garde_service.specs.Fits.{Fits}
-use Rattle.garde_service.specs.Judged.{Accepts, IsPromised, Judges, JudgesBy, Judging, Promises, TellsFaults}
+use Rattle.garde_service.specs.Judged.{IsPromised, Judges, JudgesBy, Judging, Promises, TellsFaults}
 use Rattle.garde_service.specs.Routes.{Entry, asked, asked_at, asked_by_get}
 use Rattle.garde_service.specs.declared.routes.Asks.{Asks}
 use Rattle.garde_service.specs.declared.routes.Asks.TheVariants.{Answer, Rejection}

@@ -1,9 +1,9 @@
 //! An application: what is done with valid bodies in JSON.
-ghost use Rattle.std.specs.Prelude.{◌≡◌, ◌^◌, ◌-◌, List, codes, IfOk, IsOk, OnOk};
+ghost use Rattle.std.specs.Prelude.{◌≡◌, ◌^◌, ◌-◌, codes, IfOk, IsOk, OnOk};
 ghost use Rattle.garde_schema.specs.FirstRead.{AnswersFirstBytes};
 ghost use Rattle.garde_schema.specs.Forms.{forget};
 ghost use Rattle.garde_service.specs.Application.{Gives, IsAnswered, IsTaken, Says, Taking, entries, judging};
-ghost use Rattle.garde_service.specs.Json.{IsJudged, JudgesBody, voice};
+ghost use Rattle.garde_service.specs.Json.{JudgesBody, voice};
 ghost use Rattle.garde_service.specs.Judged.{Promises};
 ghost use Rattle.garde_service.specs.Problems.{problem_of};
 ghost use Rattle.garde_service.specs.declared.application.Page.TheVariants as pages;
@@ -12,7 +12,7 @@ ghost use Rattle.garde_service.specs.declared.routes.Wanted.TheVariants as wants
 ghost use Rattle.garde_service.specs.Kept.{kept, stays};
 ghost use Rattle.garde_tape.specs.Input.{without_mark};
 ghost use Rattle.http.specs.Request.{body_of, head_of};
-ghost use Rattle.http_server.specs.Response.{IsBlank, IsResponse};
+ghost use Rattle.http_server.specs.Response.{IsBlank};
 
 use crate::asked::language_of;
 use crate::handler::{Body, Handler};

@@ -2,7 +2,7 @@
 ghost use Rattle.std.specs.Prelude.{◌≡◌, IsTrue, map};
 ghost use Rattle.http.specs.Request.{head_of};
 ghost use Rattle.http_header.specs.FieldValue.{is_visible_text};
-ghost use Rattle.garde_service.specs.Routes.{asked, asked_at, asked_by_get, asked_by_post, entry_of, media_text, offers, other_method};
+ghost use Rattle.garde_service.specs.Routes.{asked, asked_at, asked_by_post, entry_of, media_text, offers, other_method};
 
 use crate::asked::{IDENTITY, elsewhere, has_coding, has_type, is_foreign};
 use crate::rejected::Rejected;

@@ -1,7 +1,6 @@
 use Rattle.std.proofs.Common.{List, ◌≡◌, ◌∷◌, ◌++◌, [], codes, ap, ◌∙◌, append_assoc}
 use Rattle.http1.specs.Fields.{Header}
 use Rattle.http_server.specs.Response.{fields_of}
-use Rattle.garde_service.specs.Said.{language_fields}
 use Rattle.garde_service.proofs.put.put_language.Goals as goal
 
 pub returns-clause-headers : goal.returns-clause-headers
