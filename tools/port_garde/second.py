@@ -10,7 +10,7 @@ from .tokens import end_of_block_comment
 QUOTED = re.compile(r'''//[^\n]*|b?r(#*)".*?"\1|b?"(?:\\.|[^"\\])*"|b?'(?:\\[^\n]+?|[^\\'\n])'|/\*''', re.S)
 NUMBER = r"(-\s*)?(?<![\w.])(0x[\da-fA-F_]+?|0o[0-7_]+|0b[01_]+|\d[\d_]*(?:\.\d[\d_]*)?(?:[eE][+-]?\d+)?)(?:[iu](?:8|16|32|64|128|size)|_?f(?:32|64))?(?![\w])"
 # What is stated of a number with a fraction.
-DECIMAL = r'decimal_(?:range \(\w+|multiple_of)((?: "[^"]*")+)'
+DECIMAL = r'decimal_\w+(?: \(\w+)?((?: "[^"]*")+)'
 # A bound that is a sum or a product, of which its value is written.
 SUM = r"=[^=,()]*[\w)]\s*[-+*][^=,()]*"
 

@@ -257,7 +257,7 @@ class Spellings(Forms):
 
     def found(self, kind, rule):
         """What a rule finds in a number, whose bound is that of the numbers beyond the type."""
-        if rule.name not in ("range", "custom", "multiple_of"):
+        if rule.known.reads not in ("bounds", "a number", "a rule"):
             raise Refusal(rule.line, f"`{rule.name}` of a number, which `--body` does not state")
         fault = self.checks(kind, [rule])[1].removeprefix("is (").removesuffix(")")
         return f"(λ v. {fault})" if rule.name == "custom" else fault.removesuffix(" v")
