@@ -24,31 +24,31 @@ abbrev picked : Picked → List ℕ → List Message → List (List ℕ)
 picked f code messages = flat_map (λ m. cond (bytes_eq m.0 code) (f m.0) []) messages
 
 -- no two of these messages have one code
-abbrev are_distinct : List Message → Bool
+abbrev pub are_distinct : List Message → Bool
 are_distinct [] = true
 are_distinct (m ∷ messages) = not (is_name messages m.0) && are_distinct messages
 
-distinct : are_distinct LIBRARY ≡ true
+pub distinct : are_distinct LIBRARY ≡ true
 distinct = refl
 
-or_left : (a b : Bool) → (a || b) ≡ false → a ≡ false
+pub or_left : (a b : Bool) → (a || b) ≡ false → a ≡ false
 or_left true b e = absurd (false≢true (sym e))
 or_left false b e = refl
 
-or_right : (a b : Bool) → (a || b) ≡ false → b ≡ false
+pub or_right : (a b : Bool) → (a || b) ≡ false → b ≡ false
 or_right true b e = absurd (false≢true (sym e))
 or_right false b e = e
 
-not_so : (b : Bool) → not b ≡ true → b ≡ false
+pub not_so : (b : Bool) → not b ≡ true → b ≡ false
 not_so true e = absurd (false≢true e)
 not_so false e = refl
 
-turned : (xs ys : List ℕ) → bytes_eq xs ys ≡ false → bytes_eq ys xs ≡ false
+pub turned : (xs ys : List ℕ) → bytes_eq xs ys ≡ false → bytes_eq ys xs ≡ false
 turned xs ys h =
     false_from_ne_true (bytes_eq ys xs) (λ same. false≢true (sym h ∙ (bytes_eq-Decides xs ys).1 (sym ((bytes_eq-Decides ys xs).0 same))))
 
 -- a code that no message has is not that of one of them
-unlike : (messages : List Message) (i : ℕ) (d : Message) (code : List ℕ) → i < length messages → is_name messages code ≡ false
+pub unlike : (messages : List Message) (i : ℕ) (d : Message) (code : List ℕ) → i < length messages → is_name messages code ≡ false
     → bytes_eq code (get_or messages i d).0 ≡ false
 unlike messages i d code low none =
     false_from_ne_true (bytes_eq code (get_or messages i d).0) (λ same. false≢true (sym none ∙ list_any_at (λ m. bytes_eq code m.0) messages i d low same))
@@ -85,11 +85,11 @@ none_own f (m ∷ own) i d are low =
     ∙ none_own f own i d (All-tail (λ o. is_name LIBRARY o.0 ≡ false) m own are) low
 
 -- the texts that lines have under a code
-abbrev line_texts : List ℕ → List Line → List (List ℕ)
+abbrev pub line_texts : List ℕ → List Line → List (List ℕ)
 line_texts code [] = []
 line_texts code (line ∷ lines) = cond (bytes_eq line.0 code) (line.1 ∷ line_texts code lines) (line_texts code lines)
 
-under_lines : (code : List ℕ) (entries : List Entry) → texts_under code entries ≡ line_texts code (map line_of entries)
+pub under_lines : (code : List ℕ) (entries : List Entry) → texts_under code entries ≡ line_texts code (map line_of entries)
 under_lines code [] = refl
 under_lines code (entry ∷ entries) = ap (λ l. cond (bytes_eq entry.0.now code) (entry.1.now ∷ l) l) (under_lines code entries)
 

@@ -26,7 +26,7 @@ module _ {A : Type 0} (P : A → Type 0) (p : A → Bool) where
   tested one [] all = refl
   tested one (x ∷ xs) all = both_true (one x (All-head P x xs all)) (tested one xs (All-tail P x xs all))
 
-  held : ((x : A) → p x ≡ true → P x) → (xs : List A) → list_all p xs ≡ true → All P xs
+  pub held : ((x : A) → p x ≡ true → P x) → (xs : List A) → list_all p xs ≡ true → All P xs
   held one [] all = All-nil P
   held one (x ∷ xs) all = All-cons P x xs (one x (and_left (p x) (list_all p xs) all)) (held one xs (and_right (p x) (list_all p xs) all))
 

@@ -3,6 +3,7 @@ pub mod Reading
 pub mod Judged
 pub mod Made
 pub mod GoodLines
+pub mod Shipped
 pub mod LinesRead
 pub mod LinesSoFar
 pub mod Picked

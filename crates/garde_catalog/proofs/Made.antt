@@ -281,7 +281,12 @@ bad texts message wrongs.Repeated text pieces h one fits = omega (arith, h, ap l
 bad texts message (wrongs.Template fault) text pieces h one fits =
     h.2 pieces (subst (λ t. IsTemplate t message.1 message.2 pieces) (ap (λ l. get_or l 0 []) (sym one ∙ h.1)) fits)
 
-its_good : (entries others : List Entry) (message : Message) → IsListed message → AreGood entries others → IsGood entries others message
+-- of a good message nothing is wrong
+pub not_wrong : (entries others : List Entry) (message : Message) (wrong : Wrong) → IsGood entries others message
+    → ¬ (IsWrong (texts_of entries others message.0) message wrong)
+not_wrong entries others message wrong its is_wrong = bad (texts_of entries others message.0) message wrong its.0 its.2.0 is_wrong its.1 its.2.1
+
+pub its_good : (entries others : List Entry) (message : Message) → IsListed message → AreGood entries others → IsGood entries others message
 its_good entries others message listed good =
     subst (IsGood entries others) (listed.3 ∙ listed.4) (All-get_or (IsGood entries others) LIBRARY listed.0 listed.1 listed.2 good)
 

@@ -2,6 +2,7 @@ pub mod Messages
 pub mod Template
 pub mod Catalog
 pub mod Lines
+pub mod Shipped
 pub mod Catalogs
 pub mod Field
 pub mod Forms

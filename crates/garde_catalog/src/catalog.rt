@@ -2,7 +2,7 @@
 ghost use Rattle.std.specs.Prelude.{◌≡◌, ◌∷◌, [], IfOk, IfErr, IsOk, MatchOption};
 ghost use Rattle.std.specs.Cow.{cow_str_bytes};
 ghost use Rattle.garde_i18n.specs.DatumOf.{value_text};
-ghost use Rattle.garde_catalog.specs.Catalog.{HasNoOne, IsCatalog, IsFixed, IsRefusal, named_texts, put_both, put_in, word_at, word_of};
+ghost use Rattle.garde_catalog.specs.Catalog.{AreGood, HasNoOne, IsCatalog, IsFixed, IsRefusal, named_texts, put_both, put_in, word_at, word_of};
 
 use crate::fault::CatalogError;
 use crate::judge::check_tables;
@@ -40,6 +40,7 @@ impl Catalog<'static> {
     ) -> Result<Catalog<'static>, CatalogError>
         ensures ok { IfOk result (IsCatalog entries.now []) }
         ensures err { IfErr result (IsRefusal entries.now []) }
+        ensures good { AreGood entries.now [] → IsOk result }
     {
         Catalog::with_fallback(alloc, entries, &[])
     }
@@ -53,6 +54,7 @@ impl Catalog<'static> {
     ) -> Result<Catalog<'static>, CatalogError>
         ensures ok { IfOk result (IsCatalog entries.now fallback.now) }
         ensures err { IfErr result (IsRefusal entries.now fallback.now) }
+        ensures good { AreGood entries.now fallback.now → IsOk result }
     {
         check_tables(alloc, entries, fallback)?;
         Ok(Catalog {
@@ -71,6 +73,7 @@ impl<'t> Catalog<'t> {
     ) -> Result<Catalog<'t>, CatalogError>
         ensures ok { IfOk result (IsCatalog entries.now fallback.now) }
         ensures err { IfErr result (IsRefusal entries.now fallback.now) }
+        ensures good { AreGood entries.now fallback.now → IsOk result }
     {
         check_tables(alloc, entries, fallback)?;
         Ok(Catalog {

@@ -1,8 +1,9 @@
 //! The catalogs of several languages, of which a request or a user asks for one.
-ghost use Rattle.std.specs.Prelude.{◌≡◌, ◌∷◌, ◌++◌, [], IfErr, IfOk, OnOk};
+ghost use Rattle.std.specs.Prelude.{◌≡◌, ◌∷◌, ◌++◌, [], IfErr, IfOk, IsOk, OnOk};
 ghost use Rattle.garde_catalog.specs.Catalogs.{AddsLanguage, AreCatalogs, IsRefusalOf, catalog_at, offered_by, tag_at};
-ghost use Rattle.garde_catalog.specs.Catalog.{IsCatalog, IsRefusal};
+ghost use Rattle.garde_catalog.specs.Catalog.{AreGood, IsCatalog, IsRefusal};
 ghost use Rattle.garde_catalog.specs.Lookup.{IsAskedBy, IsOfTag};
+ghost use Rattle.garde_catalog.specs.Shipped.{AreGoodTables};
 
 use crate::catalog::Catalog;
 use crate::fault::CatalogError;
@@ -23,6 +24,7 @@ impl Catalog<'static> {
             (λ table. IsCatalog table [] catalog)) }
         ensures err { IfErr result (λ error. IsOfTag offered.now tag.now otherwise.now
             (λ table. IsRefusal table [] error)) }
+        ensures good { AreGoodTables offered.now → AreGood otherwise.now [] → IsOk result }
     {
         match Language::named(tag, offered) {
             Some(language) => Catalog::new(alloc, language.table),

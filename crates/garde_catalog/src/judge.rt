@@ -1,5 +1,5 @@
 //! Whether tables make a catalog, and what is wrong with them.
-ghost use Rattle.std.specs.Prelude.{All, IfOk, IfErr, OnOk};
+ghost use Rattle.std.specs.Prelude.{All, IfOk, IfErr, IsOk, OnOk};
 ghost use Rattle.garde_catalog.specs.Catalog.{AreGood, AreTold, HasFault, IsFault, IsGood, IsListed, IsRefusal, IsTold, IsWrong, texts_of};
 ghost use Rattle.garde_catalog.specs.Messages.{Message, message_of};
 
@@ -36,6 +36,7 @@ fn add(
     ensures faults { OnOk result (IsListed (message_of message.now)
         → All (IsFault entries.now others.now) faults.old.items
         → All (IsFault entries.now others.now) faults.new.items) }
+    ensures good { IsGood entries.now others.now (message_of message.now) → IsOk result }
 {
     if let Err(wrong) = check(entries, others, message) {
         let message = *message;
@@ -52,6 +53,7 @@ fn faults_of(
 ) -> Result<Vec<CatalogFault>, AllocError>
     ensures told { IfOk result (λ faults. AreTold entries.now others.now faults.items) }
     ensures faults { IfOk result (λ faults. All (IsFault entries.now others.now) faults.items) }
+    ensures good { AreGood entries.now others.now → IsOk result }
 {
     let mut faults = Vec::new(alloc);
     let listed = messages();
@@ -69,6 +71,7 @@ pub(crate) fn check_tables(
 ) -> Result<(), CatalogError>
     ensures ok { OnOk result (AreGood entries.now others.now) }
     ensures err { IfErr result (IsRefusal entries.now others.now) }
+    ensures good { AreGood entries.now others.now → IsOk result }
 {
     let faults = faults_of(alloc, entries, others)?;
     if faults.is_empty() {

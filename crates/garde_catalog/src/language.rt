@@ -1,4 +1,7 @@
 //! Languages, each with its tag and the table of its texts.
+ghost use Rattle.std.specs.Prelude.{◌≡◌, map};
+ghost use Rattle.garde_catalog.specs.Lines.{line_of};
+ghost use Rattle.garde_catalog.specs.Shipped.{AreGoodTables, SHIPPED, tagged};
 
 use crate::lines::Entry;
 use crate::tables::{
@@ -16,13 +19,19 @@ pub struct Language {
 }
 
 // A language of this tag.
-fn tagged(tag: &'static str, table: &'static [Entry<'static>]) -> Language {
+fn tagged(tag: &'static str, table: &'static [Entry<'static>]) -> Language
+    ensures { tagged result ≡ (tag.now, map line_of table.now) }
+{
     Language { tag, table }
 }
 
 /// The languages that are shipped, each under its tag. Portuguese of any country is that of Brazil,
-/// and Chinese of any country is in simplified characters, so these have several tags.
-pub fn languages() -> [Language; 22] {
+/// and Chinese of any country is in simplified characters, so these have several tags. A catalog is made
+/// of each of their tables.
+pub fn languages() -> [Language; 22]
+    ensures tables { map tagged result ≡ SHIPPED }
+    ensures good { AreGoodTables result }
+{
     // A proof looks at all of a table where it is named, so each is named once.
     let portuguese: &[Entry<'_>] = &PORTUGUESE;
     let chinese: &[Entry<'_>] = &CHINESE;

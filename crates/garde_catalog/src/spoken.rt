@@ -1,5 +1,7 @@
 //! The catalog of the language that a command line asks for.
-ghost use Rattle.std.specs.Prelude.{◌≡◌, IfErr, IfOk, MatchOption, string_bytes};
+ghost use Rattle.std.specs.Prelude.{◌≡◌, [], IfErr, IfOk, MatchOption, string_bytes};
+ghost use Rattle.garde_catalog.specs.Catalog.{AreGood};
+ghost use Rattle.garde_catalog.specs.Shipped.{AreGoodTables};
 ghost use Rattle.garde_catalog.specs.Spoken.{AreOf, IsNotSpoken, IsOfNone, IsSpoken, tags_text};
 
 use crate::catalog::Catalog;
@@ -95,7 +97,7 @@ impl Catalog<'static> {
     /// # Errors
     ///
     /// The tag is ill-formed (RFC 5646, section 2.1), or asks for no language that is offered. No catalog
-    /// is made, for the reasons of `Catalog::new`.
+    /// is made, for the reasons of `Catalog::new`: those that are shipped have none.
     pub fn spoken(
         alloc: Global,
         tag: Option<&str>,
@@ -104,6 +106,8 @@ impl Catalog<'static> {
     ) -> Result<Catalog<'static>, SpokenError>
         ensures ok { IfOk result (IsSpoken tag.entry offered.now otherwise.now) }
         ensures err { IfErr result (IsNotSpoken tag.entry offered.now otherwise.now) }
+        ensures good { AreGoodTables offered.now → AreGood otherwise.now []
+            → IfErr result (λ _. IsOfNone tag.entry offered.now) }
     {
         match table_of(tag, offered, otherwise) {
             Some(table) => Ok(Catalog::new(alloc, table)?),

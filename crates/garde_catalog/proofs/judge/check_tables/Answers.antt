@@ -12,3 +12,8 @@ pub returns-else-is_empty-clause-err : goal.returns-else-is_empty-clause-err
 returns-else-is_empty-clause-err c =
     let some : c.in_ok-faults.faults.items ≢ [] = λ e. grind (arith, common_steps, ap length e) in
     (c.in_ok-faults.ensures.faults, c.in_ok-faults.ensures.told, not_good c.args.entries.now c.args.others.now c.in_ok-faults.faults.items some c.in_ok-faults.ensures.faults)
+
+pub returns-else-is_empty-clause-good : goal.returns-else-is_empty-clause-good
+returns-else-is_empty-clause-good c = λ good.
+    let some : c.in_ok-faults.faults.items ≢ [] = λ e. grind (arith, common_steps, ap length e) in
+    absurd (not_good c.args.entries.now c.args.others.now c.in_ok-faults.faults.items some c.in_ok-faults.ensures.faults good)

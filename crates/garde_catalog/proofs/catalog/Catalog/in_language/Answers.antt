@@ -1,5 +1,7 @@
 use Rattle.std.proofs.Common.{Result, Ok, Err, IfOk, IfErr, inl, inr}
+use Rattle.garde_catalog.specs.Lookup.{IsFound}
 use Rattle.garde_catalog.specs.declared.catalog.Catalog.{Catalog}
+use Rattle.garde_catalog.proofs.Shipped.{there_good}
 use Rattle.garde_catalog.proofs.catalog.Catalog.in_language.Goals as goal
 
 -- what a result has it still has, where that implies something else
@@ -22,3 +24,7 @@ returns-in-None-clause-ok c = of_ok _ _ _ (λ catalog is. inr (c.in-None.ensures
 
 pub returns-in-None-clause-err : goal.returns-in-None-clause-err
 returns-in-None-clause-err c = of_err _ _ _ (λ error is. inr (c.in-None.ensures, is)) c.new-in-None.ensures.err
+
+pub returns-in-Some-clause-good : goal.returns-in-Some-clause-good
+returns-in-Some-clause-good c = λ all _.
+    c.new.ensures.good (there_good c.args.offered.now (IsFound c.args.offered.now c.args.tag.now) c.in-Some.language all c.in-Some.ensures)
