@@ -1,10 +1,12 @@
 -- What a TOML text is turned into, and why it is not.
-use Rattle.std.specs.Prelude.{◌≡◌, ◌<◌, ℕ, List, Some, None, ⊤}
+use Rattle.std.specs.Prelude.{◌≡◌, ◌<◌, ◌↔◌, ℕ, List, Option, Some, None, IfSome, IsNone, ⊤}
 use Rattle.json.specs.Json.{Json, document, max_depth}
 use Rattle.toml.specs.Data.{Members, table}
-use Rattle.toml.specs.Errors.{IsMemory, IsWithin}
+use Rattle.toml.specs.Errors.{IsMemory, IsWithin, span_start}
 use Rattle.toml.specs.Parse.{parse_document}
 use Rattle.toml.specs.declared.de.error.Error.{Error}
+use Rattle.garde_tape.specs.Place.{place_at}
+use Rattle.garde_tape.specs.declared.place.Place.{Place}
 use Rattle.garde_toml.specs.Nesting.{nesting}
 use Rattle.garde_toml.specs.Spelled.{Spells}
 use Rattle.garde_toml.specs.declared.error.TomlError.{TomlError}
@@ -23,3 +25,9 @@ IsReason text Memory = ⊤
 -- the error of the parser
 abbrev pub IsToldAs : Error → TomlError → Type 0
 IsToldAs error told = (IsMemory error → told ≡ Memory) × (¬ IsMemory error → told ≡ Parse error)
+
+-- where a text stops being TOML: of an error of the parser that is no want of memory, at the first byte of what it does not expect
+abbrev pub IsStop : List ℕ → TomlError → Option Place → Type 0
+IsStop text (Parse error) stop = (IsNone stop ↔ IsMemory error) × IfSome stop (λ place. place ≡ place_at text (span_start error))
+IsStop text TooDeep stop = stop ≡ None
+IsStop text Memory stop = stop ≡ None

@@ -1,7 +1,7 @@
 //! Why a text is not turned into JSON.
-ghost use Rattle.std.specs.Prelude.{◌≡◌, IfSome};
+ghost use Rattle.std.specs.Prelude.{◌≡◌, IfSome, option_map};
 ghost use Rattle.garde_tape.specs.Place.{IsPlaceIn};
-ghost use Rattle.garde_toml.specs.Answers.{IsToldAs};
+ghost use Rattle.garde_toml.specs.Answers.{IsStop, IsToldAs};
 
 use garde_tape::{Stop, place_of_byte};
 use std::alloc::AllocError;
@@ -25,7 +25,8 @@ impl TomlError {
     /// the toolchain's parser does not expect. Of the other errors there is none. A byte order mark is a
     /// character here.
     pub fn stop<'e>(&'e self, text: &str) -> Option<Stop<'e>>
-        ensures { IfSome result (λ stop. IsPlaceIn text.now stop.place) }
+        ensures place { IfSome result (λ stop. IsPlaceIn text.now stop.place) }
+        ensures stop { IsStop text.now self.now (option_map (λ stop. stop.place) result) }
     {
         let TomlError::Parse(error) = self else {
             return None;
