@@ -1,26 +1,23 @@
--- The members of an object that are read in order.
-use Rattle.std.proofs.Common.{◌≡◌, ◌≢◌, List, [], ◌∷◌, ◌++◌, map, ℕ, Some, String, string_bytes, refl, sym, ap, subst, ◌∙◌}
-use Rattle.std.proofs.lemmas.List.{map-append}
-use Rattle.std.specs.Prelude.{Result, Ok, Err, IfOk, IsOkAnd}
+-- The members of a request's tree, and what is made of them.
+use Rattle.std.proofs.Common.{◌≡◌, ℕ, suc, ◌+◌, ◌<◌, List, [], ◌∷◌, ◌++◌, drop, get_or, length, map, Option, Ordering, Some, String, string_bytes, refl, sym, ap, subst, ◌∙◌}
+use Rattle.std.proofs.lemmas.List.{drop_more, map-append}
+use Rattle.std.specs.BTreeMap.{insert_entry}
+use Rattle.std.specs.Prelude.{option_and_then, option_map, Result, Ok, Err, IfOk, IsOkAnd}
 use Rattle.std.specs.declared.alloc.AllocError.{AllocError}
-use Rattle.std.specs.declared.alloc.Global.{Global}
-use Rattle.std.specs.declared.cmp.Ordering.TheVariants.{Less}
-use Rattle.std.specs.Ordering.{nat_cmp, ordering_reverse, match_ordering}
-use Rattle.std.specs.Cmp.Lexicographic.{slice_cmp, nat_list_cmp_total}
-use Rattle.std.specs.List.{AllByRecursion}
-use Rattle.std.specs.List.Sorted.{IsStrictlySortedBy}
-use Rattle.std.specs.Map.{keys_of}
+use Rattle.std.specs.Cmp.Lexicographic.{slice_cmp}
+use Rattle.std.specs.Ordering.{nat_cmp, match_ordering}
 use Rattle.std.specs.String.{string_cmp}
-use Rattle.std.specs.BTreeMap.{BTreeMap, insert_entry}
-use Rattle.serde_json.specs.Data.{Data, null, boolean, number, string, array, object, Members, member, no_members}
-use Rattle.serde_json.specs.Find.{as_object}
-use Rattle.serde_json.specs.View.{view, members_view}
+use Rattle.std.specs.declared.alloc.Global.{Global}
+use Rattle.std.specs.declared.cmp.Ordering.TheVariants.{Less, Equal, Greater}
+use Rattle.serde_json.specs.Data.{Data}
+use Rattle.serde_json.specs.Find.{as_object, as_str}
+use Rattle.serde_json.specs.View.{items_view, members_view, view}
 use Rattle.serde_json.specs.declared.value.Value.{Value}
 use Rattle.garde_check.specs.declared.body.Address.{Address}
-use Rattle.garde_check.specs.Body.{entries_of}
-use Rattle.garde_check.specs.Request.{AreBelow, entries_members, entries_json}
+use Rattle.garde_check.specs.Body.{Content}
+use Rattle.garde_check.specs.Request.{IsRequest, Spells, SpellsJust, count, texts_of_items}
 
-abbrev pub Text : Type 0
+abbrev Text : Type 0
 Text = String Global
 
 -- the name and the text of an address
@@ -30,92 +27,56 @@ entry_of e = (string_bytes e.0, string_bytes e.1.0)
 pub texts_more : (old new : List Text) (text : Text) (bytes : List ℕ) → new ≡ old ++ text ∷ [] → string_bytes text ≡ bytes → map string_bytes new ≡ map string_bytes old ++ bytes ∷ []
 texts_more old new text bytes push is = ap (map string_bytes) push ∙ map-append string_bytes old (text ∷ []) ∙ ap (λ b. map string_bytes old ++ b ∷ []) is
 
--- an address whose name is behind those of all others is inserted last
-inserted_last : (es : List (Text × Address)) (key : Text) (x : Address) → AreBelow (string_bytes key) (map entry_of es) → insert_entry string_cmp es key x ≡ es ++ (key, x) ∷ []
-inserted_last [] key x below = refl
-inserted_last (e ∷ es) key x below =
-    let above = nat_list_cmp_total.antisymm (string_bytes key) (string_bytes e.0) ∙ ap ordering_reverse below.0 in
-    ap (λ o. match_ordering o ((key, x) ∷ e ∷ es) ((e.0, x) ∷ es) (e ∷ insert_entry string_cmp es key x)) above
-    ∙ ap (λ l. e ∷ l) (inserted_last es key x below.1)
+-- each of three cases gives the same before and after
+mapped : {A B : Type 0} (f : A → B) (o : Ordering) (x y z : A) → f (match_ordering o x y z) ≡ match_ordering o (f x) (f y) (f z)
+mapped f Less x y z = refl
+mapped f Equal x y z = refl
+mapped f Greater x y z = refl
 
-pub address_more : (old new : List (Text × Address)) (key : Text) (x : Address) (name text : List ℕ) → new ≡ insert_entry string_cmp old key x → string_bytes key ≡ name → string_bytes x.0 ≡ text
-    → AreBelow name (map entry_of old) → map entry_of new ≡ map entry_of old ++ (name, text) ∷ []
-address_more old new key x name text put named is below =
-    ap (map entry_of) (put ∙ inserted_last old key x (subst (λ n. AreBelow n (map entry_of old)) (sym named) below))
-    ∙ map-append entry_of old ((key, x) ∷ []) ∙ (λ i. map entry_of old ++ (named i, is i) ∷ [])
+inserted : (es : List (Text × Address)) (name : Text) (x : Address) → map entry_of (insert_entry string_cmp es name x) ≡ insert_entry (slice_cmp nat_cmp) (map entry_of es) (string_bytes name) (string_bytes x.0)
+inserted [] name x = refl
+inserted (e ∷ es) name x =
+    let order = string_cmp name e.0 in
+    mapped (map entry_of) order ((name, x) ∷ e ∷ es) ((e.0, x) ∷ es) (e ∷ insert_entry string_cmp es name x)
+    ∙ ap (λ l. match_ordering order (map entry_of ((name, x) ∷ e ∷ es)) (map entry_of ((e.0, x) ∷ es)) (entry_of e ∷ l)) (inserted es name x)
 
--- the same of what was made, where it was
-pub grown_behind : (r old : Result (BTreeMap Text Address) AllocError) (name text : List ℕ) (done : List (List ℕ × List ℕ))
-    → IfOk r (λ longer. IsOkAnd old (λ made. AreBelow name (entries_of made) → entries_of longer ≡ entries_of made ++ (name, text) ∷ []))
-    → AreBelow name done → IfOk old (λ made. entries_of made ≡ done) → IfOk r (λ longer. entries_of longer ≡ done ++ (name, text) ∷ [])
-grown_behind (Ok l) (Ok m) name text done more below is = more (subst (AreBelow name) (sym is) below) ∙ ap (λ es. es ++ (name, text) ∷ []) is
-grown_behind (Ok l) (Err a) name text done more below is = absurd more
-grown_behind (Err a) old name text done more below is = tt
+pub entries_more : (old new : List (Text × Address)) (key : Text) (x : Address) (name text : List ℕ) → new ≡ insert_entry string_cmp old key x → string_bytes key ≡ name → string_bytes x.0 ≡ text
+    → map entry_of new ≡ insert_entry (slice_cmp nat_cmp) (map entry_of old) name text
+entries_more old new key x name text put named is =
+    ap (map entry_of) put ∙ inserted old key x ∙ (λ i. insert_entry (slice_cmp nat_cmp) (map entry_of old) (named i) (is i))
 
--- members with these texts, and then others
-abbrev pub joined : List (List ℕ × List ℕ) → List (Text × Value) → Members
-joined [] ms = members_view ms
-joined (e ∷ es) ms = member e.0 (string e.1) (joined es ms)
+-- what was made has one more
+pub grown : {R X : Type 0} (says : R → X) (f : X → X) (r old : Result R AllocError) (x : X) → IfOk r (λ longer. IsOkAnd old (λ made. says longer ≡ f (says made))) → IfOk old (λ made. says made ≡ x) → IfOk r (λ longer. says longer ≡ f x)
+grown says f (Ok l) (Ok m) x more is = more ∙ ap f is
+grown says f (Ok l) (Err a) x more is = absurd more
+grown says f (Err a) old x more is = tt
 
-joined_end : (es : List (List ℕ × List ℕ)) → joined es [] ≡ entries_members es
-joined_end [] = refl
-joined_end (e ∷ es) = ap (λ ms. member e.0 (string e.1) ms) (joined_end es)
+-- one item more is read of an array
+pub text_next : (all : List Value) (i : ℕ) (done : List (List ℕ)) (v : Value) (text : Option (List ℕ)) → i < length all → v ≡ get_or all i v → text ≡ as_str (view v)
+    → texts_of_items [] (items_view all) ≡ texts_of_items done (items_view (drop i all))
+    → texts_of_items [] (items_view all) ≡ option_and_then (λ t. texts_of_items (done ++ t ∷ []) (items_view (drop (i + 1) all))) text
+text_next all i done v text lt at is so_far =
+    so_far ∙ ap (λ vs. texts_of_items done (items_view vs)) (drop_more all i v lt ∙ ap (λ x. x ∷ drop (i + 1) all) (sym at))
+    ∙ ap (option_and_then (λ t. texts_of_items (done ++ t ∷ []) (items_view (drop (i + 1) all)))) (sym is)
 
--- one member more is read, and its value is a text
-pub joined_more : (es : List (List ℕ × List ℕ)) (name : Text) (value : Value) (ms : List (Text × Value)) (text : List ℕ) → view value ≡ string text → joined es ((name, value) ∷ ms) ≡ joined (es ++ (string_bytes name, text) ∷ []) ms
-joined_more [] name value ms text is = ap (λ d. member (string_bytes name) d (members_view ms)) is
-joined_more (e ∷ es) name value ms text is = ap (λ l. member e.0 (string e.1) l) (joined_more es name value ms text is)
+-- as many members as the object has entries
+pub counted : (ms : List (Text × Value)) → count (members_view ms) ≡ length ms
+counted [] = refl
+counted (m ∷ ms) = ap suc (counted ms)
 
--- a member whose value is no text, so the object is none of texts
-joined_astray : (es : List (List ℕ × List ℕ)) (name : Text) (value : Value) (ms : List (Text × Value)) → ((text : List ℕ) → view value ≢ string text) → (entries : List (List ℕ × List ℕ)) → joined es ((name, value) ∷ ms) ≢ entries_members entries
-joined_astray [] name value ms other [] e = cc
-joined_astray [] name value ms other (x ∷ xs) e = other x.1 (cc)
-joined_astray (y ∷ ys) name value ms other [] e = cc
-joined_astray (y ∷ ys) name value ms other (x ∷ xs) e = joined_astray ys name value ms other xs (cc)
+-- a request has four
+pub four : (tree : Data) (ms : List (Text × Value)) (body : Content) → Some (members_view ms) ≡ as_object tree → IsRequest tree body → length ms ≡ 4
+four tree ms body is request = let whole : Some (count (members_view ms)) ≡ Some 4 = ap (option_map count) is ∙ request.four in sym (counted ms) ∙ cc
 
--- the names of the members are in order, so those that were read are below the next one
-abbrev names : Members → List (List ℕ)
-names no_members = []
-names (member k d ms) = k ∷ names ms
+one_body : (tree : Data) (a b : Content) → IsRequest tree a → IsRequest tree b → a ≡ b
+one_body tree a b one other =
+    let username : a.username ≡ b.username = let p = sym one.username ∙ other.username in cc in
+    let age : a.age ≡ b.age = let p = sym one.age ∙ other.age in cc in
+    let tags : a.tags ≡ b.tags = let p = sym one.tags ∙ other.tags in cc in
+    let addresses : a.addresses ≡ b.addresses = let p = sym one.addresses ∙ other.addresses in cc in
+    λ i. record { username = username i; age = age i; tags = tags i; addresses = addresses i }
 
-all_names : (k : Text) (ms : List (Text × Value)) → AllByRecursion (λ y. string_cmp k y ≡ Less) (keys_of ms) → AllByRecursion (λ y. slice_cmp nat_cmp (string_bytes k) y ≡ Less) (names (members_view ms))
-all_names k [] h = tt
-all_names k (m ∷ ms) h = (h.0, all_names k ms h.1)
-
-names_sorted : (ms : List (Text × Value)) → IsStrictlySortedBy string_cmp (keys_of ms) → IsStrictlySortedBy (slice_cmp nat_cmp) (names (members_view ms))
-unfolding IsStrictlySortedBy
-names_sorted [] h = tt
-names_sorted (m ∷ ms) h = (all_names m.0 ms h.0, names_sorted ms h.1)
-
-next_name : (P : List ℕ → Type 0) (es : List (List ℕ × List ℕ)) (m : Text × Value) (ms : List (Text × Value)) → AllByRecursion P (names (joined es (m ∷ ms))) → P (string_bytes m.0)
-next_name P [] m ms h = h.0
-next_name P (e ∷ es) m ms h = next_name P es m ms h.1
-
-below : (es : List (List ℕ × List ℕ)) (m : Text × Value) (ms : List (Text × Value)) → IsStrictlySortedBy (slice_cmp nat_cmp) (names (joined es (m ∷ ms))) → AreBelow (string_bytes m.0) es
-unfolding IsStrictlySortedBy
-below [] m ms h = tt
-below (e ∷ es) m ms h = (next_name (λ y. slice_cmp nat_cmp e.0 y ≡ Less) es m ms h.0, below es m ms h.1)
-
-pub are_below : (es : List (List ℕ × List ℕ)) (m : Text × Value) (ms all : List (Text × Value)) → IsStrictlySortedBy string_cmp (keys_of all) → joined es (m ∷ ms) ≡ members_view all → AreBelow (string_bytes m.0) es
-are_below es m ms all sorted is = below es m ms (subst (λ l. IsStrictlySortedBy (slice_cmp nat_cmp) (names l)) (sym is) (names_sorted all sorted))
-
--- a tree that has members is the object of them
-pub object_is : (d : Data) (ms : Members) → Some ms ≡ as_object d → object ms ≡ d
-object_is null ms e = cc
-object_is (boolean b) ms e = cc
-object_is (number n) ms e = cc
-object_is (string s) ms e = cc
-object_is (array ds) ms e = cc
-object_is (object ns) ms e = let same : ms ≡ ns = cc in ap object same
-
--- a member's value is no text, so the object is none of texts
-pub none_joined : (d : Data) (es : List (List ℕ × List ℕ)) (name : Text) (value : Value) (ms all : List (Text × Value)) → Some (members_view all) ≡ as_object d → joined es ((name, value) ∷ ms) ≡ members_view all → ((text : List ℕ) → view value ≢ string text)
-    → (entries : List (List ℕ × List ℕ)) → d ≢ entries_json entries
-none_joined d es name value ms all is so_far other entries e =
-    let whole = is ∙ ap as_object e in
-    let same : members_view all ≡ entries_members entries = cc in
-    joined_astray es name value ms other entries (so_far ∙ same)
-
--- all members were read, each as a text
-pub all_joined : (d : Data) (es : List (List ℕ × List ℕ)) (left all : List (Text × Value)) → Some (members_view all) ≡ as_object d → joined es left ≡ members_view all → left ≡ [] → d ≡ entries_json es
-all_joined d es left all is so_far none = sym (object_is d (members_view all) is) ∙ ap object (sym so_far ∙ ap (joined es) none ∙ joined_end es)
+-- bytes that spell a body spell no other
+pub the_only_body : (bytes : List ℕ) (body : Content) → Spells bytes body → SpellsJust bytes body
+the_only_body bytes body spells =
+    (spells, λ other o. one_body spells.0 other body (let same : o.0 ≡ spells.0 = let p = sym o.1 ∙ spells.1 in cc in subst (λ t. IsRequest t other) same o.2) spells.2)

@@ -21,7 +21,7 @@ use Rattle.garde_check.specs.Numbered.{items_tree}
 use Rattle.garde_check.specs.Request.{Spells}
 use Rattle.garde_check.specs.Tasks.{Finds, IsOutput, Reports, BodyReports}
 use Rattle.garde_check.specs.User.{user_visits, named_tree}
-use Rattle.garde_check.proofs.OneBody.{the_only_body}
+use Rattle.garde_check.proofs.Members.{the_only_body}
 use Rattle.garde_check.specs.Users.{text_of, IsNamed, line_tree}
 
 -- the visits have no other tree than this

@@ -1,57 +1,57 @@
 -- The JSON trees that spell the bodies of requests.
-use Rattle.std.specs.Prelude.{◌≡◌, ◌<◌, ◌^◌, ℕ, List, [], ◌∷◌, map, codes, Option, Some, None, IfSome}
+use Rattle.std.specs.Prelude.{◌≡◌, ◌^◌, ◌++◌, ℕ, suc, List, [], ◌∷◌, codes, nat_lt, if◌then◌else◌, Option, Some, None, is_some, option_map, option_and_then, Result, IfOk, MatchOption}
+use Rattle.std.specs.declared.alloc.AllocError.{AllocError}
+use Rattle.std.specs.BTreeMap.{insert_entry}
 use Rattle.std.specs.Cmp.Lexicographic.{slice_cmp}
-use Rattle.std.specs.List.{AllByRecursion}
 use Rattle.std.specs.Ordering.{nat_cmp}
-use Rattle.std.specs.declared.cmp.Ordering.TheVariants.{Less}
-use Rattle.serde_json.specs.Data.{Data, null, number, unsigned, string, array, object, Members, member, no_members}
+use Rattle.serde_json.specs.Data.{Data, Items, item, no_items, Members, member, no_members}
+use Rattle.serde_json.specs.Find.{get, as_array, as_null, as_number, as_object, as_str, as_u64}
 use Rattle.serde_json.specs.Read.{read}
-use Rattle.serde_json.specs.View.{items_of}
 use Rattle.garde_check.specs.Body.{Content}
 
--- an age that is there fits 32 bits
-abbrev pub IsAge : Option ℕ → Type 0
-IsAge age = IfSome age (λ n. n < 2 ^ 32)
+-- an age fits 32 bits
+abbrev pub small : ℕ → Option (Option ℕ)
+small n = if nat_lt n (2 ^ 32) then Some (Some n) else None
 
--- an age is a whole number without a sign, and none is null
-abbrev pub age_json : Option ℕ → Data
-age_json None = null
-age_json (Some n) = number (unsigned n)
+-- null is no age, and a whole number without a sign is one
+abbrev pub age_in : Data → Option (Option ℕ)
+age_in tree = if is_some (as_null tree) then Some None else option_and_then small (option_and_then as_u64 (as_number tree))
 
--- texts are an array of them
-abbrev pub texts_json : List (List ℕ) → Data
-texts_json texts = array (items_of (map string texts))
+-- the items are texts, which come behind those that were found
+abbrev pub texts_of_items : List (List ℕ) → Items → Option (List (List ℕ))
+texts_of_items found no_items = Some found
+texts_of_items found (item d ds) = option_and_then (λ text. texts_of_items (found ++ text ∷ []) ds) (as_str d)
 
-abbrev pub entries_members : List (List ℕ × List ℕ) → Members
-entries_members [] = no_members
-entries_members (e ∷ es) = member e.0 (string e.1) (entries_members es)
+-- an array of texts
+abbrev pub texts_in : Data → Option (List (List ℕ))
+texts_in tree = option_and_then (texts_of_items []) (as_array tree)
 
--- names with texts are an object whose values are texts
-abbrev pub entries_json : List (List ℕ × List ℕ) → Data
-entries_json entries = object (entries_members entries)
+-- the members hold texts, which go under their names to those that were found, in the order of the names
+abbrev pub entries_of_members : List (List ℕ × List ℕ) → Members → Option (List (List ℕ × List ℕ))
+entries_of_members found no_members = Some found
+entries_of_members found (member name d ms) =
+    option_and_then (λ text. entries_of_members (insert_entry (slice_cmp nat_cmp) found name text) ms) (as_str d)
 
--- the names of the entries come before this one
-abbrev pub AreBelow : List ℕ → List (List ℕ × List ℕ) → Type 0
-AreBelow name entries = AllByRecursion (λ e. slice_cmp nat_cmp e.0 name ≡ Less) entries
+-- an object whose values are texts
+abbrev pub entries_in : Data → Option (List (List ℕ × List ℕ))
+entries_in tree = option_and_then (entries_of_members []) (as_object tree)
 
--- an object with exactly these members, in the order of their names
-abbrev pub members_json : Data → Data → Data → Data → Data
-members_json addresses age tags username =
-    object (member (codes "addresses") addresses (member (codes "age") age
-    (member (codes "tags") tags (member (codes "username") username no_members))))
+-- how many members
+abbrev pub count : Members → ℕ
+count no_members = 0
+count (member name d ms) = suc (count ms)
 
--- the first of the members has this name
-abbrev pub BeginsWith : List ℕ → Members → Type 0
-BeginsWith name members = (value : Data) × (rest : Members) × (members ≡ member name value rest)
+-- the tree spells the body: it is an object of four members, and under these names it has what the body says
+pub record IsRequest (tree : Data) (body : Content) : Type 0 where
+  pub four : option_map count (as_object tree) ≡ Some 4
+  pub username : option_and_then as_str (get (codes "username") tree) ≡ Some body.username
+  pub age : option_and_then age_in (get (codes "age") tree) ≡ Some body.age
+  pub tags : option_and_then texts_in (get (codes "tags") tree) ≡ Some body.tags
+  pub addresses : option_and_then entries_in (get (codes "addresses") tree) ≡ Some body.addresses
 
-abbrev pub body_json : Content → Data
-body_json body =
-    members_json
-    (entries_json body.addresses) (age_json body.age) (texts_json body.tags) (string body.username)
-
--- the tree spells the body
-abbrev pub IsRequest : Data → Content → Type 0
-IsRequest tree body = (tree ≡ body_json body) × IsAge body.age
+-- what is read: none where none is there, else it is made, where there was memory for it
+abbrev pub Reads : {R X : Type 0} → (R → X) → Option X → Option (Result R AllocError) → Type 0
+Reads {X = X} says there result = MatchOption result (there ≡ None) (λ made. (x : X) × (there ≡ Some x) × IfOk made (λ it. says it ≡ x))
 
 -- the bytes are read as a tree that spells the body
 abbrev pub Spells : List ℕ → Content → Type 0

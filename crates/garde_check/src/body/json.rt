@@ -1,10 +1,11 @@
 //! Bodies from JSON trees.
-ghost use Rattle.std.specs.Prelude.{◌≡◌, ◌≢◌, ◌∷◌, [], ◌++◌, ℕ, List, IfOk, IsOkAnd, MatchOption, Option, Err};
-ghost use Rattle.serde_json.specs.Data.{Data, member, string};
-ghost use Rattle.serde_json.specs.View.{members_view, view};
+ghost use Rattle.std.specs.BTreeMap.{insert_entry};
+ghost use Rattle.std.specs.Cmp.Lexicographic.{slice_cmp};
+ghost use Rattle.std.specs.Ordering.{nat_cmp};
+ghost use Rattle.std.specs.Prelude.{◌≡◌, ◌∷◌, [], ◌++◌, IfOk, IsOkAnd, MatchOption, Err, string_bytes};
+ghost use Rattle.serde_json.specs.View.{view};
 ghost use Rattle.garde_check.specs.Body.{Content, content, entries_of, texts_of};
-ghost use Rattle.garde_check.specs.Request.{AreBelow, BeginsWith, IsAge, IsRequest, age_json, entries_json, members_json, texts_json};
-ghost use Rattle.garde_json.specs.Form.{ReadsAs};
+ghost use Rattle.garde_check.specs.Request.{IsRequest, Reads, age_in, entries_in, texts_in};
 
 use super::{Address, Body};
 use crate::user::User;
@@ -12,55 +13,10 @@ use garde_json::JsonRefused;
 use serde_json::Value;
 use std::alloc::{AllocError, Global};
 use std::collections::BTreeMap;
-use std::collections::btree_map::Iter;
-
-// What the members of a body hold.
-#[derive(Clone, Copy)]
-struct Members<'v> {
-    addresses: &'v Value,
-    age: &'v Value,
-    tags: &'v Value,
-    username: &'v Value,
-}
-
-// The value of the next member, where that has this name.
-fn value_of<'v>(members: &mut Iter<'v, String, Value>, name: &str) -> Option<&'v Value>
-    ensures { MatchOption result
-        (BeginsWith name.now (members_view members.old) → ⊥)
-        (λ value. members_view members.old
-        ≡ member name.now (view value.now) (members_view members.new)) }
-{
-    match members.next() {
-        Some((key, value)) if key.as_str() == name => Some(value),
-        _ => None,
-    }
-}
-
-// What an object holds that has exactly the members of a body. They come in the order of their
-// names.
-fn members_of(tree: &Value) -> Option<Members<'_>>
-    ensures { MatchOption result ((a b c d : Data) → view tree.now ≢ members_json a b c d)
-        (λ m. view tree.now ≡ members_json (view m.addresses.now) (view m.age.now)
-        (view m.tags.now) (view m.username.now)) }
-{
-    let mut left = tree.as_object()?.iter();
-    let members = Members {
-        addresses: value_of(&mut left, "addresses")?,
-        age: value_of(&mut left, "age")?,
-        tags: value_of(&mut left, "tags")?,
-        username: value_of(&mut left, "username")?,
-    };
-    match left.next() {
-        None => Some(members),
-        Some(_) => None,
-    }
-}
 
 // Null, or a whole number without a sign that fits 32 bits.
-fn age_from_json(tree: &Value) -> Option<Option<u32>>
-    ensures { MatchOption result
-        ((age : Option ℕ) → IsAge age → view tree.now ≢ age_json age)
-        (λ age. (view tree.now ≡ age_json age) × IsAge age) }
+fn age_of(tree: &Value) -> Option<Option<u32>>
+    ensures { result ≡ age_in (view tree.now) }
 {
     if tree.is_null() {
         return Some(None);
@@ -69,14 +25,6 @@ fn age_from_json(tree: &Value) -> Option<Option<u32>>
         Ok(age) => Some(Some(age)),
         Err(_) => None,
     }
-}
-
-// The text that a tree is.
-fn text_in(tree: &Value) -> Option<&str>
-    ensures { MatchOption result ((text : List ℕ) → view tree.now ≢ string text)
-        (λ text. view tree.now ≡ string text.now) }
-{
-    tree.as_str()
 }
 
 // The texts with one more at the end, where there was memory for both.
@@ -95,27 +43,26 @@ fn with_text(
 }
 
 // The texts of an array, where there is memory for them. All of it is read where there is none.
-fn texts_in(alloc: Global, tree: &Value) -> Option<Result<Vec<String>, AllocError>>
-    ensures { ReadsAs texts_of texts_json (view tree.now) result }
+fn tags_of(alloc: Global, tree: &Value) -> Option<Result<Vec<String>, AllocError>>
+    ensures { Reads texts_of (texts_in (view tree.now)) result }
 {
     let mut texts = Ok(Vec::new(alloc));
     for item in tree.as_array()? {
-        let text = text_in(item)?;
+        let text = item.as_str()?;
         texts = with_text(alloc, texts, text);
     }
     Some(texts)
 }
 
-// The addresses with one more, which is the last where its name is behind all of them, where there
-// was memory for both.
+// The addresses with one more, where there was memory for both.
 fn with_address(
     alloc: Global,
     addresses: Result<BTreeMap<String, Address>, AllocError>,
     name: &str,
     text: &str,
 ) -> Result<BTreeMap<String, Address>, AllocError>
-    ensures { IfOk result (λ longer. IsOkAnd addresses (λ made. AreBelow name.now (entries_of made)
-        → entries_of longer ≡ entries_of made ++ (name.now, text.now) ∷ [])) }
+    ensures { IfOk result (λ longer. IsOkAnd addresses (λ made.
+        entries_of longer ≡ insert_entry (slice_cmp nat_cmp) (entries_of made) name.now text.now)) }
 {
     let mut addresses = addresses?;
     let address = Address(String::from_str(alloc, text)?);
@@ -124,15 +71,15 @@ fn with_address(
 }
 
 // The addresses of an object, where there is memory for them. All of it is read where there is none.
-fn addresses_in(
+fn addresses_of(
     alloc: Global,
     tree: &Value,
 ) -> Option<Result<BTreeMap<String, Address>, AllocError>>
-    ensures { ReadsAs entries_of entries_json (view tree.now) result }
+    ensures { Reads entries_of (entries_in (view tree.now)) result }
 {
     let mut addresses = Ok(BTreeMap::new(alloc));
     for (name, value) in tree.as_object()?.iter() {
-        let text = text_in(value)?;
+        let text = value.as_str()?;
         addresses = with_address(alloc, addresses, name.as_str(), text);
     }
     Some(addresses)
@@ -145,10 +92,10 @@ fn made(
     tags: Result<Vec<String>, AllocError>,
     addresses: Result<BTreeMap<String, Address>, AllocError>,
 ) -> Result<Body, AllocError>
-    ensures { IfOk result (λ body. (body.age ≡ age)
-        × IsOkAnd username (λ it. body.user.username ≡ it)
-        × IsOkAnd tags (λ it. body.tags ≡ it)
-        × IsOkAnd addresses (λ it. body.addresses ≡ it)) }
+    ensures { (said : Content) → IfOk username (λ it. string_bytes it ≡ said.username)
+        → age ≡ said.age → IfOk tags (λ it. texts_of it ≡ said.tags)
+        → IfOk addresses (λ it. entries_of it ≡ said.addresses)
+        → IfOk result (λ body. content body ≡ said) }
 {
     Ok(Body {
         user: User {
@@ -162,16 +109,17 @@ fn made(
 
 // The body that a tree spells, where there is memory for it.
 fn body_in(alloc: Global, tree: &Value) -> Option<Result<Body, AllocError>>
-    ensures { MatchOption result
-        ((body : Content) → IsRequest (view tree.now) body → ⊥)
+    ensures { MatchOption result ((body : Content) → IsRequest (view tree.now) body → ⊥)
         (λ made. (body : Content) × IsRequest (view tree.now) body
-        × IfOk made (λ read. IsRequest (view tree.now) (content read))) }
+        × IfOk made (λ read. content read ≡ body)) }
 {
-    let members = members_of(tree)?;
-    let age = age_from_json(members.age)?;
-    let name = text_in(members.username)?;
-    let tags = texts_in(alloc, members.tags)?;
-    let addresses = addresses_in(alloc, members.addresses)?;
+    if tree.as_object()?.len() != 4 {
+        return None;
+    }
+    let name = tree.get("username").and_then(Value::as_str)?;
+    let age = tree.get("age").and_then(age_of)?;
+    let tags = tags_of(alloc, tree.get("tags")?)?;
+    let addresses = addresses_of(alloc, tree.get("addresses")?)?;
     let username = String::from_str(alloc, name);
     Some(made(username, age, tags, addresses))
 }

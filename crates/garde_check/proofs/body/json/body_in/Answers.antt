@@ -1,42 +1,34 @@
-use Rattle.std.proofs.Common.{rules, refl, sym, subst, ◌∙◌}
+use Rattle.std.proofs.Common.{rules, ◌≡◌, ◌∙◌, Some, ap, arith, codes, length, refl, sym}
+use Rattle.std.specs.Prelude.{option_and_then, option_map}
+use Rattle.serde_json.specs.Find.{as_str, get}
 use Rattle.serde_json.specs.View.{view}
 use Rattle.garde_check.specs.Body.{Content}
-use Rattle.garde_check.specs.Request.{IsRequest, members_json}
-use Rattle.garde_check.proofs.BodyMembers.{body_made, spelled_parts}
-use Rattle.garde_check.proofs.Runs.{if_ok}
+use Rattle.garde_check.specs.Request.{IsRequest, age_in, count, entries_in, texts_in}
+use Rattle.garde_check.proofs.Members.{counted, four}
 use Rattle.garde_check.proofs.body.json.body_in.Goals as goal
 
-pub returns-in_err-age : goal.returns-in_err-age
-returns-in_err-age c =
-    rw c.from_residual-in_err-age.ensures λ body spells.
-    c.in_err-age.ensures {u = tt} body.age spells.1 (spelled_parts (view c.args.tree.now) _ _ _ _ body (c.in_ok-members.ensures {u = tt}) spells).1
-
-pub returns-in_err-name : goal.returns-in_err-name
-returns-in_err-name c =
-    rw c.from_residual-in_err-name.ensures λ body spells.
-    c.in_err-name.ensures {u = tt} body.username (spelled_parts (view c.args.tree.now) _ _ _ _ body (c.in_ok-members.ensures {u = tt}) spells).3
-
-pub returns-in_err-tags : goal.returns-in_err-tags
-returns-in_err-tags c =
-    rw c.from_residual-in_err-tags.ensures λ body spells.
-    c.in_err-tags.ensures {u = tt} body.tags (spelled_parts (view c.args.tree.now) _ _ _ _ body (c.in_ok-members.ensures {u = tt}) spells).2
-
-pub returns-in_err-addresses : goal.returns-in_err-addresses
-returns-in_err-addresses c =
-    rw c.from_residual-in_err-addresses.ensures λ body spells.
-    c.in_err-addresses.ensures {u = tt} body.addresses (spelled_parts (view c.args.tree.now) _ _ _ _ body (c.in_ok-members.ensures {u = tt}) spells).0
+pub returns-then-len-ne4 : goal.returns-then-len-ne4
+returns-then-len-ne4 c = λ body is.
+    let all = four (view c.args.tree.now) c.in_ok-as_object.field-0.now.entries body c.in_ok-as_object.ensures is in
+    let same = c.len.ensures.len in
+    let other = c.if-len-ne4.true in
+    absurd (omega (arith, all, same, other))
 
 pub returns : goal.returns
 returns c =
-    let members = c.in_ok-members.ensures {u = tt} in
-    let age = c.in_ok-age.ensures {u = tt} in
-    let name = c.in_ok-name.ensures {u = tt} in
+    let tree = view c.args.tree.now in
+    let entries = c.in_ok-as_object.field-0.now.entries in
+    let all : length entries ≡ 4 = let same = c.len.ensures.len in let is = c.if-len-ne4.false in omega (arith, same, is) in
+    let name : option_and_then as_str (get (codes "username") tree) ≡ Some c.in_ok-name.name.now = search rules in
+    let age : option_and_then age_in (get (codes "age") tree) ≡ Some c.in_ok-age.age = search rules in
     let tags = c.in_ok-tags.ensures {u = tt} in
     let places = c.in_ok-addresses.ensures {u = tt} in
     let body : Content = record { username = c.in_ok-name.name.now; age = c.in_ok-age.age; tags = tags.0; addresses = places.0 } in
-    let spells : IsRequest (view c.args.tree.now) body = (members ∙ (λ i. members_json (places.1 i) (age.0 i) (tags.1 i) (name i)), age.1) in (
-      body,
-      spells,
-      if_ok c.made.result (body_made c.made.result c.from_str-username.result c.in_ok-age.age c.in_ok-tags.tags c.in_ok-addresses.addresses body c.made.ensures (search rules) refl tags.2 places.2)
-          (λ read same. subst (IsRequest (view c.args.tree.now)) (sym same) spells),
-    )
+    let is : IsRequest tree body = record {
+      four = ap (option_map count) (sym c.in_ok-as_object.ensures) ∙ ap Some (counted entries ∙ all);
+      username = name;
+      age = age;
+      tags = ap (option_and_then texts_in) (sym c.in_ok-get.ensures) ∙ tags.1;
+      addresses = ap (option_and_then entries_in) (sym c.in_ok-get-2.ensures) ∙ places.1;
+    } in
+    (body, is, c.made.ensures body (search rules) refl tags.2 places.2)
