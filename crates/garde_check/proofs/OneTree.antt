@@ -1,28 +1,27 @@
 -- The users of lines, and a body, have one tree.
-use Rattle.std.proofs.Common.{◌≡◌, ℕ, ◌+◌, List, [], ◌∷◌, refl, subst, ap, ◌∙◌, map, length}
+use Rattle.std.proofs.Common.{◌≡◌, ℕ, ◌+◌, List, [], ◌∷◌, refl, subst, sym, ap, ◌∙◌, map}
 use Rattle.std.specs.declared.alloc.Global.{Global}
 use Rattle.std.specs.Prelude.{String, Option, Some, None, string_bytes}
 use Rattle.std.specs.List.{AllByRecursion, enumerate_from}
 use Rattle.std.proofs.lemmas.List.{length-map}
-use Rattle.garde.specs.Fields.{at_most, codes, is}
 use Rattle.garde.specs.Fields as words
 use Rattle.garde.specs.Visits.{Visits, only, found, ◌and◌, under as visits_under, items, entries, optional}
 use Rattle.garde.specs.Trees.{TreesEach}
 use Rattle.garde.specs.Tree.{Tree, nothing, under, ◌then◌, found_tree}
-use Rattle.garde.specs.Words.{Fault, bounds_answer, length_fault, index_part, key_part}
+use Rattle.garde.specs.Words.{Fault, index_part, key_part}
 use Rattle.garde_check.specs.declared.body.Address.{Address}
 use Rattle.garde_check.specs.declared.body.Body.{Body}
-use Rattle.garde_check.specs.declared.form.Form.{Form}
+use Rattle.garde_check.specs.declared.mode.Command.{Command}
+use Rattle.garde_check.specs.declared.mode.Command.TheVariants as command
 use Rattle.garde_check.specs.declared.outcome.Outcome.{Outcome}
 use Rattle.garde_check.specs.declared.user.User.{User}
 use Rattle.garde_check.specs.Body.{tag_visits, address_visits, body_visits, content, tag_tree, address_tree, addresses_tree, body_tree}
-use Rattle.garde_check.specs.Lines.{AreTheLines}
-use Rattle.garde_check.specs.Numbered.{items_tree}
+use Rattle.garde_check.specs.Lines.{lines_of}
 use Rattle.garde_check.specs.Request.{Spells}
 use Rattle.garde_check.specs.Tasks.{Finds, IsOutput, Reports, BodyReports}
 use Rattle.garde_check.specs.User.{user_visits, named_tree}
 use Rattle.garde_check.proofs.Members.{the_only_body}
-use Rattle.garde_check.specs.Users.{text_of, IsNamed, line_tree}
+use Rattle.garde_check.specs.Users.{text_of, IsNamed, items_tree, line_tree}
 
 -- the visits have no other tree than this
 record HasOnly (visits : Visits) (t : Tree) : Type 0 where
@@ -58,7 +57,7 @@ named_line [] some = absurd (some refl)
 named_line (b ∷ bs) some = refl
 
 user_one : (user : User) → HasOnly (user_visits user) (named_tree (string_bytes user.username))
-user_one user = under_one (key_part (codes "username")) (and_one (found_one _) (found_one _))
+user_one user = under_one (key_part (words.codes "username")) (and_one (found_one _) (found_one _))
 
 option_one : (user : Option User) → IsNamed user → HasOnly (optional user_visits user) (line_tree (text_of user))
 unfolding optional
@@ -70,11 +69,11 @@ options_one [] named = tt
 options_one (user ∷ users) named = (option_one user named.0, options_one users named.1)
 
 -- what is found of the users of lines is what is reported of these lines
-pub lines_reported : (form : Form) (users : List (Option User)) (bytes output : List ℕ) (outcome : Outcome) → AreTheLines bytes (map text_of users) → AllByRecursion IsNamed users
-    → Finds (items (λ user. optional user_visits user) users) form outcome output → Reports form bytes outcome output
-lines_reported form users bytes output outcome lines named (t, visited, is) =
+pub lines_reported : (command : Command) (most : Option ℕ) (users : List (Option User)) (bytes output : List ℕ) (outcome : Outcome) → lines_of bytes ≡ map text_of users → AllByRecursion IsNamed users
+    → Finds (items (λ user. optional user_visits user) users) command most outcome output → Reports command most bytes outcome output
+lines_reported command most users bytes output outcome lines named (t, visited, is) =
     let one = items_one (λ user. optional user_visits user) text_of line_tree users (options_one users named) in
-    (map text_of users, lines, subst (λ s. IsOutput form s outcome output) (one.same t visited) is)
+    subst (λ s. IsOutput command most s outcome output) (one.same t visited ∙ ap (items_tree line_tree 0) (sym lines)) is
 
 -- ---- bodies
 
@@ -93,17 +92,17 @@ addresses_one : (es : List (String Global × Address)) → HasOnly (entries (λ 
 unfolding entries
 addresses_one es = record { same = each_address es }
 
-fewer_one : (tags : List (String Global)) → HasOnly (is (words.items (at_most 5) tags)) (found_tree (length_fault 0 5 (bounds_answer 0 5 (length (map string_bytes tags)))))
+fewer_one : (tags : List (String Global)) → HasOnly (words.is (words.items (words.at_most 5) tags)) (found_tree (words.items (words.at_most 5) (map string_bytes tags)))
 fewer_one tags = rw (length-map tags string_bytes) (found_one _)
 
 body_one : (body : Body) → HasOnly (body_visits body) (body_tree (content body))
 body_one body =
     and_one (user_one body.user)
-    (and_one (under_one (key_part (codes "age")) (and_one (found_one _) (found_one _)))
-    (and_one (under_one (key_part (codes "tags")) (and_one (fewer_one body.tags.items) (items_one tag_visits string_bytes tag_tree body.tags.items (tags_one body.tags.items))))
-    (under_one (key_part (codes "addresses")) (addresses_one body.addresses.entries))))
+    (and_one (under_one (key_part (words.codes "age")) (and_one (found_one _) (found_one _)))
+    (and_one (under_one (key_part (words.codes "tags")) (and_one (fewer_one body.tags.items) (items_one tag_visits string_bytes tag_tree body.tags.items (tags_one body.tags.items))))
+    (under_one (key_part (words.codes "addresses")) (addresses_one body.addresses.entries))))
 
 -- what is found of a body is what is reported of the bytes that spell it
-pub body_reported : (form : Form) (body : Body) (bytes output : List ℕ) (outcome : Outcome) → Spells bytes (content body) → Finds (body_visits body) form outcome output → BodyReports form bytes outcome output
-body_reported form body bytes output outcome spells (t, visited, is) =
-    (content body, the_only_body bytes (content body) spells, subst (λ s. IsOutput form s outcome output) ((body_one body).same t visited) is)
+pub body_reported : (most : Option ℕ) (body : Body) (bytes output : List ℕ) (outcome : Outcome) → Spells bytes (content body) → Finds (body_visits body) command.Body most outcome output → BodyReports most bytes outcome output
+body_reported most body bytes output outcome spells (t, visited, is) =
+    (content body, the_only_body bytes (content body) spells, subst (λ s. IsOutput command.Body most s outcome output) ((body_one body).same t visited) is)

@@ -1,15 +1,13 @@
 -- The visits of a request's body, and the one tree that it has.
-use Rattle.std.specs.Prelude.{ℕ, List, [], ◌∷◌, Option, is_some, map, String, Vec}
+use Rattle.std.specs.Prelude.{ℕ, List, [], ◌∷◌, Option, map, String, Vec}
 use Rattle.std.specs.declared.alloc.Global.{Global}
 use Rattle.std.specs.BTreeMap.{BTreeMap}
-use Rattle.garde.specs.Fields.{◌and◌, alphanumeric, at_most, between, chars, codes, each, each_value, field, ip, is, items, length, of_option, range, required, slice, str, text_key, Visits}
-use Rattle.garde.specs.Words as words
-use Rattle.garde.specs.Words.{Fault, Any, bounds_answer, char_count, key_part, unless, length_fault, is_alphanumeric_text, is_ip_text, not_alphanumeric, not_set}
+use Rattle.garde.specs.Fields.{◌and◌, alphanumeric, at_most, between, chars, codes, each, each_value, field, Fault, ip, is, items, key_part, of_option, range, required, slice, str, text_key, Any, Visits}
 use Rattle.garde.specs.Tree.{Tree, nothing, under, ◌then◌, found_tree}
 use Rattle.garde_check.specs.declared.body.Address.{Address}
 use Rattle.garde_check.specs.declared.body.Body.{Body}
-use Rattle.garde_check.specs.Numbered.{items_tree}
 use Rattle.garde_check.specs.User.{user_visits, named_tree}
+use Rattle.garde_check.specs.Users.{items_tree}
 
 -- the fault of an age that is there, and is below 18 or above 120
 abbrev pub age_fault : Option ℕ → Option Fault
@@ -57,25 +55,13 @@ content body = record {
   addresses = entries_of body.addresses;
 }
 
--- the fault `not set` of no age, or the fault of an age below 18 or above 120
-abbrev pub age_tree : Option ℕ → Tree
-age_tree age = found_tree (unless (is_some age) not_set) then found_tree (age_fault age)
-
--- The fault `not alphanumeric` where some character of a tag is neither a letter nor a number, and
--- then the fault of a tag of less than 1 or more than 20 characters.
+-- what the rules find of a tag
 abbrev pub tag_tree : List ℕ → Tree
-tag_tree tag =
-    found_tree (unless (is_alphanumeric_text tag) not_alphanumeric)
-    then found_tree (length_fault 1 20 (bounds_answer 1 20 (char_count tag)))
+tag_tree tag = found_tree (alphanumeric tag) then found_tree (chars (between 1 20) tag)
 
--- the fault of more than 5 tags, and then each tag under its number
-abbrev pub tags_tree : List (List ℕ) → Tree
-tags_tree tags =
-    found_tree (length_fault 0 5 (bounds_answer 0 5 (length tags))) then items_tree tag_tree 0 tags
-
--- the fault of a text that is no IP address
+-- what the rule finds of the text of an address
 abbrev pub address_tree : List ℕ → Tree
-address_tree text = found_tree (unless (is_ip_text Any text) (words.ip Any))
+address_tree text = found_tree (ip Any text)
 
 -- each address under its name
 abbrev pub addresses_tree : List (List ℕ × List ℕ) → Tree
@@ -87,6 +73,6 @@ addresses_tree (e ∷ es) = under (key_part e.0) (address_tree e.1) (addresses_t
 abbrev pub body_tree : Content → Tree
 body_tree body =
     named_tree body.username
-    then under (key_part (codes "age")) (age_tree body.age)
-    (under (key_part (codes "tags")) (tags_tree body.tags)
+    then under (key_part (codes "age")) (found_tree (required body.age) then found_tree (age_fault body.age))
+    (under (key_part (codes "tags")) (found_tree (items (at_most 5) body.tags) then items_tree tag_tree 0 body.tags)
     (under (key_part (codes "addresses")) (addresses_tree body.addresses) nothing))

@@ -1,6 +1,5 @@
 pub mod Lines
 pub mod User
-pub mod Numbered
 pub mod Users
 pub mod Body
 pub mod Request

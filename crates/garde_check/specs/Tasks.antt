@@ -1,71 +1,76 @@
 -- Which output belongs to an input.
-use Rattle.std.specs.Prelude.{◌≡◌, ◌-◌, ◌^◌, ℕ, List, [], Bool, false, Option, Some, None, ◌↔◌, min}
+use Rattle.std.specs.Prelude.{◌≡◌, ℕ, List, [], Bool, false, true, Option, ◌↔◌}
 use Rattle.std.specs.Str.{IsUtf8}
 use Rattle.garde.specs.Fields.{Visits}
 use Rattle.garde.specs.Words.{Entry, default_text}
-use Rattle.garde.specs.Tree.{Tree, bears, flat, nodes}
-use Rattle.garde_check.specs.declared.form.Form.{Form}
-use Rattle.garde_check.specs.declared.mode.Task.{Task}
-use Rattle.garde_check.specs.declared.mode.Task.TheVariants.{Lines, Body}
+use Rattle.garde.specs.Tree.{Tree, bears, flat}
+use Rattle.garde_check.specs.declared.mode.Command.{Command}
+use Rattle.garde_check.specs.declared.mode.Command.TheVariants.{Body}
 use Rattle.garde_check.specs.declared.outcome.Outcome.{Outcome}
 use Rattle.garde_check.specs.declared.outcome.Outcome.TheVariants.{Valid}
 use Rattle.garde_check.specs.declared.outcome.RunError.{RunError}
 use Rattle.garde_check.specs.declared.outcome.RunError.TheVariants.{NotUtf8, BadBody, Memory}
 use Rattle.garde_check.specs.Body.{Content, body_tree}
-use Rattle.garde_check.specs.Form.{first_in, more_in, form_text}
-use Rattle.garde_check.specs.Lines.{AreTheLines}
+use Rattle.garde_check.specs.Form.{first_in, more_in, nodes_in, told_text}
+use Rattle.garde_check.specs.Lines.{lines_of}
 use Rattle.garde_check.specs.Request.{SpellsJust, SpellsNothing}
 use Rattle.garde_check.specs.Users.{lines_tree}
 
--- what is written of a tree in a form: the number of its nodes is written as far as a `usize` goes
-abbrev pub output_of : Form → Tree → List ℕ
-output_of form t = form_text form (flat default_text [] t) (min (nodes t) (2 ^ 64 - 1))
+-- what a command writes of a tree, all faults or at most so many
+abbrev pub output_of : Command → Option ℕ → Tree → List ℕ
+output_of command most t =
+    let all = flat default_text [] t in
+    told_text command (first_in most all) (more_in most all) (nodes_in most t)
 
--- the output in a form of a tree, and its outcome: `Valid` exactly where the tree has no fault
-abbrev pub IsOutput : Form → Tree → Outcome → List ℕ → Type 0
-IsOutput form t outcome output = (output ≡ output_of form t) × ((outcome ≡ Valid) ↔ (bears t ≡ false))
+-- the output of a command for a tree, and its outcome: `Valid` exactly where the tree has no fault
+abbrev pub IsOutput : Command → Option ℕ → Tree → Outcome → List ℕ → Type 0
+IsOutput command most t outcome output = (output ≡ output_of command most t) × ((outcome ≡ Valid) ↔ (bears t ≡ false))
 
 -- output and outcome are those of one of the trees that a value may have
-abbrev pub Finds : Visits → Form → Outcome → List ℕ → Type 0
-Finds visits form outcome output = (t : Tree) × visits.trees t × IsOutput form t outcome output
+abbrev pub Finds : Visits → Command → Option ℕ → Outcome → List ℕ → Type 0
+Finds visits command most outcome output = (t : Tree) × visits.trees t × IsOutput command most t outcome output
 
--- so many nodes were made for a whole report, as far as a `usize` goes
-abbrev pub IsCount : Option ℕ → Tree → ℕ → Type 0
-IsCount None t count = count ≡ min (nodes t) (2 ^ 64 - 1)
-IsCount (Some most) t count = Unit {0}
-
--- Of one of the trees that a value may have these are the faults that are written, at most so many, whether there are more, and the
--- nodes of a whole report; and its outcome.
-abbrev pub FindsFirst : Visits → Option ℕ → Outcome → List Entry → Bool → ℕ → Type 0
-FindsFirst visits most outcome report has_more count =
+-- Of one of the trees that a value may have these are the faults that are written, all or at most so many, how many where there are
+-- more, and the nodes where they are all; and its outcome.
+abbrev pub FindsFirst : Visits → Option ℕ → Outcome → List Entry → Option ℕ → Option ℕ → Type 0
+FindsFirst visits most outcome report more count =
     (t : Tree) × visits.trees t × (report ≡ first_in most (flat default_text [] t))
-    × (has_more ≡ more_in most (flat default_text [] t)) × IsCount most t count × ((outcome ≡ Valid) ↔ (bears t ≡ false))
+    × (more ≡ more_in most (flat default_text [] t)) × (count ≡ nodes_in most t) × ((outcome ≡ Valid) ↔ (bears t ≡ false))
 
--- The output in a form for an input, and its outcome: those of the one tree of the lines of the
+-- The output of a command for an input, and its outcome: those of the one tree of the lines of the
 -- input.
-abbrev pub Reports : Form → List ℕ → Outcome → List ℕ → Type 0
-Reports form input outcome output =
-    (lines : List (List ℕ)) × AreTheLines input lines × IsOutput form (lines_tree 0 lines) outcome output
+abbrev pub Reports : Command → Option ℕ → List ℕ → Outcome → List ℕ → Type 0
+Reports command most input = IsOutput command most (lines_tree 0 (lines_of input))
 
--- The output in a form for an input, and its outcome: those of the one tree of the body that the
--- input spells.
-abbrev pub BodyReports : Form → List ℕ → Outcome → List ℕ → Type 0
-BodyReports form input outcome output =
-    (body : Content) × SpellsJust input body × IsOutput form (body_tree body) outcome output
+-- The same of the one tree of the body that the input spells.
+abbrev pub BodyReports : Option ℕ → List ℕ → Outcome → List ℕ → Type 0
+BodyReports most input outcome output =
+    (body : Content) × SpellsJust input body × IsOutput Body most (body_tree body) outcome output
 
--- which output and outcome belong to an input
-abbrev pub Gives : Task → List ℕ → Outcome → List ℕ → Type 0
-Gives (Lines form) = Reports form
-Gives (Body form) = BodyReports form
+-- whether a command reads the body of a request, and no lines
+abbrev pub reads_body : Command → Bool
+reads_body Body = true
+reads_body command = false
+
+abbrev pub GivesFor : Bool → Command → Option ℕ → List ℕ → Outcome → List ℕ → Type 0
+GivesFor true command = BodyReports
+GivesFor false command = Reports command
+
+-- which output and outcome of a command belong to an input
+abbrev pub Gives : Command → Option ℕ → List ℕ → Outcome → List ℕ → Type 0
+Gives command = GivesFor (reads_body command) command
 
 -- no input
 abbrev pub Never : List ℕ → Type 0
 Never input = ⊥
 
--- which inputs are rejected for their form
-abbrev pub Refuses : Task → List ℕ → Type 0
-Refuses (Lines form) = Never
-Refuses (Body form) = SpellsNothing
+abbrev pub RefusesFor : Bool → List ℕ → Type 0
+RefusesFor true = SpellsNothing
+RefusesFor false = Never
+
+-- which inputs of a command are rejected for their form
+abbrev pub Refuses : Command → List ℕ → Type 0
+Refuses command = RefusesFor (reads_body command)
 
 -- why no output was made for these bytes: they are not UTF-8, or are rejected for their form, or
 -- memory ran out

@@ -1,9 +1,6 @@
 -- The words of a command, the status of an answer and the line of an error.
 use Rattle.std.specs.Prelude.{◌≡◌, ◌≢◌, ◌<◌, ◌^◌, ℕ, List, [], ◌∷◌, ◌++◌, Option, Some, None, Result, Ok, Err, codes}
 use Rattle.std.specs.Str.Parse.{IsNumeral, digits_value, without_leading_plus}
-use Rattle.garde_check.specs.declared.form.Form.TheVariants as form
-use Rattle.garde_check.specs.declared.mode.Task.{Task}
-use Rattle.garde_check.specs.declared.mode.Task.TheVariants as task
 use Rattle.garde_check.specs.declared.mode.Command.{Command}
 use Rattle.garde_check.specs.declared.mode.Command.TheVariants.{Text, Nodes, Json, Body}
 use Rattle.garde_check.specs.declared.outcome.Outcome.{Outcome}
@@ -29,13 +26,6 @@ abbrev pub AskFor : List (List ℕ) → Command → Option ℕ → Type 0
 AskFor words command None = words ≡ words_of command
 AskFor words command (Some most) =
     (text : List ℕ) × IsNumber text most × (words ≡ codes "--most" ∷ text ∷ words_of command) × (command ≢ Nodes)
-
--- what is run for a command, where at most so many faults are written
-abbrev pub first_task_of : Command → ℕ → Task
-first_task_of Text most = task.Lines (form.FirstText most)
-first_task_of Nodes most = task.Lines (form.FirstText most)
-first_task_of Json most = task.Lines (form.FirstJson most)
-first_task_of Body most = task.Body (form.FirstJson most)
 
 -- 0 where no fault was found, 1 where one was, 2 for every error
 abbrev pub status_of : Result Outcome RunError → ℕ

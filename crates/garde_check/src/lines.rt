@@ -3,7 +3,7 @@ ghost use Rattle.std.specs.List.{AllByRecursion};
 ghost use Rattle.std.specs.Prelude.{◌≡◌, ℕ, List, [], ◌∷◌, ◌++◌, MatchOption, IfOk, IfErr, OnOk};
 ghost use Rattle.std.specs.Prelude.{map, string_bytes};
 ghost use Rattle.std.specs.Str.{IsUtf8};
-ghost use Rattle.garde_check.specs.Lines.{AreTheLines, EndsInLineFeed, IsLine};
+ghost use Rattle.garde_check.specs.Lines.{IsLine, lines_of};
 ghost use Rattle.garde_check.specs.Tasks.{Never, OutputFails};
 ghost use Rattle.garde_check.specs.Users.{text_of, IsNamed, IsCut};
 
@@ -11,6 +11,7 @@ use crate::outcome::RunError;
 use crate::user::User;
 use memchr::{memchr, memrchr};
 use std::alloc::{AllocError, Global};
+use std::mem;
 
 // The user that a line names, or nothing where the line is empty.
 fn user_of(alloc: Global, line: &str) -> Result<Option<User>, AllocError>
@@ -54,8 +55,10 @@ fn cut_lines<'t>(
 
 // Cuts off all lines of what is left of a text, and appends their users.
 fn cut_last(alloc: Global, rest: &str, users: &mut Vec<Option<User>>) -> Result<(), AllocError>
-    ensures { OnOk result ((text : List ℕ) → IsCut text [] users.old.items rest.now
-        → AreTheLines text (map text_of users.new.items) × AllByRecursion IsNamed users.new.items) }
+    ensures lines { OnOk result (map text_of users.old.items ++ lines_of rest.now
+        ≡ map text_of users.new.items) }
+    ensures named { OnOk result (AllByRecursion IsNamed users.old.items
+        → AllByRecursion IsNamed users.new.items) }
 {
     let last = cut_lines(alloc, rest, users)?;
     if !last.is_empty() {
@@ -111,16 +114,17 @@ impl Lines {
         Ok(())
     }
 
-    // Cuts off all lines of a rest that ends in a line feed, where it is text.
+    // Cuts off the lines that end in the rest, where it is text.
     fn cut_rest(&mut self, alloc: Global) -> Result<(), AllocError>
-        requires { EndsInLineFeed self.old.rest.items }
         ensures { OnOk result (IsCut self.old.rest.items
             self.old.users.items self.new.users.items self.new.rest.items) }
     {
-        if let Ok(text) = str::from_utf8(self.rest.as_slice()) {
-            cut_lines(alloc, text, &mut self.users)?;
-            self.rest.clear();
+        let rest = mem::replace(&mut self.rest, Vec::new(alloc));
+        if let Ok(text) = str::from_utf8(rest.as_slice()) {
+            let left = cut_lines(alloc, text, &mut self.users)?;
+            self.rest.extend_from_slice(left.as_bytes())?;
         } else {
+            self.rest = rest;
             self.is_text = false;
         }
         Ok(())
@@ -131,7 +135,8 @@ impl Lines {
     pub fn finish(self, alloc: Global) -> Result<Vec<Option<User>>, RunError>
         ensures lines { IfOk result (λ users. (text : List ℕ)
             → IsCut text [] self.users.items self.rest.items
-            → IsUtf8 text × AreTheLines text (map text_of users.items) × AllByRecursion IsNamed users.items) }
+            → IsUtf8 text × (lines_of text ≡ map text_of users.items)
+            × AllByRecursion IsNamed users.items) }
         ensures err { IfErr result (λ e. (text : List ℕ)
             → IsCut text [] self.users.items self.rest.items → OutputFails Never text e) }
     {

@@ -15,7 +15,7 @@ mod transfer;
 mod user;
 mod words;
 
-use crate::mode::{Command, first_task};
+use crate::mode::Command;
 use crate::outcome::{Outcome, RunError};
 use crate::running::{run, run_body, run_json, run_task};
 use crate::transfer::Plain;
@@ -94,14 +94,11 @@ fn judge(rt: &HostRuntime, command: Command, most: Option<usize>) -> Result<Outc
     let mut reader = Plain::new(unmarked.chain(input));
     let mut writer = Plain::new(rt.stdout());
     match (command, most) {
-        (command, Some(most)) => {
-            let task = first_task(command, most);
-            run_task(alloc, &mut reader, &mut writer, task)
-        }
         (Command::Text, None) => run(alloc, &mut reader, &mut writer, false),
         (Command::Nodes, None) => run(alloc, &mut reader, &mut writer, true),
         (Command::Json, None) => run_json(alloc, &mut reader, &mut writer),
         (Command::Body, None) => run_body(alloc, &mut reader, &mut writer),
+        (command, most) => run_task(alloc, &mut reader, &mut writer, command, most),
     }
 }
 

@@ -1,8 +1,6 @@
 //! What the program may be asked to do.
 ghost use Rattle.std.specs.Prelude.{◌≡◌};
-ghost use Rattle.garde_check.specs.Words.{first_task_of};
-
-use crate::form::Form;
+ghost use Rattle.garde_check.specs.Tasks.{reads_body};
 
 /// What is run.
 #[derive(Clone, Copy)]
@@ -17,22 +15,11 @@ pub enum Command {
     Body,
 }
 
-/// What a run reads its input as, and the form of its report.
-#[derive(Clone, Copy)]
-pub enum Task {
-    /// Each line is a user or none.
-    Lines(Form),
-    /// The whole input is the body of a request.
-    Body(Form),
-}
-
-/// What is run for a command, where at most so many faults are written. No number of path nodes is.
-pub fn first_task(command: Command, most: usize) -> Task
-    ensures { result ≡ first_task_of command most }
-{
-    match command {
-        Command::Text | Command::Nodes => Task::Lines(Form::FirstText(most)),
-        Command::Json => Task::Lines(Form::FirstJson(most)),
-        Command::Body => Task::Body(Form::FirstJson(most)),
+impl Command {
+    /// Whether the input is the body of a request, and no lines.
+    pub fn reads_body(self) -> bool
+        ensures { result ≡ reads_body self }
+    {
+        matches!(self, Command::Body)
     }
 }

@@ -7,8 +7,9 @@ ghost use Rattle.garde_check.specs.Tasks.{Finds, FindsFirst, Reports, BodyReport
 ghost use Rattle.garde_check.specs.Users.{IsCut};
 
 use crate::body::Body;
-use crate::form::{Form, write_report};
+use crate::form::write_report;
 use crate::lines::Lines;
+use crate::mode::Command;
 use crate::outcome::{Outcome, RunError};
 use crate::user::User;
 use garde::{DefaultI18n, FirstError, Report, Trail, Validate, ValidateError};
@@ -28,20 +29,20 @@ pub struct Output {
     pub users: Vec<Option<User>>,
 }
 
-// What a validation found: the faults that are written, whether there are more, and the nodes that
-// were made.
+// What a validation found: the faults that are written, their number where there are more, and the
+// number of nodes where they are all.
 #[derive(Drop)]
 struct Found {
     outcome: Outcome,
     report: Report,
-    has_more: bool,
-    nodes: usize,
+    more: Option<usize>,
+    nodes: Option<usize>,
 }
 
 // Finds all faults of a value.
 fn find_all<T: Validate>(alloc: Global, value: &T, ctx: &T::Context) -> Result<Found, AllocError>
     ensures { IfOk result (λ found. FindsFirst (T.visits value.now ctx.now) None
-        found.outcome found.report found.has_more found.nodes) }
+        found.outcome found.report found.more found.nodes) }
 {
     let mut trail = Trail::new(alloc);
     let answer = value.validate_on(ctx, &mut trail, &DefaultI18n);
@@ -54,8 +55,8 @@ fn find_all<T: Validate>(alloc: Global, value: &T, ctx: &T::Context) -> Result<F
     Ok(Found {
         outcome,
         report,
-        has_more: false,
-        nodes,
+        more: None,
+        nodes: Some(nodes),
     })
 }
 
@@ -67,26 +68,26 @@ fn find_first<T: Validate>(
     most: usize,
 ) -> Result<Found, AllocError>
     ensures { IfOk result (λ found. FindsFirst (T.visits value.now ctx.now) (Some most)
-        found.outcome found.report found.has_more found.nodes) }
+        found.outcome found.report found.more found.nodes) }
 {
     match value.validate_first(alloc, ctx, most, &DefaultI18n) {
         Ok(()) => Ok(Found {
             outcome: Outcome::Valid,
             report: Report::new(alloc),
-            has_more: false,
-            nodes: 0,
+            more: None,
+            nodes: None,
         }),
         Err(FirstError::All(report)) => Ok(Found {
             outcome: Outcome::Faults,
             report,
-            has_more: false,
-            nodes: 0,
+            more: None,
+            nodes: None,
         }),
         Err(FirstError::First(report)) => Ok(Found {
             outcome: Outcome::Faults,
             report,
-            has_more: true,
-            nodes: 0,
+            more: Some(most),
+            nodes: None,
         }),
         Err(FirstError::Memory) => Err(AllocError),
     }
@@ -100,7 +101,7 @@ fn find<T: Validate>(
     most: Option<usize>,
 ) -> Result<Found, AllocError>
     ensures { IfOk result (λ found. FindsFirst (T.visits value.now ctx.now) most
-        found.outcome found.report found.has_more found.nodes) }
+        found.outcome found.report found.more found.nodes) }
 {
     match most {
         None => find_all(alloc, value, ctx),
@@ -108,18 +109,19 @@ fn find<T: Validate>(
     }
 }
 
-// Validates a value, and makes the output in this form.
+// Validates a value, and makes the output of a command, of all faults or of at most so many.
 fn validate<T: Validate>(
     alloc: Global,
     value: &T,
     ctx: &T::Context,
-    form: Form,
+    command: Command,
+    most: Option<usize>,
 ) -> Result<Output, AllocError>
-    ensures { IfOk result (λ output.
-        Finds (T.visits value.now ctx.now) form output.outcome (string_bytes output.text)) }
+    ensures { IfOk result (λ output. Finds (T.visits value.now ctx.now) command most
+        output.outcome (string_bytes output.text)) }
 {
-    let found = find(alloc, value, ctx, form.most())?;
-    let text = write_report(alloc, &found.report, found.nodes, found.has_more, form)?;
+    let found = find(alloc, value, ctx, most)?;
+    let text = write_report(alloc, &found.report, found.more, found.nodes, command)?;
     let users = Vec::new(alloc);
     Ok(Output {
         outcome: found.outcome,
@@ -129,15 +131,20 @@ fn validate<T: Validate>(
 }
 
 /// Makes the whole output for the lines of a text.
-pub fn lines_output(alloc: Global, lines: Lines, form: Form) -> Result<Output, RunError>
+pub fn lines_output(
+    alloc: Global,
+    lines: Lines,
+    command: Command,
+    most: Option<usize>,
+) -> Result<Output, RunError>
     ensures ok { IfOk result (λ output. (text : List ℕ)
         → IsCut text [] lines.users.items lines.rest.items
-        → IsUtf8 text × Reports form text output.outcome (string_bytes output.text)) }
+        → IsUtf8 text × Reports command most text output.outcome (string_bytes output.text)) }
     ensures err { IfErr result (λ e. (text : List ℕ)
         → IsCut text [] lines.users.items lines.rest.items → OutputFails Never text e) }
 {
     let users = lines.finish(alloc)?;
-    let mut output = validate(alloc, &users, &(), form)?;
+    let mut output = validate(alloc, &users, &(), command, most)?;
     output.users = users;
     Ok(output)
 }
@@ -155,16 +162,16 @@ fn body_of(alloc: Global, input: &str) -> Result<Body, JsonRefused>
 }
 
 /// Makes the whole output for the bytes of a body.
-pub fn body_output(alloc: Global, bytes: Vec<u8>, form: Form) -> Result<Output, RunError>
+pub fn body_output(alloc: Global, bytes: Vec<u8>, most: Option<usize>) -> Result<Output, RunError>
     ensures ok { IfOk result (λ output. IsUtf8 bytes.items
-        × BodyReports form bytes.items output.outcome (string_bytes output.text)) }
+        × BodyReports most bytes.items output.outcome (string_bytes output.text)) }
     ensures err { IfErr result (OutputFails SpellsNothing bytes.items) }
 {
     let Ok(input) = str::from_utf8(bytes.as_slice()) else {
         return Err(RunError::NotUtf8);
     };
     match body_of(alloc, input) {
-        Ok(body) => Ok(validate(alloc, &body, &(), form)?),
+        Ok(body) => Ok(validate(alloc, &body, &(), Command::Body, most)?),
         Err(JsonRefused::Form) => Err(RunError::BadBody),
         Err(JsonRefused::Memory) => Err(RunError::Memory),
     }

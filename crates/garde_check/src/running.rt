@@ -1,6 +1,7 @@
 //! A run, from a reader to a writer.
 ghost use Rattle.std.specs.Prelude.{◌≡◌, ℕ, List, [], false, true, IfOk, IfErr, OnOk, OnErr, IfSome, take};
-ghost use Rattle.std.specs.Prelude.{string_bytes};
+ghost use Rattle.std.specs.Prelude.{string_bytes, None, if◌then◌else◌};
+ghost use Rattle.garde_check.specs.declared.mode.Command.TheVariants as Command;
 ghost use Rattle.std.specs.Io.KnownBytes.{Appends, IsAtEnd};
 ghost use Rattle.std.specs.Str.{IsUtf8};
 ghost use Rattle.garde_check.specs.Ran.{Leaves, device, TakeFails, MakeFails};
@@ -8,9 +9,8 @@ ghost use Rattle.garde_check.specs.Request.{SpellsNothing};
 ghost use Rattle.garde_check.specs.Tasks.{Reports, BodyReports, Gives, Refuses, Never};
 ghost use Rattle.garde_check.specs.Users.{IsCut};
 
-use crate::form::Form;
 use crate::lines::Lines;
-use crate::mode::Task;
+use crate::mode::Command;
 use crate::outcome::{Outcome, RunError};
 use crate::output::{Output, body_output, lines_output};
 use crate::transfer::{Failed, Sink, Source};
@@ -60,19 +60,25 @@ fn take_lines<S: Source>(alloc: Global, reader: &mut S) -> Result<Lines, RunErro
 }
 
 // Takes all that is left in a reader, and makes the whole output for it.
-fn take_output<S: Source>(alloc: Global, reader: &mut S, task: Task) -> Result<Output, RunError>
+fn take_output<S: Source>(
+    alloc: Global,
+    reader: &mut S,
+    command: Command,
+    most: Option<usize>,
+) -> Result<Output, RunError>
     requires { S.has_failed reader.old ≡ false }
     ensures ok { IfOk result (λ output. (bytes : List ℕ)
         × IfSome (S.remaining reader.old) (λ all. bytes ≡ all)
-        × IsUtf8 bytes × Gives task bytes output.outcome (string_bytes output.text)) }
+        × IsUtf8 bytes × Gives command most bytes output.outcome (string_bytes output.text)) }
     ensures end { OnOk result (IsAtEnd (S.remaining reader.new)) }
     ensures sound { OnOk result (S.has_failed reader.new ≡ false) }
-    ensures err { IfErr result (MakeFails (Refuses task)
+    ensures err { IfErr result (MakeFails (Refuses command)
         (S.remaining reader.old) (S.remaining reader.new) (S.has_failed reader.new)) }
 {
-    match task {
-        Task::Lines(form) => lines_output(alloc, take_lines(alloc, reader)?, form),
-        Task::Body(form) => body_output(alloc, take_all(alloc, reader)?, form),
+    if command.reads_body() {
+        body_output(alloc, take_all(alloc, reader)?, most)
+    } else {
+        lines_output(alloc, take_lines(alloc, reader)?, command, most)
     }
 }
 
@@ -94,22 +100,23 @@ fn give_all<W: Sink>(writer: &mut W, bytes: &[u8]) -> Result<(), Failed>
     Ok(())
 }
 
-/// Reads the reader to its end as the task says, and writes the report in its form: of `FirstText`
-/// and `FirstJson` no more faults are held at a time than one more than are written. Of errors it
-/// leaves what `run` and `run_body` leave.
+/// Reads the reader to its end as the command says, and writes its report, of all faults or of at
+/// most so many: then no more faults are held at a time than one more. Of errors it leaves what
+/// `run` and `run_body` leave.
 pub fn run_task<S: Source, W: Sink>(
     alloc: Global,
     reader: &mut S,
     writer: &mut W,
-    task: Task,
+    command: Command,
+    most: Option<usize>,
 ) -> Result<Outcome, RunError>
     requires fresh_reader { S.has_failed reader.old ≡ false }
     requires fresh_writer { W.has_failed writer.old ≡ false }
-    ensures { Leaves (Gives task) (Refuses task)
+    ensures { Leaves (Gives command most) (Refuses command)
         (device S.remaining S.has_failed reader.old reader.new)
         (device W.contents W.has_failed writer.old writer.new) result }
 {
-    let output = take_output(alloc, reader, task)?;
+    let output = take_output(alloc, reader, command, most)?;
     let Ok(()) = give_all(writer, output.text.as_bytes()) else {
         return Err(RunError::Write);
     };
@@ -131,11 +138,15 @@ pub fn run<S: Source, W: Sink>(
 ) -> Result<Outcome, RunError>
     requires fresh_reader { S.has_failed reader.old ≡ false }
     requires fresh_writer { W.has_failed writer.old ≡ false }
-    ensures { Leaves (Reports (Form.Text show_nodes)) Never
+    ensures { Leaves (Reports (if show_nodes then Command.Nodes else Command.Text) None) Never
         (device S.remaining S.has_failed reader.old reader.new)
         (device W.contents W.has_failed writer.old writer.new) result }
 {
-    run_task(alloc, reader, writer, Task::Lines(Form::Text(show_nodes)))
+    if show_nodes {
+        run_task(alloc, reader, writer, Command::Nodes, None)
+    } else {
+        run_task(alloc, reader, writer, Command::Text, None)
+    }
 }
 
 /// As `run`, but it writes the compact JSON of the report, which is empty where there is no fault,
@@ -147,11 +158,11 @@ pub fn run_json<S: Source, W: Sink>(
 ) -> Result<Outcome, RunError>
     requires fresh_reader { S.has_failed reader.old ≡ false }
     requires fresh_writer { W.has_failed writer.old ≡ false }
-    ensures { Leaves (Reports Form.Json) Never
+    ensures { Leaves (Reports Command.Json None) Never
         (device S.remaining S.has_failed reader.old reader.new)
         (device W.contents W.has_failed writer.old writer.new) result }
 {
-    run_task(alloc, reader, writer, Task::Lines(Form::Json))
+    run_task(alloc, reader, writer, Command::Json, None)
 }
 
 /// As `run_json`, but it reads the whole input as the body of a request, which it validates.
@@ -165,9 +176,9 @@ pub fn run_body<S: Source, W: Sink>(
 ) -> Result<Outcome, RunError>
     requires fresh_reader { S.has_failed reader.old ≡ false }
     requires fresh_writer { W.has_failed writer.old ≡ false }
-    ensures { Leaves (BodyReports Form.Json) SpellsNothing
+    ensures { Leaves (BodyReports None) SpellsNothing
         (device S.remaining S.has_failed reader.old reader.new)
         (device W.contents W.has_failed writer.old writer.new) result }
 {
-    run_task(alloc, reader, writer, Task::Body(Form::Json))
+    run_task(alloc, reader, writer, Command::Body, None)
 }

@@ -1,32 +1,30 @@
-use Rattle.std.proofs.Common.{rules}
+use Rattle.std.proofs.Common.{rules, ◌∙◌, ap, sym, map, ◌++◌, append-nil}
 use Rattle.std.proofs.lemmas.List.{nil_from_length}
-use Rattle.garde_check.proofs.Cuts.{so_far_cut, so_far_of, whole_lines, last_line, users_pushed, named_more}
-use Rattle.garde_check.proofs.Unique.{the_only_lines}
+use Rattle.garde_check.specs.Lines.{lines_of}
+use Rattle.garde_check.specs.Users.{text_of}
+use Rattle.garde_check.proofs.Cuts.{last_line, named_more, rest_lines, users_pushed}
 use Rattle.garde_check.proofs.lines.cut_last.Goals as goal
 
 -- what is left is the last line
-pub returns-in_ok-push : goal.returns-in_ok-push
-returns-in_ok-push c = λ text cut.
-    let rest = c.args.rest.now in
-    let old = c.args.users.now.items in
+pub returns-in_ok-push-clause-lines : goal.returns-in_ok-push-clause-lines
+returns-in_ok-push-clause-lines c =
     let new = c.cut_lines.new.users.items in
     let last = c.in_ok-last.last.now in
-    let user = c.in_ok-user_of.field-0 in
-    let pushed = c.push.new.self.items in
     let told = c.in_ok-last.ensures {u = tt} in
-    let so = so_far_cut text rest last old new (so_far_of text rest old cut) told.cut in
-    let more = users_pushed new pushed user last c.in_ok-push.ensures.items c.in_ok-user_of.ensures.text in (
-      rw (← more) (the_only_lines _ _ (last_line text _ last so (search rules) told.line)),
-      named_more new pushed user c.in_ok-push.ensures.items (told.cut.named (cut.named tt)) c.in_ok-user_of.ensures.named,
-    )
+    rest_lines told.cut ∙ ap (λ l. map text_of new ++ l) (last_line last told.line (search rules))
+    ∙ sym (users_pushed new c.push.new.self.items c.in_ok-user_of.field-0 last c.in_ok-push.ensures.items c.in_ok-user_of.ensures.text)
+
+pub returns-in_ok-push-clause-named : goal.returns-in_ok-push-clause-named
+returns-in_ok-push-clause-named c = λ all.
+    named_more c.cut_lines.new.users.items c.push.new.self.items c.in_ok-user_of.field-0 c.in_ok-push.ensures.items
+    ((c.in_ok-last.ensures {u = tt}).cut.named all) c.in_ok-user_of.ensures.named
 
 -- nothing is left
-pub returns-else-not-is_empty : goal.returns-else-not-is_empty
-returns-else-not-is_empty c = λ text cut.
-    let rest = c.args.rest.now in
-    let old = c.args.users.now.items in
+pub returns-else-not-is_empty-clause-lines : goal.returns-else-not-is_empty-clause-lines
+returns-else-not-is_empty-clause-lines c =
     let new = c.cut_lines.new.users.items in
-    let last = c.in_ok-last.last.now in
-    let told = c.in_ok-last.ensures {u = tt} in
-    let so = so_far_cut text rest last old new (so_far_of text rest old cut) told.cut in
-    (the_only_lines _ _ (whole_lines text _ last so (nil_from_length last (search rules))), told.cut.named (cut.named tt))
+    rest_lines (c.in_ok-last.ensures {u = tt}).cut ∙ ap (λ l. map text_of new ++ lines_of l) (nil_from_length c.in_ok-last.last.now (search rules))
+    ∙ append-nil (map text_of new)
+
+pub returns-else-not-is_empty-clause-named : goal.returns-else-not-is_empty-clause-named
+returns-else-not-is_empty-clause-named c = (c.in_ok-last.ensures {u = tt}).cut.named

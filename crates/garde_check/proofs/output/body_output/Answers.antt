@@ -11,7 +11,7 @@ returns-in-Ok-body_of-clause-ok c =
     let told = (c.in-Ok.ensures {u = tt}).cases in
     let same : c.in-Ok.input.now ≡ c.args.bytes.items = told.0 ∙ c.as_slice.ensures.value in
     let spells = subst (λ t. Spells t (content body)) same (c.in-Ok-body_of.ensures {u = tt}).ok in
-    (subst IsUtf8 c.as_slice.ensures.value told.1, body_reported c.args.form body _ _ _ spells (search rules))
+    (subst IsUtf8 c.as_slice.ensures.value told.1, body_reported c.args.most body _ _ _ spells (search rules))
 
 pub returns-in-Err-Form-clause-err : goal.returns-in-Err-Form-clause-err
 returns-in-Err-Form-clause-err c =

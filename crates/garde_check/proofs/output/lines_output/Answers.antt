@@ -7,5 +7,5 @@ returns-clause-ok c = λ text cut.
     let output = c.in_ok-output.output in
     let told = (c.in_ok-users.ensures {u = tt}).lines text cut in (
       told.0,
-      lines_reported c.args.form c.in_ok-users.users.items text (string_bytes output.text) output.outcome told.1 told.2 c.in_ok-output.ensures,
+      lines_reported c.args.command c.args.most c.in_ok-users.users.items text (string_bytes output.text) output.outcome told.1 told.2 c.in_ok-output.ensures,
     )

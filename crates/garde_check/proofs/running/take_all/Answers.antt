@@ -1,5 +1,6 @@
 use Rattle.std.proofs.Common.{ap, take, rules}
-use Rattle.garde_check.proofs.Runs.{consumes_more, gave_all}
+use Rattle.garde_check.proofs.Runs.{gave_all}
+use Rattle.std.proofs.KnownBytes.{Consumes-trans}
 use Rattle.garde_check.proofs.running.take_all.Goals as goal
 
 pub returns-in-Ok-eq0-clause-ok : goal.returns-in-Ok-eq0-clause-ok
@@ -12,4 +13,4 @@ pub loop-bytes-preserved : goal.loop-bytes-preserved
 loop-bytes-preserved g c =
     let part = take c.in-Ok.n c.take.new.part in
     let longer = (c.in_ok-extend_from_slice-in-Ok.ensures {u = tt}).items in
-    (rw longer (consumes_more _ _ _ c.loop-bytes.bytes.items part c.loop-bytes.invariant.0 (c.in-Ok.ensures {u = tt}).bytes), search rules)
+    (rw longer (Consumes-trans _ _ _ c.loop-bytes.bytes.items part c.loop-bytes.invariant.0 (c.in-Ok.ensures {u = tt}).bytes), search rules)

@@ -1,12 +1,13 @@
-use Rattle.std.proofs.Common.{◌≡◌, ◌<◌, ◌^◌, [], ◌++◌, ap, take, length, rules, arith}
+use Rattle.std.proofs.Common.{◌≡◌, ◌<◌, ◌^◌, [], ◌++◌, ap, take, length, length-append, rules, arith}
 use Rattle.std.proofs.lemmas.List.{length-take-le}
-use Rattle.garde_check.proofs.Cuts.{cut_none, cut_longer, cut_again, size_grows, size_is_small}
-use Rattle.garde_check.proofs.Runs.{consumes_none, consumes_more, gave_all}
+use Rattle.garde_check.proofs.Cuts.{cut_none, cut_longer, cut_again}
+use Rattle.garde_check.proofs.Runs.{gave_all}
+use Rattle.std.proofs.KnownBytes.{Consumes-nil, Consumes-trans}
 use Rattle.garde_check.proofs.running.take_lines.Goals as goal
 
 pub loop-lines-init : goal.loop-lines-init
 loop-lines-init g c = (
-  ([], consumes_none _, rw (c.new-lines.ensures.users, c.new-lines.ensures.rest) (cut_none [] [])),
+  ([], Consumes-nil _, rw (c.new-lines.ensures.users, c.new-lines.ensures.rest) (cut_none [] [])),
   c.requires,
 )
 
@@ -22,13 +23,14 @@ loop-lines-smaller g c =
     let part = take c.in-Ok.n c.take.new.part in
     let old = c.loop-lines.lines in
     let new = c.add.new.self in
-    let grows = size_grows old.rest.items part new.rest.items old.users.items new.users.items (c.in_ok-add-in-Ok.ensures {u = tt}) in
+    let cut = c.in_ok-add-in-Ok.ensures {u = tt} in
     let some : length part ≡ c.in-Ok.n = length-take-le c.in-Ok.n c.take.new.part (c.in-Ok.ensures {u = tt}).bound in
+    let longer = length-append old.rest.items part in
     let few : length new.users.items < 2 ^ 64 = let is = new.users.ok.0 in let within = new.users.ok.1 in let small = new.users.small in omega arith in
     let short : length new.rest.items < 2 ^ 64 = let is = new.rest.ok.0 in let within = new.rest.ok.1 in let small = new.rest.small in omega arith in
-    let small = size_is_small new.users.items new.rest.items few short in
+    let grows = cut.grows in
     let not_none = c.in-Ok.n-test in
-    omega (arith, grows, some, small, not_none)
+    omega (arith, longer, grows, some, few, short, not_none)
 
 pub loop-lines-preserved : goal.loop-lines-preserved
 loop-lines-preserved g c =
@@ -38,4 +40,4 @@ loop-lines-preserved g c =
     let new = c.add.new.self in
     let longer = cut_longer so.0 old.rest.items part [] old.users.items so.2 in
     let cut = cut_again (so.0 ++ part) (old.rest.items ++ part) new.rest.items [] old.users.items new.users.items longer (c.in_ok-add-in-Ok.ensures {u = tt}) in
-    ((so.0 ++ part, consumes_more _ _ _ so.0 part so.1 (c.in-Ok.ensures {u = tt}).bytes, cut), search rules)
+    ((so.0 ++ part, Consumes-trans _ _ _ so.0 part so.1 (c.in-Ok.ensures {u = tt}).bytes, cut), search rules)

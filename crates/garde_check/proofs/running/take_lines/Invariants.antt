@@ -1,7 +1,6 @@
 use Rattle.std.proofs.Common.{◌≡◌, ◌-◌, ◌^◌, ℕ, List, [], false}
 use Rattle.std.specs.Io.KnownBytes.{Consumes}
-use Rattle.garde_check.specs.Users.{IsCut}
-use Rattle.garde_check.proofs.Cuts.{size_of}
+use Rattle.garde_check.specs.Users.{IsCut, size_of}
 use Rattle.garde_check.proofs.running.take_lines.Given as goal
 
 -- the reader gave a text, of which lines were cut off
@@ -11,6 +10,6 @@ invariant-loop-lines g l =
     × IsCut text [] l.lines.users.items l.lines.rest.items)
     × (g.S.Source.has_failed l.reader ≡ false)
 
--- each turn adds at least one byte to the lines or to the rest, of which there are never so many
+-- each turn adds to the lines or to the rest, of which there are never so many
 abbrev pub decreases-loop-lines : goal.decreases-loop-lines
-decreases-loop-lines g l = 2 ^ 130 - size_of l.lines.users.items l.lines.rest.items
+decreases-loop-lines g l = 2 ^ 129 - size_of l.lines.users.items l.lines.rest.items

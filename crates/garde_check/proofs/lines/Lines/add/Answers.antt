@@ -1,18 +1,7 @@
-use Rattle.std.proofs.Common.{◌≡◌, ◌+◌, ◌++◌, slice_index, subst}
-use Rattle.std.proofs.lemmas.Bool.{eqb-true}
+use Rattle.std.proofs.Common.{◌≡◌, ◌+◌, ◌++◌, subst}
 use Rattle.garde_check.specs.Users.{IsCut}
-use Rattle.garde_check.proofs.Cuts.{ends_in_feed, cut_added}
+use Rattle.garde_check.proofs.Cuts.{cut_added}
 use Rattle.garde_check.proofs.lines.Lines.add.Goals as goal
-
--- the front ends in a line feed
-pub cut_rest-requires : goal.cut_rest-requires
-cut_rest-requires c =
-    let part = c.args.part.now in
-    let feed = c.in-Some.feed in
-    let found = c.in-Some.ensures {u = tt} in
-    let is : slice_index part feed ≡ 10 = eqb-true (slice_index part feed) 10 found.1 in
-    rw (c.in_ok-extend_from_slice.ensures {u = tt}).items
-    (ends_in_feed c.args.self.now.rest.items part c.split_at.result.0.now feed found.0.high is c.split_at.ensures.front)
 
 pub returns : goal.returns
 returns c =
