@@ -3,7 +3,6 @@ pub mod User
 pub mod Users
 pub mod Body
 pub mod Request
-pub mod Wrapped
 pub mod Form
 pub mod Tasks
 pub mod Ran

@@ -6,6 +6,11 @@ use Rattle.garde_check.specs.declared.outcome.Outcome.{Outcome}
 use Rattle.garde_check.specs.declared.outcome.RunError.{RunError}
 use Rattle.garde_check.specs.declared.outcome.RunError.TheVariants.{NotUtf8, BadBody, Read, Write, Memory}
 
+-- A reader or a writer of the standard library, as contracts see it in `Plain`, and whether a call of it has failed.
+pub record Wrapped (D : Type 0) : Type 0 where
+  pub device : D
+  pub has_failed : Bool
+
 -- A reader or a writer, before a run and after it: the bytes that a reader has left, or that a writer
 -- holds, where it knows them; and whether a call of it has failed by then.
 pub record Device : Type 0 where

@@ -54,6 +54,7 @@ fn cut_lines<'t>(
 }
 
 // Cuts off all lines of what is left of a text, and appends their users.
+#[tactic(auto, using(crate::proofs::Cuts::named_more))]
 fn cut_last(alloc: Global, rest: &str, users: &mut Vec<Option<User>>) -> Result<(), AllocError>
     ensures lines { OnOk result (map text_of users.old.items ++ lines_of rest.now
         ≡ map text_of users.new.items) }

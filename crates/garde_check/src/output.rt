@@ -110,6 +110,7 @@ fn find<T: Validate>(
 }
 
 // Validates a value, and makes the output of a command, of all faults or of at most so many.
+#[tactic(auto, using(crate::proofs::FirstFaults::written))]
 fn validate<T: Validate>(
     alloc: Global,
     value: &T,

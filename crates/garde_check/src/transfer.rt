@@ -1,7 +1,7 @@
 //! Where bytes come from, and where they go.
 ghost use Rattle.std.specs.Prelude.{◌≡◌, ℕ, ◌<◌, ◌≤◌, List, Option, Bool, true, false, length, take, IfOk, OnOk, OnErr};
 ghost use Rattle.std.specs.Io.KnownBytes.{Consumes, IsAtEnd, Keeps, WriteAppends};
-ghost use Rattle.garde_check.specs.Wrapped.{Wrapped};
+ghost use Rattle.garde_check.specs.Ran.{Wrapped};
 
 use std::fmt;
 use std::io::{Read, Write};

@@ -43,6 +43,7 @@ fn with_text(
 }
 
 // The texts of an array, where there is memory for them. All of it is read where there is none.
+#[tactic(auto, using(crate::proofs::Members::text_next, crate::proofs::Members::grown))]
 fn tags_of(alloc: Global, tree: &Value) -> Option<Result<Vec<String>, AllocError>>
     ensures { Reads texts_of (texts_in (view tree.now)) result }
 {
@@ -71,6 +72,7 @@ fn with_address(
 }
 
 // The addresses of an object, where there is memory for them. All of it is read where there is none.
+#[tactic(auto, using(crate::proofs::Members::grown))]
 fn addresses_of(
     alloc: Global,
     tree: &Value,

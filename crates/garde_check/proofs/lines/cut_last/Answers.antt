@@ -2,7 +2,7 @@ use Rattle.std.proofs.Common.{rules, ◌∙◌, ap, sym, map, ◌++◌, append-n
 use Rattle.std.proofs.lemmas.List.{nil_from_length}
 use Rattle.garde_check.specs.Lines.{lines_of}
 use Rattle.garde_check.specs.Users.{text_of}
-use Rattle.garde_check.proofs.Cuts.{last_line, named_more, rest_lines, users_pushed}
+use Rattle.garde_check.proofs.Cuts.{last_line, rest_lines, users_pushed}
 use Rattle.garde_check.proofs.lines.cut_last.Goals as goal
 
 -- what is left is the last line
@@ -14,17 +14,9 @@ returns-in_ok-push-clause-lines c =
     rest_lines told.cut ∙ ap (λ l. map text_of new ++ l) (last_line last told.line (search rules))
     ∙ sym (users_pushed new c.push.new.self.items c.in_ok-user_of.field-0 last c.in_ok-push.ensures.items c.in_ok-user_of.ensures.text)
 
-pub returns-in_ok-push-clause-named : goal.returns-in_ok-push-clause-named
-returns-in_ok-push-clause-named c = λ all.
-    named_more c.cut_lines.new.users.items c.push.new.self.items c.in_ok-user_of.field-0 c.in_ok-push.ensures.items
-    ((c.in_ok-last.ensures {u = tt}).cut.named all) c.in_ok-user_of.ensures.named
-
 -- nothing is left
 pub returns-else-not-is_empty-clause-lines : goal.returns-else-not-is_empty-clause-lines
 returns-else-not-is_empty-clause-lines c =
     let new = c.cut_lines.new.users.items in
     rest_lines (c.in_ok-last.ensures {u = tt}).cut ∙ ap (λ l. map text_of new ++ lines_of l) (nil_from_length c.in_ok-last.last.now (search rules))
     ∙ append-nil (map text_of new)
-
-pub returns-else-not-is_empty-clause-named : goal.returns-else-not-is_empty-clause-named
-returns-else-not-is_empty-clause-named c = (c.in_ok-last.ensures {u = tt}).cut.named
