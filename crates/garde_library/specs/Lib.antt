@@ -1,4 +1,5 @@
 pub mod Checked
+pub mod Codes
 pub mod Faults
 pub mod Nodes
 pub mod Places

@@ -43,7 +43,7 @@ pub(crate) fn status_of(read: &Result<(), FirstReadError>) -> Status
 }
 
 /// Reads bytes by a form, and lets the value go.
-fn read<'a, F: Form<'a>, H: I18n + FormI18n>(
+pub(crate) fn read<'a, F: Form<'a>, H: I18n + FormI18n>(
     alloc: Global,
     bytes: &'a [u8],
     scratch: &'a mut Scratch,

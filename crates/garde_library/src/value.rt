@@ -41,7 +41,7 @@ fn judge<'a, B: ReadTree<'a>, H: I18n + FormI18n>(
 }
 
 // Hands over the nodes of valid bytes and their texts; or nothing, where there was no memory for them.
-fn give(
+pub(crate) fn give(
     bytes: &[u8],
     found: &Result<Nodes, AllocError>,
     nodes: &mut [Node],

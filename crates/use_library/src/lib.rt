@@ -16,7 +16,7 @@
 ghost use Rattle.std.specs.Prelude.{◌≡◌, ◌⊎◌};
 ghost use Rattle.example_order.specs.Language.{AreFaultsIn, IsCheckedIn, IsListedIn, IsOrder, IsValueOf, language_of};
 ghost use Rattle.garde_library.specs.declared.status.Status.TheVariants.{Memory, Valid};
-ghost use Rattle.use_library.specs.Codes.{IsCode};
+ghost use Rattle.garde_library.specs.Codes.{IsCode};
 
 use example_order::{
     Body, Language, check_order, faults_of_order, is_order, list_order, value_of_order,
