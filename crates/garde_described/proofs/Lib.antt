@@ -1,3 +1,4 @@
 mod Lemmas
+mod Whole
 mod Walks
 mod Ends

@@ -1,3 +1,4 @@
+pub mod Whole
 pub mod Keywords
 pub mod Faults
 pub mod Links

@@ -1,19 +1,60 @@
 //! `minimum` and the like: numbers are compared exactly.
-ghost use Rattle.std.specs.Prelude.{◌≡◌, IfOk};
+ghost use Rattle.std.specs.Prelude.{◌≡◌, IfOk, IfSome, Some};
 ghost use Rattle.std.specs.Cow.{cow_str_bytes};
 ghost use Rattle.garde.specs.Fields.{is};
 ghost use Rattle.garde.specs.Visits.{Visited};
 ghost use Rattle.garde_schema.specs.Decimals.{is_beyond};
 ghost use Rattle.garde_decimal.specs.Value.{decimal_of};
 ghost use Rattle.std.specs.Ordering.{is_gt, is_lt};
+ghost use Rattle.garde_described.specs.Whole.{IsWhole, ordered, whole};
 ghost use Rattle.garde_described.specs.Keywords.{above_found, below_found, bound_asks, least_found, most_found, not_greater, not_less, on_number};
 
+use fast_float::Numeral;
 use garde::fields::{AsksAs, Is, Rule, Rules};
 use garde::{I18n, Report, RuleError, Trail};
 use garde_i18n::{Code, Named, Value};
-use garde_schema::{Decimal, DecimalRange, Tree};
+use garde_schema::{Decimal, Tree, decimal_range};
 use std::alloc::{AllocError, Global};
 use std::borrow::CowStr;
+
+// The number that a text of digits alone writes, with no zero before others. It is read far faster
+// than a decimal.
+#[inline]
+pub(crate) fn whole(text: &str) -> Option<u64>
+    ensures { IfSome result (λ n. decimal_of text.now ≡ Some (whole n)) }
+{
+    let bytes = text.as_bytes();
+    let numeral = Numeral::scan(bytes);
+    let number = numeral.to_u64()?;
+    if numeral.whole().len() != bytes.len() || bytes[0] == b'-' {
+        return None;
+    }
+    if bytes.len() == 1 || numeral.whole()[0] != b'0' {
+        Some(number)
+    } else {
+        None
+    }
+}
+
+// The number that a value is, where such a text writes it.
+fn whole_of(tree: &Tree<'_, '_>) -> Option<u64>
+    ensures { IfSome result (λ n. IsWhole tree.now n) }
+{
+    match tree.as_number() {
+        Some(text) => whole(text),
+        None => None,
+    }
+}
+
+// Whether both are there, and the first is not above the other.
+fn ordered(least: Option<u64>, most: Option<u64>) -> bool
+    ensures { result ≡ ordered least most }
+{
+    match (least, most) {
+        (Some(least), Some(most)) => least <= most,
+        _ => false,
+    }
+}
 
 // The handler's text of a number that is not greater than a bound.
 #[tactic(auto, unfolding(crate::specs::Keywords::not_greater))]
@@ -142,11 +183,10 @@ pub(crate) fn check_least<'s, 't, 'a, H: I18n>(
 {
     match value.as_number() {
         Some(bound) => {
-            let range = DecimalRange {
-                min: Some(bound),
-                max: None,
-            };
-            check_number(range, tree, trail, report, h)
+            if ordered(whole(bound), whole_of(tree)) {
+                return Ok(());
+            }
+            check_number(decimal_range!(min = bound), tree, trail, report, h)
         }
         None => Ok(()),
     }
@@ -165,11 +205,10 @@ pub(crate) fn check_most<'s, 't, 'a, H: I18n>(
 {
     match value.as_number() {
         Some(bound) => {
-            let range = DecimalRange {
-                min: None,
-                max: Some(bound),
-            };
-            check_number(range, tree, trail, report, h)
+            if ordered(whole_of(tree), whole(bound)) {
+                return Ok(());
+            }
+            check_number(decimal_range!(max = bound), tree, trail, report, h)
         }
         None => Ok(()),
     }

@@ -5,6 +5,7 @@ ghost use Rattle.json.specs.Find.{as_number, as_str};
 ghost use Rattle.garde.specs.Visits.{Visited};
 ghost use Rattle.garde_described.specs.Keywords.{has_type, has_type_named, is_integer, listed, no_type, of, type_asks, type_of, typed, typed_among};
 
+use crate::numbers::whole;
 use crate::put::put;
 use garde::fields::{AsksAs, Is, Rules};
 use garde::{I18n, Report, Trail};
@@ -67,6 +68,9 @@ impl JsonType {
 fn is_integer(text: &str) -> bool
     ensures { result ≡ is_integer text.now }
 {
+    if let Some(_) = whole(text) {
+        return true;
+    }
     match (Decimal::read(text), Decimal::read("1")) {
         (Some(number), Some(one)) => number.is_multiple_of(&one) == Some(true),
         _ => false,
