@@ -54,8 +54,26 @@ pub enum Keyword {
 }
 
 impl Keyword {
-    // The keyword of a name.
+    // The keyword of a name. The commonest are told first, by their lengths.
     pub(crate) fn of(name: &str) -> Keyword
+        ensures { result ≡ keyword_of name.now }
+    {
+        match name.len() {
+            4 if name == "type" => Keyword::OfType,
+            4 if name == "$ref" => Keyword::Ref,
+            7 if name == "minimum" => Keyword::Minimum,
+            7 if name == "maximum" => Keyword::Maximum,
+            8 if name == "required" => Keyword::Required,
+            9 if name == "minLength" => Keyword::MinLength,
+            9 if name == "maxLength" => Keyword::MaxLength,
+            10 if name == "properties" => Keyword::Properties,
+            20 if name == "additionalProperties" => Keyword::AdditionalProperties,
+            _ => Keyword::of_any(name),
+        }
+    }
+
+    // The same of any name.
+    fn of_any(name: &str) -> Keyword
         ensures { result ≡ keyword_of name.now }
     {
         match name {
