@@ -1,5 +1,6 @@
 //! `minimum` and the like: numbers are compared exactly.
-ghost use Rattle.std.specs.Prelude.{◌≡◌, IfOk, IfSome, Some};
+ghost use Rattle.std.specs.Prelude.{◌≡◌, ◌++◌, codes, IfOk, IfSome, Some};
+ghost use Rattle.garde_i18n.specs.Datum.{named, with_param};
 ghost use Rattle.std.specs.Cow.{cow_str_bytes};
 ghost use Rattle.garde.specs.Fields.{is};
 ghost use Rattle.garde.specs.Visits.{Visited};
@@ -7,7 +8,7 @@ ghost use Rattle.garde_schema.specs.Decimals.{is_beyond};
 ghost use Rattle.garde_decimal.specs.Value.{decimal_of};
 ghost use Rattle.std.specs.Ordering.{is_gt, is_lt};
 ghost use Rattle.garde_described.specs.Whole.{IsWhole, ordered, whole};
-ghost use Rattle.garde_described.specs.Keywords.{above_found, below_found, bound_asks, least_found, most_found, not_greater, not_less, on_number};
+ghost use Rattle.garde_described.specs.Keywords.{above_found, below_found, bound_asks, least_found, most_found, on_number};
 
 use fast_float::Numeral;
 use garde::fields::{AsksAs, Is, Rule, Rules};
@@ -40,10 +41,7 @@ pub(crate) fn whole(text: &str) -> Option<u64>
 fn whole_of(tree: &Tree<'_, '_>) -> Option<u64>
     ensures { IfSome result (λ n. IsWhole tree.now n) }
 {
-    match tree.as_number() {
-        Some(text) => whole(text),
-        None => None,
-    }
+    whole(tree.as_number()?)
 }
 
 // Whether both are there, and the first is not above the other.
@@ -56,39 +54,20 @@ fn ordered(least: Option<u64>, most: Option<u64>) -> bool
     }
 }
 
-// The handler's text of a number that is not greater than a bound.
-#[tactic(auto, unfolding(crate::specs::Keywords::not_greater))]
-fn text_of_not_greater<H: I18n>(
+// The handler's text of a number that is not on the side of a bound that these words name.
+fn text_of<H: I18n>(
     alloc: Global,
+    name: &'static str,
+    words: &str,
     bound: &str,
     h: &H,
 ) -> Result<CowStr<'static>, AllocError>
-    ensures { IfOk result (λ s. cow_str_bytes s ≡ H.text h.now (not_greater bound.now)) }
+    ensures { IfOk result (λ s. cow_str_bytes s
+        ≡ H.text h.now (named (with_param name.now (codes "bound") bound.now) (words.now ++ bound.now))) }
 {
-    let english = format!(in alloc; "not greater than {bound}")?;
+    let english = format!(in alloc; "{words}{bound}")?;
     let code = Code {
-        name: "range_not_greater",
-        param: Some(("bound", Value::Text(bound))),
-    };
-    let fault = Named {
-        code,
-        english: english.as_str(),
-    };
-    h.named(alloc, fault)
-}
-
-// The handler's text of a number that is not less than a bound.
-#[tactic(auto, unfolding(crate::specs::Keywords::not_less))]
-fn text_of_not_less<H: I18n>(
-    alloc: Global,
-    bound: &str,
-    h: &H,
-) -> Result<CowStr<'static>, AllocError>
-    ensures { IfOk result (λ s. cow_str_bytes s ≡ H.text h.now (not_less bound.now)) }
-{
-    let english = format!(in alloc; "not less than {bound}")?;
-    let code = Code {
-        name: "range_not_less",
+        name,
         param: Some(("bound", Value::Text(bound))),
     };
     let fault = Named {
@@ -125,11 +104,13 @@ struct Above<'b>(&'b str);
 impl<'a> Rule<Decimal<'a>> for Above<'_> {
     ghost finds = { λ rule v. above_found rule.0.now v };
 
+    #[tactic(auto, unfolding(crate::specs::Keywords::not_greater))]
     fn find<H: I18n>(&self, alloc: Global, value: &Decimal<'a>, h: &H) -> Result<(), RuleError> {
         if is_above(self.0, value) {
             Ok(())
         } else {
-            Err(RuleError::of(alloc, text_of_not_greater(alloc, self.0, h)))
+            let (name, words) = ("range_not_greater", "not greater than ");
+            Err(RuleError::of(alloc, text_of(alloc, name, words, self.0, h)))
         }
     }
 }
@@ -141,11 +122,13 @@ struct Below<'b>(&'b str);
 impl<'a> Rule<Decimal<'a>> for Below<'_> {
     ghost finds = { λ rule v. below_found rule.0.now v };
 
+    #[tactic(auto, unfolding(crate::specs::Keywords::not_less))]
     fn find<H: I18n>(&self, alloc: Global, value: &Decimal<'a>, h: &H) -> Result<(), RuleError> {
         if is_below(self.0, value) {
             Ok(())
         } else {
-            Err(RuleError::of(alloc, text_of_not_less(alloc, self.0, h)))
+            let (name, words) = ("range_not_less", "not less than ");
+            Err(RuleError::of(alloc, text_of(alloc, name, words, self.0, h)))
         }
     }
 }
