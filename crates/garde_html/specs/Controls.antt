@@ -3,7 +3,7 @@ use Rattle.std.specs.Prelude.{ℕ, Bool, true, false, List, [], ◌∷◌, ◌++
 use Rattle.garde_report.specs.Report.{Entry, messages_under}
 use Rattle.garde_html.specs.declared.form.Field.{Field}
 use Rattle.garde_html.specs.declared.form.Control.{Control}
-use Rattle.garde_html.specs.declared.form.Control.TheVariants.{Line, Password, Boxes}
+use Rattle.garde_html.specs.declared.form.Control.TheVariants.{Line, Area, Password, Boxes, Radios, Select}
 use Rattle.garde_html.specs.declared.controls.TheConstants as plain
 use Rattle.garde_html.specs.declared.marks.TheConstants as marks
 use Rattle.garde_html.specs.Form.{Typed, is_checked, typed_text}
@@ -23,25 +23,69 @@ abbrev pub label_pieces : Field → List Written
 label_pieces field =
     markup plain.LABEL.now ∷ text field.name.now ∷ markup plain.LABEL_TEXT.now ∷ text field.label.now ∷ markup plain.LABEL_END.now ∷ []
 
--- its name on the page and in what is sent
-abbrev pub names_pieces : List ℕ → List Written
-names_pieces name = markup plain.INPUT.now ∷ text name ∷ markup plain.NAME.now ∷ text name ∷ []
+-- the name of a control with this tag, on the page and in what is sent
+abbrev pub names_pieces : List ℕ → List ℕ → List Written
+names_pieces tag name = markup tag ∷ text name ∷ markup plain.NAME.now ∷ text name ∷ []
 
--- what stands before its type
-abbrev pub begin_pieces : Field → List Written
-begin_pieces field = label_pieces field ++ (hint_pieces field.name.now field.hint ++ names_pieces field.name.now)
+-- the beginning of a control with this tag, up to its names
+abbrev pub begin_pieces : List ℕ → Field → List Written
+begin_pieces tag field = label_pieces field ++ (hint_pieces field.name.now field.hint ++ names_pieces tag field.name.now)
 
--- its type and its text
+-- the type of a line and its text
 abbrev pub value_pieces : List ℕ → List ℕ → List Written
 value_pieces kind typed = markup plain.TYPE.now ∷ text kind ∷ markup plain.VALUE.now ∷ text typed ∷ []
 
--- what stands behind its text
+-- what a control says behind its names and its text
 abbrev pub rest_pieces : Field → Bool → List Written
 rest_pieces field faulty = marks_pieces field ++ control_end field faulty
 
 -- a line with its label
 abbrev pub line_pieces : Field → List ℕ → List ℕ → Bool → List Written
-line_pieces field kind typed faulty = begin_pieces field ++ (value_pieces kind typed ++ rest_pieces field faulty)
+line_pieces field kind typed faulty = begin_pieces plain.INPUT.now field ++ (value_pieces kind typed ++ rest_pieces field faulty)
+
+-- a text of several lines
+abbrev pub area_pieces : Field → List ℕ → Bool → List Written
+area_pieces field typed faulty =
+    begin_pieces plain.AREA.now field
+    ++ (markup plain.AREA_TYPE.now ∷ (rest_pieces field faulty ++ markup plain.AREA_TEXT.now ∷ text typed ∷ markup plain.AREA_END.now ∷ []))
+
+-- a line of a list
+abbrev pub option_pieces : Typed → Bool → List Written
+option_pieces one selected =
+    markup plain.OPTION.now ∷ text one.0.now ∷ markup (mark plain.SELECTED.now selected) ∷ markup plain.OPTION_TEXT.now
+    ∷ text one.1.now ∷ markup plain.OPTION_END.now ∷ []
+
+-- lines of a list, each of which is selected if its text was sent
+abbrev pub options_pieces : Field → List Typed → List Typed → List Written
+options_pieces field typed [] = []
+options_pieces field typed (one ∷ options) =
+    option_pieces one (is_checked field.name.now one.0.now typed) ++ options_pieces field typed options
+
+-- a list with its label
+abbrev pub select_pieces : Field → List Typed → Bool → List Typed → List Written
+select_pieces field typed faulty options =
+    begin_pieces plain.SELECT.now field
+    ++ (rest_pieces field faulty ++ (options_pieces field typed options ++ markup plain.SELECT_END.now ∷ []))
+
+-- a button with its label
+abbrev pub radio_pieces : Field → Typed → Bool → List Written
+radio_pieces field one pressed =
+    markup plain.RADIO.now ∷ text field.name.now ∷ markup plain.VALUE.now ∷ text one.0.now
+    ∷ markup (mark plain.CHECKED.now pressed) ∷ markup plain.RADIO_TEXT.now ∷ text one.1.now ∷ markup plain.BOX_END.now ∷ []
+
+-- buttons, each of which is pressed if its text was sent
+abbrev pub radios_pieces : Field → List Typed → List Typed → List Written
+radios_pieces field typed [] = []
+radios_pieces field typed (one ∷ buttons) =
+    radio_pieces field one (is_checked field.name.now one.0.now typed) ++ radios_pieces field typed buttons
+
+-- buttons under the label of their field, which says what there is to say of them all
+abbrev pub radio_group_pieces : Field → List Typed → Bool → List Typed → List Written
+radio_group_pieces field typed faulty buttons =
+    markup plain.GROUP.now ∷ text field.name.now ∷ markup plain.RADIO_GROUP.now ∷ markup (mark marks.REQUIRED.now field.required)
+    ∷ (control_end field faulty
+    ++ (markup plain.RADIO_LEGEND.now ∷ text field.label.now ∷ markup plain.LEGEND_END.now
+    ∷ (hint_pieces field.name.now field.hint ++ (radios_pieces field typed buttons ++ markup plain.GROUP_END.now ∷ []))))
 
 -- a box with its label
 abbrev pub box_pieces : Field → Typed → Bool → Bool → List Written
@@ -69,8 +113,11 @@ group_pieces field typed faulty boxes = under_legend field (boxes_pieces field t
 -- what a visitor fills in, as it was filled in; of a password nothing that was typed
 abbrev pub filled_pieces : Control → Field → List Typed → Bool → List Written
 filled_pieces (Line kind) field typed faulty = line_pieces field kind.now (typed_text field.name.now typed) faulty
+filled_pieces Area field typed faulty = area_pieces field (typed_text field.name.now typed) faulty
 filled_pieces Password field typed faulty = line_pieces field (codes "password") [] faulty
 filled_pieces (Boxes boxes) field typed faulty = group_pieces field typed faulty boxes.now
+filled_pieces (Radios buttons) field typed faulty = radio_group_pieces field typed faulty buttons.now
+filled_pieces (Select options) field typed faulty = select_pieces field typed faulty options.now
 
 abbrev pub control_pieces : Field → List Typed → Bool → List Written
 control_pieces field typed faulty = filled_pieces field.control field typed faulty

@@ -4,7 +4,7 @@ use Rattle.std.specs.List.{Contains, slice_split}
 use Rattle.garde_report.specs.Part.{Part}
 use Rattle.garde_report.specs.Report.{Entry, begins_with}
 use Rattle.garde_html.specs.declared.form.Control.{Control}
-use Rattle.garde_html.specs.declared.form.Control.TheVariants.{Line, Password, Boxes}
+use Rattle.garde_html.specs.declared.form.Control.TheVariants.{Line, Area, Password, Boxes, Radios, Select}
 use Rattle.garde_html.specs.declared.form.Field.{Field}
 use Rattle.garde_html.specs.declared.form.Form.{Form}
 use Rattle.garde_html.specs.Controls.{field_pieces}
@@ -49,11 +49,18 @@ FaultsStandBesideTheirFields = (field : Field) (typed : List Typed) (entries : L
 abbrev pub TextsAddNoMarkup : Type 0
 TextsAddNoMarkup = (pieces : List Written) → filter is_ending (rendered pieces) ≡ filter is_ending (rendered (markup_of pieces))
 
--- the same boxes of a field are checked; of a text and of a password nothing is asked
+-- the same texts were sent for a name
+abbrev pub AreSentAlike : List ℕ → List Typed → List Typed → Type 0
+AreSentAlike name typed other = (value : List ℕ) → is_checked name value typed ≡ is_checked name value other
+
+-- the same boxes, buttons or lines of a list are checked; of a text and of a password nothing is asked
 abbrev pub IsCheckedAlike : Control → List ℕ → List Typed → List Typed → Type 0
 IsCheckedAlike (Line kind) name typed other = Unit {0}
+IsCheckedAlike Area name typed other = Unit {0}
 IsCheckedAlike Password name typed other = Unit {0}
-IsCheckedAlike (Boxes boxes) name typed other = (value : List ℕ) → is_checked name value typed ≡ is_checked name value other
+IsCheckedAlike (Boxes boxes) name typed other = AreSentAlike name typed other
+IsCheckedAlike (Radios buttons) name typed other = AreSentAlike name typed other
+IsCheckedAlike (Select options) name typed other = AreSentAlike name typed other
 
 -- where the same boxes are checked, what was typed changes nothing of a page but its texts
 abbrev pub TypedIsText : Type 0
@@ -64,8 +71,11 @@ TypedIsText = (form : Form) (typed other : List Typed) (entries : List Entry)
 -- the same is shown of what was typed into a field; of a password nothing is shown
 abbrev pub IsShownAlike : Control → List ℕ → List Typed → List Typed → Type 0
 IsShownAlike (Line kind) name typed other = typed_text name typed ≡ typed_text name other
+IsShownAlike Area name typed other = typed_text name typed ≡ typed_text name other
 IsShownAlike Password name typed other = Unit {0}
-IsShownAlike (Boxes boxes) name typed other = (value : List ℕ) → is_checked name value typed ≡ is_checked name value other
+IsShownAlike (Boxes boxes) name typed other = AreSentAlike name typed other
+IsShownAlike (Radios buttons) name typed other = AreSentAlike name typed other
+IsShownAlike (Select options) name typed other = AreSentAlike name typed other
 
 -- what was typed into passwords changes nothing of a page
 abbrev pub PasswordsAreKeptOff : Type 0

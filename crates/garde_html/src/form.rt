@@ -8,10 +8,18 @@ ghost use Rattle.garde_html.specs.Form.{field_at, is_checked, typed_text};
 pub enum Control<'a> {
     /// A line of text, with the type of its `input`, as `text` or `email`. What was typed is shown again.
     Line(&'a str),
+    /// A text of several lines. What was typed is shown again.
+    Area,
     /// A password. What was typed is never shown again.
     Password,
     /// Boxes to check, each with the text that is sent and its label. What was checked is checked again.
     Boxes(&'a [(&'a str, &'a str)]),
+    /// Buttons, one of which is pressed, each with the text that is sent and its label. What was pressed is
+    /// pressed again.
+    Radios(&'a [(&'a str, &'a str)]),
+    /// A list, of which one is selected, each with the text that is sent and its label. What was selected is
+    /// selected again.
+    Select(&'a [(&'a str, &'a str)]),
 }
 
 /// A field of a form.
@@ -23,7 +31,8 @@ pub struct Field<'a> {
     pub label: &'a str,
     /// What a visitor should know beforehand, as which texts are taken.
     pub hint: Option<&'a str>,
-    /// What a browser may fill in, by a name of HTML, as `email` or `new-password`. Boxes do not say it.
+    /// What a browser may fill in, by a name of HTML, as `email` or `new-password`. Boxes and buttons do
+    /// not say it.
     pub autocomplete: Option<&'a str>,
     /// Which keys a screen shows, as `numeric`, where the type of the line does not say it.
     pub inputmode: Option<&'a str>,

@@ -42,24 +42,28 @@ ul { margin: 0; padding: 0; list-style: none }
 .field > label, legend { display: block; margin: 0 0 .25rem; padding: 0; font-weight: 600 }
 .hint { margin: 0 0 .375rem; color: var(--soft) }
 .faults { margin: .375rem 0 0; color: var(--fault); font-weight: 600 }
-.field > input {
+.field > input, .field > textarea, .field > select {
     border: .0625rem solid var(--line); border-radius: .375rem; padding: .5rem .75rem;
     width: 100%; min-height: 2.75rem; background: none; color: inherit; font: inherit;
 }
 .field > [aria-invalid] { border: .125rem solid var(--fault) }
 fieldset { margin: 0; border: 0; padding: 0; min-width: 0 }
 fieldset label { display: flex; gap: .75rem; align-items: center; min-height: 2.5rem }
-[type=checkbox] {
+[type=checkbox], [type=radio] {
     display: grid; flex: none; place-content: center; margin: 0; appearance: none;
     border: .125rem solid var(--line); border-radius: .25rem; width: 1.5rem; height: 1.5rem;
 }
-[type=checkbox]:checked { border-color: var(--main) }
+[type=radio] { border-radius: 50% }
+:checked { border-color: var(--main) }
 [type=checkbox]:checked::before {
     transform: translateY(-.09375rem) rotate(45deg);
     border: solid var(--main); border-width: 0 .1875rem .1875rem 0;
     width: .4375rem; height: .8125rem; content: '';
 }
-[type=checkbox][aria-invalid] { border-color: var(--fault) }
+[type=radio]:checked::before {
+    border-radius: 50%; width: .75rem; height: .75rem; background: var(--main); content: '';
+}
+[type=checkbox][aria-invalid], [aria-invalid] [type=radio] { border-color: var(--fault) }
 button {
     border: .125rem solid transparent; border-radius: .375rem; padding: .5rem 1.5rem;
     min-height: 2.75rem; background: var(--main); color: var(--on-main);
@@ -86,4 +90,4 @@ pub const STYLE: &str = with_style!(alone);
 /// The field `Content-Security-Policy` of a page with this stylesheet: it loads nothing and has no script,
 /// its form is sent to where it came from, and no page frames it. It names the stylesheet by its SHA-256.
 pub const POLICY: &str =
-    "default-src 'none'; style-src 'sha256-TA2WVrGtC9fKXKlWBpudfFxalxuglKGzDGXs/kblpuM='; form-action 'self'; frame-ancestors 'none'; base-uri 'none'";
+    "default-src 'none'; style-src 'sha256-S6DLtyZYt6f8GEJmrKVCq9pgo7uWvklefsoQXalS+lQ='; form-action 'self'; frame-ancestors 'none'; base-uri 'none'";

@@ -50,16 +50,18 @@ const FAULTS: &[(&str, &str)] = &[
     ("nam>", "unknown"),
     ("name>", "not ASCII"),
     ("x>name>", "deep"),
+    ("plan>", "not sold"),
 ];
 
 /// The fields of a page.
-static FIELDS: [&str; 3] = ["age", "name", "topics"];
+static FIELDS: [&str; 4] = ["age", "name", "topics", "plan"];
 
 /// A field, and the messages beside it.
-static BESIDE: [(&str, &[&str]); 4] = [
+static BESIDE: [(&str, &[&str]); 5] = [
     ("age", &[]),
     ("name", &["short", "not ASCII"]),
     ("topics", &["not known"]),
+    ("plan", &["not sold"]),
     ("x", &["deep"]),
 ];
 
@@ -148,11 +150,41 @@ static FORM: Form<'static> = Form {
             required: true,
             control: Control::Boxes(&[("news", "News"), ("<", "Less")]),
         },
+        Field {
+            name: "note",
+            label: "Note",
+            hint: None,
+            autocomplete: None,
+            inputmode: None,
+            required: false,
+            control: Control::Area,
+        },
+        Field {
+            name: "plan",
+            label: "Plan",
+            hint: Some("One of both"),
+            autocomplete: None,
+            inputmode: None,
+            required: true,
+            control: Control::Radios(&[("free", "Free"), (">", "More")]),
+        },
+        Field {
+            name: "land",
+            label: "Country",
+            hint: None,
+            autocomplete: Some("country"),
+            inputmode: None,
+            required: true,
+            control: Control::Select(&[("", "-"), ("cz", "Czechia & more")]),
+        },
     ],
 };
 
 /// What a visitor sent.
-static TYPED: [(&str, &str); 5] = [
+static TYPED: [(&str, &str); 8] = [
+    ("note", "\n</textarea>\n"),
+    ("plan", ">"),
+    ("land", "cz"),
     ("topics", "<"),
     ("name", "\"><img src=x>"),
     ("key", "a secret"),
@@ -179,6 +211,26 @@ const PLAIN: &str = "<h1>Sign &amp; up</h1>
 <label><input type=\"checkbox\" name=\"topics\" value=\"&lt;\" checked=\"\" aria-required=\"true\" aria-describedby=\"hint-topics\"> Less</label>
 </fieldset>
 </div>
+<div class=\"field\">
+<label for=\"field-note\">Note</label>
+<textarea id=\"field-note\" name=\"note\" dir=\"auto\" rows=\"5\">
+
+&lt;/textarea&gt;
+</textarea>
+</div>
+<div class=\"field\">
+<fieldset id=\"field-plan\" tabindex=\"-1\" role=\"radiogroup\" aria-required=\"true\" aria-describedby=\"hint-plan\"><legend>Plan</legend>
+<p class=\"hint\" id=\"hint-plan\">One of both</p>
+<label><input type=\"radio\" name=\"plan\" value=\"free\"> Free</label>
+<label><input type=\"radio\" name=\"plan\" value=\"&gt;\" checked=\"\"> More</label>
+</fieldset>
+</div>
+<div class=\"field\">
+<label for=\"field-land\">Country</label>
+<select id=\"field-land\" name=\"land\" autocomplete=\"country\" aria-required=\"true\"><option value=\"\">-</option>
+<option value=\"cz\" selected=\"\">Czechia &amp; more</option>
+</select>
+</div>
 <button>Send</button>
 </form>
 </main>
@@ -197,6 +249,7 @@ const FAULTY: &str = "<h1>Sign &amp; up</h1>
 <li><bdi>nam</bdi>: unknown</li>
 <li><a href=\"#field-name\">Name: not ASCII</a></li>
 <li><bdi>x</bdi>: deep</li>
+<li><a href=\"#field-plan\">Plan: not sold</a></li>
 </ul>
 </div>
 <form method=\"post\" action=\"/sign?up\" novalidate>
@@ -222,6 +275,29 @@ const FAULTY: &str = "<h1>Sign &amp; up</h1>
 <ul class=\"faults\" id=\"faults-topics\">
 <li>not known</li>
 </ul>
+</div>
+<div class=\"field\">
+<label for=\"field-note\">Note</label>
+<textarea id=\"field-note\" name=\"note\" dir=\"auto\" rows=\"5\">
+
+&lt;/textarea&gt;
+</textarea>
+</div>
+<div class=\"field\">
+<fieldset id=\"field-plan\" tabindex=\"-1\" role=\"radiogroup\" aria-required=\"true\" aria-invalid=\"true\" aria-describedby=\"hint-plan faults-plan\"><legend>Plan</legend>
+<p class=\"hint\" id=\"hint-plan\">One of both</p>
+<label><input type=\"radio\" name=\"plan\" value=\"free\"> Free</label>
+<label><input type=\"radio\" name=\"plan\" value=\"&gt;\" checked=\"\"> More</label>
+</fieldset>
+<ul class=\"faults\" id=\"faults-plan\">
+<li>not sold</li>
+</ul>
+</div>
+<div class=\"field\">
+<label for=\"field-land\">Country</label>
+<select id=\"field-land\" name=\"land\" autocomplete=\"country\" aria-required=\"true\"><option value=\"\">-</option>
+<option value=\"cz\" selected=\"\">Czechia &amp; more</option>
+</select>
 </div>
 <button>Send</button>
 </form>
