@@ -1,7 +1,10 @@
 -- What texts write.
 use Rattle.std.specs.Prelude.{ℕ, ℤ, pos, negsuc, ◌-◌, ◌^◌, ◌==◌, ◌&&◌, Bool, true, false, List, [], ◌∷◌, length, nat_lt, Option, Some, None, if◌then◌else◌, chars, bytes_eq}
+use Rattle.std.specs.Str.{trim}
 use Rattle.std.specs.Char.{digit_value}
 use Rattle.std.specs.Str.Parse.{true_text, false_text, digits_value, signed_digits_value, without_leading_plus, without_leading_sign}
+use Rattle.json.specs.Json.{Json, string}
+use Rattle.json.specs.Find.{as_str}
 use Rattle.garde.specs.Fields.{Fault}
 use Rattle.garde.specs.Visits.{Visits, found}
 use Rattle.garde_tape.specs.Number.{has_minus}
@@ -18,6 +21,15 @@ use Rattle.garde_form.specs.declared.text_type.TextKind.TheVariants.{Quoted, Bar
 abbrev pub is_empty : Option (List ℕ) → Bool
 is_empty (Some text) = length text == 0
 is_empty None = false
+
+-- this text without the white space at its ends, or else the value as it is
+abbrev pub trimmed_text : Option (List ℕ) → Json → Json
+trimmed_text (Some text) j = string (trim text)
+trimmed_text None j = j
+
+-- a text without the white space at its ends, and any other value as it is
+abbrev pub trimmed : Json → Json
+trimmed j = trimmed_text (as_str j) j
 
 -- whether each byte is a decimal digit
 unfoldable pub all_digits : List ℕ → Bool

@@ -14,6 +14,7 @@ mod parsed;
 mod put;
 mod reading;
 mod text_type;
+mod trimmed;
 mod web_form;
 mod whole_key;
 
@@ -24,5 +25,6 @@ pub use parse::Parse;
 pub use parsed::Parsed;
 pub use reading::read_form;
 pub use text_type::{TextKind, TextType};
+pub use trimmed::Trimmed;
 pub use web_form::{FormField, form_fields};
 pub use whole_key::WholeKey;
