@@ -17,6 +17,12 @@ def messages():
     return {code: set(filter(None, names)) for code, *names in MESSAGE.findall(repository.text_of(f"{SOURCES}/messages.rt"))}
 
 
+def needed():
+    """The codes of the messages that each table has to have: `MESSAGES`, without those of schemas behind it."""
+    source = repository.text_of(f"{SOURCES}/messages.rt")
+    return {code for code, *_ in MESSAGE.findall(source[:source.index("SCHEMA_MESSAGES")])}
+
+
 def offered():
     """The tables that are offered in their order, each with its first tag."""
     source, tables = repository.text_of(f"{SOURCES}/language.rt"), {}

@@ -45,7 +45,8 @@ def language(said, english):
 
 
 # The texts: by their tag, and then by their code.
-TEXTS = {tag: dict(catalog.tables()[table]) for table, tag in catalog.offered().items()}
+# Of each language what a file of texts may have.
+TEXTS = {tag: {code: text for code, text in catalog.tables()[table] if code in catalog.needed()} for table, tag in catalog.offered().items()}
 LANGUAGES = {tag: language(said, TEXTS["en"]) for tag, said in TEXTS.items()}
 
 

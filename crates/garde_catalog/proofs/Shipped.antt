@@ -1,9 +1,9 @@
 -- That the tables which are shipped are good: each has the messages in their order, and each text is a template.
-use Rattle.std.proofs.Common.{◌≡◌, ◌∷◌, ◌∙◌, ◌<◌, ℕ, zero, suc, List, [], All, Bool, true, false, ◌&&◌, Option, Some, None, bytes_eq, cond, length, get_or, map, refl, sym, ap, subst, is_none, arith}
+use Rattle.std.proofs.Common.{◌≡◌, ◌∷◌, ◌++◌, length-append, ◌∙◌, ◌<◌, ℕ, zero, suc, List, [], All, Bool, true, false, ◌&&◌, Option, Some, None, bytes_eq, cond, length, get_or, map, refl, sym, ap, subst, is_none, arith}
 use Rattle.std.specs.Borrow.{Bor}
 use Rattle.std.specs.List.{list_all}
 use Rattle.std.proofs.lemmas.Bool.{false≢true}
-use Rattle.std.proofs.lemmas.List.{get_or-map, length-map}
+use Rattle.std.proofs.lemmas.List.{get_or-map, get_or_append_left, length-map}
 use Rattle.std.proofs.lemmas.List.Elements.{All-get_or}
 use Rattle.std.proofs.lemmas.Option.{get_or_from_slice_get, none-some, slice_get_within}
 use Rattle.std.proofs.lemmas.Slice.Eq.{bytes_eq-Decides}
@@ -11,12 +11,12 @@ use Rattle.garde_catalog.specs.Catalog.{AreGood, Entry, texts_under}
 use Rattle.garde_catalog.specs.Lines.{AreGoodLines, Line, is_name, line_of}
 use Rattle.garde_catalog.specs.Lookup.{IsFound, IsThere}
 use Rattle.garde_catalog.specs.Messages.{LIBRARY, Message}
-use Rattle.garde_catalog.specs.Shipped.{AreGoodTables, SHIPPED, tagged}
+use Rattle.garde_catalog.specs.Shipped.{AreGoodTables, SCHEMA, SHIPPED, tagged}
 use Rattle.garde_catalog.specs.Spoken.{AreOf}
 use Rattle.garde_catalog.specs.Template.{IsTemplate, pieces_of, template_fault}
 use Rattle.garde_catalog.specs.declared.template.TemplateFault.{TemplateFault}
 use Rattle.garde_catalog.specs.declared.language.Language.{Language}
-use Rattle.garde_catalog.proofs.GoodLines.{are_distinct, distinct, line_texts, not_so, or_left, or_right, turned, under_lines, unlike}
+use Rattle.garde_catalog.proofs.GoodLines.{are_distinct, line_texts, not_so, or_left, or_right, turned, under_lines, unlike}
 use Rattle.garde_catalog.proofs.Judged.{and_left, and_right, good, held}
 use Rattle.garde_catalog.proofs.Made.{one_text}
 
@@ -79,21 +79,29 @@ its_text (line ∷ lines) (message ∷ messages) (suc i) d are once low =
     let its = its_text lines messages i d (others line lines message messages are) (and_right _ _ once) within in
     (its.0, passed code line lines (ap (λ c. bytes_eq c code) (first_code line lines message messages are) ∙ other) ∙ its.1, its.2)
 
+-- the messages of the tables that are shipped: those of the library, and behind them those of schemas
+abbrev every : List Message
+every = LIBRARY ++ SCHEMA
+
+every_distinct : are_distinct every ≡ true
+every_distinct = refl
+
 -- lines in order make a good table
-good_lines : (lines : List Line) → are_lines lines LIBRARY ≡ true → AreGoodLines false lines
+good_lines : (lines : List Line) → are_lines lines every ≡ true → AreGoodLines false lines
 good_lines lines are entries others same lacks = λ i d low.
     let message = get_or LIBRARY i d in
-    let its = its_text lines LIBRARY i d are distinct low in
+    let within : i < length every = omega (arith, low, length-append LIBRARY SCHEMA) in
+    let its = subst (λ m. HasText lines m) (get_or_append_left LIBRARY SCHEMA d i low) (its_text lines every i d are every_distinct within) in
     let texts = under_lines message.0 entries ∙ ap (line_texts message.0) same ∙ its.1 in
     (its.0, one_text (texts_under message.0 entries) (texts_under message.0 others) its.0 texts, (pieces_of its.0, its.2))
 
 -- each table that is shipped is in order
-in_order : list_all (λ it. are_lines it.1 LIBRARY) SHIPPED ≡ true
+in_order : list_all (λ it. are_lines it.1 every) SHIPPED ≡ true
 unfolding pieces_of
 in_order = refl
 
 pub shipped : All (λ it. AreGoodLines false it.1) SHIPPED
-shipped = held (λ it. AreGoodLines false it.1) (λ it. are_lines it.1 LIBRARY) (λ it are. good_lines it.1 are) SHIPPED in_order
+shipped = held (λ it. AreGoodLines false it.1) (λ it. are_lines it.1 every) (λ it are. good_lines it.1 are) SHIPPED in_order
 
 -- languages with these tables have good ones
 pub good_languages : (languages : List Language) → map tagged languages ≡ SHIPPED → AreGoodTables languages

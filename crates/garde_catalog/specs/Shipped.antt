@@ -2,7 +2,9 @@
 use Rattle.std.specs.Prelude.{ℕ, List, [], ◌∷◌, All, codes, map}
 use Rattle.garde_catalog.specs.Catalog.{AreGood}
 use Rattle.garde_catalog.specs.Lines.{Line, line_of}
+use Rattle.garde_catalog.specs.Messages.{Message}
 use Rattle.garde_catalog.specs.declared.language.Language.{Language}
+use Rattle.garde_catalog.specs.declared.messages.TheConstants.{SCHEMA_MESSAGES}
 use Rattle.garde_catalog.specs.declared.tables.english.TheConstants.{ENGLISH}
 use Rattle.garde_catalog.specs.declared.tables.german.TheConstants.{GERMAN}
 use Rattle.garde_catalog.specs.declared.tables.french.TheConstants.{FRENCH}
@@ -21,6 +23,10 @@ use Rattle.garde_catalog.specs.declared.tables.chinese.TheConstants.{CHINESE}
 use Rattle.garde_catalog.specs.declared.tables.korean.TheConstants.{KOREAN}
 use Rattle.garde_catalog.specs.declared.tables.arabic.TheConstants.{ARABIC}
 use Rattle.garde_catalog.specs.declared.tables.hindi.TheConstants.{HINDI}
+
+-- the messages of schemas, of which each table that is shipped has a text too
+abbrev pub SCHEMA : List Message
+SCHEMA = map (λ (message : record { now : List ℕ } × record { now : List ℕ } × record { now : List ℕ }). (message.0.now, message.1.now, message.2.now)) SCHEMA_MESSAGES
 
 -- the lines of a table that is shipped
 abbrev pub shipped_lines : List (record { now : List ℕ } × record { now : List ℕ }) → List Line

@@ -109,6 +109,19 @@ pub static MESSAGES: [Message; 69] = [
     ("multiple_of_mismatch", "divisor", ""),
 ];
 
+/// The messages of `garde_described`, about JSON Schemas and what they ask. The shipped tables have their
+/// texts, and a table of yours may: `TableTexts::with(&SCHEMA_MESSAGES)` reads them.
+pub static SCHEMA_MESSAGES: [Message; 8] = [
+    ("not_a_number", "", ""),
+    ("type_mismatch", "", ""),
+    ("range_not_greater", "bound", ""),
+    ("range_not_less", "bound", ""),
+    ("bounds_crossed", "", ""),
+    ("reference_unknown", "", ""),
+    ("reference_endless", "", ""),
+    ("schema_too_deep", "", ""),
+];
+
 // The messages of the library. A proof looks at all of a table where it is named, so it is named once.
 pub(crate) fn messages() -> &'static [Message]
     ensures { map message_of result.now ≡ LIBRARY }

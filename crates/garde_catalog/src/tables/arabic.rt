@@ -3,7 +3,7 @@
 use crate::lines::Entry;
 
 /// The texts in Arabic, `ar`.
-pub static ARABIC: [Entry<'static>; 69] = [
+pub static ARABIC: [Entry<'static>; 77] = [
     ("length_lower_than", "الطول أقل من {min}"),
     ("length_greater_than", "الطول أكبر من {max}"),
     ("range_lower_than", "القيمة أقل من {min}"),
@@ -91,4 +91,16 @@ pub static ARABIC: [Entry<'static>; 69] = [
     ),
     ("text_too_long", "أطول من 4294967040 بايت"),
     ("multiple_of_mismatch", "ليس من مضاعفات {divisor}"),
+    // What a JSON Schema asks.
+    ("not_a_number", "ليس عددًا"),
+    ("type_mismatch", "ليس من نوع مسموح به هنا"),
+    ("range_not_greater", "القيمة ليست أكبر من {bound}"),
+    ("range_not_less", "القيمة ليست أقل من {bound}"),
+    ("bounds_crossed", "أقل من الحد الأدنى"),
+    ("reference_unknown", "لا يوجد مخطط بهذا الاسم هنا"),
+    (
+        "reference_endless",
+        "يعود إلى نفسه أو يمر عبر أكثر من 16 مخططًا",
+    ),
+    ("schema_too_deep", "مخططات متداخلة أكثر مما يُتتبَّع"),
 ];

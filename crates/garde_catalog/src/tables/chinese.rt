@@ -3,7 +3,7 @@
 use crate::lines::Entry;
 
 /// The texts in Chinese in simplified characters, `zh-Hans`.
-pub static CHINESE: [Entry<'static>; 69] = [
+pub static CHINESE: [Entry<'static>; 77] = [
     ("length_lower_than", "长度小于 {min}"),
     ("length_greater_than", "长度大于 {max}"),
     ("range_lower_than", "值小于 {min}"),
@@ -73,4 +73,13 @@ pub static CHINESE: [Entry<'static>; 69] = [
     ("lone_surrogate", "单独的代理项（第 {line} 行，第 {column} 列）"),
     ("text_too_long", "超过 4294967040 字节"),
     ("multiple_of_mismatch", "不是 {divisor} 的倍数"),
+    // What a JSON Schema asks.
+    ("not_a_number", "不是数字"),
+    ("type_mismatch", "不是此处允许的类型"),
+    ("range_not_greater", "值不大于 {bound}"),
+    ("range_not_less", "值不小于 {bound}"),
+    ("bounds_crossed", "小于下限"),
+    ("reference_unknown", "此处没有这个名称的模式"),
+    ("reference_endless", "引用回到自身，或经过超过 16 个模式"),
+    ("schema_too_deep", "嵌套的模式过多"),
 ];

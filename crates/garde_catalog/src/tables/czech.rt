@@ -3,7 +3,7 @@
 use crate::lines::Entry;
 
 /// The texts in Czech, `cs`.
-pub static CZECH: [Entry<'static>; 69] = [
+pub static CZECH: [Entry<'static>; 77] = [
     ("length_lower_than", "délka je menší než {min}"),
     ("length_greater_than", "délka je větší než {max}"),
     ("range_lower_than", "hodnota je menší než {min}"),
@@ -91,4 +91,19 @@ pub static CZECH: [Entry<'static>; 69] = [
     ),
     ("text_too_long", "více než 4294967040 bajtů"),
     ("multiple_of_mismatch", "není to násobek čísla {divisor}"),
+    // What a JSON Schema asks.
+    ("not_a_number", "není to číslo"),
+    (
+        "type_mismatch",
+        "není to žádný z typů, které jsou zde povoleny",
+    ),
+    ("range_not_greater", "hodnota není větší než {bound}"),
+    ("range_not_less", "hodnota není menší než {bound}"),
+    ("bounds_crossed", "méně než dolní mez"),
+    ("reference_unknown", "žádné schéma zde nemá tento název"),
+    (
+        "reference_endless",
+        "vede zpět k sobě, nebo přes více než 16 schémat",
+    ),
+    ("schema_too_deep", "více schémat v sobě, než se sleduje"),
 ];

@@ -3,7 +3,7 @@
 use crate::lines::Entry;
 
 /// The texts in Dutch, `nl`.
-pub static DUTCH: [Entry<'static>; 69] = [
+pub static DUTCH: [Entry<'static>; 77] = [
     ("length_lower_than", "lengte is kleiner dan {min}"),
     ("length_greater_than", "lengte is groter dan {max}"),
     ("range_lower_than", "waarde is kleiner dan {min}"),
@@ -103,4 +103,19 @@ pub static DUTCH: [Entry<'static>; 69] = [
     ),
     ("text_too_long", "langer dan 4294967040 bytes"),
     ("multiple_of_mismatch", "geen veelvoud van {divisor}"),
+    // What a JSON Schema asks.
+    ("not_a_number", "geen getal"),
+    ("type_mismatch", "geen type dat hier is toegestaan"),
+    ("range_not_greater", "waarde is niet groter dan {bound}"),
+    ("range_not_less", "waarde is niet kleiner dan {bound}"),
+    ("bounds_crossed", "kleiner dan de ondergrens"),
+    ("reference_unknown", "geen schema heeft hier deze naam"),
+    (
+        "reference_endless",
+        "leidt terug naar zichzelf of door meer dan 16 schema's",
+    ),
+    (
+        "schema_too_deep",
+        "meer schema's in elkaar dan worden gevolgd",
+    ),
 ];

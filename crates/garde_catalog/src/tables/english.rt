@@ -3,7 +3,7 @@
 use crate::lines::Entry;
 
 /// The texts in English, `en`.
-pub static ENGLISH: [Entry<'static>; 69] = [
+pub static ENGLISH: [Entry<'static>; 77] = [
     ("length_lower_than", "length is lower than {min}"),
     ("length_greater_than", "length is greater than {max}"),
     ("range_lower_than", "lower than {min}"),
@@ -94,4 +94,19 @@ pub static ENGLISH: [Entry<'static>; 69] = [
     ),
     ("text_too_long", "longer than 4294967040 bytes"),
     ("multiple_of_mismatch", "not a multiple of {divisor}"),
+    // What a JSON Schema asks.
+    ("not_a_number", "not a number"),
+    ("type_mismatch", "not of a type that is allowed here"),
+    ("range_not_greater", "not greater than {bound}"),
+    ("range_not_less", "not less than {bound}"),
+    ("bounds_crossed", "less than the least"),
+    ("reference_unknown", "no schema has this name here"),
+    (
+        "reference_endless",
+        "leads back to itself, or through more than 16 schemas",
+    ),
+    (
+        "schema_too_deep",
+        "more schemas in each other than are followed",
+    ),
 ];

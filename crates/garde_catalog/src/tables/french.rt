@@ -3,7 +3,7 @@
 use crate::lines::Entry;
 
 /// The texts in French, `fr`.
-pub static FRENCH: [Entry<'static>; 69] = [
+pub static FRENCH: [Entry<'static>; 77] = [
     ("length_lower_than", "longueur inférieure à {min}"),
     ("length_greater_than", "longueur supérieure à {max}"),
     ("range_lower_than", "valeur inférieure à {min}"),
@@ -115,4 +115,19 @@ pub static FRENCH: [Entry<'static>; 69] = [
     ),
     ("text_too_long", "plus long que 4294967040 octets"),
     ("multiple_of_mismatch", "n’est pas un multiple de {divisor}"),
+    // What a JSON Schema asks.
+    ("not_a_number", "n’est pas un nombre"),
+    ("type_mismatch", "n’est d’aucun type autorisé ici"),
+    ("range_not_greater", "valeur non supérieure à {bound}"),
+    ("range_not_less", "valeur non inférieure à {bound}"),
+    ("bounds_crossed", "inférieur à la borne inférieure"),
+    ("reference_unknown", "aucun schéma ne porte ce nom ici"),
+    (
+        "reference_endless",
+        "ramène à lui-même ou traverse plus de 16 schémas",
+    ),
+    (
+        "schema_too_deep",
+        "plus de schémas imbriqués que ce qui est suivi",
+    ),
 ];

@@ -3,7 +3,7 @@
 use crate::lines::Entry;
 
 /// The texts in German, `de`.
-pub static GERMAN: [Entry<'static>; 69] = [
+pub static GERMAN: [Entry<'static>; 77] = [
     ("length_lower_than", "Länge ist kleiner als {min}"),
     ("length_greater_than", "Länge ist größer als {max}"),
     ("range_lower_than", "Wert ist kleiner als {min}"),
@@ -109,4 +109,19 @@ pub static GERMAN: [Entry<'static>; 69] = [
     ),
     ("text_too_long", "länger als 4294967040 Byte"),
     ("multiple_of_mismatch", "kein Vielfaches von {divisor}"),
+    // What a JSON Schema asks.
+    ("not_a_number", "keine Zahl"),
+    ("type_mismatch", "von keinem Typ, der hier erlaubt ist"),
+    ("range_not_greater", "Wert ist nicht größer als {bound}"),
+    ("range_not_less", "Wert ist nicht kleiner als {bound}"),
+    ("bounds_crossed", "kleiner als die untere Grenze"),
+    ("reference_unknown", "kein Schema hat hier diesen Namen"),
+    (
+        "reference_endless",
+        "führt zu sich selbst zurück oder durch mehr als 16 Schemas",
+    ),
+    (
+        "schema_too_deep",
+        "mehr ineinander liegende Schemas, als verfolgt werden",
+    ),
 ];

@@ -3,7 +3,7 @@
 use crate::lines::Entry;
 
 /// The texts in Hindi, `hi`.
-pub static HINDI: [Entry<'static>; 69] = [
+pub static HINDI: [Entry<'static>; 77] = [
     ("length_lower_than", "लंबाई {min} से कम है"),
     ("length_greater_than", "लंबाई {max} से अधिक है"),
     ("range_lower_than", "मान {min} से कम है"),
@@ -91,4 +91,19 @@ pub static HINDI: [Entry<'static>; 69] = [
     ),
     ("text_too_long", "4294967040 बाइट से लंबा"),
     ("multiple_of_mismatch", "यह {divisor} का गुणज नहीं है"),
+    // What a JSON Schema asks.
+    ("not_a_number", "यह संख्या नहीं है"),
+    ("type_mismatch", "यह यहाँ अनुमत किसी प्रकार का नहीं है"),
+    ("range_not_greater", "मान {bound} से अधिक नहीं है"),
+    ("range_not_less", "मान {bound} से कम नहीं है"),
+    ("bounds_crossed", "न्यूनतम सीमा से कम है"),
+    ("reference_unknown", "यहाँ इस नाम का कोई स्कीमा नहीं है"),
+    (
+        "reference_endless",
+        "स्वयं पर लौटता है या 16 से अधिक स्कीमाओं से होकर जाता है",
+    ),
+    (
+        "schema_too_deep",
+        "एक-दूसरे में इतने स्कीमा हैं कि सबका पालन नहीं होता",
+    ),
 ];

@@ -3,7 +3,7 @@
 use crate::lines::Entry;
 
 /// The texts in Italian, `it`.
-pub static ITALIAN: [Entry<'static>; 69] = [
+pub static ITALIAN: [Entry<'static>; 77] = [
     ("length_lower_than", "lunghezza inferiore a {min}"),
     ("length_greater_than", "lunghezza superiore a {max}"),
     ("range_lower_than", "valore inferiore a {min}"),
@@ -103,4 +103,19 @@ pub static ITALIAN: [Entry<'static>; 69] = [
     ),
     ("text_too_long", "più lungo di 4294967040 byte"),
     ("multiple_of_mismatch", "non è un multiplo di {divisor}"),
+    // What a JSON Schema asks.
+    ("not_a_number", "non è un numero"),
+    ("type_mismatch", "non è di un tipo ammesso qui"),
+    ("range_not_greater", "valore non superiore a {bound}"),
+    ("range_not_less", "valore non inferiore a {bound}"),
+    ("bounds_crossed", "inferiore al limite inferiore"),
+    ("reference_unknown", "qui nessuno schema ha questo nome"),
+    (
+        "reference_endless",
+        "riporta a sé stesso o passa per più di 16 schemi",
+    ),
+    (
+        "schema_too_deep",
+        "più schemi annidati di quanti se ne seguano",
+    ),
 ];

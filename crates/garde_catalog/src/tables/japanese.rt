@@ -3,7 +3,7 @@
 use crate::lines::Entry;
 
 /// The texts in Japanese, `ja`.
-pub static JAPANESE: [Entry<'static>; 69] = [
+pub static JAPANESE: [Entry<'static>; 77] = [
     ("length_lower_than", "長さが{min}より小さいです"),
     ("length_greater_than", "長さが{max}より大きいです"),
     ("range_lower_than", "値が{min}より小さいです"),
@@ -73,4 +73,13 @@ pub static JAPANESE: [Entry<'static>; 69] = [
     ("lone_surrogate", "サロゲートの片方だけがあります（{line}行目、{column}列目）"),
     ("text_too_long", "4294967040バイトを超えています"),
     ("multiple_of_mismatch", "{divisor}の倍数ではありません"),
+    // What a JSON Schema asks.
+    ("not_a_number", "数ではありません"),
+    ("type_mismatch", "ここで許される型ではありません"),
+    ("range_not_greater", "値が{bound}より大きくありません"),
+    ("range_not_less", "値が{bound}より小さくありません"),
+    ("bounds_crossed", "下限より小さいです"),
+    ("reference_unknown", "この名前のスキーマはここにありません"),
+    ("reference_endless", "自分自身に戻るか、16個を超えるスキーマを通ります"),
+    ("schema_too_deep", "入れ子になったスキーマが多すぎます"),
 ];

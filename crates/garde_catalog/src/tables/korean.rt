@@ -3,7 +3,7 @@
 use crate::lines::Entry;
 
 /// The texts in Korean, `ko`.
-pub static KOREAN: [Entry<'static>; 69] = [
+pub static KOREAN: [Entry<'static>; 77] = [
     ("length_lower_than", "길이가 {min}보다 작습니다"),
     ("length_greater_than", "길이가 {max}보다 큽니다"),
     ("range_lower_than", "값이 {min}보다 작습니다"),
@@ -73,4 +73,13 @@ pub static KOREAN: [Entry<'static>; 69] = [
     ("lone_surrogate", "짝이 없는 서로게이트입니다({line}행 {column}열)"),
     ("text_too_long", "4294967040바이트를 넘습니다"),
     ("multiple_of_mismatch", "{divisor}의 배수가 아닙니다"),
+    // What a JSON Schema asks.
+    ("not_a_number", "숫자가 아닙니다"),
+    ("type_mismatch", "여기서 허용되는 형식이 아닙니다"),
+    ("range_not_greater", "값이 {bound}보다 크지 않습니다"),
+    ("range_not_less", "값이 {bound}보다 작지 않습니다"),
+    ("bounds_crossed", "하한보다 작습니다"),
+    ("reference_unknown", "여기에는 이 이름의 스키마가 없습니다"),
+    ("reference_endless", "자기 자신으로 돌아오거나 16개가 넘는 스키마를 거칩니다"),
+    ("schema_too_deep", "서로 겹친 스키마가 너무 많습니다"),
 ];

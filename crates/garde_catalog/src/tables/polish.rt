@@ -3,7 +3,7 @@
 use crate::lines::Entry;
 
 /// The texts in Polish, `pl`.
-pub static POLISH: [Entry<'static>; 69] = [
+pub static POLISH: [Entry<'static>; 77] = [
     ("length_lower_than", "długość jest mniejsza niż {min}"),
     ("length_greater_than", "długość jest większa niż {max}"),
     ("range_lower_than", "wartość jest mniejsza niż {min}"),
@@ -102,5 +102,20 @@ pub static POLISH: [Entry<'static>; 69] = [
     (
         "multiple_of_mismatch",
         "nie jest wielokrotnością liczby {divisor}",
+    ),
+    // What a JSON Schema asks.
+    ("not_a_number", "to nie jest liczba"),
+    ("type_mismatch", "typ nie jest tutaj dozwolony"),
+    ("range_not_greater", "wartość nie jest większa niż {bound}"),
+    ("range_not_less", "wartość nie jest mniejsza niż {bound}"),
+    ("bounds_crossed", "mniej niż dolna granica"),
+    ("reference_unknown", "żaden schemat nie ma tutaj tej nazwy"),
+    (
+        "reference_endless",
+        "prowadzi z powrotem do siebie lub przez więcej niż 16 schematów",
+    ),
+    (
+        "schema_too_deep",
+        "więcej zagnieżdżonych schematów, niż się śledzi",
     ),
 ];

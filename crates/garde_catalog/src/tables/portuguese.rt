@@ -3,7 +3,7 @@
 use crate::lines::Entry;
 
 /// The texts in Portuguese of Brazil, `pt-BR`.
-pub static PORTUGUESE: [Entry<'static>; 69] = [
+pub static PORTUGUESE: [Entry<'static>; 77] = [
     ("length_lower_than", "comprimento menor que {min}"),
     ("length_greater_than", "comprimento maior que {max}"),
     ("range_lower_than", "valor menor que {min}"),
@@ -94,4 +94,19 @@ pub static PORTUGUESE: [Entry<'static>; 69] = [
     ),
     ("text_too_long", "mais de 4294967040 bytes"),
     ("multiple_of_mismatch", "não é um múltiplo de {divisor}"),
+    // What a JSON Schema asks.
+    ("not_a_number", "não é um número"),
+    ("type_mismatch", "não é de um tipo permitido aqui"),
+    ("range_not_greater", "valor não maior que {bound}"),
+    ("range_not_less", "valor não menor que {bound}"),
+    ("bounds_crossed", "menor que o limite inferior"),
+    ("reference_unknown", "nenhum esquema tem este nome aqui"),
+    (
+        "reference_endless",
+        "leva de volta a si mesmo ou passa por mais de 16 esquemas",
+    ),
+    (
+        "schema_too_deep",
+        "mais esquemas aninhados do que se seguem",
+    ),
 ];

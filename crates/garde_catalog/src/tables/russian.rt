@@ -3,7 +3,7 @@
 use crate::lines::Entry;
 
 /// The texts in Russian, `ru`.
-pub static RUSSIAN: [Entry<'static>; 69] = [
+pub static RUSSIAN: [Entry<'static>; 77] = [
     ("length_lower_than", "длина меньше {min}"),
     ("length_greater_than", "длина больше {max}"),
     ("range_lower_than", "значение меньше {min}"),
@@ -97,4 +97,16 @@ pub static RUSSIAN: [Entry<'static>; 69] = [
         "multiple_of_mismatch",
         "не делится без остатка на {divisor}",
     ),
+    // What a JSON Schema asks.
+    ("not_a_number", "это не число"),
+    ("type_mismatch", "такой тип здесь не разрешён"),
+    ("range_not_greater", "значение не больше {bound}"),
+    ("range_not_less", "значение не меньше {bound}"),
+    ("bounds_crossed", "меньше нижней границы"),
+    ("reference_unknown", "здесь нет схемы с таким именем"),
+    (
+        "reference_endless",
+        "ведёт к самому себе или более чем через 16 схем",
+    ),
+    ("schema_too_deep", "вложено больше схем, чем проверяется"),
 ];

@@ -3,7 +3,7 @@
 use crate::lines::Entry;
 
 /// The texts in Spanish, `es`.
-pub static SPANISH: [Entry<'static>; 69] = [
+pub static SPANISH: [Entry<'static>; 77] = [
     ("length_lower_than", "longitud menor que {min}"),
     ("length_greater_than", "longitud mayor que {max}"),
     ("range_lower_than", "valor menor que {min}"),
@@ -109,4 +109,19 @@ pub static SPANISH: [Entry<'static>; 69] = [
     ),
     ("text_too_long", "más de 4294967040 bytes"),
     ("multiple_of_mismatch", "no es un múltiplo de {divisor}"),
+    // What a JSON Schema asks.
+    ("not_a_number", "no es un número"),
+    ("type_mismatch", "no es de un tipo permitido aquí"),
+    ("range_not_greater", "valor no mayor que {bound}"),
+    ("range_not_less", "valor no menor que {bound}"),
+    ("bounds_crossed", "menor que el límite inferior"),
+    ("reference_unknown", "ningún esquema tiene este nombre aquí"),
+    (
+        "reference_endless",
+        "lleva de vuelta a sí mismo o pasa por más de 16 esquemas",
+    ),
+    (
+        "schema_too_deep",
+        "más esquemas anidados de los que se siguen",
+    ),
 ];

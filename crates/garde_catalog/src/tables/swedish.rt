@@ -3,7 +3,7 @@
 use crate::lines::Entry;
 
 /// The texts in Swedish, `sv`.
-pub static SWEDISH: [Entry<'static>; 69] = [
+pub static SWEDISH: [Entry<'static>; 77] = [
     ("length_lower_than", "längden är mindre än {min}"),
     ("length_greater_than", "längden är större än {max}"),
     ("range_lower_than", "värdet är mindre än {min}"),
@@ -97,4 +97,16 @@ pub static SWEDISH: [Entry<'static>; 69] = [
     ),
     ("text_too_long", "längre än 4294967040 byte"),
     ("multiple_of_mismatch", "ingen multipel av {divisor}"),
+    // What a JSON Schema asks.
+    ("not_a_number", "inget tal"),
+    ("type_mismatch", "inte av en typ som är tillåten här"),
+    ("range_not_greater", "värdet är inte större än {bound}"),
+    ("range_not_less", "värdet är inte mindre än {bound}"),
+    ("bounds_crossed", "mindre än den nedre gränsen"),
+    ("reference_unknown", "inget schema har detta namn här"),
+    (
+        "reference_endless",
+        "leder tillbaka till sig självt eller genom fler än 16 scheman",
+    ),
+    ("schema_too_deep", "fler scheman i varandra än som följs"),
 ];

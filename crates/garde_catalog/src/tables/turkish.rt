@@ -3,7 +3,7 @@
 use crate::lines::Entry;
 
 /// The texts in Turkish, `tr`.
-pub static TURKISH: [Entry<'static>; 69] = [
+pub static TURKISH: [Entry<'static>; 77] = [
     ("length_lower_than", "uzunluk alt sınırın altında: {min}"),
     ("length_greater_than", "uzunluk üst sınırın üstünde: {max}"),
     ("range_lower_than", "değer alt sınırın altında: {min}"),
@@ -97,4 +97,16 @@ pub static TURKISH: [Entry<'static>; 69] = [
     ),
     ("text_too_long", "4294967040 bayttan uzun"),
     ("multiple_of_mismatch", "şu sayının katı değil: {divisor}"),
+    // What a JSON Schema asks.
+    ("not_a_number", "sayı değil"),
+    ("type_mismatch", "burada izin verilen türlerden biri değil"),
+    ("range_not_greater", "değer şundan büyük değil: {bound}"),
+    ("range_not_less", "değer şundan küçük değil: {bound}"),
+    ("bounds_crossed", "alt sınırdan küçük"),
+    ("reference_unknown", "burada bu adda bir şema yok"),
+    (
+        "reference_endless",
+        "kendisine geri dönüyor ya da 16'dan fazla şemadan geçiyor",
+    ),
+    ("schema_too_deep", "iç içe izlenenden çok şema var"),
 ];

@@ -3,7 +3,7 @@
 use crate::lines::Entry;
 
 /// The texts in Ukrainian, `uk`.
-pub static UKRAINIAN: [Entry<'static>; 69] = [
+pub static UKRAINIAN: [Entry<'static>; 77] = [
     ("length_lower_than", "довжина менша за {min}"),
     ("length_greater_than", "довжина більша за {max}"),
     ("range_lower_than", "значення менше за {min}"),
@@ -100,4 +100,16 @@ pub static UKRAINIAN: [Entry<'static>; 69] = [
         "multiple_of_mismatch",
         "не ділиться без остачі на {divisor}",
     ),
+    // What a JSON Schema asks.
+    ("not_a_number", "це не число"),
+    ("type_mismatch", "такий тип тут не дозволено"),
+    ("range_not_greater", "значення не більше за {bound}"),
+    ("range_not_less", "значення не менше за {bound}"),
+    ("bounds_crossed", "менше за нижню межу"),
+    ("reference_unknown", "тут немає схеми з такою назвою"),
+    (
+        "reference_endless",
+        "веде до самого себе або більш ніж через 16 схем",
+    ),
+    ("schema_too_deep", "вкладено більше схем, ніж перевіряється"),
 ];

@@ -4,7 +4,7 @@ use super::english;
 use crate::tests::long_text::Long;
 use crate::tests::{OrEnd, is_text};
 use garde::DefaultI18n;
-use garde_catalog::{Catalog, Entry, Table, TableTexts, languages};
+use garde_catalog::{Catalog, Entry, SCHEMA_MESSAGES, Table, TableTexts, languages};
 use garde_schema::{Closed, Object, ReadError, Scratch, read_json};
 use std::alloc::{AllocError, Global};
 
@@ -38,6 +38,11 @@ fn written(
     let _ = json.pop();
     json.push('}')?;
     Ok(json)
+}
+
+// All texts of the shipped tables.
+fn every() -> TableTexts {
+    TableTexts::all().with(&SCHEMA_MESSAGES)
 }
 
 // Reads a table, with all codes or with some.
@@ -76,7 +81,7 @@ fn reads_back_every_language(rt: HostRuntime) {
     let alloc = rt.alloc();
     for language in languages() {
         let json = written(alloc, language.table, None, "").or_end(&rt);
-        assert!(rt; is_read_as(alloc, json.as_str(), TableTexts::all(), language.table));
+        assert!(rt; is_read_as(alloc, json.as_str(), every(), language.table));
     }
 }
 
@@ -97,7 +102,7 @@ fn report_of(alloc: Global, json: &str, texts: TableTexts) -> Result<String, All
 fn report_with(alloc: Global, code: &str, instead: &Long) -> Result<String, AllocError> {
     let instead = instead.text(alloc)?;
     let json = written(alloc, english(), Some(code), instead.as_str())?;
-    report_of(alloc, json.as_str(), TableTexts::all())
+    report_of(alloc, json.as_str(), every())
 }
 
 // A code, what stands in the place of its line, and what is reported.
@@ -266,7 +271,7 @@ static UNKNOWN: Long = Long::Numbered("{\"0", (1, 1000), ("\":0,\"", ""), "\":0}
 // How many lines the report of an object with a thousand unknown names has.
 fn lines_of_unknown(alloc: Global) -> Result<usize, AllocError> {
     let json = UNKNOWN.text(alloc)?;
-    let report = report_of(alloc, json.as_str(), TableTexts::all())?;
+    let report = report_of(alloc, json.as_str(), every())?;
     Ok(report.as_str().lines().count())
 }
 
