@@ -69,14 +69,14 @@ present_asks texts name Repeated = none
 abbrev pub required_asks : FormTexts → Json → Json → Visits
 required_asks texts j name = of (λ s. present_asks texts (key_part s) (find_answer s j)) (as_str name)
 
--- whether a schema describes a member of this name by `properties`
+-- whether the value of `properties` describes a member of this name
 abbrev pub is_missing : Found → Bool
 is_missing Missing = true
 is_missing (Once v) = false
 is_missing Repeated = false
 
-abbrev pub describes : Json → List ℕ → Bool
-describes s name = unwrap_or (option_map (λ ms. not (is_missing (find_answer name ms))) (member_of (codes "properties") s)) false
+abbrev pub is_described : Option Json → List ℕ → Bool
+is_described described name = unwrap_or (option_map (λ ms. not (is_missing (find_answer name ms))) described) false
 
 -- how many items `prefixItems` describes
 abbrev pub described_items : Json → ℕ
@@ -89,8 +89,8 @@ module _ (each : Json → Json → Visits) where
   properties_asks texts j m = member_asks texts (key_part m.0) (each m.1) (find_answer m.0 j)
 
   -- `additionalProperties`: each member that `properties` does not describe
-  abbrev pub other_asks : Json → Json → (List ℕ × Json) → Visits
-  other_asks s v m = when (not (describes s m.0)) (under (key_part m.0) (each v m.1))
+  abbrev pub other_asks : Option Json → Json → (List ℕ × Json) → Visits
+  other_asks described v m = when (not (is_described described m.0)) (under (key_part m.0) (each v m.1))
 
   -- `items`: each item behind those that `prefixItems` describes
   abbrev pub item_asks : Json → ℕ → ℕ → Json → Visits
@@ -113,7 +113,7 @@ module _ (each : Json → Json → Visits) where
   asks texts root s k.PrefixItems v j = of (λ ss. of (λ js. by_place each 0 ss js) (listed j)) (listed v)
   asks texts root s k.Properties v j = of (λ ms. in_turn (properties_asks texts j) ms) (membered v)
   asks texts root s k.Required v j = of (λ names. of (λ _. in_turn (required_asks texts j) names) (membered j)) (listed v)
-  asks texts root s k.AdditionalProperties v j = of (λ ms. in_turn (other_asks s v) ms) (membered j)
+  asks texts root s k.AdditionalProperties v j = of (λ ms. in_turn (other_asks (member_of (codes "properties") s) v) ms) (membered j)
   asks texts root s k.MinProperties v j = counted (membered j) (at_least v)
   asks texts root s k.MaxProperties v j = counted (membered j) (at_most v)
   asks texts root s k.AllOf v j = of (λ ss. in_turn (λ x. each x j) ss) (listed v)

@@ -1,12 +1,12 @@
 //! The check of a value by a schema.
-ghost use Rattle.std.specs.Prelude.{◌<◌, ◌^◌, length, not, true, unwrap_or};
+ghost use Rattle.std.specs.Prelude.{◌<◌, ◌^◌, codes, length, not, true, unwrap_or};
 ghost use Rattle.json.specs.Find.{as_bool, as_str};
 ghost use Rattle.garde_schema.specs.Forms.{refused};
 ghost use Rattle.garde_schema.specs.declared.fault.FormFault.TheVariants.{Unknown};
 ghost use Rattle.garde_report.specs.Part.{key_part, part_of};
 ghost use Rattle.garde.specs.Visits.{Visited, under, when};
 ghost use Rattle.garde_described.specs.Keywords.{keyword_of, of, listed, membered};
-ghost use Rattle.garde_described.specs.Faults.{asks, by_place, described_items, describes, faults, in_turn, item_asks, member_asks, numbered, other_asks, properties_asks, target_of};
+ghost use Rattle.garde_described.specs.Faults.{asks, by_place, described_items, faults, in_turn, is_described, item_asks, member_asks, member_of, numbered, other_asks, properties_asks, target_of};
 
 use crate::keyword::Keyword;
 use crate::lengths::{
@@ -15,7 +15,7 @@ use crate::lengths::{
 };
 use crate::numbers::{check_above, check_below, check_least, check_most};
 use crate::put::{put, put_under};
-use crate::reference::{definition, described_items, describes};
+use crate::reference::{definition, described_items, is_described, member_of};
 use crate::required::check_required;
 use crate::same::{check_const, check_enum};
 use crate::types::check_type;
@@ -40,12 +40,8 @@ pub(crate) fn check<'s, 't, 'a, H: I18n + FormI18n>(
         trail.old trail.new report.old report.new result }
 {
     if left == 0 {
-        let fault = AsksAs(
-            "schema_too_deep",
-            "more schemas in each other than are followed",
-            false,
-        );
-        return Is(fault).ask(&(), trail, report, h);
+        let english = "more schemas in each other than are followed";
+        return Is(AsksAs("schema_too_deep", english, false)).ask(&(), trail, report, h);
     }
     match schema.members() {
         Some(keywords) => check_keywords(root, left - 1, schema, keywords, tree, trail, report, h),
@@ -308,16 +304,8 @@ fn check_member<'s, 't, 'a, H: I18n + FormI18n>(
     match found {
         Found::Missing => Ok(()),
         Found::Once(value) => {
-            check_under(
-                root,
-                left,
-                Component::key(name),
-                schema,
-                &value,
-                trail,
-                report,
-                h,
-            )
+            let place = Component::key(name);
+            check_under(root, left, place, schema, &value, trail, report, h)
         }
         Found::Repeated => put_under(name, FormFault::Repeated, trail, report, h),
     }
@@ -336,11 +324,14 @@ fn check_others<'s, 't, 'a, H: I18n + FormI18n>(
     h: &H,
 ) -> Result<(), AllocError>
     ensures { Visited (of (λ ms. in_turn (other_asks (faults (H.form_text h.now) root.now left)
-        schema.now value.now) ms) (membered tree.now)) (H.text h.now)
+        (member_of (codes "properties") schema.now) value.now) ms) (membered tree.now)) (H.text h.now)
         trail.old trail.new report.old report.new result }
 {
     match tree.members() {
-        Some(members) => { check_undescribed(root, left, schema, value, members, trail, report, h) }
+        Some(members) => {
+            let known = member_of(schema, "properties");
+            check_undescribed(root, left, &known, value, members, trail, report, h)
+        }
         None => Ok(()),
     }
 }
@@ -350,7 +341,7 @@ fn check_others<'s, 't, 'a, H: I18n + FormI18n>(
 fn check_undescribed<'s, 't, 'a, H: I18n + FormI18n>(
     root: &Tree<'s, 'a>,
     left: usize,
-    schema: &Tree<'s, 'a>,
+    known: &Option<Tree<'s, 'a>>,
     value: &Tree<'s, 'a>,
     members: TreeMembers<'t, 'a>,
     trail: &mut Trail<'a>,
@@ -358,12 +349,12 @@ fn check_undescribed<'s, 't, 'a, H: I18n + FormI18n>(
     h: &H,
 ) -> Result<(), AllocError>
     ensures { Visited (in_turn (other_asks (faults (H.form_text h.now) root.now left)
-        schema.now value.now) members.entry) (H.text h.now)
+        known.now value.now) members.entry) (H.text h.now)
         trail.old trail.new report.old report.new result }
 {
     let mut rest = members;
     while let Some((name, member)) = rest.next() {
-        check_other(root, left, schema, value, name, &member, trail, report, h)?;
+        check_other(root, left, known, value, name, &member, trail, report, h)?;
     }
     Ok(())
 }
@@ -373,7 +364,7 @@ fn check_undescribed<'s, 't, 'a, H: I18n + FormI18n>(
 fn check_other<'s, 't, 'a, H: I18n + FormI18n>(
     root: &Tree<'s, 'a>,
     left: usize,
-    schema: &Tree<'s, 'a>,
+    known: &Option<Tree<'s, 'a>>,
     value: &Tree<'s, 'a>,
     name: &'a str,
     member: &Tree<'t, 'a>,
@@ -381,24 +372,15 @@ fn check_other<'s, 't, 'a, H: I18n + FormI18n>(
     report: &mut Report,
     h: &H,
 ) -> Result<(), AllocError>
-    ensures { Visited (when (not (describes schema.now name.now)) (under (key_part name.now)
+    ensures { Visited (when (not (is_described known.now name.now)) (under (key_part name.now)
         (faults (H.form_text h.now) root.now left value.now member.now))) (H.text h.now)
         trail.old trail.new report.old report.new result }
 {
-    if describes(schema, name) {
-        Ok(())
-    } else {
-        check_under(
-            root,
-            left,
-            Component::key(name),
-            value,
-            member,
-            trail,
-            report,
-            h,
-        )
+    if is_described(known, name) {
+        return Ok(());
     }
+    let place = Component::key(name);
+    check_under(root, left, place, value, member, trail, report, h)
 }
 
 // Asks the schema of `items` of the items that `prefixItems` does not describe.
@@ -469,19 +451,10 @@ fn check_item<'s, 't, 'a, H: I18n + FormI18n>(
         (H.text h.now) trail.old trail.new report.old report.new result }
 {
     if first <= index {
-        check_under(
-            root,
-            left,
-            Component::index(index),
-            value,
-            item,
-            trail,
-            report,
-            h,
-        )
-    } else {
-        Ok(())
+        let place = Component::index(index);
+        return check_under(root, left, place, value, item, trail, report, h);
     }
+    Ok(())
 }
 
 // Asks the schemas of `prefixItems` of the items at their places.

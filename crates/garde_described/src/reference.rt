@@ -1,6 +1,6 @@
 //! What a schema says of its own document: definitions, described members and items.
 ghost use Rattle.std.specs.Prelude.{◌≡◌};
-ghost use Rattle.garde_described.specs.Faults.{definition_of, described_items, describes, first_named, member_of, names_schema};
+ghost use Rattle.garde_described.specs.Faults.{definition_of, described_items, first_named, is_described, member_of, names_schema};
 
 use garde_schema::{Found, Tree, TreeMembers};
 
@@ -45,11 +45,11 @@ pub(crate) fn definition<'t, 'a>(root: &Tree<'t, 'a>, text: &str) -> Option<Tree
     first_named(text, member_of(root, "$defs")?.members()?)
 }
 
-// Whether a schema describes a member of this name by `properties`.
-pub(crate) fn describes(schema: &Tree<'_, '_>, name: &str) -> bool
-    ensures { result ≡ describes schema.now name.now }
+// Whether the value of `properties` describes a member of this name.
+pub(crate) fn is_described(described: &Option<Tree<'_, '_>>, name: &str) -> bool
+    ensures { result ≡ is_described described.now name.now }
 {
-    match member_of(schema, "properties") {
+    match described {
         Some(members) => !matches!(members.find(name), Found::Missing),
         None => false,
     }

@@ -186,12 +186,8 @@ fn check_names<'s, 't, 'a, H: I18n>(
     match names {
         Some(names) => {
             let holds = is_among(tree, names);
-            Is(AsksAs("type_mismatch", "not of a type that is allowed here", holds)).ask(
-                &(),
-                trail,
-                report,
-                h,
-            )
+            let rule = AsksAs("type_mismatch", "not of a type that is allowed here", holds);
+            Is(rule).ask(&(), trail, report, h)
         }
         None => Ok(()),
     }

@@ -1,10 +1,10 @@
 use Rattle.std.proofs.Common.{rules, refl, ap, sym, arith, length, ◌∙◌, Some, None}
-use Rattle.std.specs.Prelude.{not, nat_le, option_map, if◌then◌else◌}
+use Rattle.std.specs.Prelude.{codes, not, nat_le, option_map, if◌then◌else◌}
 use Rattle.garde_report.specs.Part.{key_part, part_of}
 use Rattle.garde.proofs.Author.{visited_full, visited_none, visited_unless, visited_when}
 use Rattle.garde.specs.Visits.{under}
 use Rattle.garde_described.specs.Keywords.{keyword_of, listed, of}
-use Rattle.garde_described.specs.Faults.{asks, by_place, definition_of, described_items, describes, faults, in_turn, item_asks, member_asks, numbered, other_asks, properties_asks, target_of}
+use Rattle.garde_described.specs.Faults.{asks, by_place, definition_of, described_items, faults, in_turn, is_described, item_asks, member_asks, member_of, numbered, other_asks, properties_asks, target_of}
 use Rattle.garde_described.proofs.Walks.{asks_nothing, faults_next, faults_zero, member_is, turn_then, turn_stop, turn_end, item_then, item_stop, item_end, place_then, place_stop, place_short, place_end}
 use Rattle.garde_described.proofs.Lemmas.{of_none, of_some, told_as, told_under}
 use Rattle.garde_described.proofs.check.+check.Goals as goal
@@ -44,14 +44,14 @@ check_described-returns g t c = c.loop-name.invariant _ _ _ (turn_end (propertie
 
 pub check_undescribed-loop-name-preserved : goal.check_undescribed-loop-name-preserved
 check_undescribed-loop-name-preserved g t c = λ after new answer rest.
-    c.loop-name.invariant after new answer (turn_then (other_asks (faults (g.H.FormI18n.form_text c.args.h.now) c.args.root.now c.args.left) c.args.schema.now c.args.value.now) _ _ _ c.in-Some.ensures.steps c.check_other.ensures (search rules) rest)
+    c.loop-name.invariant after new answer (turn_then (other_asks (faults (g.H.FormI18n.form_text c.args.h.now) c.args.root.now c.args.left) c.args.known.now c.args.value.now) _ _ _ c.in-Some.ensures.steps c.check_other.ensures (search rules) rest)
 
 pub check_undescribed-returns-in_err-check_other : goal.check_undescribed-returns-in_err-check_other
 check_undescribed-returns-in_err-check_other g t c =
-    c.loop-name.invariant _ _ _ (turn_stop (other_asks (faults (g.H.FormI18n.form_text c.args.h.now) c.args.root.now c.args.left) c.args.schema.now c.args.value.now) _ _ _ c.in-Some.ensures.steps c.check_other.ensures (search rules) c.from_residual.ensures.0)
+    c.loop-name.invariant _ _ _ (turn_stop (other_asks (faults (g.H.FormI18n.form_text c.args.h.now) c.args.root.now c.args.left) c.args.known.now c.args.value.now) _ _ _ c.in-Some.ensures.steps c.check_other.ensures (search rules) c.from_residual.ensures.0)
 
 pub check_undescribed-returns : goal.check_undescribed-returns
-check_undescribed-returns g t c = c.loop-name.invariant _ _ _ (turn_end (other_asks (faults (g.H.FormI18n.form_text c.args.h.now) c.args.root.now c.args.left) c.args.schema.now c.args.value.now) _ c.in_default.ensures.steps.0)
+check_undescribed-returns g t c = c.loop-name.invariant _ _ _ (turn_end (other_asks (faults (g.H.FormI18n.form_text c.args.h.now) c.args.root.now c.args.left) c.args.known.now c.args.value.now) _ c.in_default.ensures.steps.0)
 
 pub check_rest-loop-item-preserved : goal.check_rest-loop-item-preserved
 check_rest-loop-item-preserved g t c = (
@@ -98,16 +98,21 @@ check_properties-returns-in-None g t c = of_none (λ ms. in_turn (properties_ask
 pub check_member-returns-in-Missing : goal.check_member-returns-in-Missing
 check_member-returns-in-Missing g t c = member_is (g.H.FormI18n.form_text c.args.h.now) (key_part c.args.name.now) (faults (g.H.FormI18n.form_text c.args.h.now) c.args.root.now c.args.left c.args.schema.now) (sym c.in-Missing.is) visited_none
 
+pub check_others-returns-in-Some : goal.check_others-returns-in-Some
+check_others-returns-in-Some g t c =
+    of_some (λ ms. in_turn (other_asks (faults (g.H.FormI18n.form_text c.args.h.now) c.args.root.now c.args.left) (member_of (codes "properties") c.args.schema.now) c.args.value.now) ms) _ _ (sym c.members.ensures.value ∙ c.in-Some.is)
+    (told_as (ap (λ d. in_turn (other_asks (faults (g.H.FormI18n.form_text c.args.h.now) c.args.root.now c.args.left) d c.args.value.now) c.in-Some.members) c.member_of-known.ensures) c.check_undescribed.ensures)
+
 pub check_others-returns-in-None : goal.check_others-returns-in-None
-check_others-returns-in-None g t c = of_none (λ ms. in_turn (other_asks (faults (g.H.FormI18n.form_text c.args.h.now) c.args.root.now c.args.left) c.args.schema.now c.args.value.now) ms) _ (sym c.members.ensures.value ∙ c.in-None.is)
+check_others-returns-in-None g t c = of_none (λ ms. in_turn (other_asks (faults (g.H.FormI18n.form_text c.args.h.now) c.args.root.now c.args.left) (member_of (codes "properties") c.args.schema.now) c.args.value.now) ms) _ (sym c.members.ensures.value ∙ c.in-None.is)
 
-pub check_other-returns-then-describes : goal.check_other-returns-then-describes
-check_other-returns-then-describes g t c = visited_unless (not (describes c.args.schema.now c.args.name.now)) _ (ap not (sym c.describes.ensures ∙ c.if-describes.true))
+pub check_other-returns-then-is_described : goal.check_other-returns-then-is_described
+check_other-returns-then-is_described g t c = visited_unless (not (is_described c.args.known.now c.args.name.now)) _ (ap not (sym c.is_described.ensures ∙ c.if-is_described.true))
 
-pub check_other-returns-else-describes : goal.check_other-returns-else-describes
-check_other-returns-else-describes g t c =
-    visited_when (not (describes c.args.schema.now c.args.name.now)) _ (ap not (sym c.describes.ensures ∙ c.if-describes.false))
-    (told_as (ap (λ p. under p (faults (g.H.FormI18n.form_text c.args.h.now) c.args.root.now c.args.left c.args.value.now c.args.member.now)) c.key.ensures) c.check_under.ensures)
+pub check_other-returns : goal.check_other-returns
+check_other-returns g t c =
+    visited_when (not (is_described c.args.known.now c.args.name.now)) _ (ap not (sym c.is_described.ensures ∙ c.if-is_described.false))
+    (told_as (ap (λ p. under p (faults (g.H.FormI18n.form_text c.args.h.now) c.args.root.now c.args.left c.args.value.now c.args.member.now)) c.key-place.ensures) c.check_under.ensures)
 
 pub check_items-returns-in-None : goal.check_items-returns-in-None
 check_items-returns-in-None g t c = of_none (λ js. numbered (item_asks (faults (g.H.FormI18n.form_text c.args.h.now) c.args.root.now c.args.left) c.args.value.now (described_items c.args.schema.now)) 0 js) _ (sym c.items.ensures.value ∙ c.in-None.is)
@@ -115,10 +120,10 @@ check_items-returns-in-None g t c = of_none (λ js. numbered (item_asks (faults 
 pub check_item-returns-then-first-index : goal.check_item-returns-then-first-index
 check_item-returns-then-first-index g t c =
     visited_when (nat_le c.args.first c.args.index) _ (search rules)
-    (told_as (ap (λ p. under p (faults (g.H.FormI18n.form_text c.args.h.now) c.args.root.now c.args.left c.args.value.now c.args.item.now)) c.index.ensures) c.check_under.ensures)
+    (told_as (ap (λ p. under p (faults (g.H.FormI18n.form_text c.args.h.now) c.args.root.now c.args.left c.args.value.now c.args.item.now)) c.index-place.ensures) c.check_under.ensures)
 
-pub check_item-returns-else-first-index : goal.check_item-returns-else-first-index
-check_item-returns-else-first-index g t c = visited_unless (nat_le c.args.first c.args.index) _ (search rules)
+pub check_item-returns : goal.check_item-returns
+check_item-returns g t c = visited_unless (nat_le c.args.first c.args.index) _ (search rules)
 
 pub check_prefix-returns-in-None : goal.check_prefix-returns-in-None
 check_prefix-returns-in-None g t c = of_none (λ ss. of (λ js. by_place (faults (g.H.FormI18n.form_text c.args.h.now) c.args.root.now c.args.left) 0 ss js) (listed c.args.tree.now)) _ (sym c.items.ensures.value ∙ c.in-None.is)

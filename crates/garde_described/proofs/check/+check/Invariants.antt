@@ -39,8 +39,8 @@ decreases-check_described-loop-name g l = length l.rest
 abbrev pub invariant-check_undescribed-loop-name : goal.invariant-check_undescribed-loop-name
 invariant-check_undescribed-loop-name g l =
     (after : Trace) (new : List Entry) (answer : Result (Unit {0}) AllocError)
-    → Visited (in_turn (other_asks (faults (g.H.FormI18n.form_text l.h) l.root l.left) l.schema l.value) l.rest) (g.H.I18n.text l.h) l.trail after l.report new answer
-    → Visited (in_turn (other_asks (faults (g.H.FormI18n.form_text l.h) l.root l.left) l.schema l.value) l.initial.rest) (g.H.I18n.text l.h) l.initial.trail after l.initial.report new answer
+    → Visited (in_turn (other_asks (faults (g.H.FormI18n.form_text l.h) l.root l.left) l.known l.value) l.rest) (g.H.I18n.text l.h) l.trail after l.report new answer
+    → Visited (in_turn (other_asks (faults (g.H.FormI18n.form_text l.h) l.root l.left) l.known l.value) l.initial.rest) (g.H.I18n.text l.h) l.initial.trail after l.initial.report new answer
 
 abbrev pub decreases-check_undescribed-loop-name : goal.decreases-check_undescribed-loop-name
 decreases-check_undescribed-loop-name g l = length l.rest
