@@ -83,12 +83,8 @@ fn check_read<'s, 'a, H: I18n + FormI18n>(
     if bound_of(value).is_some() {
         Ok(())
     } else {
-        put(
-            FormFault::Wrong(Wanted::Whole, value.kind()),
-            trail,
-            report,
-            h,
-        )
+        let fault = FormFault::Wrong(Wanted::Whole, value.kind());
+        put(fault, trail, report, h)
     }
 }
 

@@ -126,12 +126,10 @@ fn check_target<'s, 'a, H: I18n>(
     }
     match definition(root, text) {
         Some(schema) => check_end(leads_far(root, LONGEST, &schema), trail, report, h),
-        None => Is(AsksAs("reference_unknown", "no schema has this name here", false)).ask(
-            &(),
-            trail,
-            report,
-            h,
-        ),
+        None => {
+            let rule = AsksAs("reference_unknown", "no schema has this name here", false);
+            Is(rule).ask(&(), trail, report, h)
+        }
     }
 }
 

@@ -34,16 +34,10 @@ pub(crate) fn check_links<'s, 'a, H: I18n + FormI18n>(
         return Ok(());
     }
     match schema.members() {
-        Some(keywords) => check_keywords(
-            root,
-            left - 1,
-            is_whole,
-            schema,
-            keywords,
-            trail,
-            report,
-            h,
-        ),
+        Some(keywords) => {
+            let left = left - 1;
+            check_keywords(root, left, is_whole, schema, keywords, trail, report, h)
+        }
         None => Ok(()),
     }
 }
@@ -214,15 +208,8 @@ fn check_places<'s, 'a, H: I18n + FormI18n>(
     let mut rest = schemas;
     let mut index = 0;
     while let Some(schema) = rest.next() {
-        check_under(
-            root,
-            left,
-            Component::index(index),
-            &schema,
-            trail,
-            report,
-            h,
-        )?;
+        let place = Component::index(index);
+        check_under(root, left, place, &schema, trail, report, h)?;
         index += 1;
     }
     Ok(())

@@ -33,12 +33,12 @@ check_each-returns g t c = c.loop-name.invariant _ _ _ (turn_end (member_links (
 
 pub check_places-loop-schema-preserved : goal.check_places-loop-schema-preserved
 check_places-loop-schema-preserved g t c = (
-  λ after new answer rest. c.loop-schema.invariant.0 after new answer (item_then (item_links (links (g.H.FormI18n.form_text c.args.h.now) c.args.root.now c.args.left false)) c.loop-schema.index _ _ _ c.in-Some.ensures.steps (told_as (ap (λ p. under p (links (g.H.FormI18n.form_text c.args.h.now) c.args.root.now c.args.left false c.in-Some.schema)) c.index.ensures) c.check_under.ensures) (search rules) rest),
+  λ after new answer rest. c.loop-schema.invariant.0 after new answer (item_then (item_links (links (g.H.FormI18n.form_text c.args.h.now) c.args.root.now c.args.left false)) c.loop-schema.index _ _ _ c.in-Some.ensures.steps (told_as (ap (λ p. under p (links (g.H.FormI18n.form_text c.args.h.now) c.args.root.now c.args.left false c.in-Some.schema)) c.index-place.ensures) c.check_under.ensures) (search rules) rest),
   omega (arith, c.loop-schema.invariant.1, ap length c.in-Some.ensures.steps),
 )
 
 pub check_places-returns-in_err-check_under : goal.check_places-returns-in_err-check_under
-check_places-returns-in_err-check_under g t c = c.loop-schema.invariant.0 _ _ _ (item_stop (item_links (links (g.H.FormI18n.form_text c.args.h.now) c.args.root.now c.args.left false)) c.loop-schema.index _ _ _ c.in-Some.ensures.steps (told_as (ap (λ p. under p (links (g.H.FormI18n.form_text c.args.h.now) c.args.root.now c.args.left false c.in-Some.schema)) c.index.ensures) c.check_under.ensures) (search rules) c.from_residual.ensures.0)
+check_places-returns-in_err-check_under g t c = c.loop-schema.invariant.0 _ _ _ (item_stop (item_links (links (g.H.FormI18n.form_text c.args.h.now) c.args.root.now c.args.left false)) c.loop-schema.index _ _ _ c.in-Some.ensures.steps (told_as (ap (λ p. under p (links (g.H.FormI18n.form_text c.args.h.now) c.args.root.now c.args.left false c.in-Some.schema)) c.index-place.ensures) c.check_under.ensures) (search rules) c.from_residual.ensures.0)
 
 pub check_places-returns : goal.check_places-returns
 check_places-returns g t c = c.loop-schema.invariant.0 _ _ _ (item_end (item_links (links (g.H.FormI18n.form_text c.args.h.now) c.args.root.now c.args.left false)) c.loop-schema.index _ c.in_default.ensures.steps.0)
