@@ -1,5 +1,8 @@
 /* check [LANGUAGE]: checks the body on standard input, writes the problem details of what is wrong to standard output, and ends
  * with the status of the check. Where memory or a device fails, or the library has another version, it ends with 10.
+ *
+ * Of a library that takes a schema it is check SCHEMA [LANGUAGE], with the file of one. The details of a schema that is none are
+ * written too, and it ends with 10.
  */
 #include <stdio.h>
 #include <stdlib.h>
@@ -14,6 +17,15 @@ typedef struct {
   uint8_t *at;
   size_t len, room;
 } bytes;
+
+/* The schema that bodies are checked by: an argument of each call, where the library takes one. One without bytes is the schema of
+ * schemas. */
+#ifdef ORDER_TAKES_SCHEMA
+static bytes schema = {(uint8_t[]){0}, 0, 0};
+#define BY schema.at, schema.len,
+#else
+#define BY
+#endif
 
 /* Makes room for so many bytes in all. */
 static bool grow(bytes *held, size_t room) {
@@ -37,21 +49,45 @@ static bool read_all(FILE *from, bytes *held) {
 static int check(const bytes *body, const char *language, bytes *details) {
   const uint8_t *tag = (const uint8_t *)language;
   if (!grow(details, 512)) return FAILED;
-  int status = order_check(body->at, body->len, SIZE_MAX, tag, strlen(language), details->at, details->room, &details->len);
+  int status = order_check(BY body->at, body->len, SIZE_MAX, tag, strlen(language), details->at, details->room, &details->len);
   if (details->len > details->room) {
     if (!grow(details, details->len)) return FAILED;
-    status = order_check(body->at, body->len, SIZE_MAX, tag, strlen(language), details->at, details->room, &details->len);
+    status = order_check(BY body->at, body->len, SIZE_MAX, tag, strlen(language), details->at, details->room, &details->len);
   }
   return status;
 }
 
+/* Begins with the words of the command, of which so many stand before the language. Gives the status of the schema, which is judged
+ * before any body. */
+#ifdef ORDER_TAKES_SCHEMA
+enum { BEFORE = 2 };
+
+static int begin(char **words, bytes *details) {
+  FILE *file = fopen(words[1], "rb");
+  bytes read = {NULL, 0, 0};
+  int status = file && read_all(file, &read) ? check(&read, "", details) : FAILED;
+  if (file) fclose(file);
+  schema = read;
+  return status;
+}
+#else
+enum { BEFORE = 1 };
+
+static int begin(char **words, bytes *details) {
+  (void)words;
+  (void)details;
+  return ORDER_VALID;
+}
+#endif
+
 int main(int count, char **words) {
   bytes body = {NULL, 0, 0}, details = {NULL, 0, 0};
-  if (order_version() != ORDER_VERSION || !read_all(stdin, &body)) return FAILED;
-  int status = check(&body, count > 1 ? words[1] : "", &details);
+  if (order_version() != ORDER_VERSION || count < BEFORE || !read_all(stdin, &body)) return FAILED;
+  int begun = begin(words, &details);
+  int status = begun == ORDER_VALID ? check(&body, count > BEFORE ? words[BEFORE] : "", &details) : begun;
   if (status != FAILED && fwrite(details.at, 1, details.len, stdout) != details.len) status = FAILED;
   if (fflush(stdout) != 0) status = FAILED;
   free(body.at);
   free(details.at);
-  return status;
+  return begun == ORDER_VALID ? status : FAILED;
 }

@@ -91,3 +91,16 @@ export class Checker {
   /** Frees the room now, and not when the checker is collected. A later call makes new room. */
   close(): void;
 }
+// begin: of a schema
+
+/** Checks bodies by a JSON Schema, as a checker does. The functions of the module judge schemas. */
+export class Validator extends Checker {
+  /**
+   * Keeps a copy of a schema, which is the bytes of one or what `JSON.stringify` makes them of. Throws a `FaultsError` where it has
+   * faults, with the place of each, and a `NotJsonError` where the bytes are no JSON text.
+   */
+  constructor(schema: Uint8Array | object | boolean);
+  /** Says whether a body meets the schema. Reading ends at the first fault. */
+  isValid(body: Uint8Array): boolean;
+}
+// end: of a schema

@@ -123,6 +123,19 @@ function isValid(body) {
 
 class Checker {
   #room = addon.newRoom();
+  // begin: of a schema
+
+  /** A validator gives its schema, which was judged. */
+  constructor(schema) {
+    if (schema !== undefined) addon.setSchema(this.#room, schema);
+  }
+
+  isValid(body) {
+    const status = addon.isValid(bytesOf(body), this.#room);
+    if (status === MEMORY) throw outOfMemory();
+    return status === 0;
+  }
+  // end: of a schema
 
   check(body, options) {
     return faultsOf(asked(this.#room, body, options));
@@ -143,5 +156,19 @@ class Checker {
     addon.emptyRoom(this.#room);
   }
 }
+// begin: of a schema
+
+class Validator extends Checker {
+  constructor(schema) {
+    const it = isUint8Array(schema) ? Uint8Array.from(schema) : Buffer.from(JSON.stringify(schema));
+    const faults = check(it, { places: true });
+    if (faults.length > 0) throw new FaultsError(faults);
+    super(it);
+  }
+}
+// end: of a schema
 
 module.exports = { Checker, FAULTS, FaultsError, NO_JSON, NotJsonError, check, isValid, problem, value };
+// begin: of a schema
+module.exports.Validator = Validator;
+// end: of a schema

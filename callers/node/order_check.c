@@ -4,17 +4,28 @@
 #define NAPI_VERSION 8
 #include <node_api.h>
 #include <stdlib.h>
+#include <string.h>
 
 #include "order.h"
 
-/* What a call works in: a checker, and memory for details and for places. All grow by need. */
+/* What a call works in: a checker, and memory for details and for places, which grow by need; and the schema of a validator. */
 typedef struct {
   order_checker checker;
   uint8_t *details;
   size_t size;
   order_place *places;
   size_t places_size;
+  uint8_t *schema;
+  size_t schema_len;
 } room;
+
+/* The schema that a room judges by: an argument of each call, where the library takes one. One without bytes is the schema of
+ * schemas. */
+#ifdef ORDER_TAKES_SCHEMA
+#define BY(in) (in)->schema ? (in)->schema : NOTHING, (in)->schema_len,
+#else
+#define BY(in)
+#endif
 
 /* Bytes, which are never at NULL. */
 typedef struct {
@@ -53,7 +64,7 @@ static void empty(room *it) {
   order_free(&it->checker);
   free(it->details);
   free(it->places);
-  *it = (room){.checker = it->checker};
+  *it = (room){.checker = it->checker, .schema = it->schema, .schema_len = it->schema_len};
 }
 
 /* V8 learns what a room holds, about, so that it collects rooms in time. */
@@ -65,6 +76,7 @@ static void weigh(napi_env env, int64_t change) {
 static void drop(napi_env env, void *given, void *hint) {
   (void)hint;
   empty(given);
+  free(((room *)given)->schema);
   free(given);
   weigh(env, -HELD);
 }
@@ -121,9 +133,9 @@ static uint8_t checked(const asked *it, size_t *len, size_t *places) {
   do {
     if (!grow(&in->details, &in->size, *len, 1) || !grow(&in->places, &in->places_size, *places, sizeof *in->places)) return ORDER_MEMORY;
     status = it->has_places
-                 ? order_faults_with(&in->checker, it->body.at, it->body.len, it->most, it->language.at, it->language.len, in->details,
+                 ? order_faults_with(&in->checker, BY(in) it->body.at, it->body.len, it->most, it->language.at, it->language.len, in->details,
                                      in->size, len, &node, 0, &none, in->details, 0, &none, in->places, in->places_size, places)
-                 : order_check_with(&in->checker, it->body.at, it->body.len, it->most, it->language.at, it->language.len, in->details,
+                 : order_check_with(&in->checker, BY(in) it->body.at, it->body.len, it->most, it->language.at, it->language.len, in->details,
                                     in->size, len);
   } while (*len > in->size || *places > in->places_size);
   return status;
@@ -193,16 +205,38 @@ static napi_value check(napi_env env, napi_callback_info info) {
   return answer(env, status, it.room, len, places);
 }
 
-/* isValid(body): the status. */
+/* isValid(body), isValid(body, room): the status. */
 static napi_value is_valid(napi_env env, napi_callback_info info) {
-  napi_value word, status;
-  size_t count = 1;
+  napi_value words[2], status;
+  size_t count = 2;
   bytes body;
-  if (napi_get_cb_info(env, info, &count, &word, NULL, NULL) != napi_ok || !bytes_of(env, word, &body))
+  room none = {0}, *in = &none;
+  if (napi_get_cb_info(env, info, &count, words, NULL, NULL) != napi_ok || !bytes_of(env, words[0], &body))
     return failed(env, "a body is a Uint8Array");
-  if (napi_create_uint32(env, order_is_valid(body.at, body.len), &status) != napi_ok) return failed(env, "no status");
+  if (count > 1 && !room_of(env, words[1], &in)) return failed(env, "no room");
+  (void)in;
+  if (napi_create_uint32(env, order_is_valid(BY(in) body.at, body.len), &status) != napi_ok) return failed(env, "no status");
   return status;
 }
+
+#ifdef ORDER_TAKES_SCHEMA
+/* setSchema(room, schema): keeps a copy of the schema that the room of a validator judges by. */
+static napi_value set_schema(napi_env env, napi_callback_info info) {
+  napi_value words[2];
+  size_t count = 2;
+  room *in = NULL;
+  bytes schema;
+  if (napi_get_cb_info(env, info, &count, words, NULL, NULL) != napi_ok || !room_of(env, words[0], &in) || !bytes_of(env, words[1], &schema))
+    return failed(env, "a room has a schema");
+  uint8_t *kept = malloc(schema.len + 1);
+  if (!kept) return failed(env, "no schema is kept");
+  memcpy(kept, schema.at, schema.len);
+  free(in->schema);
+  in->schema = kept;
+  in->schema_len = schema.len;
+  return NULL;
+}
+#endif
 
 /* value(room, body, nodes, texts, used): the status. Of a valid body `nodes` and `texts` get what they have room for. The two numbers
  * of `used` say how many nodes and bytes of texts there are. */
@@ -219,7 +253,7 @@ static napi_value value(napi_env env, napi_callback_info info) {
       !array_of(env, words[3], napi_uint8_array, &texts) || !texts.len || !array_of(env, words[4], napi_float64_array, &used) ||
       used.len != 2)
     return failed(env, "no room for a value");
-  uint8_t said = order_value_with(&in->checker, body.at, body.len, nodes.at, nodes.len * 4 / sizeof(order_node), &nodes_used, texts.at,
+  uint8_t said = order_value_with(&in->checker, BY(in) body.at, body.len, nodes.at, nodes.len * 4 / sizeof(order_node), &nodes_used, texts.at,
                                   texts.len, &texts_used);
   ((double *)used.at)[0] = (double)nodes_used;
   ((double *)used.at)[1] = (double)texts_used;
@@ -234,6 +268,9 @@ NAPI_MODULE_INIT() {
       {.utf8name = "check", .method = check},
       {.utf8name = "isValid", .method = is_valid},
       {.utf8name = "value", .method = value},
+#ifdef ORDER_TAKES_SCHEMA
+      {.utf8name = "setSchema", .method = set_schema},
+#endif
   };
   if (order_version() != ORDER_VERSION) return failed(env, "the library has another version than its header");
   if (napi_define_properties(env, exports, sizeof functions / sizeof *functions, functions) != napi_ok)

@@ -15,28 +15,28 @@ CRATE = ROOT / "crates" / "use_library"
 CASES = ROOT / "tests" / "called"
 
 
-def made(archive):
-    """Makes the archive of the crate where it is missing, or older than a source. Why it cannot be made, or an empty text."""
-    crates = [*repository.below("use_library"), "use_library"]
+def made(archive, crate="use_library"):
+    """Makes the archive of a crate where it is missing, or older than a source. Why it cannot be made, or an empty text."""
+    crates = [*repository.below(crate), crate]
     parts = [ROOT / "crates" / it / part for it in crates for part in ("src", "specs", "proofs")]
     newest = max(file.stat().st_mtime for part in parts for file in part.rglob("*.*"))
     if archive.is_file() and archive.stat().st_mtime >= newest:
         return ""
     missing = [it for it in crates[:-1] if not (ROOT / "crates" / it / "out" / "rlib").is_dir()]
     if missing:
-        return f"{archive} is not there, or old: run rt ci, or rt lib in crates/use_library"
+        return f"{archive} is not there, or old: run rt ci, or rt lib in crates/{crate}"
     archive.parent.mkdir(exist_ok=True)
-    return prover.static_library("use_library", archive)
+    return prover.static_library(crate, archive)
 
 
-def archives(folder=None):
+def archives(folder=None, crate="use_library"):
     """The two archives, in their order. They lie in a folder, or in the crate and in the toolchain."""
     if folder:
-        found = [pathlib.Path(folder) / name for name in ("libuse_library.a", "liblibc_c.a")]
+        found = [pathlib.Path(folder) / name for name in (f"lib{crate}.a", "liblibc_c.a")]
     else:
         kit = pathlib.Path(shutil.which("rt") or "/rt").resolve().parent.parent
-        found = [CRATE / "out" / "libuse_library.a", kit / "c" / "liblibc_c.a"]
-        if wrong := made(found[0]):
+        found = [ROOT / "crates" / crate / "out" / f"lib{crate}.a", kit / "c" / "liblibc_c.a"]
+        if wrong := made(found[0], crate):
             sys.exit(wrong)
     for it in found:
         if not it.is_file():

@@ -35,6 +35,10 @@ class Exports:
     def names(self):
         return [it.name for it in self.functions]
 
+    def takes_schema(self):
+        """Whether the rules are a schema, which is handed over with each body."""
+        return any("schema: &[u8]" in it.taken for it in self.functions)
+
 
 def read_exports(crate):
     path = pathlib.Path(crate) / "src" / "lib.rt"

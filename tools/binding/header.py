@@ -12,6 +12,7 @@ TYPES = {
     "&mut [u8]": ["uint8_t *{0}", "size_t {0}_len"],
     "&mut usize": ["size_t *{0}"],
     "&mut Room": ["{prefix}_checker *{0}"],
+    "&mut Checker": ["{prefix}_checker *{0}"],
     "&mut [Node]": ["{prefix}_node *{0}", "size_t {0}_len"],
     "&mut [Place]": ["{prefix}_place *{0}", "size_t {0}_len"],
     "usize": ["size_t {0}"], "u8": ["uint8_t {0}"], "u32": ["uint32_t {0}"],
@@ -25,6 +26,18 @@ typedef struct {{
 }} {prefix}_checker;
 
 #define {PREFIX}_CHECKER_EMPTY {{NULL, false}}"""
+CHECKER_OF_SCHEMAS = """/* Room that is kept from one call to the next. Begin with {PREFIX}_CHECKER_EMPTY, or with all bytes 0. */
+typedef struct {{
+  void *room;
+  bool has_room;
+  void *schema_room;
+  bool has_schema_room;
+}} {prefix}_checker;
+
+#define {PREFIX}_CHECKER_EMPTY {{NULL, false, NULL, false}}
+
+/* The functions take a schema. */
+#define {PREFIX}_TAKES_SCHEMA 1"""
 
 
 def comment(lines):
@@ -109,6 +122,7 @@ def header_of(exports):
         f"/* The version of the interface that this header describes. */\n#define {upper}_VERSION {exports.version}u",
         statuses(upper),
         *[CHECKER.format(prefix=prefix, PREFIX=upper)] * ("&mut Room" in exports.source),
+        *[CHECKER_OF_SCHEMAS.format(prefix=prefix, PREFIX=upper)] * exports.takes_schema(),
         *[node(prefix)] * ("&mut [Node]" in exports.source),
         *[struct(PLACES, f"{prefix}_place")] * ("&mut [Place]" in exports.source),
         *[declaration(it, prefix) for it in exports.functions],

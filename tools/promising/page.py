@@ -8,7 +8,7 @@ from . import notes, promised
 COLUMNS = "| function | what it promises | clauses | tests | mutants |\n|---|---|---|---|---|\n"
 OTHERS = "| other function | mutants |\n|---|---|\n"
 # crates that tests reach through C alone
-THROUGH_C = ("garde_library", "example_order", "use_library")
+THROUGH_C = ("garde_library", "example_order", "use_library", "use_schemas")
 # a program that is no program to copy, and crates that tests reach through the runs of programs
 THROUGH_RUNS = ("garde_check", "garde_service", "example_table")
 REASONS = ("C", "law", "run", "safe")

@@ -156,22 +156,37 @@ static PyObject *check(PyObject *module, PyObject *args, PyObject *words) { retu
 static PyObject *problem(PyObject *module, PyObject *args, PyObject *words) { return answer(module, args, words, TO_PROBLEM, problem_in); }
 static PyObject *load(PyObject *module, PyObject *args, PyObject *words) { return answer(module, args, words, TO_LOAD, value_in); }
 
-static PyObject *is_valid(PyObject *module, PyObject *body) {
-  (void)module;
+static PyObject *valid_in(room *in, PyObject *body) {
   asked it = {0};
   uint8_t status = ORDER_MEMORY;
   PyObject *args = PyTuple_Pack(1, body);
   bool is_read = args && read_asked(args, NULL, TO_PROBLEM, &it);
-  if (is_read) {
-    PyThreadState *thread = it.len > SMALL ? PyEval_SaveThread() : NULL;
-    status = order_is_valid(it.at, it.len);
-    if (thread) PyEval_RestoreThread(thread);
-  }
+  if (is_read) status = ask_whether(in, &it);
   drop_asked(&it);
   Py_XDECREF(args);
   if (!is_read) return NULL;
   return status == ORDER_MEMORY ? no_memory() : PyBool_FromLong(status == ORDER_VALID);
 }
+
+static PyObject *is_valid(PyObject *module, PyObject *body) {
+  (void)module;
+  room none = {.is_taken = true};
+  return valid_in(&none, body);
+}
+
+#ifdef ORDER_TAKES_SCHEMA
+/* is_valid_by(room, body) */
+static PyObject *is_valid_by(PyObject *module, PyObject *args) {
+  state *held = PyModule_GetState(module);
+  PyObject *body = NULL;
+  asked with = {0};
+  room *in = PyArg_ParseTuple(args, "OO", &with.room, &body) ? take_room(held, &with) : NULL;
+  if (!in) return NULL;
+  PyObject *found = valid_in(in, body);
+  put_room(held, &with, in);
+  return found;
+}
+#endif
 
 /* How many rooms are kept. */
 static PyObject *kept_rooms(PyObject *module, PyObject *none) {
@@ -187,6 +202,10 @@ static PyMethodDef functions[] = {
     {"new_room", new_room, METH_O, NULL},
     {"close_room", close_room, METH_O, NULL},
     {"kept_rooms", kept_rooms, METH_NOARGS, NULL},
+#ifdef ORDER_TAKES_SCHEMA
+    {"is_valid_by", is_valid_by, METH_VARARGS, NULL},
+    {"set_schema", set_schema, METH_VARARGS, NULL},
+#endif
     {NULL, NULL, 0, NULL},
 };
 

@@ -34,7 +34,18 @@ typedef struct {
   size_t nodes_len, places_len, texts_len, out_len;
   size_t nodes_used, places_used, texts_used, out_used;
   bool is_taken, is_large;
+  /* The schema of a validator. */
+  uint8_t *schema;
+  size_t schema_len;
 } room;
+
+/* The schema that a room judges by: an argument of each call, where the library takes one. One without bytes is the schema of
+ * schemas. */
+#ifdef ORDER_TAKES_SCHEMA
+#define BY(in) (in)->schema ? (in)->schema : (const uint8_t *)"", (in)->schema_len,
+#else
+#define BY(in)
+#endif
 
 /* What a call is asked. */
 typedef struct {
@@ -110,11 +121,14 @@ void free_room(room *in);
 PyObject *no_memory(void);
 PyObject *new_room(PyObject *module, PyObject *length);
 PyObject *close_room(PyObject *module, PyObject *capsule);
+/* set_schema(room, schema): keeps a copy of the schema that the room of a validator judges by. */
+PyObject *set_schema(PyObject *module, PyObject *args);
 /* The status of a body, with its value, its details, or its faults as nodes in the room: with the details and the places too, where
  * they are asked for. */
 uint8_t ask_value(room *in, const asked *it);
 uint8_t ask_details(room *in, const asked *it);
 uint8_t ask_faults(room *in, const asked *it);
+uint8_t ask_whether(room *in, const asked *it);
 
 /* plan.c: what is made by `into`. It is kept by the module. */
 plan *plan_of(state *held, PyObject *into);

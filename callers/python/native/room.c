@@ -50,7 +50,7 @@ static uint8_t call_value(room *in, const asked *it) {
   uint8_t status = ORDER_MEMORY;
   do {
     if (!grow_nodes(in, nodes) || !grow_texts(in, texts)) return ORDER_MEMORY;
-    status = order_value_with(&in->checker, it->at, it->len, in->nodes, in->nodes_len, &in->nodes_used, in->texts, in->texts_len,
+    status = order_value_with(&in->checker, BY(in) it->at, it->len, in->nodes, in->nodes_len, &in->nodes_used, in->texts, in->texts_len,
                               &in->texts_used);
     nodes = in->nodes_used;
     texts = in->texts_used;
@@ -64,7 +64,7 @@ static uint8_t call_details(room *in, const asked *it) {
   uint8_t status = ORDER_MEMORY;
   do {
     if (!grow_out(in, out)) return ORDER_MEMORY;
-    status = order_check_with(&in->checker, it->at, it->len, it->most, it->tag, it->tag_len, in->out, in->out_len, &in->out_used);
+    status = order_check_with(&in->checker, BY(in) it->at, it->len, it->most, it->tag, it->tag_len, in->out, in->out_len, &in->out_used);
     out = in->out_used;
   } while (!holds(in));
   return status;
@@ -79,7 +79,7 @@ static uint8_t call_faults(room *in, const asked *it) {
   uint8_t status = ORDER_MEMORY;
   do {
     if (!grow_out(in, out) || !grow_nodes(in, nodes) || !grow_texts(in, texts) || !grow_places(in, places)) return ORDER_MEMORY;
-    status = order_faults_with(&in->checker, it->at, it->len, it->most, it->tag, it->tag_len, in->out, it->details ? in->out_len : 0,
+    status = order_faults_with(&in->checker, BY(in) it->at, it->len, it->most, it->tag, it->tag_len, in->out, it->details ? in->out_len : 0,
                                &in->out_used, in->nodes, in->nodes_len, &in->nodes_used, in->texts, in->texts_len, &in->texts_used,
                                in->places, it->places ? in->places_len : 0, &in->places_used);
     out = in->out_used;
@@ -90,9 +90,15 @@ static uint8_t call_faults(room *in, const asked *it) {
   return status;
 }
 
+static uint8_t call_whether(room *in, const asked *it) {
+  (void)in;
+  return order_is_valid(BY(in) it->at, it->len);
+}
+
 uint8_t ask_value(room *in, const asked *it) { return ask(call_value, in, it); }
 uint8_t ask_details(room *in, const asked *it) { return ask(call_details, in, it); }
 uint8_t ask_faults(room *in, const asked *it) { return ask(call_faults, in, it); }
+uint8_t ask_whether(room *in, const asked *it) { return ask(call_whether, in, it); }
 
 /* Frees what a room holds. */
 static void empty(room *in) {
@@ -101,6 +107,7 @@ static void empty(room *in) {
   free(in->places);
   free(in->texts);
   free(in->out);
+  free(in->schema);
   *in = (room){.is_taken = in->is_taken};
 }
 
@@ -162,6 +169,22 @@ PyObject *new_room(PyObject *module, PyObject *length) {
   PyObject *capsule = PyCapsule_New(in, CAPSULE, drop_capsule);
   if (!capsule) free_room(in);
   return capsule;
+}
+
+PyObject *set_schema(PyObject *module, PyObject *args) {
+  (void)module;
+  PyObject *capsule = NULL;
+  const char *at = NULL;
+  Py_ssize_t len = 0;
+  room *in = PyArg_ParseTuple(args, "Oy#", &capsule, &at, &len) ? PyCapsule_GetPointer(capsule, CAPSULE) : NULL;
+  if (!in) return NULL;
+  uint8_t *schema = malloc((size_t)len + 1);
+  if (!schema) return PyErr_NoMemory();
+  memcpy(schema, at, (size_t)len);
+  free(in->schema);
+  in->schema = schema;
+  in->schema_len = (size_t)len;
+  Py_RETURN_NONE;
 }
 
 /* Frees what the room of a checker holds. It stays taken from then on. */

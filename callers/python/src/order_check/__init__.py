@@ -6,14 +6,23 @@ body of more than 512 bytes.
 """
 from __future__ import annotations
 
+# begin: of a schema
+import json
+# end: of a schema
 import types
 from typing import Any
 
+# begin: of a schema
+from . import _native
+# end: of a schema
 from ._answers import Body, Fault, Faults, Invalid, NotJson, Place, Problem, Status
 from ._native import check, close_room, is_valid, load, new_room, problem
 from ._shapes import Valid
 
 __all__ = ["Body", "Checker", "Fault", "Faults", "Invalid", "NotJson", "Place", "Problem", "Status", "Valid", "check", "is_valid", "load", "problem"]
+# begin: of a schema
+__all__ += ["Validator"]
+# end: of a schema
 
 
 class Checker:
@@ -49,3 +58,23 @@ class Checker:
 
     def __exit__(self, kind: type[BaseException] | None, error: BaseException | None, trace: types.TracebackType | None) -> None:
         self.close()
+# begin: of a schema
+
+
+class Validator(Checker):
+    """Checks bodies by a JSON Schema, as a checker does, in room of its own. The functions of the module judge schemas."""
+
+    def __init__(self, schema: Body | dict[str, Any] | bool, body_len: int = 0) -> None:
+        """Keeps a copy of a schema, which is the bytes of one or what `json.loads` makes of them.
+
+        Raises `Invalid` where it has faults, with the place of each, and `NotJson` where the bytes are no JSON text.
+        """
+        text = json.dumps(schema).encode() if isinstance(schema, (dict, bool)) else bytes(memoryview(schema))
+        load(text, places=True)
+        super().__init__(body_len)
+        _native.set_schema(self._room, text)
+
+    def is_valid(self, body: Body) -> bool:
+        """Says whether a body meets the schema. Reading ends at the first fault."""
+        return _native.is_valid_by(self._room, body)
+# end: of a schema
