@@ -114,3 +114,17 @@ func Decode(body []byte, into any, given ...Option) (Faults, error) {
 	defer c.Close()
 	return c.Decode(body, into, given...)
 }
+
+// Problem gives the status of a body and its problem details, of the media type application/problem+json. Of a valid body there
+// are none.
+func Problem(body []byte, given ...Option) (Status, []byte, error) {
+	var c Checker
+	defer c.Close()
+	return c.Problem(body, given...)
+}
+
+// IsValid says whether a body is valid. Reading ends at the first fault, and bytes that are no JSON text are not valid.
+func IsValid(body []byte) (bool, error) {
+	var c Checker
+	return c.isValid(body)
+}

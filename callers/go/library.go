@@ -48,32 +48,30 @@ func start(bytes []byte) *C.uint8_t {
 	return (*C.uint8_t)(unsafe.Pointer(&bytes[0]))
 }
 
-// call checks a body, with the room of a checker where there is one. The details are cut at the end of out, and the length is
-// that of the whole.
-func call(checker *C.order_checker, body []byte, o options, out []byte) (C.uint8_t, int) {
+// call checks a body. The details are cut at the end of out, and the length is that of the whole.
+func (c *Checker) call(body []byte, o options, out []byte) (C.uint8_t, int) {
 	var length C.size_t
 	language := []byte(o.language)
-	if checker == nil {
-		status := C.order_check(start(body), C.size_t(len(body)), C.size_t(o.most),
-			start(language), C.size_t(len(language)), start(out), C.size_t(len(out)), &length)
-		return status, int(length)
-	}
-	status := C.order_check_with(checker, start(body), C.size_t(len(body)), C.size_t(o.most),
+	status := C.order_check_with(&c.raw,
+		// begin: of a schema
+		start(c.schema), C.size_t(len(c.schema)),
+		// end: of a schema
+		start(body), C.size_t(len(body)), C.size_t(o.most),
 		start(language), C.size_t(len(language)), start(out), C.size_t(len(out)), &length)
 	return status, int(length)
 }
 
-// problem gives the status of a body and its problem details.
-func problem(checker *C.order_checker, body []byte, given []Option) (Status, []byte, error) {
+// Problem gives the status of a body and its problem details, as the function Problem does.
+func (c *Checker) Problem(body []byte, given ...Option) (Status, []byte, error) {
 	meant, err := read(given)
 	if err != nil {
 		return Valid, nil, err
 	}
 	out := make([]byte, room)
-	status, length := call(checker, body, meant, out)
+	status, length := c.call(body, meant, out)
 	if length > len(out) {
 		out = make([]byte, length)
-		status, length = call(checker, body, meant, out)
+		status, length = c.call(body, meant, out)
 	}
 	if status == C.ORDER_MEMORY {
 		return Valid, nil, ErrMemory
@@ -81,15 +79,12 @@ func problem(checker *C.order_checker, body []byte, given []Option) (Status, []b
 	return Status(status), out[:length], nil
 }
 
-// Problem gives the status of a body and its problem details, of the media type application/problem+json. Of a valid body there
-// are none.
-func Problem(body []byte, given ...Option) (Status, []byte, error) {
-	return problem(nil, body, given)
-}
-
-// IsValid says whether a body is valid. Reading ends at the first fault, and bytes that are no JSON text are not valid.
-func IsValid(body []byte) (bool, error) {
-	status := C.order_is_valid(start(body), C.size_t(len(body)))
+func (c *Checker) isValid(body []byte) (bool, error) {
+	status := C.order_is_valid(
+		// begin: of a schema
+		start(c.schema), C.size_t(len(c.schema)),
+		// end: of a schema
+		start(body), C.size_t(len(body)))
 	if status == C.ORDER_MEMORY {
 		return false, ErrMemory
 	}
@@ -100,6 +95,11 @@ func IsValid(body []byte) (bool, error) {
 // at a time. A Checker is not copied.
 type Checker struct {
 	raw C.order_checker
+	// begin: of a schema
+
+	// One without bytes is the schema of schemas.
+	schema []byte
+	// end: of a schema
 }
 
 // NewChecker gives a checker with room for bodies of so many bytes. Longer ones are checked too.
@@ -127,7 +127,11 @@ func (c *Checker) faults(body []byte, o options, has wanted) (Status, reading, [
 	var noDetails, nodesUsed, textsUsed, placesUsed C.size_t
 	nodes, texts, language := make([]node, has.nodes), make([]byte, has.texts), []byte(o.language)
 	places := make([]C.order_place, has.places+1)
-	status := C.order_faults_with(&c.raw, start(body), C.size_t(len(body)), C.size_t(o.most), start(language), C.size_t(len(language)),
+	status := C.order_faults_with(&c.raw,
+		// begin: of a schema
+		start(c.schema), C.size_t(len(c.schema)),
+		// end: of a schema
+		start(body), C.size_t(len(body)), C.size_t(o.most), start(language), C.size_t(len(language)),
 		start(nil), 0, &noDetails, startOf(nodes), C.size_t(has.nodes), &nodesUsed,
 		start(texts), C.size_t(has.texts), &textsUsed, &places[0], C.size_t(has.places), &placesUsed)
 	if used := (wanted{int(nodesUsed), int(textsUsed), int(placesUsed)}); used.nodes > has.nodes || used.texts > has.texts || used.places > has.places {
@@ -140,7 +144,11 @@ func (c *Checker) faults(body []byte, o options, has wanted) (Status, reading, [
 func (c *Checker) value(body []byte, room int) (Status, reading) {
 	var nodesUsed, textsUsed C.size_t
 	nodes, texts := make([]node, room), make([]byte, len(body))
-	status := C.order_value_with(&c.raw, start(body), C.size_t(len(body)), startOf(nodes), C.size_t(room), &nodesUsed,
+	status := C.order_value_with(&c.raw,
+		// begin: of a schema
+		start(c.schema), C.size_t(len(c.schema)),
+		// end: of a schema
+		start(body), C.size_t(len(body)), startOf(nodes), C.size_t(room), &nodesUsed,
 		start(texts), C.size_t(len(texts)), &textsUsed)
 	if int(nodesUsed) > room {
 		return c.value(body, int(nodesUsed))
@@ -190,11 +198,6 @@ func (c *Checker) Decode(body []byte, into any, given ...Option) (Faults, error)
 		return c.Check(body, given...)
 	}
 	return Faults{}, found.into(to.Elem(), "")
-}
-
-// Problem gives the status of a body and its problem details, as the function Problem does.
-func (c *Checker) Problem(body []byte, given ...Option) (Status, []byte, error) {
-	return problem(&c.raw, body, given)
 }
 
 // Close frees the room. A second call does nothing. Where no call is made, the room is freed with the Checker.

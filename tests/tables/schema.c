@@ -33,8 +33,8 @@ uint8_t schema_value_with(schema_checker *checker, const uint8_t *schema, size_t
   checker->has_room = texts_len > 0;
   *nodes_used = nodes_len > 0;
   *texts_used = 0;
-  nodes[0].kind = SCHEMA_NODE_NULL;
-  texts[0] = 0;
+  if (nodes_len > 0) nodes[0].kind = SCHEMA_NODE_NULL;
+  if (texts_len > 0) texts[0] = 0;
   return schema_is_valid(schema, schema_len, body, body_len);
 }
 

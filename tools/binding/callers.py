@@ -44,10 +44,11 @@ LANGUAGES = {
     "python": Language("Python", "pip install ./python", "Then `import order_check`.",
                        ("lib/order.h", "lib/liborder.a", None, "lib/aarch64/liborder.a"), takes_schema=True),
     "rust": Language("Rust", "cargo build --manifest-path rust/Cargo.toml",
-                     "In your crate: `cargo add --path FOLDER/rust`, and `use order_check::check;`.", (None, "lib/liborder.a", None, "lib/aarch64/liborder.a")),
+                     "In your crate: `cargo add --path FOLDER/rust`, and `use order_check::check;`.", (None, "lib/liborder.a", None, "lib/aarch64/liborder.a"),
+                     takes_schema=True),
     "go": Language("Go", "(cd go && go build ./...)",
                    "In your module: `go mod edit -require=example.com/order@v0.0.0 -replace=example.com/order=FOLDER/go`, and "
-                   '`import "example.com/order"`.', ("lib/order.h", "lib/liborder.a", None, "lib/aarch64/liborder.a")),
+                   '`import "example.com/order"`.', ("lib/order.h", "lib/liborder.a", None, "lib/aarch64/liborder.a"), takes_schema=True),
     "node": Language("Node", "npm install ./node", "Then `require('order-check')`.", ("lib/order.h", "lib/liborder.a"), takes_schema=True),
     "wasm": Language("JavaScript in a browser, a worker or Node", "npm install ./wasm", "Then `import { load } from 'order-wasm'`, or of "
                      "`FOLDER/wasm/index.js` with no `npm`.", (*(None,) * 5, "order.wasm", "order.32.wasm"), 7),
@@ -92,7 +93,10 @@ def write_callers(exports, folder, libraries):
     prefix, takes_schema = exports.prefix, exports.takes_schema()
     files, sections = sources(len(libraries), takes_schema), [HEAD]
     for path, source in files.items():
-        text = with_parts(source.read_text(encoding="utf-8"), takes_schema)
+        whole = source.read_text(encoding="utf-8")
+        text = with_parts(whole, takes_schema)
+        if whole and not text:
+            continue
         put(folder / renamed(str(path), prefix), renamed(text, prefix).encode())
         (folder / renamed(str(path), prefix)).chmod(source.stat().st_mode & 0o777)
     callers = sorted({path.parts[0] for path in files})

@@ -4,6 +4,10 @@
 //! safety are theirs. Line 3 forbids copies of a checker: a move leaves no second one behind. Line 4
 //! is met by each call in the same way: this crate frees nothing that the library allocated, and
 //! only unsafe code makes calls from a signal handler or from a forked child.
+// begin: of a schema
+use std::sync::Arc;
+
+// end: of a schema
 use crate::options::Options;
 use crate::problem::{OutOfMemory, Problem};
 use crate::raw;
@@ -26,6 +30,10 @@ pub struct Checker {
     pub(crate) nodes: Vec<raw::Node>,
     pub(crate) places: Vec<raw::Place>,
     pub(crate) texts: Vec<u8>,
+    // begin: of a schema
+    /// One without bytes is the schema of schemas.
+    pub(crate) schema: Arc<[u8]>,
+    // end: of a schema
 }
 
 // SAFETY: line 3 asks for one thread at a time, and does not ask for the same one. Each call takes
@@ -46,6 +54,9 @@ impl Checker {
             nodes: Vec::new(),
             places: Vec::new(),
             texts: Vec::new(),
+            // begin: of a schema
+            schema: Arc::default(),
+            // end: of a schema
         }
     }
 
@@ -88,6 +99,27 @@ impl Checker {
         self.answer(raw::order_list_with, body.as_ref(), options)
     }
 
+    pub(crate) fn is_valid(&self, body: &[u8]) -> Result<bool, OutOfMemory> {
+        // SAFETY: 1: each pointer comes from a slice, with the length of that slice, and is not NULL.
+        // 2: the slices are behind `&`, and nothing is written. 3: no checker is handed over. 4: see
+        // the head.
+        let status = unsafe {
+            raw::order_is_valid(
+                // begin: of a schema
+                self.schema.as_ptr(),
+                self.schema.len(),
+                // end: of a schema
+                body.as_ptr(),
+                body.len(),
+            )
+        };
+        match status {
+            raw::VALID => Ok(true),
+            raw::MEMORY => Err(OutOfMemory),
+            _ => Ok(false),
+        }
+    }
+
     /// What this function of the library says of a body.
     fn answer(&mut self, call: raw::Call, body: &[u8], options: Options) -> Result<(), Problem> {
         self.make_room(ROOM)?;
@@ -117,6 +149,10 @@ impl Checker {
         let status = unsafe {
             call(
                 &mut self.raw,
+                // begin: of a schema
+                self.schema.as_ptr(),
+                self.schema.len(),
+                // end: of a schema
                 body.as_ptr(),
                 body.len(),
                 options.most.get(),
@@ -158,14 +194,7 @@ impl Drop for Checker {
 ///
 /// Where the library has another interface than this crate.
 pub fn is_valid(body: &[u8]) -> Result<bool, OutOfMemory> {
-    assert_interface();
-    // SAFETY: 1: the pointer comes from a slice, with the length of that slice, and is not NULL. 2:
-    // the slice is behind `&`, and nothing is written. 3: there is no checker. 4: see the head.
-    match unsafe { raw::order_is_valid(body.as_ptr(), body.len()) } {
-        raw::VALID => Ok(true),
-        raw::MEMORY => Err(OutOfMemory),
-        _ => Ok(false),
-    }
+    Checker::new().is_valid(body)
 }
 
 /// Panics where the library has another interface than this crate.

@@ -1,6 +1,9 @@
 //! The faults of a body, one by one.
 use std::error::Error;
 use std::fmt::{self, Debug, Display, Formatter};
+// begin: of a schema
+use std::sync::Arc;
+// end: of a schema
 
 use crate::checker::Checker;
 use crate::options::Options;
@@ -37,6 +40,9 @@ pub struct Faults {
     pub(crate) body: Vec<u8>,
     pub(crate) language: String,
     pub(crate) most: std::num::NonZeroUsize,
+    // begin: of a schema
+    pub(crate) schema: Arc<[u8]>,
+    // end: of a schema
 }
 
 impl Faults {
@@ -55,6 +61,9 @@ impl Faults {
             body: Vec::new(),
             language: String::new(),
             most: std::num::NonZeroUsize::MAX,
+            // begin: of a schema
+            schema: Arc::default(),
+            // end: of a schema
         }
     }
 
@@ -223,8 +232,12 @@ impl<'f> Iterator for FaultsIter<'f> {
 impl Display for Faults {
     fn fmt(&self, f: &mut Formatter<'_>) -> fmt::Result {
         let options = Options::new().most(self.most).language(&self.language);
+        let mut checker = Checker::new();
+        // begin: of a schema
+        checker.schema = self.schema.clone();
+        // end: of a schema
         match self.status {
-            raw::FAULTS | raw::NO_JSON => match Checker::new().list_with(&self.body, options) {
+            raw::FAULTS | raw::NO_JSON => match checker.list_with(&self.body, options) {
                 Err(Problem::Faults(lines) | Problem::NoJson(lines)) => f.write_str(&lines),
                 _ => Err(fmt::Error),
             },

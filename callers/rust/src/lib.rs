@@ -20,6 +20,9 @@ mod nodes;
 mod options;
 mod problem;
 mod raw;
+// begin: of a schema
+mod validator;
+// end: of a schema
 mod value;
 
 pub use checker::{Checker, is_valid};
@@ -27,6 +30,9 @@ pub use faults::{Fault, Faults, FaultsIter};
 pub use options::Options;
 pub use problem::{OutOfMemory, Problem};
 pub use raw::Place;
+// begin: of a schema
+pub use validator::Validator;
+// end: of a schema
 pub use value::{Part, Parts, Text};
 
 /// Checks a body, and reports every fault in English.

@@ -82,6 +82,10 @@ impl Checker {
         unsafe {
             raw::order_value_with(
                 &mut self.raw,
+                // begin: of a schema
+                self.schema.as_ptr(),
+                self.schema.len(),
+                // end: of a schema
                 body.as_ptr(),
                 body.len(),
                 self.nodes.as_mut_ptr(),
@@ -122,6 +126,9 @@ impl Checker {
         found.body = body.to_vec();
         found.language = options.language.to_owned();
         found.most = options.most;
+        // begin: of a schema
+        found.schema = self.schema.clone();
+        // end: of a schema
         Ok(found)
     }
 
@@ -143,6 +150,10 @@ impl Checker {
         unsafe {
             raw::order_faults_with(
                 &mut self.raw,
+                // begin: of a schema
+                self.schema.as_ptr(),
+                self.schema.len(),
+                // end: of a schema
                 body.as_ptr(),
                 body.len(),
                 options.most.get(),

@@ -3,7 +3,12 @@ use std::ffi::c_void;
 use std::ptr;
 
 /// The version of the interface that is declared here.
+// begin: of a type
 pub const VERSION: u32 = 4;
+// end: of a type
+// begin: of a schema
+pub const VERSION: u32 = 1;
+// end: of a schema
 
 pub const VALID: u8 = 0;
 pub const FAULTS: u8 = 1;
@@ -62,6 +67,10 @@ impl Node {
 pub struct Checker {
     room: *mut c_void,
     has_room: bool,
+    // begin: of a schema
+    schema_room: *mut c_void,
+    has_schema_room: bool,
+    // end: of a schema
 }
 
 impl Checker {
@@ -69,12 +78,20 @@ impl Checker {
     pub const EMPTY: Checker = Checker {
         room: ptr::null_mut(),
         has_room: false,
+        // begin: of a schema
+        schema_room: ptr::null_mut(),
+        has_schema_room: false,
+        // end: of a schema
     };
 }
 
 /// `order_check_with` and `order_list_with`.
 pub type Call = unsafe extern "C" fn(
     checker: *mut Checker,
+    // begin: of a schema
+    schema: *const u8,
+    schema_len: usize,
+    // end: of a schema
     body: *const u8,
     body_len: usize,
     most: usize,
@@ -88,12 +105,23 @@ pub type Call = unsafe extern "C" fn(
 unsafe extern "C" {
     pub safe fn order_version() -> u32;
 
-    pub fn order_is_valid(body: *const u8, body_len: usize) -> u8;
+    pub fn order_is_valid(
+        // begin: of a schema
+        schema: *const u8,
+        schema_len: usize,
+        // end: of a schema
+        body: *const u8,
+        body_len: usize,
+    ) -> u8;
 
     pub fn order_reserve(checker: *mut Checker, body_len: u32) -> u8;
 
     pub fn order_check_with(
         checker: *mut Checker,
+        // begin: of a schema
+        schema: *const u8,
+        schema_len: usize,
+        // end: of a schema
         body: *const u8,
         body_len: usize,
         most: usize,
@@ -106,6 +134,10 @@ unsafe extern "C" {
 
     pub fn order_list_with(
         checker: *mut Checker,
+        // begin: of a schema
+        schema: *const u8,
+        schema_len: usize,
+        // end: of a schema
         body: *const u8,
         body_len: usize,
         most: usize,
@@ -118,6 +150,10 @@ unsafe extern "C" {
 
     pub fn order_value_with(
         checker: *mut Checker,
+        // begin: of a schema
+        schema: *const u8,
+        schema_len: usize,
+        // end: of a schema
         body: *const u8,
         body_len: usize,
         nodes: *mut Node,
@@ -130,6 +166,10 @@ unsafe extern "C" {
 
     pub fn order_faults_with(
         checker: *mut Checker,
+        // begin: of a schema
+        schema: *const u8,
+        schema_len: usize,
+        // end: of a schema
         body: *const u8,
         body_len: usize,
         most: usize,

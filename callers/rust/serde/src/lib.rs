@@ -19,3 +19,6 @@ mod valid;
 pub use order_check::{Fault, Faults, Options};
 pub use read::Misfit;
 pub use valid::{Checker, Valid, check, check_with};
+// begin: of a schema
+pub use valid::Validator;
+// end: of a schema

@@ -72,6 +72,49 @@ impl Checker {
     }
 }
 
+// begin: of a schema
+/// Checks bodies by a JSON Schema, in room of its own: one for each thread, by `clone`. The functions of
+/// the crate and a checker judge schemas.
+#[derive(Clone)]
+pub struct Validator(order_check::Validator);
+
+impl Validator {
+    /// Keeps a copy of the bytes of a schema. One with faults is rejected, with the place of each, and so
+    /// is what is no JSON text.
+    ///
+    /// # Panics
+    ///
+    /// Where the library has another interface than this crate.
+    pub fn new(schema: &[u8]) -> Result<Validator, Faults> {
+        Ok(Validator(order_check::Validator::new(schema)?))
+    }
+
+    /// The value of a body that meets the schema, or every fault in English.
+    pub fn check<'b, T: Deserialize<'b>>(&mut self, body: &'b [u8]) -> Result<Valid<T>, Faults> {
+        self.check_with(body, Options::new())
+    }
+
+    /// Does what [`Checker::check_with`] does.
+    pub fn check_with<'b, T: Deserialize<'b>>(
+        &mut self,
+        body: &'b [u8],
+        options: Options,
+    ) -> Result<Valid<T>, Faults> {
+        made(self.0.value_with(body, options)?)
+    }
+
+    /// Does what [`Checker::check_in`] does.
+    pub fn check_in<'b, T: Deserialize<'b>>(
+        &mut self,
+        body: &'b [u8],
+        options: Options,
+        texts: &'b mut Vec<u8>,
+    ) -> Result<Valid<T>, Faults> {
+        made(self.0.value_in(body, options, texts)?)
+    }
+}
+
+// end: of a schema
 fn made<'b, T: Deserialize<'b>>(parts: Parts<'b, '_>) -> Result<Valid<T>, Faults> {
     let value = T::deserialize(&mut Reader::new(parts));
     value
