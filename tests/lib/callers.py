@@ -1,5 +1,6 @@
 """The programs `check` of the callers, in a folder that `tools/bind` wrote."""
 import os
+import pathlib
 import re
 import shutil
 import subprocess
@@ -10,6 +11,9 @@ from lib import extension
 WARNED = ("-std=c11", "-Wall", "-Wextra", "-Werror")
 # The words that print the version of a command, and the oldest one that will do.
 OLDEST = {"cargo": ("--version", (1, 85)), "go": ("version", (1, 19)), "node": ("--version", (18, 0))}
+# The crates of the system, and the words by which cargo takes them.
+REGISTRY = pathlib.Path("/usr/share/cargo/registry")
+OF_SYSTEM = ("--config", 'source.crates-io.replace-with="system"', "--config", f'source.system.directory="{REGISTRY}"')
 
 
 class Wrong(Exception):
