@@ -79,9 +79,22 @@ export interface Instance {
   value<T = unknown>(body: Body, options?: Options): T;
   /** Whether a body is valid. Reading ends at the first fault. */
   isValid(body: Body): boolean;
+  // begin: of a schema
+  /**
+   * Keeps a copy of a JSON Schema, and gives the functions that check bodies by it: those beside this one judge schemas. A schema is its
+   * text, the bytes of that, or what `JSON.stringify` makes a text of. Throws a `FaultsError` where it has faults, with the place of each,
+   * and a `NotJsonError` where it is no JSON text.
+   */
+  validator(schema: Body | object | boolean): Validator;
+  // end: of a schema
   /** How many bytes the module holds. After a call for which it took more than 16 MiB, a new instance with less takes its place soon. */
   readonly held: number;
 }
+// begin: of a schema
+
+/** The functions of an instance, by a schema. */
+export type Validator = Pick<Instance, 'check' | 'problem' | 'value' | 'isValid'>;
+// end: of a schema
 
 export interface Loading {
   /** Of a URL: 32 (if it is left out) loads the module whose name ends in `.32.wasm`. 64 loads the one beside it, with a memory of 64

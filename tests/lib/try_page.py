@@ -14,7 +14,7 @@ from lib.spoiled import some_json
 
 MOST, BODIES = 500, 200
 LANGUAGES = ("en", "cs")
-FILES = {"/page/", "/page/style.css", "/page/page.js", "/page/examples.js", "/page/rules.rs", "/index.js", "/nodes.js", "/order.32.wasm"}
+FILES = {"/page/", "/page/style.css", "/page/page.js", "/page/examples.js", "/page/rules.rs", "/index.js", "/module.js", "/nodes.js", "/order.32.wasm"}
 # What is asked of the page: its faults where a body is put into it, its colours, the sizes of its controls, how wide it is, what has the
 # focus, an example, and all of them.
 FAULTS, COLOURS, TARGETS, WIDTH, FOCUS, EXAMPLE, EXAMPLES = (it.text for it in tables.cases("try-page"))

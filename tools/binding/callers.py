@@ -51,7 +51,7 @@ LANGUAGES = {
                    '`import "example.com/order"`.', ("lib/order.h", "lib/liborder.a", None, "lib/aarch64/liborder.a"), takes_schema=True),
     "node": Language("Node", "npm install ./node", "Then `require('order-check')`.", ("lib/order.h", "lib/liborder.a"), takes_schema=True),
     "wasm": Language("JavaScript in a browser, a worker or Node", "npm install ./wasm", "Then `import { load } from 'order-wasm'`, or of "
-                     "`FOLDER/wasm/index.js` with no `npm`.", (*(None,) * 5, "order.wasm", "order.32.wasm"), 7),
+                     "`FOLDER/wasm/index.js` with no `npm`.", (*(None,) * 5, "order.wasm", "order.32.wasm"), 7, takes_schema=True),
 }
 
 

@@ -63,22 +63,23 @@ def write(crate, exports, folder, built, most):
     ran(f"{CROSS}gcc", "-c", "-O2", "-fPIC", HERE / "malloc.c", "-o", heap)
     made = archive.merge([built / "aarch64" / f"lib{crate.name}.a", heap], exports, there, CROSS)
     heap.unlink()
-    return *made, *modules(built / MODULE, exports.prefix, folder, most)
+    return *made, *modules(built / MODULE, exports, folder, most)
 
 
-def modules(module, prefix, folder, most):
+def modules(module, exports, folder, most):
     """Writes the module with a memory of 64 bits, and with one of 32 bits."""
-    room = folder / "objects"
+    room, prefix, takes = folder / "objects", exports.prefix, exports.takes_schema()
     room.mkdir()
     clang, objects = prover.kit() / "toolchain" / "bin" / "clang", []
+    heap = ["-ffreestanding", *[f"-D{prefix.upper()}_TAKES_SCHEMA"] * takes]
     (room / "wasm-ld").symlink_to(clang)
     for name in ("heap.c", "wide.c"):
         (room / name).write_text(renamed((HERE / name).read_text(encoding="utf-8"), prefix), encoding="utf-8")
-    for source, words in ((module, ["-Wno-override-module", "-x", "ir"]), (room / "heap.c", ["-ffreestanding"]), (room / "wide.c", ["-ffreestanding"])):
+    for source, words in ((module, ["-Wno-override-module", "-x", "ir"]), (room / "heap.c", heap), (room / "wide.c", ["-ffreestanding"])):
         objects.append(room / f"{source.stem}.o")
         ran(clang, *COMPILED, *words, "-c", source, "-o", objects[-1])
     wide, narrow, text = folder / f"{prefix}.wasm", folder / f"{prefix}.32.wasm", room / "flat.wat"
-    ran(room / "wasm-ld", *LINKED, f"--max-memory={most}", *(f"--export={it}" for it in CALLS), "-o", wide, *objects)
+    ran(room / "wasm-ld", *LINKED, f"--max-memory={most}", *(f"--export={it}" for it in (*CALLS, *["schema"] * takes)), "-o", wide, *objects)
     ran("wasm-opt", "--all-features", "-O3", "--flatten", wide, "-S", "-o", text)
     text.write_text(plain(text.read_text(encoding="utf-8")), encoding="utf-8")
     ran("wasm-opt", "--all-features", "--memory64-lowering", "-O3", text, "-o", narrow)

@@ -6,16 +6,28 @@
 typedef unsigned long size;
 typedef unsigned char byte;
 // Those of order.h, which needs headers of C.
+#ifdef ORDER_TAKES_SCHEMA
+typedef struct { void *room; _Bool has_room; void *schema_room; _Bool has_schema_room; } checker;
+#define RULES const byte *schema, size schema_len,
+#define BY rules, rules_len,
+enum { VERSION = 103 };
+static byte *rules;
+static size rules_len;
+#else
 typedef struct { void *room; _Bool has_room; } checker;
+#define RULES
+#define BY
+enum { VERSION = 3 };
+#endif
 typedef struct { byte kind, in_texts; unsigned len; size value; } node;
 typedef struct { size line, column; } place;
 
-byte order_check(const byte *body, size body_len, size most, const byte *language, size language_len, byte *out, size out_len, size *len);
-byte order_faults_with(checker *in, const byte *body, size body_len, size most, const byte *language, size language_len, byte *out,
+byte order_check(RULES const byte *body, size body_len, size most, const byte *language, size language_len, byte *out, size out_len, size *len);
+byte order_faults_with(checker *in, RULES const byte *body, size body_len, size most, const byte *language, size language_len, byte *out,
                        size out_len, size *len, node *nodes, size nodes_len, size *nodes_used, byte *texts, size texts_len,
                        size *texts_used, place *places, size places_len, size *places_used);
-byte order_is_valid(const byte *body, size body_len);
-byte order_value_with(checker *in, const byte *body, size body_len, node *nodes, size nodes_len, size *nodes_used, byte *texts,
+byte order_is_valid(RULES const byte *body, size body_len);
+byte order_value_with(checker *in, RULES const byte *body, size body_len, node *nodes, size nodes_len, size *nodes_used, byte *texts,
                       size texts_len, size *texts_used);
 
 #define PAGE 65536ul
@@ -123,6 +135,15 @@ double begin(double bytes) {
   return (double)(size)input;
 }
 
+#ifdef ORDER_TAKES_SCHEMA
+// Gives room for the schema of a call, behind `begin`: its address, or 0.
+double schema(double bytes) {
+  rules_len = (size)bytes;
+  rules = get(rules_len);
+  return (double)(size)rules;
+}
+#endif
+
 // Checks a body once, with the tag behind it, and returns a status. Places are looked for where there is room for one.
 static int check_in(size body_len, size language_len, size most, size room, size place_room) {
   const byte *language = input + body_len;
@@ -130,8 +151,8 @@ static int check_in(size body_len, size language_len, size most, size room, size
   out = get(room);
   places = get(place_room * sizeof(place));
   if (!out || !places) return MEMORY;
-  if (!place_room) return order_check(input, body_len, most, language, language_len, out, room, &details_len);
-  return order_faults_with(&kept, input, body_len, most, language, language_len, out, room, &details_len, (node *)top, 0, &no_nodes, top, 0,
+  if (!place_room) return order_check(BY input, body_len, most, language, language_len, out, room, &details_len);
+  return order_faults_with(&kept, BY input, body_len, most, language, language_len, out, room, &details_len, (node *)top, 0, &no_nodes, top, 0,
                            &no_texts, places, place_room, &places_len);
 }
 
@@ -147,7 +168,7 @@ int check(double body_len, double language_len, double most, double place_room) 
   }
 }
 
-int is_valid(double body_len) { return order_is_valid(input, (size)body_len); }
+int is_valid(double body_len) { return order_is_valid(BY input, (size)body_len); }
 
 // Judges what lies in the room, and returns a status. Of a valid body there are its nodes then. Few bodies have more than one in
 // four bytes: those are judged once more. What its texts have with an escape is no longer than the body.
@@ -157,7 +178,7 @@ int value(double body_len) {
   for (size room = input_len / 4 + 1; texts; room = nodes_len) {
     nodes = get(room * sizeof(node));
     if (!nodes) return MEMORY;
-    int status = order_value_with(&kept, input, input_len, nodes, room, &nodes_len, texts, input_len, &texts_len);
+    int status = order_value_with(&kept, BY input, input_len, nodes, room, &nodes_len, texts, input_len, &texts_len);
     if (nodes_len <= room) return status;
     rattle_dealloc(nodes);
   }
@@ -174,4 +195,4 @@ double places_at(void) { return (double)(size)places; }
 double places_length(void) { return (double)places_len; }
 double texts_at(void) { return (double)(size)texts; }
 double texts_length(void) { return (double)texts_len; }
-int version(void) { return 3; }
+int version(void) { return VERSION; }
