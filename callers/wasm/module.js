@@ -96,7 +96,8 @@ export async function instanceOf(source, bits) {
     let status;
     try {
       const { length, tag } = put(body, language, schema);
-      status = it[name](length, tag, most, places);
+      // The library gives a byte, above which other bits may stand.
+      status = it[name](length, tag, most, places) & 255;
     } catch (error) {
       it.__stack_pointer.value = it.stack;
       throw error;
