@@ -498,7 +498,7 @@ class Defaults:
         if rule.name == "dive" and found.form == "made":
             parts = zip(found.variant().fields, found.parts)
             return next((told for it, part in parts for told in [self.broken(part, own_rules(it))] if told), None)
-        if rule.name in ("range", "length", "multiple_of"):
+        if rule.bounds:
             return self.written(found, rule) if self.is_beyond(found, rule) else None
         is_asked = found.form == "text" and rule.known.is_kept is not None
         return self.written(found, rule) if is_asked and not rule.known.is_kept(found.value, rule.text or "") else None
@@ -508,7 +508,7 @@ class Defaults:
         bounds = [(word, resolved(it, self.source.numbers).value) for word, it in rule.bounds.items()]
         inside = [rule.mode] if rule.mode not in ("", "simple") else []
         inside += [f'"{rule.text}"'] if rule.text else []
-        inside += [str(value) if rule.name == "multiple_of" else f"{word} = {value}" for word, value in bounds]
+        inside += [str(value) if rule.known.reads == "a number" else f"{word} = {value}" for word, value in bounds]
         asked = f"({', '.join(inside)})" if inside else ""
         return f"{self.told(found)} breaks `{rule.name}{asked}`"
 
@@ -523,8 +523,8 @@ class Defaults:
         size = found.value if found.form == "number" else self.size(found, rule.mode)
         if size is None or any(it.kind != "number" for it in bounds.values()):
             return False
-        if rule.name == "multiple_of":
-            return size % bounds["equal"].value != 0
+        if rule.known.is_kept is not None:
+            return not rule.known.is_kept(size, bounds["equal"].value)
         low, high = bounds.get("min", bounds.get("equal")), bounds.get("max", bounds.get("equal"))
         return low is not None and size < low.value or high is not None and size > high.value
 

@@ -305,8 +305,8 @@ class JsonSchema:
             return self.length(kind, rule, is_ascii)
         if rule.name == "range":
             return bounds_of(*self.ends(rule))
-        if rule.name == "multiple_of":
-            return {"multipleOf": self.number(rule.bounds["equal"])}
+        if rule.known.keyword:
+            return {rule.known.keyword: self.number(rule.bounds["equal"])}
         if rule.name == "unique":
             return {"uniqueItems": True}
         if rule.name == "keys":

@@ -147,14 +147,15 @@ END = r"(?![\s\S])"
 class Known:
     """What the port knows of a rule by its name: what is read behind that; whether it is asked of what is `inside` an option; the `code` of
     its fault; the `pattern` by which a JSON Schema asks it of a text, in which `{}` is the text of the rule, or what is `told` there in its
-    place; of a default that is a text whether that has it, a function of the default and of the text of the rule; and the word that states
-    it, where that is not the name."""
+    place, or the `keyword` that asks it of a number; of a default whether that has it, a function of the default and of the text or the
+    number of the rule; and the word that states it, where that is not the name."""
 
     reads: str = ""
     inside: bool = True
     code: str = ""
     pattern: str = ""
     told: str = ""
+    keyword: str = ""
     is_kept: object = None
     word: str = ""
 
@@ -186,7 +187,8 @@ RULES = {
 PLAIN, TEXTS = ([name for name, it in RULES.items() if it.reads == reads] for reads in ("", "a text"))
 # Rules that the Rust crate does not have, within `custom`.
 OURS = {
-    **dict.fromkeys(("unique", "unique_by", "keys"), Known()), "multiple_of": Known("a number", code="multiple_of_mismatch"), "asks": Known(),
+    **dict.fromkeys(("unique", "unique_by", "keys", "asks"), Known()),
+    "multiple_of": Known("a number", code="multiple_of_mismatch", keyword="multipleOf", is_kept=lambda it, number: it % number == 0),
 }
 MODES = ("simple", "bytes", "chars", "graphemes", "utf16")
 NO_PORT = rows("rules that are not ported")

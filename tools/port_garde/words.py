@@ -243,9 +243,9 @@ class Checks:
 
     def value(self, rule, seen):
         """A rule as a value, what it finds, and whether it may take memory for its answer."""
-        own = {"length": self.length, "range": self.number, "multiple_of": self.number, "whole_key": self.whole_key, "matches": self.matches}
-        if rule.name in own:
-            return (*own[rule.name](rule, seen), False)
+        own = {"length": self.length, "range": self.number, "whole_key": self.whole_key, "matches": self.matches}
+        if found := self.number if rule.known.reads == "a number" else own.get(rule.name):
+            return (*found(rule, seen), False)
         if rule.name == "required":
             if not is_option(seen.type):
                 raise Refusal(rule.line, "`required` of a value that is no `Option`")
@@ -329,7 +329,7 @@ class Checks:
         return code, self.say("items {} {}", bounds, listed)
 
     def number(self, rule, seen):
-        """The rule that a number is within bounds, or a multiple of another one, by its type."""
+        """The rule that a number is within bounds, or has to do with another one, by its type."""
         kind, signed = seen.type.name, "signed_" if seen.type.name in SIGNED else ""
         if is_made(seen.type, DECIMAL):
             return self.decimal(rule, seen)
@@ -338,8 +338,8 @@ class Checks:
             way = f": there are no bounds{floats} here" if rule.name == "range" else ", which is no whole number"
             raise Refusal(rule.line, f"`{rule.name}` of the type `{self.writer.type_text(seen.type, True)}`{way}")
         bounds = list(map(self.writer.resolved, rule.bounds.values()))
-        if rule.name == "multiple_of" and (bounds[0].kind != "number" or bounds[0].value < 1):
-            raise Refusal(rule.line, "`multiple_of` of what is no number from 1 on")
+        if rule.name != "range" and (bounds[0].kind != "number" or bounds[0].value < 1):
+            raise Refusal(rule.line, f"`{rule.name}` of what is no number from 1 on")
         least, most = whole_range(kind)
         for it in bounds:
             if it.kind == "number" and (it.value > most or signed and it.value < least):
@@ -348,7 +348,7 @@ class Checks:
             code, stated = self.bounds(rule, signed)
         else:
             code, stated = self.bound(bounds[0], signed)
-            code = call(self.field("MultipleOf"), code)
+            code = call(self.field(camel(rule.name)), code)
         return code, self.say(f"{signed}{rule.name} {{}} {{}}", stated, seen.name)
 
     def decimal(self, rule, seen):
@@ -362,7 +362,7 @@ class Checks:
             return Word(f"decimal_range!({given})"), f"{word} ({end} {stated}) {seen.name}"
         text = stated.strip('"')
         if Fraction(text) <= 0 or int(text.lower().partition("e")[0].replace(".", "")) >= 2**64:
-            raise Refusal(rule.line, f"`multiple_of({text})`: write a number above 0 whose digits fit 64 bits")
+            raise Refusal(rule.line, f"`{rule.name}({text})`: write a number above 0 whose digits fit 64 bits")
         self.uses.others.add("garde_schema::DecimalMultiple")
         return call("DecimalMultiple", stated), f"{word} {stated} {seen.name}"
 
