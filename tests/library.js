@@ -52,20 +52,19 @@ function worker(folder, wanted) {
 function testAll(folder, cases) {
   const { Checker, FAULTS, FaultsError, NO_JSON, NotJsonError, check, isValid, problem, value } = require(folder);
 
-  test('names of one length and first letter', () => {
-    const { Texts, valueOf } = require(join(folder, 'nodes.js'));
-    const texts = new Texts(Buffer.from('{"ab":1,"ac":2}'));
-    const nodes = Uint32Array.of(8, 0, 2, 0, 6, 2, 2, 0, 3, 0, 1, 0, 6, 2, 9, 0, 3, 0, 2, 0);
-    assert.deepEqual(valueOf(nodes, texts, texts), { ab: 1, ac: 2 });
-  });
-
   test('objects of names that came often', () => {
-    const { Texts } = require(join(folder, 'nodes.js'));
-    const { valueOf } = require(join(folder, 'shapes.js'));
+    const { valueOf } = require(join(folder, 'nodes.js'));
     const read = (names, mark = 0) => {
-      const texts = new Texts(Buffer.from(names.join('')));
+      const bytes = Buffer.from(names.join(''));
       const from = (n) => names.slice(0, n).join('').length;
-      return valueOf(Uint32Array.from([8, 0, names.length, 0, ...names.flatMap((it, n) => [6 + (n && mark), it.length, from(n), 0, 3, 0, n, 0])]), texts, texts);
+      const nodes = names.flatMap((it, n) => [6 + (n && mark), it.length, from(n), 0, 3, 0, n, 0]);
+      const whole = Int32Array.from([0, bytes.length, 0, 0, 8, 0, names.length, 0, ...nodes]);
+      const inList = Int32Array.from([0, bytes.length, 0, 0, 7, 0, 2, 0, ...whole.subarray(4), ...whole.subarray(4)]);
+      const found = valueOf(whole, String(bytes), bytes);
+      assert.deepEqual(valueOf(inList, String(bytes), bytes), [found, found]);
+      whole[1] = 0;
+      assert.deepEqual(valueOf(whole, String(bytes), bytes), found);
+      return found;
     };
     const rows = [['ab', 'cd', 'e'], ['ab', 'cd', 'f'], ['ab', 'ce', 'e'], ['ab', 'cde', 'e'], ['ac', 'cd', 'e'], ['ab', '__proto__', 'e'], ['a-b', 'x'],
       ['__proto__'], ['2', '1'], [], ['class', 'constructor'], Array.from({ length: 32 }, (_, n) => `n${n}`), Array.from({ length: 40 }, (_, n) => `n${n}`)];
@@ -82,6 +81,24 @@ function testAll(folder, cases) {
     }
     const words = ['--disallow-code-generation-from-strings', '-e', `console.log(JSON.stringify(require(${JSON.stringify(folder)}).value(Buffer.from(${JSON.stringify(String(ofLines(50)))}))))`];
     assert.equal(String(execFileSync(process.execPath, words)).trim(), JSON.stringify(JSON.parse(ofLines(50))));
+  });
+
+  test('numbers', () => {
+    const { valueOf } = require(join(folder, 'nodes.js'));
+    for (const text of ['-0', '0.5', '1e400', '-1.5e3', '18446744073709551616', '-9223372036854775809']) {
+      const wanted = /^-?\d{9}/.test(text) ? BigInt(text) : JSON.parse(text);
+      assert.ok(Object.is(valueOf(Int32Array.of(0, 0, 0, 0, 5, text.length, 0, 0), text, Buffer.from(text)), wanted), text);
+    }
+  });
+
+  test('short texts', () => {
+    const codes = ['P', 'P1', 'P12', 'P123', 'P1234', 'Pa', 'P\\n', 'P\\u0031', 'Pč', 'P\\"\\\\'];
+    for (let n = 0; n < 2000; n++) {
+      const chosen = Array.from({ length: 1 + n % 7 }, (_, at) => codes[(n * 7 + at * at) % (n % 3 === 0 ? 6 : codes.length)] + (n * at) % 50);
+      const lines = chosen.map((code, at) => (at % 2 === 0 ? `{"code":"${code}","count":1}` : `{"count":99,"code":"${code}"}`));
+      const body = `{"customer":"Ada","lines":[${lines.join()}]}`;
+      assert.deepEqual(value(Buffer.from(body)), JSON.parse(body));
+    }
   });
 
   test('places', () => {

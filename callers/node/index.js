@@ -3,10 +3,9 @@
  */
 'use strict';
 
-const { isSharedArrayBuffer, isUint8Array } = require('node:util').types;
+const { isUint8Array } = require('node:util').types;
 const addon = require('./order_check.node');
-const { Texts } = require('./nodes.js');
-const { valueOf } = require('./shapes.js');
+const { valueOf } = require('./nodes.js');
 
 const VALID = 0;
 const FAULTS = 1;
@@ -16,11 +15,9 @@ const MEMORY = 3;
 const KEPT_BODY = 1024 * 1024;
 const KEPT_DETAILS = 4 * KEPT_BODY;
 const room = addon.newRoom();
-// What the nodes of a value are read from: four numbers for each, the texts with an escape, and how many there are of both.
-const NODES = new Uint32Array(16384);
-const TEXTS = new Uint8Array(4096);
-const used = new Float64Array(2);
-const NO_TEXTS = new Texts(new Uint8Array(0), '');
+// What the nodes of a value are read from: four numbers for each, behind four that say how many there are.
+const NODES = new Int32Array(16384);
+const lengthOf = Object.getOwnPropertyDescriptor(ArrayBuffer.prototype, 'byteLength').get;
 
 class NotJsonError extends SyntaxError {
   constructor(message, details) {
@@ -42,7 +39,12 @@ class FaultsError extends Error {
 /** The bytes as the library reads them: where they lie, or a copy where another thread could change them. */
 function bytesOf(body) {
   if (!isUint8Array(body)) throw new TypeError('a body is a Buffer or a Uint8Array');
-  return isSharedArrayBuffer(body.buffer) ? Uint8Array.from(body) : body;
+  try {
+    lengthOf.call(body.buffer);
+    return body;
+  } catch {
+    return Uint8Array.from(body);
+  }
 }
 
 function outOfMemory() {
@@ -73,22 +75,15 @@ function faultsOf(answer) {
   return Object.defineProperty(said.errors, 'more', { value: said.detail !== undefined });
 }
 
-function escapedIn(texts, length) {
-  return length === 0 ? NO_TEXTS : new Texts(texts.subarray(0, length));
-}
-
 /** The value of a body, or undefined where it is not valid. Few have more than a node in four bytes: those are judged once more. */
 function valueIn(inRoom, body) {
-  let nodes = body.length <= NODES.length ? NODES : new Uint32Array(body.length + 4);
-  for (let texts = TEXTS; ;) {
-    const status = addon.value(inRoom, body, nodes, texts, used);
-    if (status === MEMORY) throw outOfMemory();
-    if (status !== VALID) return undefined;
-    const nodesUsed = used[0];
-    const textsUsed = used[1];
-    if (4 * nodesUsed <= nodes.length && textsUsed <= texts.length) return valueOf(nodes, new Texts(body), escapedIn(texts, textsUsed));
-    nodes = new Uint32Array(Math.max(nodes.length, 4 * nodesUsed));
-    texts = new Uint8Array(Math.max(texts.length, textsUsed));
+  let nodes = body.length < NODES.length ? NODES : new Int32Array(body.length + 8);
+  for (;;) {
+    const found = addon.value(inRoom, body, nodes);
+    if (typeof found === 'string') return valueOf(nodes, found, body);
+    if (found === MEMORY) throw outOfMemory();
+    if (found !== VALID) return undefined;
+    nodes = new Int32Array(4 * nodes[0] + 4);
   }
 }
 

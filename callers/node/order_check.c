@@ -8,11 +8,12 @@
 
 #include "order.h"
 
-/* What a call works in: a checker, and memory for details and for places, which grow by need; and the schema of a validator. */
+/* What a call works in: a checker, and memory for details or a text, for texts with an escape, and for places, which grow by need; and
+ * the schema of a validator. */
 typedef struct {
   order_checker checker;
-  uint8_t *details;
-  size_t size;
+  uint8_t *details, *texts;
+  size_t size, texts_size;
   order_place *places;
   size_t places_size;
   uint8_t *schema;
@@ -22,7 +23,7 @@ typedef struct {
 /* The schema that a room judges by: an argument of each call, where the library takes one. One without bytes is the schema of
  * schemas. */
 #ifdef ORDER_TAKES_SCHEMA
-#define BY(in) (in)->schema ? (in)->schema : NOTHING, (in)->schema_len,
+#define BY(in) (in) && (in)->schema ? (in)->schema : NOTHING, (in) ? (in)->schema_len : 0,
 #else
 #define BY(in)
 #endif
@@ -50,7 +51,7 @@ typedef struct {
 
 static const uint8_t *const NOTHING = (const uint8_t *)"";
 /* Bytes that a room has for details at first, and places, and about what it holds in all. */
-static const size_t FIRST = 16 * 1024, FIRST_PLACES = 64;
+static const size_t FIRST = 16 * 1024, FIRST_PLACES = 64, FIRST_TEXTS = 64;
 static const int64_t HELD = 20 * 1024;
 
 static napi_value failed(napi_env env, const char *message) {
@@ -63,6 +64,7 @@ static napi_value failed(napi_env env, const char *message) {
 static void empty(room *it) {
   order_free(&it->checker);
   free(it->details);
+  free(it->texts);
   free(it->places);
   *it = (room){.checker = it->checker, .schema = it->schema, .schema_len = it->schema_len};
 }
@@ -210,7 +212,7 @@ static napi_value is_valid(napi_env env, napi_callback_info info) {
   napi_value words[2], status;
   size_t count = 2;
   bytes body;
-  room none = {0}, *in = &none;
+  room *in = NULL;
   if (napi_get_cb_info(env, info, &count, words, NULL, NULL) != napi_ok || !bytes_of(env, words[0], &body))
     return failed(env, "a body is a Uint8Array");
   if (count > 1 && !room_of(env, words[1], &in)) return failed(env, "no room");
@@ -238,25 +240,92 @@ static napi_value set_schema(napi_env env, napi_callback_info info) {
 }
 #endif
 
-/* value(room, body, nodes, texts, used): the status. Of a valid body `nodes` and `texts` get what they have room for. The two numbers
- * of `used` say how many nodes and bytes of texts there are. */
+/* Whether bytes are ASCII. */
+static bool is_plain(const uint8_t *at, size_t len) {
+  uint64_t all = 0, next;
+  size_t i = 0;
+  for (; len - i >= sizeof next; i += sizeof next) {
+    memcpy(&next, at + i, sizeof next);
+    all |= next;
+  }
+  for (; i < len; i++) all |= at[i];
+  return !(all & 0x8080808080808080);
+}
+
+/* How many units of UTF-16 are before a byte of a text. Bytes are asked for in their order most often, so none is counted twice. */
+typedef struct {
+  const uint8_t *text;
+  size_t byte, unit, first_byte, first_unit;
+} counter;
+
+static size_t units_before(counter *in, size_t byte) {
+  if (byte < in->byte) {
+    in->byte = in->first_byte;
+    in->unit = in->first_unit;
+  }
+  for (; in->byte < byte; in->byte++) {
+    uint8_t it = in->text[in->byte];
+    in->unit += ((it & 0xC0) != 0x80) + (it >= 0xF0);
+  }
+  return in->unit;
+}
+
+/* Gives each text of these nodes the place that it has in a text of the body and of the texts with an escape, in units of UTF-16. */
+static void place(order_node *nodes, size_t count, const uint8_t *text, size_t body_len) {
+  counter plain = {.text = text}, escaped = {.text = text};
+  escaped.byte = escaped.first_byte = body_len;
+  escaped.unit = escaped.first_unit = units_before(&plain, body_len);
+  for (order_node *it = nodes; it < nodes + count; it++) {
+    if (it->kind != ORDER_NODE_TEXT && it->kind != ORDER_NODE_NUMBER) continue;
+    counter *in = it->in_texts ? &escaped : &plain;
+    size_t from = (it->in_texts ? body_len : 0) + it->value, end = from + it->len;
+    it->value = units_before(in, from);
+    it->len = (uint32_t)(units_before(in, end) - it->value);
+    it->in_texts = false;
+  }
+}
+
+/* The text in which the texts of a value lie, as its nodes say then: the body, with those behind it that it has with an escape. */
+static napi_value text_of(napi_env env, room *in, bytes body, int32_t *nodes, size_t texts_used) {
+  napi_value text;
+  const uint8_t *at = body.at;
+  size_t len = body.len + texts_used;
+  bool plain = is_plain(body.at, body.len) && is_plain(in->texts, texts_used);
+  if (texts_used) {
+    if (!grow(&in->details, &in->size, len, 1)) return failed(env, "no memory for a text");
+    memcpy(in->details, body.at, body.len);
+    memcpy(in->details + body.len, in->texts, texts_used);
+    at = in->details;
+  }
+  if (texts_used || !plain) place((order_node *)nodes + 1, (size_t)nodes[0], at, body.len);
+  nodes[1] = plain && body.len <= INT32_MAX ? (int32_t)body.len : 0;
+  napi_status made = plain ? napi_create_string_latin1(env, (const char *)at, len, &text) : napi_create_string_utf8(env, (const char *)at, len, &text);
+  return made == napi_ok ? text : failed(env, "no text");
+}
+
+/* value(room, body, nodes): the text in which the texts of the value lie, and in `nodes` how many nodes there are, how many bytes
+ * of the body it begins with, where it is ASCII, and from the second node on the nodes. The status, where it is not valid; also of a valid body for whose nodes there is not
+ * enough room. */
 static napi_value value(napi_env env, napi_callback_info info) {
-  napi_value words[5], status;
-  size_t count = 5, nodes_used = 0, texts_used = 0;
+  napi_value words[3], status;
+  size_t count = 3, nodes_used = 0, texts_used = FIRST_TEXTS;
   room *in = NULL;
   bytes body;
-  array nodes, texts, used;
+  array nodes;
   if (napi_get_cb_info(env, info, &count, words, NULL, NULL) != napi_ok || !room_of(env, words[0], &in))
     return failed(env, "no room");
   if (!bytes_of(env, words[1], &body)) return failed(env, "a body is a Uint8Array");
-  if (!array_of(env, words[2], napi_uint32_array, &nodes) || nodes.len < 4 || (uintptr_t)nodes.at % _Alignof(order_node) ||
-      !array_of(env, words[3], napi_uint8_array, &texts) || !texts.len || !array_of(env, words[4], napi_float64_array, &used) ||
-      used.len != 2)
+  if (!array_of(env, words[2], napi_int32_array, &nodes) || nodes.len < 8 || (uintptr_t)nodes.at % _Alignof(order_node))
     return failed(env, "no room for a value");
-  uint8_t said = order_value_with(&in->checker, BY(in) body.at, body.len, nodes.at, nodes.len * 4 / sizeof(order_node), &nodes_used, texts.at,
-                                  texts.len, &texts_used);
-  ((double *)used.at)[0] = (double)nodes_used;
-  ((double *)used.at)[1] = (double)texts_used;
+  size_t wanted = nodes.len * 4 / sizeof(order_node) - 1;
+  uint8_t said = ORDER_MEMORY;
+  do {
+    if (!grow(&in->texts, &in->texts_size, texts_used, 1)) break;
+    said = order_value_with(&in->checker, BY(in) body.at, body.len, (order_node *)nodes.at + 1, wanted, &nodes_used, in->texts, in->texts_size,
+                            &texts_used);
+  } while (said == ORDER_VALID && texts_used > in->texts_size);
+  ((int32_t *)nodes.at)[0] = (int32_t)nodes_used;
+  if (said == ORDER_VALID && nodes_used <= wanted) return text_of(env, in, body, nodes.at, texts_used);
   if (napi_create_uint32(env, said, &status) != napi_ok) return failed(env, "no status");
   return status;
 }

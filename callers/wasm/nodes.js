@@ -33,9 +33,9 @@ function whole(low, high, isNegative) {
   return isNegative ? -size : size;
 }
 
-/** A number that is not whole, or has more than 64 bits. */
+/** A number that is not whole, or has more than 64 bits, or `-0`. */
 function numberOf(text) {
-  return /^-?\d+$/.test(text) ? BigInt(text) : Number(text);
+  return /^-?[1-9]\d*$/.test(text) ? BigInt(text) : Number(text);
 }
 
 /** Reads the nodes of a value one by one, from where its texts without an escape lie, and those with one. */
