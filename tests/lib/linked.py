@@ -4,15 +4,21 @@ it is made here, over the libraries that `rt ci` built: the prover looks at the 
 """
 import importlib
 import pathlib
+import random
 import shutil
+import struct
 import subprocess
 import sys
 
 from lib import extension, prover, repository
+from lib.described import use_http
 from lib.repository import ROOT
+from lib.spoiled import some_json
 
 CRATE = ROOT / "crates" / "use_library"
 CASES = ROOT / "tests" / "called"
+# All faults.
+ALL = 2**32 - 1
 
 
 def made(archive, crate="use_library"):
@@ -75,6 +81,15 @@ def package(folder, built=None, flags=(), imports=True):
         return None
     sys.path.insert(0, str(copy / "src"))
     return importlib.import_module("order_check")
+
+
+def streamed(count):
+    """So many bodies, most of them spoiled, each with its length, the most faults and the length of a tag before it."""
+    dice, found = random.Random(93), bytearray()
+    for _ in range(count):
+        body = some_json(dice, use_http.ORDER)[0]
+        found += struct.pack("<3I", len(body), dice.choice((ALL, ALL, 1, 2, 5)), dice.choice((0, 0, 2))) + body
+    return bytes(found)
 
 
 def cases():
