@@ -18,11 +18,11 @@ use Rattle.garde_tape.specs.declared.found.Found.TheVariants.{Once, Repeated}
 use Rattle.garde_described.proofs.Lemmas.{told_as}
 
 -- the first schema that a reference names
-pub named_found : (text : List ℕ) (left : List (List ℕ × Json)) (m : List ℕ × Json) (ms : List (List ℕ × Json)) → left ≡ m ∷ ms → names_schema text m.0 ≡ true → first_named text left ≡ Some m.1
+pub named_found : (text : List ℕ) (left : List (List ℕ × Json)) (m : List ℕ × Json) (ms : List (List ℕ × Json)) → left ≡ m ∷ ms → names_schema text m ≡ true → first_named text left ≡ Some m.1
 unfolding first_named
 named_found text left m ms step is = ap (first_named text) step ∙ ap (λ b. if b then Some m.1 else first_named text ms) is
 
-pub named_next : (text : List ℕ) (left : List (List ℕ × Json)) (m : List ℕ × Json) (ms : List (List ℕ × Json)) → left ≡ m ∷ ms → names_schema text m.0 ≡ false → first_named text left ≡ first_named text ms
+pub named_next : (text : List ℕ) (left : List (List ℕ × Json)) (m : List ℕ × Json) (ms : List (List ℕ × Json)) → left ≡ m ∷ ms → names_schema text m ≡ false → first_named text left ≡ first_named text ms
 unfolding first_named
 named_next text left m ms step is = ap (first_named text) step ∙ ap (λ b. if b then Some m.1 else first_named text ms) is
 

@@ -1,5 +1,5 @@
 -- The faults of a JSON value by a schema, which is a JSON value too.
-use Rattle.std.specs.Prelude.{ℕ, zero, suc, ◌+◌, List, [], ◌∷◌, length, Bool, true, false, not, nat_le, ◌&&◌, take, drop, if◌then◌else◌, codes, bytes_eq, Option, Some, None, option_and_then, option_map, unwrap_or}
+use Rattle.std.specs.Prelude.{ℕ, zero, suc, ◌+◌, List, [], ◌∷◌, length, slice_index, Bool, true, false, not, nat_le, ◌==◌, ◌&&◌, ◌||◌, take, drop, if◌then◌else◌, codes, bytes_eq, Option, Some, None, option_and_then, option_map, unwrap_or}
 use Rattle.json.specs.Json.{Json}
 use Rattle.json.specs.Find.{as_bool, as_str}
 use Rattle.garde_report.specs.Part.{Part, index_part, key_part}
@@ -39,18 +39,27 @@ once Repeated = None
 abbrev pub member_of : List ℕ → Json → Option Json
 member_of name j = once (find_answer name j)
 
--- a reference `#/$defs/NAME` names the schema of that name
-abbrev pub names_schema : List ℕ → List ℕ → Bool
-names_schema text name = nat_le 8 (length text) && (bytes_eq (take 8 text) (codes "#/$defs/") && bytes_eq (drop 8 text) name)
+-- a reference `#/$defs/NAME` names the schema of that name, and `#NAME` the one with that `$anchor`
+abbrev pub has_name : List ℕ → List ℕ → Bool
+has_name text name = nat_le 8 (length text) && (bytes_eq (take 8 text) (codes "#/$defs/") && bytes_eq (drop 8 text) name)
+
+abbrev pub has_anchor : List ℕ → Option Json → Bool
+has_anchor text anchor = unwrap_or (option_map (λ name. bytes_eq (drop 1 text) name) (option_and_then as_str anchor)) false
+
+abbrev pub is_anchor : List ℕ → Bool
+is_anchor text = nat_le 2 (length text) && not (slice_index text 1 == 47)
+
+abbrev pub names_schema : List ℕ → (List ℕ × Json) → Bool
+names_schema text m = has_name text m.0 || (is_anchor text && has_anchor text (member_of (codes "$anchor") m.1))
 
 unfoldable pub first_named : List ℕ → List (List ℕ × Json) → Option Json
 first_named text [] = None
-first_named text (m ∷ ms) = if names_schema text m.0 then Some m.1 else first_named text ms
+first_named text (m ∷ ms) = if names_schema text m then Some m.1 else first_named text ms
 
 abbrev pub definition_of : Json → List ℕ → Option Json
 definition_of root text = option_and_then (first_named text) (option_and_then membered (member_of (codes "$defs") root))
 
--- What a reference means: `#` the whole document, and `#/$defs/NAME` the first schema of that name there (JSON Schema Core, 8.2.3).
+-- What a reference means: `#` the whole document, and else the first schema of `$defs` that it names (JSON Schema Core, 8.2).
 abbrev pub target_of : Json → List ℕ → Option Json
 target_of root text = if bytes_eq text (codes "#") then Some root else definition_of root text
 

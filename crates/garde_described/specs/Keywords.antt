@@ -1,15 +1,16 @@
 -- The keywords of JSON Schema that are known (draft 2020-12), and what each asks of a value by itself.
-use Rattle.std.specs.Prelude.{ℕ, zero, suc, ◌-◌, ◌^◌, List, [], ◌∷◌, ◌++◌, length, nat_eq, Bool, true, false, not, ◌&&◌, ◌||◌, codes, bytes_eq, Option, Some, None, option_map, option_and_then, is_some, unwrap_or, if◌then◌else◌}
+use Rattle.std.specs.Prelude.{ℕ, zero, suc, ◌-◌, ◌^◌, List, [], ◌∷◌, ◌++◌, length, nat_eq, nat_lt, ◌==◌, drop, Bool, true, false, not, ◌&&◌, ◌||◌, codes, bytes_eq, Option, Some, None, option_map, option_and_then, is_some, unwrap_or, if◌then◌else◌}
 use Rattle.std.specs.List.{list_all, list_any}
 use Rattle.std.specs.Ordering.{is_eq, is_gt, is_lt}
+use Rattle.std.specs.Str.Parse.{digits_value}
 use Rattle.json.specs.Json.{Json}
+use Rattle.fast_float.specs.Text.{Parts, has_digits, point_at, scan, whole_of}
 use Rattle.json.specs.Find.{as_array, as_bool, as_number, as_object, as_str, is_null}
 use Rattle.garde_decimal.specs.Value.{Rational, decimal_of, order}
 use Rattle.garde_i18n.specs.Datum.{Datum, named, with_param}
 use Rattle.garde_tape.specs.Look.{find_answer, kind_of}
 use Rattle.garde_tape.specs.declared.found.Found.{Found}
 use Rattle.garde_tape.specs.declared.found.Found.TheVariants.{Missing, Once, Repeated}
-use Rattle.garde_tape.specs.Number.{unsigned_of}
 use Rattle.garde_tape.specs.Reading.{item_list, member_list}
 use Rattle.garde.specs.Fields.{Fault, between, chars, count, is, rule, asks_as}
 use Rattle.garde.specs.Visits.{Visits, none, when}
@@ -109,24 +110,54 @@ no_type texts types.Integer j = refused (texts (Wrong wanted.Whole (kind_of j)))
 abbrev pub typed : FormTexts → Json → JsonType → Visits
 typed texts j type = when (not (has_type type j)) (no_type texts type j)
 
+-- the type that a text names
+abbrev pub type_named : Json → Option JsonType
+type_named name = option_and_then type_of (as_str name)
+
 -- whether a value is of the type that a text names
 abbrev pub has_type_named : Json → Json → Bool
-has_type_named j name = unwrap_or (option_map (λ type. has_type type j) (option_and_then type_of (as_str name))) false
+has_type_named j name = unwrap_or (option_map (λ type. has_type type j) (type_named name)) false
+
+-- the type beside `null`, of two that there are
+abbrev pub is_null_type : Option JsonType → Bool
+is_null_type None = false
+is_null_type (Some types.Null) = true
+is_null_type (Some _) = false
+
+abbrev pub other_type : Option JsonType → Option JsonType → Option JsonType
+other_type one other = if is_null_type one then other else if is_null_type other then one else None
+
+abbrev pub beside_null : List Json → Option JsonType
+beside_null (one ∷ (other ∷ [])) = other_type (type_named one) (type_named other)
+beside_null _ = None
+
+-- the fault of a value that is of none of several types: where these are one and `null`, the fault of that one
+abbrev pub no_type_among : FormTexts → Option JsonType → Json → Visits
+no_type_among texts (Some type) j = no_type texts type j
+no_type_among texts None j = is (asks_as "type_mismatch" "not of a type that is allowed here" false)
 
 -- what a list of types asks: that the value is of one of them
-abbrev pub typed_among : Json → List Json → Visits
-typed_among j names = is (asks_as "type_mismatch" "not of a type that is allowed here" (list_any (λ name. has_type_named j name) names))
+abbrev pub typed_among : FormTexts → Json → List Json → Visits
+typed_among texts j names = when (not (list_any (λ name. has_type_named j name) names)) (no_type_among texts (beside_null names) j)
 
 -- what `type` asks that is the name of a type, or a list of them
 abbrev pub type_asks : FormTexts → Option (List ℕ) → Option (List Json) → Json → Visits
 type_asks texts (Some name) names j = of (typed texts j) (type_of name)
-type_asks texts None names j = of (typed_among j) names
+type_asks texts None names j = of (typed_among texts j) names
 
 -- ---- `minLength` and the like
 
--- the number of a bound
+-- what a text writes behind the place of its point is 0
+abbrev pub whole_digits : Parts → Bool
+whole_digits p = digits_value 10 (drop (point_at p) (p.whole ++ p.fraction)) == 0
+
+-- The number of a bound: a whole one with no sign that fits 64 bits, however it is written, as `2.0` (JSON Schema Core, 4.2.3).
+abbrev pub count_of : List ℕ → Option ℕ
+count_of text =
+    if has_digits (scan text) && (whole_digits (scan text) && nat_lt (whole_of (scan text)) (2 ^ 64)) then Some (whole_of (scan text)) else None
+
 abbrev pub bound_of : Json → Option ℕ
-bound_of v = option_and_then (unsigned_of 64) (as_number v)
+bound_of v = option_and_then count_of (as_number v)
 
 abbrev pub at_least : Json → Option Bounds
 at_least v = option_map (λ n. record { min = n; max = 2 ^ 64 - 1 }) (bound_of v)

@@ -12,7 +12,7 @@ ghost use Rattle.garde_described.specs.Keywords.{bound_of, type_of};
 ghost use Rattle.garde_described.specs.Links.{count_links, counts_crossed, id_links, maximum_links, most_links, not_crossed, number_links, number_of, numbers_crossed, type_links};
 
 use crate::lengths::bound_of;
-use crate::put::put;
+use crate::put::put_unless;
 use crate::reference::member_of;
 use crate::types::JsonType;
 use garde::fields::{AsksAs, Is, Rules};
@@ -31,25 +31,11 @@ pub(crate) fn check_type_name<'s, 'a, H: I18n + FormI18n>(
         trail.old trail.new report.old report.new result }
 {
     match value.as_str() {
-        Some(name) => check_name(name, trail, report, h),
+        Some(name) => {
+            let is_known = JsonType::of(name).is_some();
+            put_unless(is_known, FormFault::NotOneOf, trail, report, h)
+        }
         None => Ok(()),
-    }
-}
-
-// Asks that this is the name of a type.
-fn check_name<'a, H: I18n + FormI18n>(
-    name: &str,
-    trail: &mut Trail<'a>,
-    report: &mut Report,
-    h: &H,
-) -> Result<(), AllocError>
-    ensures { Visited (when (not (is_some (type_of name.now))) (refused (H.form_text h.now NotOneOf)))
-        (H.text h.now) trail.old trail.new report.old report.new result }
-{
-    if JsonType::of(name).is_some() {
-        Ok(())
-    } else {
-        put(FormFault::NotOneOf, trail, report, h)
     }
 }
 
@@ -64,42 +50,12 @@ pub(crate) fn check_count<'s, 'a, H: I18n + FormI18n>(
         trail.old trail.new report.old report.new result }
 {
     match value.as_number() {
-        Some(_) => check_read(value, trail, report, h),
+        Some(_) => {
+            let fault = FormFault::Wrong(Wanted::Whole, value.kind());
+            put_unless(bound_of(value).is_some(), fault, trail, report, h)
+        }
         None => Ok(()),
     }
-}
-
-// Asks that this number is a bound that is read.
-fn check_read<'s, 'a, H: I18n + FormI18n>(
-    value: &Tree<'s, 'a>,
-    trail: &mut Trail<'a>,
-    report: &mut Report,
-    h: &H,
-) -> Result<(), AllocError>
-    ensures { Visited (when (not (is_some (bound_of value.now)))
-        (refused (H.form_text h.now (Wrong wanted.Whole (kind_of value.now))))) (H.text h.now)
-        trail.old trail.new report.old report.new result }
-{
-    if bound_of(value).is_some() {
-        Ok(())
-    } else {
-        let fault = FormFault::Wrong(Wanted::Whole, value.kind());
-        put(fault, trail, report, h)
-    }
-}
-
-// Asks that this is the text of a number that is read.
-fn check_decimal<'a, H: I18n>(
-    text: &str,
-    trail: &mut Trail<'a>,
-    report: &mut Report,
-    h: &H,
-) -> Result<(), AllocError>
-    ensures { Visited (is (asks_as "not_a_number" "not a number" (is_some (decimal_of text.now)))) (H.text h.now)
-        trail.old trail.new report.old report.new result }
-{
-    let is_read = Decimal::read(text).is_some();
-    Is(AsksAs("not_a_number", "not a number", is_read)).ask(&(), trail, report, h)
 }
 
 // Asks that a number has an exponent that is read.
@@ -113,7 +69,10 @@ pub(crate) fn check_number<'s, 'a, H: I18n>(
         trail.old trail.new report.old report.new result }
 {
     match value.as_number() {
-        Some(text) => check_decimal(text, trail, report, h),
+        Some(text) => {
+            let is_read = Decimal::read(text).is_some();
+            Is(AsksAs("not_a_number", "not a number", is_read)).ask(&(), trail, report, h)
+        }
         None => Ok(()),
     }
 }
@@ -215,21 +174,4 @@ pub(crate) fn check_maximum<'s, 'a, H: I18n>(
     let crossed = numbers_cross(schema, value);
     check_number(value, trail, report, h)?;
     check_crossed(crossed, trail, report, h)
-}
-
-// Asks that `$id` is that of the whole document.
-pub(crate) fn check_id<'a, H: I18n + FormI18n>(
-    is_whole: bool,
-    trail: &mut Trail<'a>,
-    report: &mut Report,
-    h: &H,
-) -> Result<(), AllocError>
-    ensures { Visited (id_links (H.form_text h.now) is_whole) (H.text h.now)
-        trail.old trail.new report.old report.new result }
-{
-    if is_whole {
-        Ok(())
-    } else {
-        put(FormFault::Unknown, trail, report, h)
-    }
 }

@@ -1,8 +1,6 @@
 //! The check of a value by a schema.
-ghost use Rattle.std.specs.Prelude.{◌<◌, ◌^◌, codes, length, not, true, unwrap_or};
-ghost use Rattle.json.specs.Find.{as_bool, as_str};
-ghost use Rattle.garde_schema.specs.Forms.{refused};
-ghost use Rattle.garde_schema.specs.declared.fault.FormFault.TheVariants.{Unknown};
+ghost use Rattle.std.specs.Prelude.{◌<◌, ◌^◌, codes, length, not};
+ghost use Rattle.json.specs.Find.{as_str};
 ghost use Rattle.garde_report.specs.Part.{key_part, part_of};
 ghost use Rattle.garde.specs.Visits.{Visited, under, when};
 ghost use Rattle.garde_described.specs.Keywords.{keyword_of, of, listed, membered};
@@ -14,7 +12,7 @@ use crate::lengths::{
     check_members as check_member_count,
 };
 use crate::numbers::{check_above, check_below, check_least, check_most};
-use crate::put::{put, put_under};
+use crate::put::{put_under, put_unless};
 use crate::reference::{definition, described_items, is_described, member_of};
 use crate::required::check_required;
 use crate::same::{check_const, check_enum};
@@ -45,24 +43,10 @@ pub(crate) fn check<'s, 't, 'a, H: I18n + FormI18n>(
     }
     match schema.members() {
         Some(keywords) => check_keywords(root, left - 1, schema, keywords, tree, trail, report, h),
-        None => check_flag(schema, trail, report, h),
-    }
-}
-
-// Puts a fault where the schema is `false`.
-fn check_flag<'s, 'a, H: I18n + FormI18n>(
-    schema: &Tree<'s, 'a>,
-    trail: &mut Trail<'a>,
-    report: &mut Report,
-    h: &H,
-) -> Result<(), AllocError>
-    ensures { Visited (when (not (unwrap_or (as_bool schema.now) true)) (refused (H.form_text h.now Unknown)))
-        (H.text h.now) trail.old trail.new report.old report.new result }
-{
-    if schema.as_bool().unwrap_or(true) {
-        Ok(())
-    } else {
-        put(FormFault::Unknown, trail, report, h)
+        None => {
+            let holds = schema.as_bool().unwrap_or(true);
+            put_unless(holds, FormFault::Unknown, trail, report, h)
+        }
     }
 }
 

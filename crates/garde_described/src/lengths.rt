@@ -2,8 +2,9 @@
 ghost use Rattle.std.specs.Prelude.{◌≡◌};
 ghost use Rattle.garde.specs.Fields.{between, chars, count, is};
 ghost use Rattle.garde.specs.Visits.{Visited};
-ghost use Rattle.garde_described.specs.Keywords.{at_least, at_most, bound_of, chars_asks, counted, listed, membered, of};
+ghost use Rattle.garde_described.specs.Keywords.{at_least, at_most, bound_of, chars_asks, count_of, counted, listed, membered, of};
 
+use fast_float::Numeral;
 use garde::fields::{CharLength, Is, Length, Rules};
 use garde::rules::length::HasSimpleLength;
 use garde::{I18n, Report, Trail};
@@ -31,11 +32,25 @@ impl HasSimpleLength for Count {
     }
 }
 
+// The whole number that a text writes, where it has no sign and fits 64 bits.
+fn count_of(text: &str) -> Option<u64>
+    ensures { result ≡ count_of text.now }
+{
+    let numeral = Numeral::scan(text.as_bytes());
+    if !numeral.has_digits() {
+        return None;
+    }
+    match numeral.whole_u64() {
+        Some(number) => Some(number),
+        None => None,
+    }
+}
+
 // The number of a bound.
 pub(crate) fn bound_of(value: &Tree<'_, '_>) -> Option<usize>
     ensures { result ≡ bound_of value.now }
 {
-    Some(value.as_u64()? as usize)
+    Some(count_of(value.as_number()?)? as usize)
 }
 
 // At least as much as this number says.

@@ -7,13 +7,12 @@ ghost use Rattle.garde_described.specs.Faults.{in_turn, numbered};
 ghost use Rattle.garde_described.specs.Keywords.{keyword_of, listed, membered, of};
 ghost use Rattle.garde_described.specs.Links.{item_links, keyword_links, links, member_links, one_link};
 
-use crate::bounds::{
-    check_count, check_id, check_maximum, check_most, check_number, check_type_name,
-};
+use crate::bounds::{check_count, check_maximum, check_most, check_number, check_type_name};
 use crate::keyword::Keyword;
 use crate::leads::check_reference;
+use crate::put::put_unless;
 use garde::{Component, I18n, Report, Trail};
-use garde_schema::{FormI18n, Tree, TreeItems, TreeMembers};
+use garde_schema::{FormFault, FormI18n, Tree, TreeItems, TreeMembers};
 use std::alloc::AllocError;
 
 /// Appends to the report each fault of a schema of the document, and of those in it.
@@ -121,7 +120,7 @@ fn check_keyword<'s, 'a, H: I18n + FormI18n>(
         }
         Keyword::Maximum => check_maximum(schema, value, trail, report, h),
         Keyword::Ref => check_reference(root, value, trail, report, h),
-        Keyword::Id => check_id(is_whole, trail, report, h),
+        Keyword::Id => put_unless(is_whole, FormFault::Unknown, trail, report, h),
         Keyword::Items | Keyword::AdditionalProperties => {
             check_links(root, left, false, value, trail, report, h)
         }

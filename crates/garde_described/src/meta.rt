@@ -21,6 +21,7 @@ pub const META_SCHEMA: &str = r##"{
       "properties": {
         "$schema": {"const": "https://json-schema.org/draft/2020-12/schema"},
         "$id": {"type": "string"},
+        "$anchor": {"type": "string"},
         "$comment": {"type": "string"},
         "title": {"type": "string"},
         "description": {"type": "string"},

@@ -1,6 +1,7 @@
 //! Faults of form, put into a report.
+ghost use Rattle.std.specs.Prelude.{not};
 ghost use Rattle.garde_report.specs.Part.{key_part};
-ghost use Rattle.garde.specs.Visits.{Visited, under};
+ghost use Rattle.garde.specs.Visits.{Visited, under, when};
 ghost use Rattle.garde_schema.specs.Forms.{refused};
 
 use garde::{Component, I18n, Report, RuleError, Trail};
@@ -22,6 +23,25 @@ pub(crate) fn put<'a, H: I18n + FormI18n>(
     let alloc = trail.alloc();
     let text = h.form_fault(alloc, fault);
     trail.put(report, Err(RuleError::of(alloc, text)))
+}
+
+// Puts a fault of form where this does not hold.
+#[inline]
+pub(crate) fn put_unless<'a, H: I18n + FormI18n>(
+    holds: bool,
+    fault: FormFault,
+    trail: &mut Trail<'a>,
+    report: &mut Report,
+    h: &H,
+) -> Result<(), AllocError>
+    ensures { Visited (when (not holds) (refused (H.form_text h.now fault))) (H.text h.now)
+        trail.old trail.new report.old report.new result }
+{
+    if holds {
+        Ok(())
+    } else {
+        put(fault, trail, report, h)
+    }
 }
 
 // Puts a fault of form under this name.

@@ -1,6 +1,6 @@
 //! What a schema says of its own document: definitions, described members and items.
-ghost use Rattle.std.specs.Prelude.{◌≡◌};
-ghost use Rattle.garde_described.specs.Faults.{definition_of, described_items, first_named, is_described, member_of, names_schema};
+ghost use Rattle.std.specs.Prelude.{◌≡◌, ◌≤◌, length};
+ghost use Rattle.garde_described.specs.Faults.{definition_of, described_items, first_named, has_anchor, has_name, is_anchor, is_described, member_of, names_schema};
 
 use garde_schema::{Found, Tree, TreeMembers};
 
@@ -14,9 +14,9 @@ pub(crate) fn member_of<'t, 'a>(tree: &Tree<'t, 'a>, name: &str) -> Option<Tree<
     }
 }
 
-// Whether a reference `#/$defs/NAME` names the schema of this name.
-fn names_schema(text: &str, name: &str) -> bool
-    ensures { result ≡ names_schema text.now name.now }
+// Whether a reference `#/$defs/NAME` has this name.
+fn has_name(text: &str, name: &str) -> bool
+    ensures { result ≡ has_name text.now name.now }
 {
     if text.len() < 8 {
         return false;
@@ -25,13 +25,42 @@ fn names_schema(text: &str, name: &str) -> bool
     front == b"#/$defs/".as_slice() && rest == name.as_bytes()
 }
 
+// Whether a reference `#NAME` has this name.
+fn has_anchor(text: &str, anchor: Option<Tree<'_, '_>>) -> bool
+    requires { 2 ≤ length text.now }
+    ensures { result ≡ has_anchor text.now anchor.entry }
+{
+    let (_, rest) = text.as_bytes().split_at(1);
+    match anchor {
+        Some(anchor) => match anchor.as_str() {
+            Some(name) => rest == name.as_bytes(),
+            None => false,
+        },
+        None => false,
+    }
+}
+
+// Whether a reference is one to an `$anchor`.
+fn is_anchor(text: &str) -> bool
+    ensures { result ≡ is_anchor text.now }
+{
+    text.len() >= 2 && text.as_bytes()[1] != b'/'
+}
+
+// Whether a reference names this schema, which has this name.
+fn names_schema(text: &str, name: &str, schema: &Tree<'_, '_>) -> bool
+    ensures { result ≡ names_schema text.now (name.now, schema.now) }
+{
+    has_name(text, name) || (is_anchor(text) && has_anchor(text, member_of(schema, "$anchor")))
+}
+
 // The first of these schemas that a reference names.
 fn first_named<'t, 'a>(text: &str, schemas: TreeMembers<'t, 'a>) -> Option<Tree<'t, 'a>>
     ensures { result ≡ first_named text.now schemas.entry }
 {
     let mut left = schemas;
     while let Some((name, schema)) = left.next() {
-        if names_schema(text, name) {
+        if names_schema(text, name, &schema) {
             return Some(schema);
         }
     }

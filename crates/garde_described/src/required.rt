@@ -1,32 +1,12 @@
 //! `required`.
-ghost use Rattle.json.specs.Find.{as_str};
-ghost use Rattle.garde_report.specs.Part.{key_part};
-ghost use Rattle.garde_tape.specs.Look.{find_answer};
 ghost use Rattle.garde.specs.Visits.{Visited};
 ghost use Rattle.garde_described.specs.Keywords.{listed, membered, of};
-ghost use Rattle.garde_described.specs.Faults.{in_turn, present_asks, required_asks};
+ghost use Rattle.garde_described.specs.Faults.{in_turn, required_asks};
 
 use crate::put::put_under;
 use garde::{I18n, Report, Trail};
 use garde_schema::{FormFault, FormI18n, Found, Tree, TreeItems};
 use std::alloc::AllocError;
-
-// Asks that an object has a member of this name.
-fn check_present<'t, 'a, H: I18n + FormI18n>(
-    name: &'a str,
-    tree: &Tree<'t, 'a>,
-    trail: &mut Trail<'a>,
-    report: &mut Report,
-    h: &H,
-) -> Result<(), AllocError>
-    ensures { Visited (present_asks (H.form_text h.now) (key_part name.now) (find_answer name.now tree.now))
-        (H.text h.now) trail.old trail.new report.old report.new result }
-{
-    match tree.find(name) {
-        Found::Missing => put_under(name, FormFault::Missing, trail, report, h),
-        Found::Once(_) | Found::Repeated => Ok(()),
-    }
-}
 
 // Asks that an object has a member of the name that an item of `required` is.
 fn check_item<'s, 't, 'a, H: I18n + FormI18n>(
@@ -40,7 +20,10 @@ fn check_item<'s, 't, 'a, H: I18n + FormI18n>(
         (H.text h.now) trail.old trail.new report.old report.new result }
 {
     match item.as_str() {
-        Some(name) => check_present(name, tree, trail, report, h),
+        Some(name) => match tree.find(name) {
+            Found::Missing => put_under(name, FormFault::Missing, trail, report, h),
+            Found::Once(_) | Found::Repeated => Ok(()),
+        },
         None => Ok(()),
     }
 }

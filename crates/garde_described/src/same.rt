@@ -5,7 +5,7 @@ ghost use Rattle.garde.specs.Visits.{Visited};
 ghost use Rattle.garde_described.specs.Keywords.{among_asks, const_asks, flags_same, found_same, is_same, items_same, listed, lists_same, member_same, membered, numbers_same, objects_same, of, same, scalars_same, texts_same, values_same};
 ghost use Rattle.garde_decimal.specs.Value.{decimal_of};
 
-use crate::put::put;
+use crate::put::put_unless;
 use garde::{I18n, Report, Trail};
 use garde_schema::{Decimal, FormFault, FormI18n, Found, Tree, TreeItems, TreeMembers};
 use std::alloc::AllocError;
@@ -181,24 +181,6 @@ fn is_among(tree: &Tree<'_, '_>, values: TreeItems<'_, '_>) -> bool
     false
 }
 
-// Asks that a value is one of these.
-fn check_among<'s, 't, 'a, H: I18n + FormI18n>(
-    values: TreeItems<'s, 'a>,
-    tree: &Tree<'t, 'a>,
-    trail: &mut Trail<'a>,
-    report: &mut Report,
-    h: &H,
-) -> Result<(), AllocError>
-    ensures { Visited (among_asks (H.form_text h.now) values.entry tree.now) (H.text h.now)
-        trail.old trail.new report.old report.new result }
-{
-    if is_among(tree, values) {
-        Ok(())
-    } else {
-        put(FormFault::NotOneOf, trail, report, h)
-    }
-}
-
 // Asks that a value is one of those of `enum`.
 pub(crate) fn check_enum<'s, 't, 'a, H: I18n + FormI18n>(
     values: &Tree<'s, 'a>,
@@ -211,7 +193,10 @@ pub(crate) fn check_enum<'s, 't, 'a, H: I18n + FormI18n>(
         trail.old trail.new report.old report.new result }
 {
     match values.items() {
-        Some(values) => check_among(values, tree, trail, report, h),
+        Some(values) => {
+            let is_known = is_among(tree, values);
+            put_unless(is_known, FormFault::NotOneOf, trail, report, h)
+        }
         None => Ok(()),
     }
 }
@@ -227,9 +212,5 @@ pub(crate) fn check_const<'s, 't, 'a, H: I18n + FormI18n>(
     ensures { Visited (const_asks (H.form_text h.now) value.now tree.now) (H.text h.now)
         trail.old trail.new report.old report.new result }
 {
-    if is_same(value, tree) {
-        Ok(())
-    } else {
-        put(FormFault::NotOneOf, trail, report, h)
-    }
+    put_unless(is_same(value, tree), FormFault::NotOneOf, trail, report, h)
 }

@@ -22,29 +22,17 @@ fn told_of(alloc: Global, schema: &str, body: &str) -> Result<String, AllocError
 
 // A schema, a body, and what is told.
 const CASES: [(&str, &str, &str); 11] = [
-    (
-        "{\"type\":\"string\",\"minLength\":2}",
-        "\"a\"",
-        "length is lower than 2\n",
-    ),
-    (
-        "{\"type\":\"integer\",\"maximum\":9}",
-        "1.5",
-        "not a whole number\n",
-    ),
+    ("{\"minLength\":2.0}", "\"a\"", "length is lower than 2\n"),
+    ("{\"type\":\"integer\"}", "1.5", "not a whole number\n"),
     ("{\"type\":\"integer\",\"maximum\":9}", "90e-1", ""),
     (
-        "{\"type\":[\"string\",\"null\"]}",
-        "1",
-        "not of a type that is allowed here\n",
+        "{\"prefixItems\":[{\"type\":[\"string\",\"null\"]},{\"type\":[\"string\",\"array\"]}]}",
+        "[1,2]",
+        "[0]: not a text\n[1]: not of a type that is allowed here\n",
     ),
     ("{\"exclusiveMinimum\":0}", "0.0", "not greater than 0\n"),
     ("{\"enum\":[1,\"a\",null,true]}", "1.0", ""),
-    (
-        "{\"const\":{\"a\":[1,{}],\"b\":2}}",
-        "{\"b\":2.0,\"a\":[10e-1,{}]}",
-        "",
-    ),
+    ("{\"const\":{\"a\":1,\"b\":2}}", "{\"b\":2.0,\"a\":1}", ""),
     (
         "{\"const\":{\"a\":[1,{}],\"b\":2}}",
         "{\"b\":2,\"a\":[1,{\"c\":0}]}",
@@ -57,7 +45,7 @@ const CASES: [(&str, &str, &str); 11] = [
         "a: not a text\nb: missing\nc: not known here\n",
     ),
     (
-        "{\"$ref\":\"#/$defs/node\",\"$defs\":{\"node\":{\"prefixItems\":[{\"type\":\"string\"}],\"items\":{\"$ref\":\"#/$defs/node\"}}}}",
+        "{\"$ref\":\"#/$defs/node\",\"$defs\":{\"node\":{\"$anchor\":\"n\",\"prefixItems\":[{\"type\":\"string\"}],\"items\":{\"$ref\":\"#n\"}}}}",
         "[1,[\"a\"],[\"b\",[2]]]",
         "[0]: not a text\n[2][1][0]: not a text\n",
     ),

@@ -1,9 +1,9 @@
 //! `type`.
-ghost use Rattle.std.specs.Prelude.{◌≡◌, unwrap_or, option_map, false};
+ghost use Rattle.std.specs.Prelude.{◌≡◌, false, option_and_then, option_map, unwrap_or};
 ghost use Rattle.std.specs.List.{list_any};
 ghost use Rattle.json.specs.Find.{as_number, as_str};
 ghost use Rattle.garde.specs.Visits.{Visited};
-ghost use Rattle.garde_described.specs.Keywords.{has_type, has_type_named, is_integer, listed, no_type, of, type_asks, type_of, typed, typed_among};
+ghost use Rattle.garde_described.specs.Keywords.{beside_null, has_type, has_type_named, is_integer, listed, no_type, no_type_among, of, other_type, type_asks, type_named, type_of, typed, typed_among};
 
 use crate::numbers::whole;
 use crate::put::put;
@@ -111,16 +111,46 @@ fn put_type<'t, 'a, H: I18n + FormI18n>(
     put(FormFault::Wrong(wanted, tree.kind()), trail, report, h)
 }
 
+// The type that a text names.
+fn type_named(name: &Tree<'_, '_>) -> Option<JsonType>
+    ensures { result ≡ type_named name.now }
+{
+    JsonType::of(name.as_str()?)
+}
+
 // Whether a value is of the type that a text names.
 fn has_type_named(tree: &Tree<'_, '_>, name: &Tree<'_, '_>) -> bool
     ensures { result ≡ has_type_named tree.now name.now }
 {
-    match name.as_str() {
-        Some(name) => match JsonType::of(name) {
-            Some(one) => one.has(tree),
-            None => false,
-        },
+    match type_named(name) {
+        Some(one) => one.has(tree),
         None => false,
+    }
+}
+
+// The one of two types that is not `null`, where the other is.
+fn other_type(one: Option<JsonType>, other: Option<JsonType>) -> Option<JsonType>
+    ensures { result ≡ other_type one other }
+{
+    if let Some(JsonType::Null) = one {
+        other
+    } else if let Some(JsonType::Null) = other {
+        one
+    } else {
+        None
+    }
+}
+
+// The type beside `null`, where a list has these two.
+fn beside_null(value: &Tree<'_, '_>) -> Option<JsonType>
+    ensures { result ≡ option_and_then beside_null (listed value.now) }
+{
+    let mut rest = value.items()?;
+    let one = rest.next()?;
+    let other = rest.next()?;
+    match rest.next() {
+        Some(_) => None,
+        None => other_type(type_named(&one), type_named(&other)),
     }
 }
 
@@ -137,24 +167,6 @@ fn is_among(tree: &Tree<'_, '_>, names: TreeItems<'_, '_>) -> bool
     false
 }
 
-// Asks that a value is of this type.
-fn check_one<'t, 'a, H: I18n + FormI18n>(
-    one: JsonType,
-    tree: &Tree<'t, 'a>,
-    trail: &mut Trail<'a>,
-    report: &mut Report,
-    h: &H,
-) -> Result<(), AllocError>
-    ensures { Visited (typed (H.form_text h.now) tree.now one) (H.text h.now)
-        trail.old trail.new report.old report.new result }
-{
-    if one.has(tree) {
-        Ok(())
-    } else {
-        put_type(one, tree, trail, report, h)
-    }
-}
-
 // Asks that a value is of the type of this name.
 fn check_name<'t, 'a, H: I18n + FormI18n>(
     name: &str,
@@ -167,27 +179,55 @@ fn check_name<'t, 'a, H: I18n + FormI18n>(
         trail.old trail.new report.old report.new result }
 {
     match JsonType::of(name) {
-        Some(one) => check_one(one, tree, trail, report, h),
+        Some(one) => {
+            if one.has(tree) {
+                Ok(())
+            } else {
+                put_type(one, tree, trail, report, h)
+            }
+        }
         None => Ok(()),
     }
 }
 
-// Asks that a value is of one of the types of these names.
-fn check_names<'s, 't, 'a, H: I18n>(
-    names: Option<TreeItems<'s, 'a>>,
+// Puts the fault of a value that is of none of the types that a list names.
+fn put_types<'s, 't, 'a, H: I18n + FormI18n>(
+    value: &Tree<'s, 'a>,
     tree: &Tree<'t, 'a>,
     trail: &mut Trail<'a>,
     report: &mut Report,
     h: &H,
 ) -> Result<(), AllocError>
-    ensures { Visited (of (typed_among tree.now) names.entry) (H.text h.now)
+    ensures { Visited (no_type_among (H.form_text h.now) (option_and_then beside_null (listed value.now))
+        tree.now) (H.text h.now) trail.old trail.new report.old report.new result }
+{
+    match beside_null(value) {
+        Some(wanted) => put_type(wanted, tree, trail, report, h),
+        None => {
+            let rule = AsksAs("type_mismatch", "not of a type that is allowed here", false);
+            Is(rule).ask(&(), trail, report, h)
+        }
+    }
+}
+
+// Asks that a value is of one of the types that a list names.
+fn check_names<'s, 't, 'a, H: I18n + FormI18n>(
+    value: &Tree<'s, 'a>,
+    tree: &Tree<'t, 'a>,
+    trail: &mut Trail<'a>,
+    report: &mut Report,
+    h: &H,
+) -> Result<(), AllocError>
+    ensures { Visited (of (typed_among (H.form_text h.now) tree.now) (listed value.now)) (H.text h.now)
         trail.old trail.new report.old report.new result }
 {
-    match names {
+    match value.items() {
         Some(names) => {
-            let holds = is_among(tree, names);
-            let rule = AsksAs("type_mismatch", "not of a type that is allowed here", holds);
-            Is(rule).ask(&(), trail, report, h)
+            if is_among(tree, names) {
+                Ok(())
+            } else {
+                put_types(value, tree, trail, report, h)
+            }
         }
         None => Ok(()),
     }
@@ -206,6 +246,6 @@ pub(crate) fn check_type<'s, 't, 'a, H: I18n + FormI18n>(
 {
     match value.as_str() {
         Some(name) => check_name(name, tree, trail, report, h),
-        None => check_names(value.items(), tree, trail, report, h),
+        None => check_names(value, tree, trail, report, h),
     }
 }

@@ -1,8 +1,10 @@
-use Rattle.std.proofs.Common.{rules, refl, ap, sym, arith, length, ◌∙◌, Some, None}
-use Rattle.std.specs.Prelude.{codes, not, nat_le, option_map, if◌then◌else◌}
+use Rattle.std.proofs.Common.{rules, refl, ap, sym, arith, length, true, ◌∙◌, Some, None}
+use Rattle.std.specs.Prelude.{codes, not, nat_le, option_map, unwrap_or, if◌then◌else◌}
 use Rattle.garde_report.specs.Part.{key_part, part_of}
 use Rattle.garde.proofs.Author.{visited_full, visited_none, visited_unless, visited_when}
-use Rattle.garde.specs.Visits.{under}
+use Rattle.garde.specs.Visits.{under, when}
+use Rattle.garde_schema.specs.Forms.{refused}
+use Rattle.garde_schema.specs.declared.fault.FormFault.TheVariants.{Unknown}
 use Rattle.garde_described.specs.Keywords.{keyword_of, listed, of}
 use Rattle.garde_described.specs.Faults.{asks, by_place, definition_of, described_items, faults, in_turn, is_described, item_asks, member_asks, member_of, numbered, other_asks, properties_asks, target_of}
 use Rattle.garde_described.proofs.Walks.{asks_nothing, faults_next, faults_zero, member_is, turn_then, turn_stop, turn_end, item_then, item_stop, item_end, place_then, place_stop, place_short, place_end}
@@ -78,7 +80,7 @@ pub check-returns-in-Some : goal.check-returns-in-Some
 check-returns-in-Some g t c = faults_next (g.H.FormI18n.form_text c.args.h.now) c.args.root.now c.args.left c.args.schema.now c.args.tree.now _ (search rules) (sym c.members.ensures.value ∙ c.in-Some.is) c.check_keywords.ensures
 
 pub check-returns-in-None : goal.check-returns-in-None
-check-returns-in-None g t c = faults_next (g.H.FormI18n.form_text c.args.h.now) c.args.root.now c.args.left c.args.schema.now c.args.tree.now None (search rules) (sym c.members.ensures.value ∙ c.in-None.is) c.check_flag.ensures
+check-returns-in-None g t c = faults_next (g.H.FormI18n.form_text c.args.h.now) c.args.root.now c.args.left c.args.schema.now c.args.tree.now None (search rules) (sym c.members.ensures.value ∙ c.in-None.is) (told_as (ap (λ b. when (not b) (refused (g.H.FormI18n.form_text c.args.h.now Unknown))) (c.unwrap_or-holds.ensures ∙ ap (λ o. unwrap_or o true) c.as_bool.ensures)) c.put_unless.ensures)
 
 pub check_keyword-returns-in-Definitions : goal.check_keyword-returns-in-Definitions
 check_keyword-returns-in-Definitions g t c = asks_nothing (faults (g.H.FormI18n.form_text c.args.h.now) c.args.root.now c.args.left) (g.H.FormI18n.form_text c.args.h.now) c.args.root.now c.args.schema.now c.args.keyword c.args.value.now c.args.tree.now c.in-Definitions.is

@@ -1,11 +1,10 @@
-use Rattle.std.proofs.Common.{ap, sym, ◌∙◌}
+use Rattle.std.proofs.Common.{ap}
 use Rattle.std.specs.Prelude.{not}
-use Rattle.garde.proofs.Author.{visited_unless, visited_when}
-use Rattle.garde_described.specs.Keywords.{is_same}
+use Rattle.garde.specs.Visits.{when}
+use Rattle.garde_schema.specs.Forms.{refused}
+use Rattle.garde_schema.specs.declared.fault.FormFault.TheVariants.{NotOneOf}
+use Rattle.garde_described.proofs.Lemmas.{told_as}
 use Rattle.garde_described.proofs.same.check_const.Goals as goal
 
-pub returns-then-is_same : goal.returns-then-is_same
-returns-then-is_same g c = visited_unless (not (is_same c.args.value.now c.args.tree.now)) _ (ap not (sym c.is_same.ensures ∙ c.if-is_same.true))
-
-pub returns-else-is_same : goal.returns-else-is_same
-returns-else-is_same g c = visited_when (not (is_same c.args.value.now c.args.tree.now)) _ (ap not (sym c.is_same.ensures ∙ c.if-is_same.false)) c.put.ensures
+pub returns : goal.returns
+returns g c = told_as (ap (λ b. when (not b) (refused (g.H.FormI18n.form_text c.args.h.now NotOneOf))) c.is_same.ensures) c.put_unless.ensures
