@@ -96,8 +96,7 @@ export async function instanceOf(source, bits) {
     let status;
     try {
       const { length, tag } = put(body, language, schema);
-      // The library gives a byte, above which other bits may stand.
-      status = it[name](length, tag, most, places) & 255;
+      status = it[name](length, tag, most, places);
     } catch (error) {
       it.__stack_pointer.value = it.stack;
       throw error;

@@ -22,13 +22,16 @@ enum { VERSION = 3 };
 typedef struct { byte kind, in_texts; unsigned len; size value; } node;
 typedef struct { size line, column; } place;
 
-byte order_check(RULES const byte *body, size body_len, size most, const byte *language, size language_len, byte *out, size out_len, size *len);
-byte order_faults_with(checker *in, RULES const byte *body, size body_len, size most, const byte *language, size language_len, byte *out,
-                       size out_len, size *len, node *nodes, size nodes_len, size *nodes_used, byte *texts, size texts_len,
-                       size *texts_used, place *places, size places_len, size *places_used);
-byte order_is_valid(RULES const byte *body, size body_len);
-byte order_value_with(checker *in, RULES const byte *body, size body_len, node *nodes, size nodes_len, size *nodes_used, byte *texts,
-                      size texts_len, size *texts_used);
+// Above the byte of a status other bits may be, so each is cut by `STATUS`.
+#define STATUS 255u
+unsigned order_check(RULES const byte *body, size body_len, size most, const byte *language, size language_len, byte *out, size out_len,
+                     size *len);
+unsigned order_faults_with(checker *in, RULES const byte *body, size body_len, size most, const byte *language, size language_len, byte *out,
+                           size out_len, size *len, node *nodes, size nodes_len, size *nodes_used, byte *texts, size texts_len,
+                           size *texts_used, place *places, size places_len, size *places_used);
+unsigned order_is_valid(RULES const byte *body, size body_len);
+unsigned order_value_with(checker *in, RULES const byte *body, size body_len, node *nodes, size nodes_len, size *nodes_used, byte *texts,
+                          size texts_len, size *texts_used);
 
 #define PAGE 65536ul
 // No block has so many bytes.
@@ -151,9 +154,9 @@ static int check_in(size body_len, size language_len, size most, size room, size
   out = get(room);
   places = get(place_room * sizeof(place));
   if (!out || !places) return MEMORY;
-  if (!place_room) return order_check(BY input, body_len, most, language, language_len, out, room, &details_len);
-  return order_faults_with(&kept, BY input, body_len, most, language, language_len, out, room, &details_len, (node *)top, 0, &no_nodes, top, 0,
-                           &no_texts, places, place_room, &places_len);
+  if (!place_room) return STATUS & order_check(BY input, body_len, most, language, language_len, out, room, &details_len);
+  return STATUS & order_faults_with(&kept, BY input, body_len, most, language, language_len, out, room, &details_len, (node *)top, 0, &no_nodes,
+                                    top, 0, &no_texts, places, place_room, &places_len);
 }
 
 // Checks what lies in the room, and returns a status. Where there is more than there was room for, it checks once more. With a
@@ -168,7 +171,7 @@ int check(double body_len, double language_len, double most, double place_room) 
   }
 }
 
-int is_valid(double body_len) { return order_is_valid(BY input, (size)body_len); }
+int is_valid(double body_len) { return STATUS & order_is_valid(BY input, (size)body_len); }
 
 // Judges what lies in the room, and returns a status. Of a valid body there are its nodes then. Few bodies have more than one in
 // four bytes: those are judged once more. What its texts have with an escape is no longer than the body.
@@ -178,7 +181,7 @@ int value(double body_len) {
   for (size room = input_len / 4 + 1; texts; room = nodes_len) {
     nodes = get(room * sizeof(node));
     if (!nodes) return MEMORY;
-    int status = order_value_with(&kept, BY input, input_len, nodes, room, &nodes_len, texts, input_len, &texts_len);
+    int status = STATUS & order_value_with(&kept, BY input, input_len, nodes, room, &nodes_len, texts, input_len, &texts_len);
     if (nodes_len <= room) return status;
     rattle_dealloc(nodes);
   }
