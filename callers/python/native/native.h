@@ -17,7 +17,7 @@ enum {
   ROOMS = 4,
   NAMES = 512,
   /* A name of more bytes is not kept, and a class with more fields is rejected. */
-  NAME_LEN = 23,
+  NAME_LEN = 39,
   FIELDS = 64,
   /* The parts of a fault. */
   PARTS = 4,

@@ -71,7 +71,10 @@ static uint8_t call_details(room *in, const asked *it) {
 }
 
 /* Nodes and texts of most faults, of a body of so many bytes: some 13 nodes and 100 bytes for each, and a fault for 12 bytes at most. */
-static size_t first_nodes(const asked *it) { return (it->len < MOST_AT_FIRST ? it->len : MOST_AT_FIRST) + 256; }
+static size_t first_nodes(const asked *it) {
+  size_t len = it->len < MOST_AT_FIRST ? it->len : MOST_AT_FIRST;
+  return len + len / 8 + 256;
+}
 
 static uint8_t call_faults(room *in, const asked *it) {
   size_t nodes = first_nodes(it), texts = 8 * nodes, out = it->details ? 2 * texts : 1, places = it->places ? nodes / 8 : 1;

@@ -58,7 +58,7 @@ static unsigned kind_of(const walk *in) {
   }
 }
 
-/* The name of a member of a dict. Short ones are kept, since they come again and again. */
+/* The name of a member of a dict, or what a fault says of its rule. Short ones are kept, since they come again and again. */
 static PyObject *name_of(const walk *in, const order_node *it) {
   if (it->len > NAME_LEN) return text_of(in, it);
   const char *at = at_text(in, it);
@@ -211,7 +211,8 @@ PyObject *made(walk *in) { return shaped(in, in->by ? in->by->shapes : &ANY); }
 /* The next part of a fault, behind its name. */
 static PyObject *part_of(walk *in, int part) {
   in->at++;
-  return part == PARTS - 1 ? dict_of(in, &ANY) : text_of(in, in->at++);
+  if (part == PARTS - 1) return dict_of(in, &ANY);
+  return part == 0 ? text_of(in, in->at++) : name_of(in, in->at++);
 }
 
 /* A fault, whose parts come one after the other, as order.h has them. */
