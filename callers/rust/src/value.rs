@@ -13,6 +13,7 @@ pub enum Text<'b, 'r> {
 
 impl<'r> Text<'_, 'r> {
     /// The text, for as long as the room.
+    #[inline]
     pub fn as_str(self) -> &'r str
     where
         Self: 'r,
@@ -63,6 +64,7 @@ impl<'b, 'r> Parts<'b, 'r> {
         }
     }
 
+    #[inline]
     fn text(&self, node: &raw::Node) -> Text<'b, 'r> {
         let at = node.value as usize;
         let range = at..at + node.len as usize;
@@ -74,6 +76,7 @@ impl<'b, 'r> Parts<'b, 'r> {
     }
 
     /// The next part, which stays the next one.
+    #[inline]
     pub fn peek(&self) -> Option<Part<'b, 'r>> {
         self.clone().next()
     }
@@ -97,6 +100,7 @@ impl<'b> Parts<'b, 'b> {
 impl<'b, 'r> Iterator for Parts<'b, 'r> {
     type Item = Part<'b, 'r>;
 
+    #[inline]
     fn next(&mut self) -> Option<Part<'b, 'r>> {
         let node = self.nodes.next()?;
         Some(match node.kind {

@@ -35,6 +35,7 @@ impl<'b, 'r> Reader<'b, 'r> {
         Reader(parts)
     }
 
+    #[inline]
     fn next(&mut self) -> Result<Part<'b, 'r>, Misfit> {
         self.0
             .next()
