@@ -91,6 +91,31 @@ function testAll(folder, cases) {
     }
   });
 
+  test('bodies of a file, beside what a program in C answers to them', { skip: !process.env.ORDER_BODIES }, () => {
+    const [bodies, answers] = ['bodies', 'answers'].map((it) => readFileSync(join(process.env.ORDER_BODIES, it)));
+    const checker = new Checker();
+    let next = 0;
+    const number = () => answers.readUInt32LE((next += 4) - 4);
+    for (let at = 0; at < bodies.length;) {
+      const [length, most, tag] = [0, 4, 8].map((it) => bodies.readUInt32LE(at + it));
+      const body = bodies.subarray(at + 12, (at += 12 + length));
+      const [status, size] = [number(), number()];
+      const answer = answers.subarray(next, (next += size));
+      const options = { most: most === 2 ** 32 - 1 ? Infinity : most, language: 'cs'.slice(0, tag), places: true };
+      const found = checker.problem(body, options);
+      assert.equal(found?.status ?? 0, status);
+      if (status === 0) assert.deepEqual(checker.value(body), JSON.parse(new TextDecoder().decode(body)));
+      else if (status === 2) assert.throws(() => checker.check(body, options), NotJsonError);
+      else {
+        const faults = checker.check(body, options);
+        const places = faults.map(({ line, column }) => ` ${line}:${column}`).join('');
+        assert.equal(String(found.details) + places, String(answer));
+        assert.deepEqual(faults.map(({ line, column, ...it }) => it), JSON.parse(found.details).errors);
+        assert.equal(faults.more, JSON.parse(found.details).detail !== undefined);
+      }
+    }
+  });
+
   test('short texts', () => {
     const codes = ['P', 'P1', 'P12', 'P123', 'P1234', 'Pa', 'P\\n', 'P\\u0031', 'Pč', 'P\\"\\\\'];
     for (let n = 0; n < 2000; n++) {

@@ -5,7 +5,7 @@
 
 const { isUint8Array } = require('node:util').types;
 const addon = require('./order_check.node');
-const { valueOf } = require('./nodes.js');
+const { faultsOf, valueOf } = require('./nodes.js');
 
 const VALID = 0;
 const FAULTS = 1;
@@ -17,6 +17,7 @@ const KEPT_DETAILS = 4 * KEPT_BODY;
 const room = addon.newRoom();
 // What the nodes of a value are read from: four numbers for each, behind four that say how many there are.
 const NODES = new Int32Array(16384);
+const MOST_AT_FIRST = 2 ** 22;
 const lengthOf = Object.getOwnPropertyDescriptor(ArrayBuffer.prototype, 'byteLength').get;
 
 class NotJsonError extends SyntaxError {
@@ -51,61 +52,83 @@ function outOfMemory() {
   return Object.assign(new Error('out of memory'), { code: 'ERR_MEMORY_ALLOCATION_FAILED' });
 }
 
-/** What is wrong with a body, or null. */
-function asked(inRoom, body, { most = Infinity, language = '', places = false } = {}) {
+/** What a check reports. */
+function optionsOf({ most = Infinity, language = '', places = false } = {}) {
   if (typeof most !== 'number') throw new TypeError('most is a number');
   if (!(most === Infinity || Number.isInteger(most)) || most < 1) throw new RangeError(`most is ${most}, and not 1, 2, ..`);
-  const answer = addon.check(inRoom, bytesOf(body), most, language, Boolean(places));
-  if (answer === 0) return null;
-  if (answer === MEMORY) throw outOfMemory();
-  return answer;
+  return { most, language, places: Boolean(places) };
 }
 
-function problemOf(answer) {
-  if (answer === null) return null;
-  const [status, details] = answer;
-  return { status, httpStatus: status === FAULTS ? 422 : 400, details };
+/** What is wrong with a body, or null. */
+function problemIn(inRoom, body, options) {
+  const { most, language } = optionsOf(options);
+  const found = addon.check(inRoom, bytesOf(body), most, language);
+  if (found === MEMORY) throw outOfMemory();
+  return found === VALID ? null : { status: found[0], httpStatus: found[0] === FAULTS ? 422 : 400, details: found[1] };
 }
 
-function faultsOf(answer) {
-  const [status, details, places] = answer ?? [VALID, '{"errors":[]}', []];
-  const said = JSON.parse(details);
-  if (status === NO_JSON) throw new NotJsonError(said.detail, details);
-  for (let i = 0; i < places.length; i += 2) Object.assign(said.errors[i / 2], { line: places[i], column: places[i + 1] });
-  return Object.defineProperty(said.errors, 'more', { value: said.detail !== undefined });
+/** Room for nodes: so many numbers at least. */
+function nodesFor(wanted) {
+  return wanted <= NODES.length ? NODES : new Int32Array(wanted);
 }
 
-/** The value of a body, or undefined where it is not valid. Few have more than a node in four bytes: those are judged once more. */
+function placed(inRoom, faults) {
+  const places = addon.places(inRoom);
+  faults.forEach((it, n) => Object.assign(it, { line: places[2 * n], column: places[2 * n + 1] }));
+}
+
+/** The faults of a body. */
+function faultsIn(inRoom, body, options) {
+  const it = bytesOf(body);
+  const { most, language, places } = optionsOf(options);
+  // Most have some 13 nodes for a fault, which takes 12 bytes at least. Those that have more are judged once more.
+  for (let nodes = nodesFor(Math.min(5 * it.length, MOST_AT_FIRST)); ; nodes = nodesFor(4 * nodes[0] + 4)) {
+    const found = addon.faults(inRoom, it, most, language, nodes, places);
+    if (found === MEMORY) throw outOfMemory();
+    if (found === VALID) return Object.defineProperty([], 'more', { value: false });
+    if (found === NO_JSON) {
+      const { details } = problemIn(inRoom, it, options);
+      throw new NotJsonError(JSON.parse(details).detail, details);
+    }
+    if (found === FAULTS) continue;
+    const faults = faultsOf(nodes, found);
+    if (places) placed(inRoom, faults);
+    return faults;
+  }
+}
+
+/** The value of a body, or undefined where it is not valid. */
 function valueIn(inRoom, body) {
-  let nodes = body.length < NODES.length ? NODES : new Int32Array(body.length + 8);
-  for (;;) {
+  // Few have more than a node in four bytes: those are judged once more.
+  for (let nodes = nodesFor(body.length + 8); ; nodes = nodesFor(4 * nodes[0] + 4)) {
     const found = addon.value(inRoom, body, nodes);
     if (typeof found === 'string') return valueOf(nodes, found, body);
     if (found === MEMORY) throw outOfMemory();
     if (found !== VALID) return undefined;
-    nodes = new Int32Array(4 * nodes[0] + 4);
   }
 }
 
-/** What is wrong with a body, or null, in the room of the module. */
-function askedHere(body, options) {
-  const found = asked(room, body, options);
-  if (body.length > KEPT_BODY || (found !== null && found[1].length > KEPT_DETAILS)) addon.emptyRoom(room);
-  return found;
+/** Frees the room of the module after a body that is large, or an answer. */
+function tidy(body, answer = 0) {
+  if (body.length > KEPT_BODY || answer > KEPT_DETAILS) addon.emptyRoom(room);
 }
 
 function check(body, options) {
-  return faultsOf(askedHere(body, options));
+  const faults = faultsIn(room, body, options);
+  tidy(body, 200 * faults.length);
+  return faults;
 }
 
 function problem(body, options) {
-  return problemOf(askedHere(body, options));
+  const found = problemIn(room, body, options);
+  tidy(body, found?.details.length);
+  return found;
 }
 
 function value(body, options) {
   const it = bytesOf(body);
   const found = valueIn(room, it);
-  if (it.length > KEPT_BODY) addon.emptyRoom(room);
+  tidy(it);
   if (found === undefined) throw new FaultsError(check(it, options));
   return found;
 }
@@ -133,11 +156,11 @@ class Checker {
   // end: of a schema
 
   check(body, options) {
-    return faultsOf(asked(this.#room, body, options));
+    return faultsIn(this.#room, body, options);
   }
 
   problem(body, options) {
-    return problemOf(asked(this.#room, body, options));
+    return problemIn(this.#room, body, options);
   }
 
   value(body, options) {

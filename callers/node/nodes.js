@@ -181,4 +181,19 @@ function valueOf(nodes, text, body) {
   return new Reader(nodes, text, nodes[1] === 0 ? NO_BYTES : body).read();
 }
 
-module.exports = { valueOf };
+/** The faults of nodes of problem details, whose last member they are. Each has its members in this order. */
+function faultsOf(nodes, text) {
+  const reader = new Reader(nodes, text, NO_BYTES);
+  const members = nodes[6];
+  const list = 4 + 8 * members;
+  const faults = [];
+  reader.next = list + 4;
+  while (faults.length < nodes[list + 2]) {
+    const at = reader.next;
+    reader.next = at + 32;
+    faults.push({ pointer: reader.textAt(at + 8), detail: reader.textAt(at + 16), code: reader.textAt(at + 24), params: reader.read() });
+  }
+  return Object.defineProperty(faults, 'more', { value: members > 3 });
+}
+
+module.exports = { faultsOf, valueOf };

@@ -15,7 +15,7 @@ typedef struct {
   uint8_t *details, *texts;
   size_t size, texts_size;
   order_place *places;
-  size_t places_size;
+  size_t places_size, places_used;
   uint8_t *schema;
   size_t schema_len;
 } room;
@@ -46,7 +46,6 @@ typedef struct {
   bytes body, language;
   size_t most;
   char tag[64];
-  bool has_places;
 } asked;
 
 static const uint8_t *const NOTHING = (const uint8_t *)"";
@@ -124,22 +123,16 @@ static bool language_of(napi_env env, napi_value value, asked *it) {
   return napi_get_value_string_utf8(env, value, it->tag, sizeof it->tag, &it->language.len) == napi_ok;
 }
 
-/* Checks a body. Where there is too little room for the details or the places, it asks again with more. */
-static uint8_t checked(const asked *it, size_t *len, size_t *places) {
+/* Checks a body. Where there is too little room for the details, it asks again with more. */
+static uint8_t checked(const asked *it, size_t *len) {
   room *in = it->room;
-  size_t none = 0;
-  order_node node;
   *len = FIRST;
-  *places = it->has_places ? FIRST_PLACES : 0;
   uint8_t status = ORDER_MEMORY;
   do {
-    if (!grow(&in->details, &in->size, *len, 1) || !grow(&in->places, &in->places_size, *places, sizeof *in->places)) return ORDER_MEMORY;
-    status = it->has_places
-                 ? order_faults_with(&in->checker, BY(in) it->body.at, it->body.len, it->most, it->language.at, it->language.len, in->details,
-                                     in->size, len, &node, 0, &none, in->details, 0, &none, in->places, in->places_size, places)
-                 : order_check_with(&in->checker, BY(in) it->body.at, it->body.len, it->most, it->language.at, it->language.len, in->details,
-                                    in->size, len);
-  } while (*len > in->size || *places > in->places_size);
+    if (!grow(&in->details, &in->size, *len, 1)) return ORDER_MEMORY;
+    status = order_check_with(&in->checker, BY(in) it->body.at, it->body.len, it->most, it->language.at, it->language.len, in->details,
+                              in->size, len);
+  } while (*len > in->size);
   return status;
 }
 
@@ -167,49 +160,38 @@ static napi_value empty_room(napi_env env, napi_callback_info info) {
   return NULL;
 }
 
-/* Line and column of each fault, one after the other. */
-static bool placed(napi_env env, const room *in, size_t count, napi_value *made) {
-  void *at = NULL;
-  napi_value buffer;
-  if (napi_create_arraybuffer(env, 2 * count * sizeof(double), &at, &buffer) != napi_ok) return false;
-  for (size_t i = 0; i < count; i++) {
-    ((double *)at)[2 * i] = (double)in->places[i].line;
-    ((double *)at)[2 * i + 1] = (double)in->places[i].column;
-  }
-  return napi_create_typedarray(env, napi_float64_array, 2 * count, buffer, 0, made) == napi_ok;
+/* The arguments of a check: a room, a body, how many faults at most, and a language. */
+static bool asked_of(napi_env env, napi_value *words, asked *it) {
+  if (!room_of(env, words[0], &it->room)) return failed(env, "no room");
+  if (!bytes_of(env, words[1], &it->body)) return failed(env, "a body is a Uint8Array");
+  if (!most_of(env, words[2], &it->most)) return failed(env, "most is a number from 1 on");
+  return language_of(env, words[3], it) || failed(env, "a language is a string");
 }
 
-/* The status, or an array of it, of the details where there are some, and of the places. */
-static napi_value answer(napi_env env, uint8_t status, const room *in, size_t len, size_t places) {
-  napi_value number, details, at, all;
-  if (napi_create_uint32(env, status, &number) != napi_ok) return failed(env, "no status");
-  if (status != ORDER_FAULTS && status != ORDER_NO_JSON) return number;
-  if (napi_create_buffer_copy(env, len, in->details, NULL, &details) != napi_ok) return failed(env, "no details");
-  if (!placed(env, in, places, &at)) return failed(env, "no places");
-  if (napi_create_array_with_length(env, 3, &all) != napi_ok || napi_set_element(env, all, 0, number) != napi_ok ||
-      napi_set_element(env, all, 1, details) != napi_ok || napi_set_element(env, all, 2, at) != napi_ok)
+static napi_value number_of(napi_env env, uint8_t status) {
+  napi_value number;
+  return napi_create_uint32(env, status, &number) == napi_ok ? number : failed(env, "no status");
+}
+
+/* check(room, body, most, language): the status, or an array of it and of the details where there are some. */
+static napi_value check(napi_env env, napi_callback_info info) {
+  napi_value words[4], details, all;
+  size_t count = 4, len = 0;
+  asked it;
+  if (napi_get_cb_info(env, info, &count, words, NULL, NULL) != napi_ok || !asked_of(env, words, &it)) return failed(env, "no arguments");
+  uint8_t status = checked(&it, &len);
+  napi_value number = number_of(env, status);
+  if (!number || (status != ORDER_FAULTS && status != ORDER_NO_JSON)) return number;
+  if (napi_create_buffer_copy(env, len, it.room->details, NULL, &details) != napi_ok) return failed(env, "no details");
+  if (napi_create_array_with_length(env, 2, &all) != napi_ok || napi_set_element(env, all, 0, number) != napi_ok ||
+      napi_set_element(env, all, 1, details) != napi_ok)
     return failed(env, "no answer");
   return all;
 }
 
-/* check(room, body, most, language, hasPlaces): what `answer` says of the body. */
-static napi_value check(napi_env env, napi_callback_info info) {
-  napi_value words[5];
-  size_t count = 5, len = 0, places = 0;
-  asked it;
-  if (napi_get_cb_info(env, info, &count, words, NULL, NULL) != napi_ok || !room_of(env, words[0], &it.room))
-    return failed(env, "no room");
-  if (!bytes_of(env, words[1], &it.body)) return failed(env, "a body is a Uint8Array");
-  if (!most_of(env, words[2], &it.most)) return failed(env, "most is a number from 1 on");
-  if (!language_of(env, words[3], &it)) return failed(env, "a language is a string");
-  if (napi_get_value_bool(env, words[4], &it.has_places) != napi_ok) return failed(env, "places is true or false");
-  uint8_t status = checked(&it, &len, &places);
-  return answer(env, status, it.room, len, places);
-}
-
 /* isValid(body), isValid(body, room): the status. */
 static napi_value is_valid(napi_env env, napi_callback_info info) {
-  napi_value words[2], status;
+  napi_value words[2];
   size_t count = 2;
   bytes body;
   room *in = NULL;
@@ -217,8 +199,7 @@ static napi_value is_valid(napi_env env, napi_callback_info info) {
     return failed(env, "a body is a Uint8Array");
   if (count > 1 && !room_of(env, words[1], &in)) return failed(env, "no room");
   (void)in;
-  if (napi_create_uint32(env, order_is_valid(BY(in) body.at, body.len), &status) != napi_ok) return failed(env, "no status");
-  return status;
+  return number_of(env, order_is_valid(BY(in) body.at, body.len));
 }
 
 #ifdef ORDER_TAKES_SCHEMA
@@ -252,13 +233,16 @@ static bool is_plain(const uint8_t *at, size_t len) {
   return !(all & 0x8080808080808080);
 }
 
-/* How many units of UTF-16 are before a byte of a text. Bytes are asked for in their order most often, so none is counted twice. */
+/* How many units of UTF-16 are before a byte of a text. Bytes are asked for in their order most often, so none is counted twice, and of
+ * ASCII none is counted. */
 typedef struct {
   const uint8_t *text;
+  bool plain;
   size_t byte, unit, first_byte, first_unit;
 } counter;
 
 static size_t units_before(counter *in, size_t byte) {
+  if (in->plain) return byte;
   if (byte < in->byte) {
     in->byte = in->first_byte;
     in->unit = in->first_unit;
@@ -271,13 +255,13 @@ static size_t units_before(counter *in, size_t byte) {
 }
 
 /* Gives each text of these nodes the place that it has in a text of the body and of the texts with an escape, in units of UTF-16. */
-static void place(order_node *nodes, size_t count, const uint8_t *text, size_t body_len) {
-  counter plain = {.text = text}, escaped = {.text = text};
-  escaped.byte = escaped.first_byte = body_len;
-  escaped.unit = escaped.first_unit = units_before(&plain, body_len);
+static void place(order_node *nodes, size_t count, const uint8_t *text, size_t body_len, bool plain) {
+  counter in_body = {.text = text, .plain = plain}, in_texts = in_body;
+  in_texts.byte = in_texts.first_byte = body_len;
+  in_texts.unit = in_texts.first_unit = units_before(&in_body, body_len);
   for (order_node *it = nodes; it < nodes + count; it++) {
     if (it->kind != ORDER_NODE_TEXT && it->kind != ORDER_NODE_NUMBER) continue;
-    counter *in = it->in_texts ? &escaped : &plain;
+    counter *in = it->in_texts ? &in_texts : &in_body;
     size_t from = (it->in_texts ? body_len : 0) + it->value, end = from + it->len;
     it->value = units_before(in, from);
     it->len = (uint32_t)(units_before(in, end) - it->value);
@@ -288,46 +272,90 @@ static void place(order_node *nodes, size_t count, const uint8_t *text, size_t b
 /* The text in which the texts of a value lie, as its nodes say then: the body, with those behind it that it has with an escape. */
 static napi_value text_of(napi_env env, room *in, bytes body, int32_t *nodes, size_t texts_used) {
   napi_value text;
-  const uint8_t *at = body.at;
+  const uint8_t *at = body.len ? body.at : in->texts;
   size_t len = body.len + texts_used;
   bool plain = is_plain(body.at, body.len) && is_plain(in->texts, texts_used);
-  if (texts_used) {
+  if (body.len && texts_used) {
     if (!grow(&in->details, &in->size, len, 1)) return failed(env, "no memory for a text");
     memcpy(in->details, body.at, body.len);
     memcpy(in->details + body.len, in->texts, texts_used);
     at = in->details;
   }
-  if (texts_used || !plain) place((order_node *)nodes + 1, (size_t)nodes[0], at, body.len);
+  if (texts_used || !plain) place((order_node *)nodes + 1, (size_t)nodes[0], at, body.len, plain);
   nodes[1] = plain && body.len <= INT32_MAX ? (int32_t)body.len : 0;
   napi_status made = plain ? napi_create_string_latin1(env, (const char *)at, len, &text) : napi_create_string_utf8(env, (const char *)at, len, &text);
   return made == napi_ok ? text : failed(env, "no text");
 }
 
+/* Nodes for which there is room: behind the first one. */
+static bool nodes_of(napi_env env, napi_value value, array *nodes) {
+  return array_of(env, value, napi_int32_array, nodes) && nodes->len >= 8 && !((uintptr_t)nodes->at % _Alignof(order_node));
+}
+
+static size_t room_for(const array *nodes) { return nodes->len * 4 / sizeof(order_node) - 1; }
+
 /* value(room, body, nodes): the text in which the texts of the value lie, and in `nodes` how many nodes there are, how many bytes
- * of the body it begins with, where it is ASCII, and from the second node on the nodes. The status, where it is not valid; also of a valid body for whose nodes there is not
- * enough room. */
+ * of the body it begins with, where it is ASCII, and from the second node on the nodes. The status, where it is not valid; also of a
+ * valid body for whose nodes there is not enough room. */
 static napi_value value(napi_env env, napi_callback_info info) {
-  napi_value words[3], status;
+  napi_value words[3];
   size_t count = 3, nodes_used = 0, texts_used = FIRST_TEXTS;
   room *in = NULL;
   bytes body;
   array nodes;
-  if (napi_get_cb_info(env, info, &count, words, NULL, NULL) != napi_ok || !room_of(env, words[0], &in))
-    return failed(env, "no room");
+  if (napi_get_cb_info(env, info, &count, words, NULL, NULL) != napi_ok || !room_of(env, words[0], &in)) return failed(env, "no room");
   if (!bytes_of(env, words[1], &body)) return failed(env, "a body is a Uint8Array");
-  if (!array_of(env, words[2], napi_int32_array, &nodes) || nodes.len < 8 || (uintptr_t)nodes.at % _Alignof(order_node))
-    return failed(env, "no room for a value");
-  size_t wanted = nodes.len * 4 / sizeof(order_node) - 1;
-  uint8_t said = ORDER_MEMORY;
+  if (!nodes_of(env, words[2], &nodes)) return failed(env, "no room for a value");
+  uint8_t status = ORDER_MEMORY;
   do {
-    if (!grow(&in->texts, &in->texts_size, texts_used, 1)) break;
-    said = order_value_with(&in->checker, BY(in) body.at, body.len, (order_node *)nodes.at + 1, wanted, &nodes_used, in->texts, in->texts_size,
-                            &texts_used);
-  } while (said == ORDER_VALID && texts_used > in->texts_size);
+    if (!grow(&in->texts, &in->texts_size, texts_used, 1)) return number_of(env, ORDER_MEMORY);
+    status = order_value_with(&in->checker, BY(in) body.at, body.len, (order_node *)nodes.at + 1, room_for(&nodes), &nodes_used, in->texts,
+                              in->texts_size, &texts_used);
+  } while (texts_used > in->texts_size);
   ((int32_t *)nodes.at)[0] = (int32_t)nodes_used;
-  if (said == ORDER_VALID && nodes_used <= wanted) return text_of(env, in, body, nodes.at, texts_used);
-  if (napi_create_uint32(env, said, &status) != napi_ok) return failed(env, "no status");
-  return status;
+  if (status != ORDER_VALID || nodes_used > room_for(&nodes)) return number_of(env, status);
+  return text_of(env, in, body, nodes.at, texts_used);
+}
+
+/* faults(room, body, most, language, nodes, hasPlaces): as `value`, of the problem details of a body with faults. The status of any other,
+ * and where there is not enough room. */
+static napi_value faults(napi_env env, napi_callback_info info) {
+  napi_value words[6];
+  size_t count = 6, none = 0, nodes_used = 0, texts_used = FIRST, places = FIRST_PLACES;
+  asked it;
+  array nodes;
+  bool has_places = false;
+  if (napi_get_cb_info(env, info, &count, words, NULL, NULL) != napi_ok || !asked_of(env, words, &it)) return failed(env, "no arguments");
+  if (!nodes_of(env, words[4], &nodes)) return failed(env, "no room for faults");
+  if (napi_get_value_bool(env, words[5], &has_places) != napi_ok) return failed(env, "places is true or false");
+  room *in = it.room;
+  uint8_t status = ORDER_MEMORY;
+  do {
+    if (!grow(&in->texts, &in->texts_size, texts_used, 1) || !grow(&in->places, &in->places_size, places, sizeof *in->places))
+      return number_of(env, ORDER_MEMORY);
+    status = order_faults_with(&in->checker, BY(in) it.body.at, it.body.len, it.most, it.language.at, it.language.len, in->texts, 0, &none,
+                               (order_node *)nodes.at + 1, room_for(&nodes), &nodes_used, in->texts, in->texts_size, &texts_used, in->places,
+                               has_places ? in->places_size : 0, &places);
+  } while (texts_used > in->texts_size || places > in->places_size);
+  in->places_used = places;
+  ((int32_t *)nodes.at)[0] = (int32_t)nodes_used;
+  if (status != ORDER_FAULTS || nodes_used > room_for(&nodes)) return number_of(env, status);
+  return text_of(env, in, (bytes){NOTHING, 0}, nodes.at, texts_used);
+}
+
+/* places(room): line and column of each fault, one after the other. */
+static napi_value places(napi_env env, napi_callback_info info) {
+  napi_value word, buffer, made;
+  size_t count = 1;
+  room *in = NULL;
+  void *at = NULL;
+  if (napi_get_cb_info(env, info, &count, &word, NULL, NULL) != napi_ok || !room_of(env, word, &in)) return failed(env, "no room");
+  if (napi_create_arraybuffer(env, 2 * in->places_used * sizeof(double), &at, &buffer) != napi_ok) return failed(env, "no places");
+  for (size_t i = 0; i < in->places_used; i++) {
+    ((double *)at)[2 * i] = (double)in->places[i].line;
+    ((double *)at)[2 * i + 1] = (double)in->places[i].column;
+  }
+  return napi_create_typedarray(env, napi_float64_array, 2 * in->places_used, buffer, 0, &made) == napi_ok ? made : failed(env, "no places");
 }
 
 NAPI_MODULE_INIT() {
@@ -337,6 +365,8 @@ NAPI_MODULE_INIT() {
       {.utf8name = "check", .method = check},
       {.utf8name = "isValid", .method = is_valid},
       {.utf8name = "value", .method = value},
+      {.utf8name = "faults", .method = faults},
+      {.utf8name = "places", .method = places},
 #ifdef ORDER_TAKES_SCHEMA
       {.utf8name = "setSchema", .method = set_schema},
 #endif
