@@ -9,36 +9,7 @@
 
 #include "schema.h"
 
-void *__real_malloc(size_t size);
-void *__real_realloc(void *block, size_t size);
-void __real_free(void *block);
-
-static _Atomic long blocks, requests, refused, wrong;
-
-static bool refuses(void) { return ++requests == refused; }
-
-void *__wrap_malloc(size_t size) {
-  void *block = refuses() ? NULL : __real_malloc(size);
-  blocks += block != NULL;
-  return block;
-}
-
-void *__wrap_realloc(void *block, size_t size) {
-  void *moved = refuses() ? NULL : __real_realloc(block, size);
-  blocks += !block && moved;
-  return moved;
-}
-
-void __wrap_free(void *block) {
-  blocks -= block != NULL;
-  __real_free(block);
-}
-
-static void expect(bool holds, const char *what) {
-  if (holds) return;
-  wrong++;
-  printf("library-schemas: %s\n", what);
-}
+#include "library-blocks.c"
 
 static const char *TEXT = "{\"type\":\"string\",\"minLength\":2}";
 static const char *ITEMS = "{\"$ref\":\"#/$defs/node\",\"$defs\":{\"node\":{\"type\":\"array\",\"items\":{\"$ref\":\"#/$defs/node\"}}}}";

@@ -9,39 +9,10 @@
 
 #include "order.h"
 
-void *__real_malloc(size_t size);
-void *__real_realloc(void *block, size_t size);
-void __real_free(void *block);
-
-static _Atomic long blocks, requests, refused, wrong;
+#include "library-blocks.c"
 
 /* How many calls are made: 1,000,000, or what the first word says. */
 static long calls = 1000000;
-
-static bool refuses(void) { return ++requests == refused; }
-
-void *__wrap_malloc(size_t size) {
-  void *block = refuses() ? NULL : __real_malloc(size);
-  blocks += block != NULL;
-  return block;
-}
-
-void *__wrap_realloc(void *block, size_t size) {
-  void *moved = refuses() ? NULL : __real_realloc(block, size);
-  blocks += !block && moved;
-  return moved;
-}
-
-void __wrap_free(void *block) {
-  blocks -= block != NULL;
-  __real_free(block);
-}
-
-static void expect(bool holds, const char *what) {
-  if (holds) return;
-  wrong++;
-  printf("library: %s\n", what);
-}
 
 /* An answer: a status, and the details in a fresh piece of memory that is not the library's. */
 typedef struct {
