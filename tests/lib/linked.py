@@ -15,6 +15,8 @@ from lib.described import use_http
 from lib.repository import ROOT
 from lib.spoiled import some_json
 
+from binding.callers import with_parts
+
 CRATE = ROOT / "crates" / "use_library"
 CASES = ROOT / "tests" / "called"
 # All faults.
@@ -64,6 +66,12 @@ def merged(made, folder=None):
     return made
 
 
+def leave_parts(folder):
+    """Leaves of the files of a caller what a library of a type has."""
+    for it in filter(pathlib.Path.is_file, folder.rglob("*")):
+        it.write_text(with_parts(it.read_text(encoding="utf-8"), takes_schema=False), encoding="utf-8")
+
+
 def package(folder, built=None, flags=(), imports=True):
     """The package of callers/python, from a copy in this folder, whose extension is built over the archives, or over those of a
     folder. `lib` of the copy has the library as `tools/bind` puts it there."""
@@ -72,6 +80,7 @@ def package(folder, built=None, flags=(), imports=True):
     copy = folder / "python"
     made = shutil.ignore_patterns("*.so", "build", "*.egg-info", "__pycache__")
     shutil.copytree(ROOT / "callers" / "python", copy, ignore=made)
+    leave_parts(copy)
     (copy / "lib").mkdir()
     shutil.copy(CRATE / "order.h", copy / "lib")
     whole = [merged(copy / "lib" / "liborder.a", built)]
