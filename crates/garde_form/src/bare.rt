@@ -1,6 +1,8 @@
 //! Values that were written without quotes, of a kind that JSON does not have.
-ghost use Rattle.std.specs.Prelude.{◌≡◌, ◌&&◌, codes, Some, OnOk, option_map};
+ghost use Rattle.std.specs.Prelude.{◌≡◌, ◌&&◌, ◌+◌, ◌<◌, length, codes, Some, OnErr, OnOk, option_map};
 ghost use Rattle.json.specs.Find.{as_number};
+ghost use Rattle.json.specs.Print.{token_text};
+ghost use Rattle.json.specs.Token.{string};
 ghost use Rattle.json.specs.Tree.{json_tokens};
 ghost use Rattle.garde_form.specs.Bare.{AreWritten, bare, bare_text, is_mark, text_in};
 
@@ -20,8 +22,9 @@ const MARK: &str = "-0";
 ///
 /// # Errors
 ///
-/// `AllocError`, where memory runs out.
+/// `AllocError`, where the writer has no room for the text and 8 bytes, and memory runs out.
 pub fn write_bare(text: &str, out: &mut Writer) -> Result<(), AllocError>
+    ensures memory { OnErr result (out.old.spare < length (token_text (string text.now)) + 8) }
     ensures written { OnOk result (AreWritten (json_tokens (bare text.now)) out.old out.new) }
     ensures read { bare_text (bare text.now) ≡ Some text.now }
 {
