@@ -18,9 +18,9 @@ def messages():
 
 
 def needed():
-    """The codes of the messages that each table has to have: `MESSAGES`, without those of schemas behind it."""
+    """The codes of the messages that each table has to have: `MESSAGES`, without the further ones behind it."""
     source = repository.text_of(f"{SOURCES}/messages.rt")
-    return {code for code, *_ in MESSAGE.findall(source[:source.index("SCHEMA_MESSAGES")])}
+    return {code for code, *_ in MESSAGE.findall(source[:source.index("FURTHER_MESSAGES")])}
 
 
 def offered():

@@ -11,7 +11,7 @@ use Rattle.garde_catalog.specs.Catalog.{AreGood, Entry, texts_under}
 use Rattle.garde_catalog.specs.Lines.{AreGoodLines, Line, is_name, line_of}
 use Rattle.garde_catalog.specs.Lookup.{IsFound, IsThere}
 use Rattle.garde_catalog.specs.Messages.{LIBRARY, Message}
-use Rattle.garde_catalog.specs.Shipped.{AreGoodTables, SCHEMA, SHIPPED, tagged}
+use Rattle.garde_catalog.specs.Shipped.{AreGoodTables, FURTHER, SHIPPED, tagged}
 use Rattle.garde_catalog.specs.Spoken.{AreOf}
 use Rattle.garde_catalog.specs.Template.{IsTemplate, pieces_of, template_fault}
 use Rattle.garde_catalog.specs.declared.template.TemplateFault.{TemplateFault}
@@ -79,9 +79,9 @@ its_text (line ∷ lines) (message ∷ messages) (suc i) d are once low =
     let its = its_text lines messages i d (others line lines message messages are) (and_right _ _ once) within in
     (its.0, passed code line lines (ap (λ c. bytes_eq c code) (first_code line lines message messages are) ∙ other) ∙ its.1, its.2)
 
--- the messages of the tables that are shipped: those of the library, and behind them those of schemas
+-- the messages of the tables that are shipped: those of the library, and behind them the further ones
 abbrev every : List Message
-every = LIBRARY ++ SCHEMA
+every = LIBRARY ++ FURTHER
 
 every_distinct : are_distinct every ≡ true
 every_distinct = refl
@@ -90,8 +90,8 @@ every_distinct = refl
 good_lines : (lines : List Line) → are_lines lines every ≡ true → AreGoodLines false lines
 good_lines lines are entries others same lacks = λ i d low.
     let message = get_or LIBRARY i d in
-    let within : i < length every = omega (arith, low, length-append LIBRARY SCHEMA) in
-    let its = subst (λ m. HasText lines m) (get_or_append_left LIBRARY SCHEMA d i low) (its_text lines every i d are every_distinct within) in
+    let within : i < length every = omega (arith, low, length-append LIBRARY FURTHER) in
+    let its = subst (λ m. HasText lines m) (get_or_append_left LIBRARY FURTHER d i low) (its_text lines every i d are every_distinct within) in
     let texts = under_lines message.0 entries ∙ ap (line_texts message.0) same ∙ its.1 in
     (its.0, one_text (texts_under message.0 entries) (texts_under message.0 others) its.0 texts, (pieces_of its.0, its.2))
 

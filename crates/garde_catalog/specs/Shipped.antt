@@ -4,7 +4,7 @@ use Rattle.garde_catalog.specs.Catalog.{AreGood}
 use Rattle.garde_catalog.specs.Lines.{Line, line_of}
 use Rattle.garde_catalog.specs.Messages.{Message}
 use Rattle.garde_catalog.specs.declared.language.Language.{Language}
-use Rattle.garde_catalog.specs.declared.messages.TheConstants.{SCHEMA_MESSAGES}
+use Rattle.garde_catalog.specs.declared.messages.TheConstants.{FURTHER_MESSAGES}
 use Rattle.garde_catalog.specs.declared.tables.english.TheConstants.{ENGLISH}
 use Rattle.garde_catalog.specs.declared.tables.german.TheConstants.{GERMAN}
 use Rattle.garde_catalog.specs.declared.tables.french.TheConstants.{FRENCH}
@@ -24,9 +24,9 @@ use Rattle.garde_catalog.specs.declared.tables.korean.TheConstants.{KOREAN}
 use Rattle.garde_catalog.specs.declared.tables.arabic.TheConstants.{ARABIC}
 use Rattle.garde_catalog.specs.declared.tables.hindi.TheConstants.{HINDI}
 
--- the messages of schemas, of which each table that is shipped has a text too
-abbrev pub SCHEMA : List Message
-SCHEMA = map (λ (message : record { now : List ℕ } × record { now : List ℕ } × record { now : List ℕ }). (message.0.now, message.1.now, message.2.now)) SCHEMA_MESSAGES
+-- the messages of schemas and of fields, of which each table that is shipped has a text too
+abbrev pub FURTHER : List Message
+FURTHER = map (λ (message : record { now : List ℕ } × record { now : List ℕ } × record { now : List ℕ }). (message.0.now, message.1.now, message.2.now)) FURTHER_MESSAGES
 
 -- the lines of a table that is shipped
 abbrev pub shipped_lines : List (record { now : List ℕ } × record { now : List ℕ }) → List Line

@@ -27,7 +27,7 @@ pub use field::ranges_of;
 pub use language::{Language, languages};
 pub use lines::Entry;
 pub use lookup::Range;
-pub use messages::{MESSAGES, Message, SCHEMA_MESSAGES};
+pub use messages::{FURTHER_MESSAGES, MESSAGES, Message};
 pub use spoken::SpokenError;
 pub use table::Table;
 pub use table_texts::{IsTextOf, TableTexts};

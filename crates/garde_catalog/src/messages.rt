@@ -109,9 +109,10 @@ pub static MESSAGES: [Message; 69] = [
     ("multiple_of_mismatch", "divisor", ""),
 ];
 
-/// The messages of `garde_described`, about JSON Schemas and what they ask. The shipped tables have their
-/// texts, and a table of yours may: `TableTexts::with(&SCHEMA_MESSAGES)` reads them.
-pub static SCHEMA_MESSAGES: [Message; 8] = [
+/// The messages of `garde_described`, about JSON Schemas and what they ask, and those of `garde_html`, about the
+/// fields of a form, which they name by their labels. The shipped tables have their texts, and a table of yours
+/// may: `TableTexts::with(&FURTHER_MESSAGES)` reads them.
+pub static FURTHER_MESSAGES: [Message; 11] = [
     ("not_a_number", "", ""),
     ("type_mismatch", "", ""),
     ("range_not_greater", "bound", ""),
@@ -120,6 +121,9 @@ pub static SCHEMA_MESSAGES: [Message; 8] = [
     ("reference_unknown", "", ""),
     ("reference_endless", "", ""),
     ("schema_too_deep", "", ""),
+    ("field_empty", "label", ""),
+    ("field_unchosen", "label", ""),
+    ("field_again", "label", ""),
 ];
 
 // The messages of the library. A proof looks at all of a table where it is named, so it is named once.

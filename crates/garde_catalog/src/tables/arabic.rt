@@ -3,7 +3,7 @@
 use crate::lines::Entry;
 
 /// The texts in Arabic, `ar`.
-pub static ARABIC: [Entry<'static>; 77] = [
+pub static ARABIC: [Entry<'static>; 80] = [
     ("length_lower_than", "الطول أقل من {min}"),
     ("length_greater_than", "الطول أكبر من {max}"),
     ("range_lower_than", "القيمة أقل من {min}"),
@@ -103,4 +103,8 @@ pub static ARABIC: [Entry<'static>; 77] = [
         "يعود إلى نفسه أو يمر عبر أكثر من 16 مخططًا",
     ),
     ("schema_too_deep", "مخططات متداخلة أكثر مما يُتتبَّع"),
+    // What a form says of a field.
+    ("field_empty", "املأ حقل «{label}»"),
+    ("field_unchosen", "اختر شيئًا في حقل «{label}»"),
+    ("field_again", "اكتب حقل «{label}» مرة أخرى"),
 ];

@@ -3,7 +3,7 @@
 use crate::lines::Entry;
 
 /// The texts in Chinese in simplified characters, `zh-Hans`.
-pub static CHINESE: [Entry<'static>; 77] = [
+pub static CHINESE: [Entry<'static>; 80] = [
     ("length_lower_than", "长度小于 {min}"),
     ("length_greater_than", "长度大于 {max}"),
     ("range_lower_than", "值小于 {min}"),
@@ -82,4 +82,8 @@ pub static CHINESE: [Entry<'static>; 77] = [
     ("reference_unknown", "此处没有这个名称的模式"),
     ("reference_endless", "引用回到自身，或经过超过 16 个模式"),
     ("schema_too_deep", "嵌套的模式过多"),
+    // What a form says of a field.
+    ("field_empty", "请填写“{label}”"),
+    ("field_unchosen", "请选择“{label}”"),
+    ("field_again", "请重新输入“{label}”"),
 ];

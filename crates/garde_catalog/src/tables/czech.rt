@@ -3,7 +3,7 @@
 use crate::lines::Entry;
 
 /// The texts in Czech, `cs`.
-pub static CZECH: [Entry<'static>; 77] = [
+pub static CZECH: [Entry<'static>; 80] = [
     ("length_lower_than", "délka je menší než {min}"),
     ("length_greater_than", "délka je větší než {max}"),
     ("range_lower_than", "hodnota je menší než {min}"),
@@ -106,4 +106,8 @@ pub static CZECH: [Entry<'static>; 77] = [
         "vede zpět k sobě, nebo přes více než 16 schémat",
     ),
     ("schema_too_deep", "více schémat v sobě, než se sleduje"),
+    // What a form says of a field.
+    ("field_empty", "Vyplňte pole „{label}“"),
+    ("field_unchosen", "Vyberte něco v poli „{label}“"),
+    ("field_again", "Napište znovu pole „{label}“"),
 ];

@@ -3,7 +3,7 @@
 use crate::lines::Entry;
 
 /// The texts in Dutch, `nl`.
-pub static DUTCH: [Entry<'static>; 77] = [
+pub static DUTCH: [Entry<'static>; 80] = [
     ("length_lower_than", "lengte is kleiner dan {min}"),
     ("length_greater_than", "lengte is groter dan {max}"),
     ("range_lower_than", "waarde is kleiner dan {min}"),
@@ -118,4 +118,8 @@ pub static DUTCH: [Entry<'static>; 77] = [
         "schema_too_deep",
         "meer schema's in elkaar dan worden gevolgd",
     ),
+    // What a form says of a field.
+    ("field_empty", "Vul ‘{label}’ in"),
+    ("field_unchosen", "Maak een keuze bij ‘{label}’"),
+    ("field_again", "Typ ‘{label}’ opnieuw"),
 ];

@@ -3,7 +3,7 @@
 use crate::lines::Entry;
 
 /// The texts in English, `en`.
-pub static ENGLISH: [Entry<'static>; 77] = [
+pub static ENGLISH: [Entry<'static>; 80] = [
     ("length_lower_than", "length is lower than {min}"),
     ("length_greater_than", "length is greater than {max}"),
     ("range_lower_than", "lower than {min}"),
@@ -109,4 +109,8 @@ pub static ENGLISH: [Entry<'static>; 77] = [
         "schema_too_deep",
         "more schemas in each other than are followed",
     ),
+    // What a form says of a field.
+    ("field_empty", "Fill in “{label}”"),
+    ("field_unchosen", "Choose something for “{label}”"),
+    ("field_again", "Type “{label}” again"),
 ];

@@ -3,7 +3,7 @@
 use crate::lines::Entry;
 
 /// The texts in French, `fr`.
-pub static FRENCH: [Entry<'static>; 77] = [
+pub static FRENCH: [Entry<'static>; 80] = [
     ("length_lower_than", "longueur inférieure à {min}"),
     ("length_greater_than", "longueur supérieure à {max}"),
     ("range_lower_than", "valeur inférieure à {min}"),
@@ -130,4 +130,8 @@ pub static FRENCH: [Entry<'static>; 77] = [
         "schema_too_deep",
         "plus de schémas imbriqués que ce qui est suivi",
     ),
+    // What a form says of a field.
+    ("field_empty", "Remplissez « {label} »"),
+    ("field_unchosen", "Choisissez une réponse pour « {label} »"),
+    ("field_again", "Saisissez à nouveau « {label} »"),
 ];

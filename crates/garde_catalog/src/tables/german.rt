@@ -3,7 +3,7 @@
 use crate::lines::Entry;
 
 /// The texts in German, `de`.
-pub static GERMAN: [Entry<'static>; 77] = [
+pub static GERMAN: [Entry<'static>; 80] = [
     ("length_lower_than", "Länge ist kleiner als {min}"),
     ("length_greater_than", "Länge ist größer als {max}"),
     ("range_lower_than", "Wert ist kleiner als {min}"),
@@ -124,4 +124,8 @@ pub static GERMAN: [Entry<'static>; 77] = [
         "schema_too_deep",
         "mehr ineinander liegende Schemas, als verfolgt werden",
     ),
+    // What a form says of a field.
+    ("field_empty", "Bitte „{label}“ ausfüllen"),
+    ("field_unchosen", "Bitte bei „{label}“ etwas auswählen"),
+    ("field_again", "Bitte „{label}“ noch einmal eingeben"),
 ];

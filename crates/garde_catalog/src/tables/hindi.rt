@@ -3,7 +3,7 @@
 use crate::lines::Entry;
 
 /// The texts in Hindi, `hi`.
-pub static HINDI: [Entry<'static>; 77] = [
+pub static HINDI: [Entry<'static>; 80] = [
     ("length_lower_than", "लंबाई {min} से कम है"),
     ("length_greater_than", "लंबाई {max} से अधिक है"),
     ("range_lower_than", "मान {min} से कम है"),
@@ -106,4 +106,8 @@ pub static HINDI: [Entry<'static>; 77] = [
         "schema_too_deep",
         "एक-दूसरे में इतने स्कीमा हैं कि सबका पालन नहीं होता",
     ),
+    // What a form says of a field.
+    ("field_empty", "“{label}” भरें"),
+    ("field_unchosen", "“{label}” के लिए कुछ चुनें"),
+    ("field_again", "“{label}” फिर से लिखें"),
 ];

@@ -3,7 +3,7 @@
 use crate::lines::Entry;
 
 /// The texts in Italian, `it`.
-pub static ITALIAN: [Entry<'static>; 77] = [
+pub static ITALIAN: [Entry<'static>; 80] = [
     ("length_lower_than", "lunghezza inferiore a {min}"),
     ("length_greater_than", "lunghezza superiore a {max}"),
     ("range_lower_than", "valore inferiore a {min}"),
@@ -118,4 +118,8 @@ pub static ITALIAN: [Entry<'static>; 77] = [
         "schema_too_deep",
         "più schemi annidati di quanti se ne seguano",
     ),
+    // What a form says of a field.
+    ("field_empty", "Compila «{label}»"),
+    ("field_unchosen", "Scegli un'opzione per «{label}»"),
+    ("field_again", "Scrivi di nuovo «{label}»"),
 ];

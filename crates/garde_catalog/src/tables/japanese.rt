@@ -3,7 +3,7 @@
 use crate::lines::Entry;
 
 /// The texts in Japanese, `ja`.
-pub static JAPANESE: [Entry<'static>; 77] = [
+pub static JAPANESE: [Entry<'static>; 80] = [
     ("length_lower_than", "長さが{min}より小さいです"),
     ("length_greater_than", "長さが{max}より大きいです"),
     ("range_lower_than", "値が{min}より小さいです"),
@@ -82,4 +82,8 @@ pub static JAPANESE: [Entry<'static>; 77] = [
     ("reference_unknown", "この名前のスキーマはここにありません"),
     ("reference_endless", "自分自身に戻るか、16個を超えるスキーマを通ります"),
     ("schema_too_deep", "入れ子になったスキーマが多すぎます"),
+    // What a form says of a field.
+    ("field_empty", "「{label}」を入力してください"),
+    ("field_unchosen", "「{label}」を選択してください"),
+    ("field_again", "「{label}」をもう一度入力してください"),
 ];

@@ -3,7 +3,7 @@
 use crate::lines::Entry;
 
 /// The texts in Korean, `ko`.
-pub static KOREAN: [Entry<'static>; 77] = [
+pub static KOREAN: [Entry<'static>; 80] = [
     ("length_lower_than", "길이가 {min}보다 작습니다"),
     ("length_greater_than", "길이가 {max}보다 큽니다"),
     ("range_lower_than", "값이 {min}보다 작습니다"),
@@ -82,4 +82,8 @@ pub static KOREAN: [Entry<'static>; 77] = [
     ("reference_unknown", "여기에는 이 이름의 스키마가 없습니다"),
     ("reference_endless", "자기 자신으로 돌아오거나 16개가 넘는 스키마를 거칩니다"),
     ("schema_too_deep", "서로 겹친 스키마가 너무 많습니다"),
+    // What a form says of a field.
+    ("field_empty", "‘{label}’ 항목을 입력하세요"),
+    ("field_unchosen", "‘{label}’ 항목을 선택하세요"),
+    ("field_again", "‘{label}’ 항목을 다시 입력하세요"),
 ];

@@ -3,7 +3,7 @@
 use crate::lines::Entry;
 
 /// The texts in Polish, `pl`.
-pub static POLISH: [Entry<'static>; 77] = [
+pub static POLISH: [Entry<'static>; 80] = [
     ("length_lower_than", "długość jest mniejsza niż {min}"),
     ("length_greater_than", "długość jest większa niż {max}"),
     ("range_lower_than", "wartość jest mniejsza niż {min}"),
@@ -118,4 +118,8 @@ pub static POLISH: [Entry<'static>; 77] = [
         "schema_too_deep",
         "więcej zagnieżdżonych schematów, niż się śledzi",
     ),
+    // What a form says of a field.
+    ("field_empty", "Wypełnij pole „{label}”"),
+    ("field_unchosen", "Wybierz coś w polu „{label}”"),
+    ("field_again", "Wpisz ponownie pole „{label}”"),
 ];

@@ -3,7 +3,7 @@
 use crate::lines::Entry;
 
 /// The texts in Portuguese of Brazil, `pt-BR`.
-pub static PORTUGUESE: [Entry<'static>; 77] = [
+pub static PORTUGUESE: [Entry<'static>; 80] = [
     ("length_lower_than", "comprimento menor que {min}"),
     ("length_greater_than", "comprimento maior que {max}"),
     ("range_lower_than", "valor menor que {min}"),
@@ -109,4 +109,8 @@ pub static PORTUGUESE: [Entry<'static>; 77] = [
         "schema_too_deep",
         "mais esquemas aninhados do que se seguem",
     ),
+    // What a form says of a field.
+    ("field_empty", "Preencha “{label}”"),
+    ("field_unchosen", "Escolha uma opção em “{label}”"),
+    ("field_again", "Digite “{label}” novamente"),
 ];

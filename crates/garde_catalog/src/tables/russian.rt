@@ -3,7 +3,7 @@
 use crate::lines::Entry;
 
 /// The texts in Russian, `ru`.
-pub static RUSSIAN: [Entry<'static>; 77] = [
+pub static RUSSIAN: [Entry<'static>; 80] = [
     ("length_lower_than", "длина меньше {min}"),
     ("length_greater_than", "длина больше {max}"),
     ("range_lower_than", "значение меньше {min}"),
@@ -109,4 +109,8 @@ pub static RUSSIAN: [Entry<'static>; 77] = [
         "ведёт к самому себе или более чем через 16 схем",
     ),
     ("schema_too_deep", "вложено больше схем, чем проверяется"),
+    // What a form says of a field.
+    ("field_empty", "Заполните поле «{label}»"),
+    ("field_unchosen", "Выберите что-нибудь в поле «{label}»"),
+    ("field_again", "Введите ещё раз поле «{label}»"),
 ];

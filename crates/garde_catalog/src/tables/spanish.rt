@@ -3,7 +3,7 @@
 use crate::lines::Entry;
 
 /// The texts in Spanish, `es`.
-pub static SPANISH: [Entry<'static>; 77] = [
+pub static SPANISH: [Entry<'static>; 80] = [
     ("length_lower_than", "longitud menor que {min}"),
     ("length_greater_than", "longitud mayor que {max}"),
     ("range_lower_than", "valor menor que {min}"),
@@ -124,4 +124,8 @@ pub static SPANISH: [Entry<'static>; 77] = [
         "schema_too_deep",
         "más esquemas anidados de los que se siguen",
     ),
+    // What a form says of a field.
+    ("field_empty", "Rellene «{label}»"),
+    ("field_unchosen", "Elija una opción en «{label}»"),
+    ("field_again", "Vuelva a escribir «{label}»"),
 ];

@@ -3,7 +3,7 @@
 use crate::lines::Entry;
 
 /// The texts in Swedish, `sv`.
-pub static SWEDISH: [Entry<'static>; 77] = [
+pub static SWEDISH: [Entry<'static>; 80] = [
     ("length_lower_than", "längden är mindre än {min}"),
     ("length_greater_than", "längden är större än {max}"),
     ("range_lower_than", "värdet är mindre än {min}"),
@@ -109,4 +109,8 @@ pub static SWEDISH: [Entry<'static>; 77] = [
         "leder tillbaka till sig självt eller genom fler än 16 scheman",
     ),
     ("schema_too_deep", "fler scheman i varandra än som följs"),
+    // What a form says of a field.
+    ("field_empty", "Fyll i ”{label}”"),
+    ("field_unchosen", "Välj något vid ”{label}”"),
+    ("field_again", "Skriv ”{label}” igen"),
 ];

@@ -3,7 +3,7 @@
 use crate::lines::Entry;
 
 /// The texts in Turkish, `tr`.
-pub static TURKISH: [Entry<'static>; 77] = [
+pub static TURKISH: [Entry<'static>; 80] = [
     ("length_lower_than", "uzunluk alt sınırın altında: {min}"),
     ("length_greater_than", "uzunluk üst sınırın üstünde: {max}"),
     ("range_lower_than", "değer alt sınırın altında: {min}"),
@@ -109,4 +109,8 @@ pub static TURKISH: [Entry<'static>; 77] = [
         "kendisine geri dönüyor ya da 16'dan fazla şemadan geçiyor",
     ),
     ("schema_too_deep", "iç içe izlenenden çok şema var"),
+    // What a form says of a field.
+    ("field_empty", "“{label}” alanını doldurun"),
+    ("field_unchosen", "“{label}” için bir seçim yapın"),
+    ("field_again", "“{label}” alanını yeniden yazın"),
 ];

@@ -3,7 +3,7 @@
 use crate::lines::Entry;
 
 /// The texts in Ukrainian, `uk`.
-pub static UKRAINIAN: [Entry<'static>; 77] = [
+pub static UKRAINIAN: [Entry<'static>; 80] = [
     ("length_lower_than", "довжина менша за {min}"),
     ("length_greater_than", "довжина більша за {max}"),
     ("range_lower_than", "значення менше за {min}"),
@@ -112,4 +112,8 @@ pub static UKRAINIAN: [Entry<'static>; 77] = [
         "веде до самого себе або більш ніж через 16 схем",
     ),
     ("schema_too_deep", "вкладено більше схем, ніж перевіряється"),
+    // What a form says of a field.
+    ("field_empty", "Заповніть поле «{label}»"),
+    ("field_unchosen", "Виберіть щось у полі «{label}»"),
+    ("field_again", "Введіть ще раз поле «{label}»"),
 ];

@@ -4,7 +4,7 @@ use super::english;
 use crate::tests::long_text::Long;
 use crate::tests::{OrEnd, is_text};
 use garde::DefaultI18n;
-use garde_catalog::{Catalog, Entry, SCHEMA_MESSAGES, Table, TableTexts, languages};
+use garde_catalog::{Catalog, Entry, FURTHER_MESSAGES, Table, TableTexts, languages};
 use garde_schema::{Closed, Object, ReadError, Scratch, read_json};
 use std::alloc::{AllocError, Global};
 
@@ -42,7 +42,7 @@ fn written(
 
 // All texts of the shipped tables.
 fn every() -> TableTexts {
-    TableTexts::all().with(&SCHEMA_MESSAGES)
+    TableTexts::all().with(&FURTHER_MESSAGES)
 }
 
 // Reads a table, with all codes or with some.
