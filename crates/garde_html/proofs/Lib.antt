@@ -1,4 +1,6 @@
 pub mod Entities
+pub mod Held
 pub mod Pages
+pub mod Parts
 pub mod Places
 pub mod Told

@@ -8,17 +8,28 @@ use Rattle.std.proofs.lemmas.List.Elements.{All-cons, All-contains, All-nil, All
 use Rattle.garde_report.specs.Report.{Entry, begins_with, messages_under}
 use Rattle.garde_html.specs.declared.form.Field.{Field}
 use Rattle.garde_html.specs.declared.controls.TheConstants as plain
+use Rattle.garde_html.specs.declared.summary.TheConstants as summary
 use Rattle.garde_html.specs.Controls.{control_pieces, is_faulty, is_some_text, list_pieces, messages_pieces}
 use Rattle.garde_html.specs.Form.{field_at}
 use Rattle.garde_html.specs.Page.{Written, markup, text}
-use Rattle.garde_html.specs.Summary.{entries_pieces, entry_pieces, first_text, named_pieces}
+use Rattle.garde_html.specs.Summary.{entries_pieces, entry_pieces, first_text, has_part, label_pieces, named_pieces}
 use Rattle.garde_html.specs.Laws.{FaultsStandBesideTheirFields, FaultsStandInTheSummary}
 
 -- ---- in the summary
 
 -- the entry of a fault has its message
+of_label : (named : Bool) (label message : List ℕ)
+    → Contains (label_pieces named label ++ text message ∷ markup summary.LINK_END.now ∷ []) (text message)
+of_label true label message = Contains-get_or (text message ∷ markup summary.LINK_END.now ∷ []) 0 (text message) (grind (arith))
+of_label false label message =
+    Contains-get_or (text label ∷ markup summary.SAYS.now ∷ text message ∷ markup summary.LINK_END.now ∷ []) 2 (text message) (grind (arith))
+
 of_name : (field : Option Field) (name message : List ℕ) → Contains (named_pieces field name message) (text message)
-of_name (Some field) name message = Contains-get_or (named_pieces (Some field) name message) 5 (text message) (grind (arith))
+of_name (Some field) name message =
+    let named : Bool = has_part field.label.now message in
+    Contains-append_right (markup summary.LINK.now ∷ text field.name.now ∷ markup summary.LINK_TEXT.now ∷ [])
+    (label_pieces named field.label.now ++ text message ∷ markup summary.LINK_END.now ∷ []) (text message)
+    (of_label named field.label.now message)
 of_name None name message = Contains-get_or (named_pieces None name message) 3 (text message) (grind (arith))
 
 of_entry : (fields : List Field) (name : Option (List ℕ)) (message : List ℕ) → Contains (entry_pieces fields name message) (text message)

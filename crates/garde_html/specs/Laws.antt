@@ -1,19 +1,20 @@
 -- Laws of texts within HTML, and of faults at fields.
-use Rattle.std.specs.Prelude.{◌≡◌, ◌==◌, ℕ, true, false, List, ◌∷◌, [], ◌++◌, Some, All, filter}
-use Rattle.std.specs.List.{Contains, slice_split}
+use Rattle.std.specs.Prelude.{◌≡◌, ◌==◌, ◌||◌, not, ℕ, Bool, true, false, List, ◌∷◌, [], ◌++◌, Some, All, codes, filter}
+use Rattle.std.specs.List.{Contains, list_all, slice_split}
 use Rattle.garde_report.specs.Part.{Part}
 use Rattle.garde_report.specs.Report.{Entry, begins_with}
 use Rattle.garde_html.specs.declared.form.Control.{Control}
 use Rattle.garde_html.specs.declared.form.Control.TheVariants.{Line, Area, Password, Boxes, Radios, Select}
 use Rattle.garde_html.specs.declared.form.Field.{Field}
 use Rattle.garde_html.specs.declared.form.Form.{Form}
+use Rattle.garde_html.specs.declared.document.TheConstants as plain
 use Rattle.garde_html.specs.Controls.{field_pieces}
 use Rattle.garde_html.specs.Document.{form_pieces}
 use Rattle.garde_html.specs.Fields.{field_of}
 use Rattle.garde_html.specs.Form.{Typed, is_checked, typed_text}
 use Rattle.garde_html.specs.Html.{html_text, html_read, is_ending}
-use Rattle.garde_html.specs.Page.{Written, blank, markup_of, rendered, text}
-use Rattle.garde_html.specs.Summary.{entries_pieces, entry_pieces, first_text}
+use Rattle.garde_html.specs.Page.{Written, blank, markup, markup_of, rendered, text}
+use Rattle.garde_html.specs.Summary.{entries_pieces, entry_pieces, first_text, has_part}
 
 -- no byte of an escaped text ends a text, a tag or an attribute
 abbrev pub TextsEndNothing : Type 0
@@ -82,3 +83,19 @@ abbrev pub PasswordsAreKeptOff : Type 0
 PasswordsAreKeptOff = (form : Form) (typed other : List Typed) (entries : List Entry)
     → All (λ (f : Field). IsShownAlike f.control f.name.now typed other) form.fields.now
     → form_pieces form typed entries ≡ form_pieces form other entries
+
+-- the attributes by which a browser holds a text back, or takes none: what a piece of markup with one of them has as a part
+abbrev pub CONSTRAINTS : List (List ℕ)
+CONSTRAINTS =
+    codes " required" ∷ codes "length=" ∷ codes "pattern=" ∷ codes " min=" ∷ codes " max=" ∷ codes " step=" ∷ codes "disabled" ∷ codes "readonly" ∷ []
+
+-- a text, or markup with none of them
+abbrev pub holds_nothing : Written → Bool
+holds_nothing p = not p.0 || list_all (λ (name : List ℕ). not (has_part name p.1)) CONSTRAINTS
+
+-- a page sends its form whatever was typed, since no piece of it holds anything back
+abbrev pub NothingIsHeldBack : Type 0
+NothingIsHeldBack = (form : Form) (typed : List Typed) (entries : List Entry)
+    → (has_part (codes " novalidate") plain.FORM_END.now ≡ true)
+    × Contains (form_pieces form typed entries) (markup plain.FORM_END.now)
+    × (list_all holds_nothing (form_pieces form typed entries) ≡ true)

@@ -7,3 +7,4 @@ pub mod Laws
 pub mod Marks
 pub mod Page
 pub mod Summary
+pub mod Worded

@@ -1,5 +1,6 @@
 -- The list of all faults above a form. The markup is that of the constants of `src/summary.rt`.
-use Rattle.std.specs.Prelude.{ℕ, ◌==◌, if◌then◌else◌, List, [], ◌∷◌, ◌++◌, length, Option, Some, None}
+use Rattle.std.specs.Prelude.{ℕ, Bool, true, false, ◌==◌, ◌||◌, nat_eq, if◌then◌else◌, List, [], ◌∷◌, ◌++◌, length, Option, Some, None}
+use Rattle.std.specs.List.{starts_with}
 use Rattle.garde_report.specs.Part.{Part}
 use Rattle.garde_report.specs.Report.{Entry}
 use Rattle.garde_html.specs.declared.form.Field.{Field}
@@ -13,11 +14,21 @@ abbrev pub first_text : List Part → Option (List ℕ)
 first_text [] = None
 first_text (p ∷ ps) = Some p.text
 
+-- a text has another one as a part
+abbrev pub has_part : List ℕ → List ℕ → Bool
+has_part part [] = false
+has_part part (b ∷ bs) = starts_with nat_eq (b ∷ bs) part || has_part part bs
+
+-- the label before a message that does not name it
+abbrev pub label_pieces : Bool → List ℕ → List Written
+label_pieces true label = []
+label_pieces false label = text label ∷ markup plain.SAYS.now ∷ []
+
 -- a fault under a name, which leads to the field of this name, if there is one
 abbrev pub named_pieces : Option Field → List ℕ → List ℕ → List Written
 named_pieces (Some field) name message =
-    markup plain.LINK.now ∷ text field.name.now ∷ markup plain.LINK_TEXT.now ∷ text field.label.now
-    ∷ markup plain.SAYS.now ∷ text message ∷ markup plain.LINK_END.now ∷ []
+    markup plain.LINK.now ∷ text field.name.now ∷ markup plain.LINK_TEXT.now
+    ∷ (label_pieces (has_part field.label.now message) field.label.now ++ text message ∷ markup plain.LINK_END.now ∷ [])
 named_pieces None name message =
     markup plain.NAMED.now ∷ text name ∷ markup plain.NAMED_SAYS.now ∷ text message ∷ markup plain.ITEM_END.now ∷ []
 

@@ -88,8 +88,8 @@ const MESSAGE: &str = "<li>";
 
 const MESSAGE_END: &str = "</li>\n";
 
-// Whether a field has a fault.
-fn is_faulty(report: &Report, field: &Field<'_>) -> bool
+/// Whether a field has a fault.
+pub(crate) fn is_faulty(report: &Report, field: &Field<'_>) -> bool
     ensures { result ≡ is_faulty field.now report.now }
 {
     field_faults(report, &field.name).next().is_some()

@@ -1,6 +1,6 @@
 //! Laws of texts within HTML and of faults at fields. Each function does nothing, and its contract is a
 //! law for all values.
-ghost use Rattle.garde_html.specs.Laws.{FaultsHavePlaces, FaultsStandBesideTheirFields, FaultsStandInTheSummary, PasswordsAreKeptOff, TextsAddNoMarkup, TextsAreRead, TextsEndAtTheirEnds, TextsEndNothing, TypedIsText};
+ghost use Rattle.garde_html.specs.Laws.{FaultsHavePlaces, FaultsStandBesideTheirFields, FaultsStandInTheSummary, NothingIsHeldBack, PasswordsAreKeptOff, TextsAddNoMarkup, TextsAreRead, TextsEndAtTheirEnds, TextsEndNothing, TypedIsText};
 
 /// An escaped text has no `<`, no `>`, no `"` and no `'`, whatever the text is.
 pub fn texts_end_nothing()
@@ -50,4 +50,10 @@ pub fn typed_is_text()
 /// What was typed into passwords changes nothing of the page of a form and a report.
 pub fn passwords_are_kept_off()
     ensures { PasswordsAreKeptOff }
+{}
+
+/// No constraint of a page rejects what the rules accept, since it has none: a browser checks nothing
+/// before it sends the form, and no markup has an attribute by which it would hold a text back.
+pub fn nothing_is_held_back()
+    ensures { NothingIsHeldBack }
 {}

@@ -12,6 +12,7 @@ mod page;
 mod style;
 mod summary;
 mod text;
+mod worded;
 
 pub use document::form_page;
 pub use faults::{field_faults, field_of, other_faults};
@@ -19,3 +20,4 @@ pub use form::{Control, Field, Form};
 pub use page::{Page, Piece};
 pub use style::{POLICY, STYLE};
 pub use text::HtmlText;
+pub use worded::worded_report;

@@ -2,7 +2,7 @@
 ghost use Rattle.std.specs.Prelude.{◌≡◌, ◌++◌, IfOk, OnOk};
 ghost use Rattle.std.specs.Option.{option_map};
 ghost use Rattle.garde_html.specs.Form.{field_at};
-ghost use Rattle.garde_html.specs.Summary.{entries_pieces, entry_pieces, first_text, named_pieces, summary_pieces};
+ghost use Rattle.garde_html.specs.Summary.{entries_pieces, entry_pieces, first_text, has_part, label_pieces, named_pieces, summary_pieces};
 
 use crate::form::{Field, Form, field_at};
 use crate::page::Page;
@@ -32,8 +32,8 @@ const SAYS: &str = ": ";
 
 const ITEM_END: &str = "</li>\n";
 
-// The text of the first component of a path.
-fn first_text(alloc: Global, path: &Path) -> Result<Option<&str>, AllocError>
+/// The text of the first component of a path.
+pub(crate) fn first_text(alloc: Global, path: &Path) -> Result<Option<&str>, AllocError>
     ensures { IfOk result (λ found. option_map (λ text. text.now) found ≡ first_text path.now) }
 {
     let mut components = path.iter(alloc)?;
@@ -41,6 +41,30 @@ fn first_text(alloc: Global, path: &Path) -> Result<Option<&str>, AllocError>
         Some((_kind, text)) => Ok(Some(text)),
         None => Ok(None),
     }
+}
+
+// Whether a text has another one as a part, byte by byte.
+#[tactic(auto, using(crate::proofs::Parts::found))]
+fn has_part(text: &[u8], part: &[u8]) -> bool
+    ensures { result ≡ has_part part.now text.now }
+{
+    for at in 0..text.len() {
+        if text[at..].starts_with(part) {
+            return true;
+        }
+    }
+    false
+}
+
+// The label before a message that does not name it.
+fn put_label<'a>(page: &mut Page<'a>, label: &'a str, message: &str) -> Result<(), AllocError>
+    ensures { OnOk result (page.new
+        ≡ page.old ++ label_pieces (has_part label.now message.now) label.now) }
+{
+    if has_part(message.as_bytes(), label.as_bytes()) {
+        return Ok(());
+    }
+    page.put(&[Text(label), Markup(SAYS)])
 }
 
 // A fault under this name: it leads to the field, if there is one.
@@ -55,13 +79,9 @@ fn put_named<'a>(
 {
     match field_at(fields, name) {
         Some(field) => {
-            page.put(&[
-                Markup(LINK),
-                Text(field.name),
-                Markup(LINK_TEXT),
-                Text(field.label),
-            ])?;
-            page.put(&[Markup(SAYS), Text(message), Markup(LINK_END)])
+            page.put(&[Markup(LINK), Text(field.name), Markup(LINK_TEXT)])?;
+            put_label(page, field.label, message)?;
+            page.put(&[Text(message), Markup(LINK_END)])
         }
         None => page.put(&[
             Markup(NAMED),
