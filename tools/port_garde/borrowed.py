@@ -324,7 +324,7 @@ class Borrowed:
         yield from self.of_default(it, item)
         yield from self.of_lists(it.type, own_rules(it))
         yield from ((it.line, told) for told in sorted(set(self.unread(it.type, item))))
-        yield from ((it.line, f"{told}, which no text of `--input {self.input}` writes") for told in sorted(set(self.unwritten(it.type))))
+        yield from ((it.line, f"{told}, which no text of `--input {self.input}` writes") for told in sorted(set(self.unwritten(it.type))) if not self.is_part(it, item))
         held = self.items.get(it.type.name)
         if held is not None and held is not item and is_ported(held) and asks(held) and not below(held) and not any(rule.name == "dive" for rule in all_rules(it.attributes.rules)):
             yield it.line, f"the field `{it.name}` of the type `{held.name}`, whose rules its form asks: write `dive`"
@@ -399,6 +399,10 @@ class Borrowed:
             way = WAYS.get(place_of(kind, self.source))
             told = f"the type `{kind.name}`" if kind.kind == "path" else "a tuple, an array or a reference"
             yield f"{told}, which no form of `--schema` reads: {way or READ_BY_HAND}"
+
+    def is_part(self, it, item):
+        """Whether a field has the texts of the path or of the query of a request."""
+        return self.input == "request" and item.name == self.root and it.type.name in self.items
 
     def unwritten(self, kind, within=()):
         """The types within a type that no field of a web form and no cell of a table writes."""

@@ -24,7 +24,7 @@ def may_be_missing(kind, input):
     held = kind.args[0]
     # a text field writes a text, also one that is parsed, a number or a `bool`
     is_plain = is_text(held) or is_path(held, *UNSIGNED, *SIGNED, "bool", *(name for _, name in KNOWN))
-    return input == "json" or input == "web-form" and not is_plain
+    return input in ("json", "request") or input == "web-form" and not is_plain
 
 
 class Reader:

@@ -105,7 +105,7 @@ class Spellings(Forms):
         borrows = bool(self.turned[item.name].params)
         if self.writer.is_library and not borrows:
             self.writer.notes.refuse(item.line, f"the body `{self.body}`, which holds no text and no map: a body borrows from its bytes, so give it a field of type `String`")
-        if self.writer.input != "json" or self.writer.context_of(item) or not borrows:
+        if self.writer.input not in ("json", "request") or self.writer.context_of(item) or not borrows:
             spelling, is_under = self.spelling_of(item, item.name + (STATIC if self.turned[item.name].params else ""), ".now")
             return Reader(self.schema, item).text(f"({spelling})" if is_under else spelling, self.writer.context_of(item))
         is_tree = self.writer.is_tree
