@@ -58,13 +58,23 @@ static unsigned kind_of(const walk *in) {
   }
 }
 
+/* Where a name is kept, by its length, and its first and its last bytes. */
+static uint32_t place_of(const char *at, uint32_t len) {
+  uint64_t first = 0, last = 0;
+  if (len >= 8) {
+    memcpy(&first, at, 8);
+    memcpy(&last, at + len - 8, 8);
+  } else {
+    for (uint32_t i = 0; i < len; i++) first = first << 8 | (uint8_t)at[i];
+  }
+  return (uint32_t)((first * 0x9E3779B97F4A7C15 ^ last * 0xC2B2AE3D27D4EB4F ^ len) >> 32) % NAMES;
+}
+
 /* The name of a member of a dict, or what a fault says of its rule. Short ones are kept, since they come again and again. */
 static PyObject *name_of(const walk *in, const order_node *it) {
   if (it->len > NAME_LEN) return text_of(in, it);
   const char *at = at_text(in, it);
-  uint32_t hash = it->len;
-  for (uint32_t i = 0; i < it->len; i++) hash = hash * 31 + (uint8_t)at[i];
-  name *kept = &in->held->names[hash % NAMES];
+  name *kept = &in->held->names[place_of(at, it->len)];
   if (!kept->made || kept->len != it->len || memcmp(kept->text, at, it->len)) {
     PyObject *made = text_of(in, it), *before = kept->made;
     if (!made) return NULL;
@@ -208,10 +218,23 @@ static PyObject *shaped(walk *in, const shape *as) {
 
 PyObject *made(walk *in) { return shaped(in, in->by ? in->by->shapes : &ANY); }
 
+/* What a sentence says of its rule, which are texts by names. */
+static PyObject *params_of(walk *in) {
+  uint64_t count = in->at++->value;
+  PyObject *params = PyDict_New();
+  for (; params && count; count--) {
+    PyObject *key = name_of(in, in->at++), *value = key ? name_of(in, in->at++) : NULL;
+    if (!value || PyDict_SetItem(params, key, value)) Py_CLEAR(params);
+    Py_XDECREF(key);
+    Py_XDECREF(value);
+  }
+  return params;
+}
+
 /* The next part of a fault, behind its name. */
 static PyObject *part_of(walk *in, int part) {
   in->at++;
-  if (part == PARTS - 1) return dict_of(in, &ANY);
+  if (part == PARTS - 1) return params_of(in);
   return part == 0 ? text_of(in, in->at++) : name_of(in, in->at++);
 }
 
