@@ -3,7 +3,7 @@ ghost use Rattle.std.specs.Prelude.{◌≡◌, ◌+◌, ◌≤◌, length, take,
 ghost use Rattle.garde_library.specs.Nodes.{LiesAt};
 
 /// Whether a text lies at this offset.
-#[inline]
+#[inline(always)]
 fn lies_at(body: &[u8], at: usize, text: &[u8]) -> bool
     ensures { IsTrue result → LiesAt body.now at text.now }
 {
@@ -14,7 +14,7 @@ fn lies_at(body: &[u8], at: usize, text: &[u8]) -> bool
 }
 
 /// The offset of the first such byte from there on, or that of the end.
-#[inline]
+#[inline(always)]
 fn next(body: &[u8], from: usize, byte: u8) -> usize {
     let mut at = from;
     while at < body.len() && body[at] != byte {
@@ -34,6 +34,7 @@ fn behind(body: &[u8], from: usize) -> usize {
 
 /// Goes past the text between quotes that comes next, which is `text` once its escapes are read: where
 /// the body has it with no escape.
+#[inline(always)]
 pub(crate) fn find_text(body: &[u8], from: &mut usize, text: &[u8]) -> Option<usize>
     ensures { IfSome result (λ at. LiesAt body.now at text.now) }
 {

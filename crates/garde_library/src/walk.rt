@@ -28,6 +28,7 @@ pub(crate) struct Walk<'b> {
 }
 
 impl<'b> Walk<'b> {
+    #[inline(always)]
     fn push(&mut self, node: Node) -> Result<(), AllocError>
         ensures ok { OnOk result (self.new.nodes.items ≡ self.old.nodes.items ++ node ∷ []) }
         ensures body { self.new.body ≡ self.old.body }
@@ -38,6 +39,7 @@ impl<'b> Walk<'b> {
     }
 
     // A node without a text.
+    #[inline(always)]
     pub(crate) fn push_plain(&mut self, kind: u8, value: u64) -> Result<(), AllocError>
         ensures ok { OnOk result ((node : ANode) × (node.kind ≡ kind) × (node.value ≡ value)
             × (self.new.nodes.items ≡ self.old.nodes.items ++ node ∷ [])) }
@@ -66,6 +68,7 @@ impl<'b> Walk<'b> {
     }
 
     // A node with a text, where it is found in the body or in the room.
+    #[inline(always)]
     pub(crate) fn push_found(
         &mut self,
         kind: u8,
@@ -101,6 +104,7 @@ impl<'b> Walk<'b> {
         }
     }
 
+    #[inline(always)]
     fn push_text(&mut self, text: &str) -> Result<(), AllocError>
         ensures ok { OnOk result (Adds (a_text text.now ∷ []) self.old.body.now
             self.old.nodes.items self.old.room.items self.new.nodes.items self.new.room.items) }
@@ -110,6 +114,7 @@ impl<'b> Walk<'b> {
         self.push_found(TEXT, text, found)
     }
 
+    #[inline(always)]
     fn push_number(&mut self, tree: &Tree<'_, '_>, text: &str) -> Result<(), AllocError>
         requires { as_number tree.now ≡ Some text.now }
         ensures ok { OnOk result (Adds (a_number text.now ∷ []) self.old.body.now
@@ -184,6 +189,7 @@ impl<'b> Walk<'b> {
 }
 
 // The kind of a whole number.
+#[inline(always)]
 fn whole_kind(number: i64) -> u8
     ensures { result ≡ whole_kind number }
 {
@@ -191,6 +197,7 @@ fn whole_kind(number: i64) -> u8
 }
 
 // How many items a list has.
+#[inline(always)]
 fn count_items(tree: &Tree<'_, '_>) -> u64
     ensures { IfSome (as_array tree.now) (λ js. result ≡ length (item_list js)) }
 {
@@ -201,6 +208,7 @@ fn count_items(tree: &Tree<'_, '_>) -> u64
 }
 
 // How many members an object has.
+#[inline(always)]
 fn count_members(tree: &Tree<'_, '_>) -> u64
     ensures { IfSome (as_object tree.now) (λ ms. result ≡ length (member_list ms)) }
 {
