@@ -1,4 +1,5 @@
 """A headless Chromium, driven over a pipe by the DevTools protocol. It needs Python's standard library alone."""
+import base64
 import contextlib
 import json
 import os
@@ -31,6 +32,7 @@ os.dup2(ask, 3)
 os.dup2(answer, 4)
 os.execv(sys.argv[3], sys.argv[3:])
 """
+KEYS = {"Tab": 9, "Enter": 13, "ArrowRight": 39, "ArrowDown": 40}
 MOST_SECONDS = 30
 MOST_DIALOGS = 20
 
@@ -138,6 +140,16 @@ class Browser:
         if "exceptionDetails" in result:
             raise Refused(f"{script}: {result['exceptionDetails']['text']}")
         return result["result"].get("value")
+
+    def press(self, *keys):
+        for key in keys:
+            text = {"text": "\r"} if key == "Enter" else {}
+            for kind in ("keyDown", "keyUp"):
+                typed = text if kind == "keyDown" else {}
+                self.call("Input.dispatchKeyEvent", type=kind, key=key, code=key, windowsVirtualKeyCode=KEYS[key], **typed)
+
+    def pictured(self, path):
+        path.write_bytes(base64.b64decode(self.call("Page.captureScreenshot", format="png")["data"]))
 
     def __enter__(self):
         return self

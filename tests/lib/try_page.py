@@ -1,5 +1,4 @@
 """The page of callers/wasm/page in a headless Chromium, beside the library for x86-64."""
-import base64
 import ctypes
 import json
 import random
@@ -18,7 +17,6 @@ FILES = {"/page/", "/page/style.css", "/page/page.js", "/page/examples.js", "/pa
 # What is asked of the page: its faults where a body is put into it, its colours, the sizes of its controls, how wide it is, what has the
 # focus, an example, and all of them.
 FAULTS, COLOURS, TARGETS, WIDTH, FOCUS, EXAMPLE, EXAMPLES = (it.text for it in tables.cases("try-page"))
-KEYS = {"Tab": 9, "Enter": 13, "ArrowRight": 39, "ArrowDown": 40}
 # Scripts that a page could be made to run.
 PLANTED = ("document.body.append(Object.assign(document.createElement('script'), { textContent: 'globalThis.planted = 1' }))",
            "document.body.setAttribute('onclick', 'globalThis.planted = 1'); document.body.click()")
@@ -91,16 +89,6 @@ class Page(browser.Browser):
             if time.monotonic() > ends:
                 raise browser.Refused("the page says nothing")
             time.sleep(0.05)
-
-    def press(self, *keys):
-        for key in keys:
-            text = {"text": "\r"} if key == "Enter" else {}
-            for kind in ("keyDown", "keyUp"):
-                typed = text if kind == "keyDown" else {}
-                self.call("Input.dispatchKeyEvent", type=kind, key=key, code=key, windowsVirtualKeyCode=KEYS[key], **typed)
-
-    def pictured(self, path):
-        path.write_bytes(base64.b64decode(self.call("Page.captureScreenshot", format="png")["data"]))
 
 
 def offset_of(text, line, column):
