@@ -1,29 +1,17 @@
-#!/usr/bin/env python3
-"""from_python [--seconds N] [--built FOLDER]: what a check costs from Python by callers/python, beside pydantic 2 and jsonschema with the rules
-of crates/example_order/src/body.rt.
+"""What is measured from Python, for `table`: callers/python beside pydantic 2 and jsonschema with the rules of
+crates/example_order/src/body.rt.
 
-The bodies have 3, 50 and 10,000 lines. Of the valid ones each line is right; of the faulty ones each has two faults, the customer has none
-of the 1 to 80 characters, and a member is unknown. An order has at most 50 lines, where pydantic would stop: its model lacks that bound,
-and the body of 10,000 right lines has one fault here alone.
+Of the valid bodies each line is right; of the faulty ones each has two faults, the customer has none of the 1 to 80 characters, and a
+member is unknown. An order has at most 50 lines, where pydantic would stop: its model lacks that bound, and the body of 10,000 right
+lines has one fault here alone. Both sides begin with the bytes.
 
-What is measured, on both sides from the bytes on:
-- of valid bodies `is_valid`; `load`, as dicts and as objects of a dataclass; pydantic's TypedDict, which makes dicts, and its models, which
-  are objects; `json.loads` and then jsonschema, compiled once, and fastjsonschema, where that is there;
-- of faulty bodies all faults, as JSON text (`problem`, and `json` of pydantic's error without links and inputs), and as objects of Python
-  (`check`, and `errors` of pydantic's error).
-
-All run by turns, some milliseconds each, for N seconds a body (10), 5 rounds at least, without the collector of cycles. What takes more than
-0.1 s runs in the first 5 rounds alone. The figures are the least of all rounds, in microseconds. The library is that of
-crates/use_library, made over what `rt ci` built, or that of the archives in FOLDER.
+All run by turns, some milliseconds each, 5 rounds at least, without the collector of cycles. What takes more than 0.1 s runs in the first
+5 rounds alone. The figures are the least of all rounds, in microseconds.
 """
-import argparse
 import dataclasses
 import gc
 import json
-import os
-import pathlib
 import sys
-import tempfile
 import time
 from typing import Annotated
 
@@ -38,10 +26,6 @@ try:
     import fastjsonschema
 except ImportError:
     fastjsonschema = None
-
-sys.path.insert(0, str(pathlib.Path(__file__).resolve().parent.parent.parent / "tests"))
-
-from lib import linked
 
 TURN, ROUNDS, SLOW = 0.003, 5, 0.1
 WITHOUT = {"include_url": False, "include_input": False}
@@ -147,35 +131,3 @@ def least(calls, seconds):
         rounds += 1
     gc.enable()
     return {name: it * 1e6 for name, it in best.items()}
-
-
-def table(library, is_valid, ratios, seconds, counts=(3, 50, 10_000)):
-    """Measures the bodies of one kind. The ratios are pairs of columns."""
-    calls_of = valid_calls if is_valid else faulty_calls
-    heads = ["lines", *calls_of(library, body_of(counts[0], is_valid)), *(f"{ours} / {other}" for ours, other in ratios)]
-    print(f"| {' | '.join(heads)} |\n{'|---' * len(heads)}|")
-    for count in counts:
-        times = least(calls_of(library, body_of(count, is_valid)), seconds)
-        cells = [f"{count:,}", *(f"{it:,.2f}" for it in times.values()), *(f"{times[ours] / times[other]:.2f}" for ours, other in ratios)]
-        print(f"| {' | '.join(cells)} |", flush=True)
-
-
-def main():
-    words = argparse.ArgumentParser(description=__doc__, formatter_class=argparse.RawDescriptionHelpFormatter)
-    words.add_argument("--seconds", type=float, default=10, metavar="N")
-    words.add_argument("--built", type=pathlib.Path, metavar="FOLDER")
-    asked = words.parse_args()
-    with tempfile.TemporaryDirectory(prefix="from-python-") as name:
-        library = linked.package(pathlib.Path(name), asked.built)
-        print(f"pydantic {pydantic.VERSION}; load {os.getloadavg()[0]:.1f}\n\nLines that are right, microseconds:\n")
-        ratios = [("`load`", "pydantic"), ("`load`, objects", "pydantic, objects"), ("`load`", "jsonschema")]
-        ratios += [("`load`", "fastjsonschema")] if BY_FAST else []
-        table(library, True, ratios, asked.seconds, (3, 50))
-        print("\nMore lines than an order has, which has one fault then:\n")
-        table(library, True, [("`check`", "pydantic")], asked.seconds, (10_000,))
-        print("\nFaulty lines, microseconds:\n")
-        table(library, False, [("`problem`", "pydantic, `json`"), ("`check`", "pydantic, `errors`")], asked.seconds)
-
-
-if __name__ == "__main__":
-    main()
