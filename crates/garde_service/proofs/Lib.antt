@@ -1,4 +1,5 @@
 pub mod ByHead
 pub mod Chunk
 pub mod Fitting
+pub mod Segments
 pub mod Talk

@@ -1,6 +1,6 @@
--- What an author of a handler relies on: a request asks for one language, the answer to a `POST` has the body that the handler gave, each
--- status of a rejection is an error, and no answer hands the connection over.
-use Rattle.std.proofs.Common.{◌≡◌, ◌≢◌, ◌≤◌, arith, ℕ, List, [], Option, Some, None, codes, sym, subst, ◌∙◌, if◌then◌else◌, inl, inr}
+-- What an author of a handler relies on: a request asks for one language, each status of a rejection is an error, and no answer hands the
+-- connection over.
+use Rattle.std.proofs.Common.{◌≡◌, ◌≢◌, ◌≤◌, arith, ℕ, List, Option, Some, None, codes, sym, ◌∙◌, inl, inr}
 use Rattle.garde_catalog.specs.Catalogs.{offered_by}
 use Rattle.garde_catalog.specs.Field.{wants_in}
 use Rattle.garde_catalog.specs.declared.catalogs.Catalogs.{Catalogs}
@@ -8,14 +8,10 @@ use Rattle.garde_catalog.specs.declared.language.Language.{Language}
 use Rattle.http.specs.declared.request.Parts.{Parts}
 use Rattle.http_header.specs.FieldValue.{FieldValue}
 use Rattle.http_header.specs.HeaderMap.{get}
-use Rattle.http1.specs.Framing.{method_kind}
-use Rattle.http1.specs.Message as Wire
-use Rattle.http1.specs.Server.{is_head}
 use Rattle.http_server.specs.declared.response.Response.{Response}
 use Rattle.garde_service.specs.Asked.{IsAskedIn, IsLanguage}
 use Rattle.garde_service.specs.Answers.{Gives, GivesAsked, IsAnswerOf, Refuses}
 use Rattle.garde_service.specs.Ending.{Rejects}
-use Rattle.garde_service.specs.Fits.{Answered, Fits}
 use Rattle.garde_service.specs.Rejected.{status_of}
 use Rattle.garde_service.specs.Routes.{Entry, asked}
 use Rattle.garde_service.specs.declared.rejected.Rejected.{Rejected}
@@ -34,14 +30,6 @@ is_one_place offered (Some value) one other a b = picked_once (wants_in value.by
 pub is_one_language : (catalogs : Catalogs) (one other : Option ℕ) (head : Parts) → IsLanguage catalogs one head → IsLanguage catalogs other head
     → one ≡ other
 is_one_language catalogs one other head a b = is_one_place (offered_by catalogs) (get head.headers (codes "accept-language")) one other a b
-
-body_sent : (method sent told : List ℕ) → method ≡ codes "POST" → sent ≡ (if is_head (method_kind method) then [] else told) → sent ≡ told
-body_sent method sent told is e = subst (λ (m : List ℕ). sent ≡ (if is_head (method_kind m) then [] else told)) is e
-
-pub posted_body : (answered : Answered) (request : Wire.Request) (response : Wire.Response) (x : Fits answered request response)
-    → x.head.method ≡ codes "POST" → response.body.bytes ≡ x.answer.body.items
-posted_body answered request response x posted =
-    body_sent request.head.method response.body.bytes x.answer.body.items (sym x.are_parts.method ∙ posted) x.body
 
 -- a rejection is an error, and not of faults
 pub is_error : (why : Rejected) → (400 ≤ status_of why) × (status_of why ≢ 422)

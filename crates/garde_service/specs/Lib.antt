@@ -6,9 +6,11 @@ pub mod Dated
 pub mod Ending
 pub mod Fits
 pub mod Heads
+pub mod Input
 pub mod Json
 pub mod Judged
 pub mod Kept
+pub mod Paths
 pub mod Picked
 pub mod Problems
 pub mod Promised

@@ -3,6 +3,7 @@ use Rattle.std.specs.Prelude.{Bool, true, false, ◌||◌, ◌&&◌, List, [], �
 use Rattle.std.specs.Str.{bytes_eq}
 use Rattle.http.specs.declared.request.Parts.{Parts}
 use Rattle.garde_service.specs.Asked.{elsewhere, has_coding, has_type, is_foreign, path_of}
+use Rattle.garde_service.specs.Paths.{fits, segments}
 use Rattle.garde_service.specs.declared.rejected.Rejected.TheVariants.{Forbidden, MethodNotAllowed, UnsupportedMediaType}
 use Rattle.garde_service.specs.declared.routes.Asks.{Asks}
 use Rattle.garde_service.specs.declared.routes.Asks.TheVariants.{Answer, Rejection}
@@ -23,7 +24,7 @@ abbrev pub media_text : Media → List ℕ
 media_text Json = codes "application/json"
 media_text WebForm = codes "application/x-www-form-urlencoded"
 
--- a route: its path, what answers `GET` and `HEAD`, and what answers `POST`
+-- a route: the pattern of its paths, what answers `GET` and `HEAD`, and what answers `POST`
 pub record Entry (G P : Type 0) : Type 0 where
   pub path : List ℕ
   pub get : Option G
@@ -74,7 +75,12 @@ asked_at route head =
     else if bytes_eq head.method (codes "GET") || bytes_eq head.method (codes "HEAD") then asked_by_get route route.get
     else other_method route
 
--- what is asked of the first route with the path
+-- what is asked of the first route that the path fits
 abbrev pub asked : {G P : Type 0} → List (Entry G P) → Parts → Asks (Wanted G P)
 asked [] head = Rejection (elsewhere head) Nothing
-asked (route ∷ rest) head = if bytes_eq (path_of head) route.path then asked_at route head else asked rest head
+asked (route ∷ rest) head = if fits (segments route.path) (segments (path_of head)) then asked_at route head else asked rest head
+
+-- the pattern of the first route that a path fits
+abbrev pub pattern_of : {G P : Type 0} → List (Entry G P) → List ℕ → List ℕ
+pattern_of [] path = []
+pattern_of (route ∷ rest) path = if fits (segments route.path) (segments path) then route.path else pattern_of rest path

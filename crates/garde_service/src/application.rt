@@ -1,8 +1,10 @@
-//! An application: what is done with valid bodies in JSON.
+//! An application: what is done with valid bodies in JSON, and with valid parameters of a request.
 ghost use Rattle.std.specs.Prelude.{◌≡◌, ◌^◌, ◌-◌, codes, IfOk, IsOk, OnOk};
 ghost use Rattle.garde_schema.specs.FirstRead.{AnswersFirstBytes};
 ghost use Rattle.garde_schema.specs.Forms.{forget};
-ghost use Rattle.garde_service.specs.Application.{Gives, IsAnswered, IsTaken, Says, Taking, entries, judging};
+ghost use Rattle.garde_service.specs.Application.{Gives, IsAnswered, IsJudgedAs, IsTaken, Says, Taking, entries, judging};
+ghost use Rattle.garde_service.specs.Asked.{path_of};
+ghost use Rattle.garde_service.specs.Input.{input_at};
 ghost use Rattle.garde_service.specs.Json.{JudgesBody, voice};
 ghost use Rattle.garde_service.specs.Judged.{Promises};
 ghost use Rattle.garde_service.specs.Problems.{problem_of};
@@ -10,13 +12,16 @@ ghost use Rattle.garde_service.specs.declared.application.Page.TheVariants as pa
 ghost use Rattle.garde_service.specs.declared.routes.Route.{Route};
 ghost use Rattle.garde_service.specs.declared.routes.Wanted.TheVariants as wants;
 ghost use Rattle.garde_service.specs.Kept.{kept, stays};
+ghost use Rattle.garde_service.specs.Routes.{pattern_of};
 ghost use Rattle.garde_tape.specs.Input.{without_mark};
 ghost use Rattle.http.specs.Request.{body_of, head_of};
 ghost use Rattle.http_server.specs.Response.{IsBlank};
 
 use crate::asked::language_of;
 use crate::handler::{Body, Handler};
+use crate::input::input_of;
 use crate::json_body::put_error;
+use crate::paths::fits;
 use crate::problems::{PROBLEM_TYPE, problem_body};
 use crate::put::put_text;
 use crate::rejected::Rejected;
@@ -32,16 +37,21 @@ use std::alloc::{AllocError, Global};
 
 /// What answers `GET`.
 #[derive(Clone, Copy, Debug)]
-pub enum Page {
+pub enum Page<B> {
     /// 200, with no body.
     Empty,
     /// 200, with a text in JSON.
     Json(&'static str),
+    /// The application, which takes the parameters of the path and the query as a body of this kind: an
+    /// object with the members `path` and `query`, each of which is an object of texts.
+    Asked(B),
 }
 
 /// What is answered to a valid body.
-#[derive(Clone, Copy, Debug)]
+#[derive(Debug, Drop)]
 pub enum Answer {
+    /// 200, with a text in JSON.
+    Json(String),
     /// 204: it is done.
     NoContent,
     /// 202: it is to be done later.
@@ -49,6 +59,9 @@ pub enum Answer {
     /// 503: it cannot be done now.
     Unavailable,
 }
+
+/// The media type of JSON.
+const JSON: &str = "application/json";
 
 /// The problem details of what cannot be done now.
 const UNAVAILABLE: &str =
@@ -77,12 +90,13 @@ pub trait Application {
         ensures taken { IfOk result (λ answer. IsTaken (takes self.now kind) body.now answer) };
 }
 
-/// Fills a blank response with an answer. It allocates for `Unavailable` alone.
+/// Fills a blank response with an answer. It allocates for what has a text.
 fn put_answer(answer: Answer, response: &mut Response) -> Result<(), AllocError>
     requires { IsBlank response.old }
     ensures { OnOk result (Says answer response.new) }
 {
     match answer {
+        Answer::Json(text) => put_text(response, StatusCode::OK, JSON, text.as_str()),
         Answer::NoContent => {
             response.status = StatusCode::NO_CONTENT;
             Ok(())
@@ -137,7 +151,7 @@ pub struct Site<'c, A, B> {
     /// The title of the problem details of a body with faults.
     pub title: &'static str,
     /// The first route with the path of a request answers it.
-    pub routes: &'c [Route<Page, B>],
+    pub routes: &'c [Route<Page<B>, B>],
     pub application: A,
 }
 
@@ -147,16 +161,15 @@ impl<'c, B: Copy + Drop, A: Application<Body = B>> Site<'c, A, B> {
         &self,
         kind: B,
         request: &Request<Bytes>,
+        body: &[u8],
         response: &mut Response,
     ) -> Result<(), AllocError>
         requires { IsBlank response.old }
-        ensures { OnOk result (Gives self.now.routes.now (A.takes self.now.application)
-            self.now.title.now self.now.catalogs.now (wants.Post kind) (head_of request.now)
-            (body_of request.now) response.new) }
+        ensures { OnOk result (IsJudgedAs (A.takes self.now.application kind) self.now.title.now
+            self.now.catalogs.now (head_of request.now) body.now response.new) }
     {
         let place = language_of(self.catalogs, request);
         let (catalog, tag) = (self.catalogs.catalog(place), self.catalogs.tag(place));
-        let body = request.body().as_slice();
         let (application, title) = (&self.application, self.title);
         answer_body(
             self.alloc,
@@ -170,10 +183,40 @@ impl<'c, B: Copy + Drop, A: Application<Body = B>> Site<'c, A, B> {
         )?;
         Ok(())
     }
+
+    /// The pattern of the first route that a path fits.
+    fn pattern_of(&self, path: &str) -> &str
+        ensures { result.now ≡ pattern_of (entries self.now.routes.now) path.now }
+    {
+        for route in self.routes {
+            if fits(route.path, path) {
+                return route.path;
+            }
+        }
+        ""
+    }
+
+    /// Answers what the path and the query of a request spell, as a body of this kind.
+    fn judge_input(
+        &self,
+        kind: B,
+        request: &Request<Bytes>,
+        response: &mut Response,
+    ) -> Result<(), AllocError>
+        requires { IsBlank response.old }
+        ensures { OnOk result (IsJudgedAs (A.takes self.now.application kind) self.now.title.now
+            self.now.catalogs.now (head_of request.now)
+            (input_at (pattern_of (entries self.now.routes.now) (path_of (head_of request.now)))
+            (head_of request.now)) response.new) }
+    {
+        let pattern = self.pattern_of(request.uri().path());
+        let input = input_of(self.alloc, pattern, request)?;
+        self.judge(kind, request, input.as_slice(), response)
+    }
 }
 
 impl<'c, B: Copy + Drop, A: Application<Body = B>> Handler for Site<'c, A, B> {
-    type Get = Page;
+    type Get = Page<B>;
 
     type Post = B;
 
@@ -191,13 +234,13 @@ impl<'c, B: Copy + Drop, A: Application<Body = B>> Handler for Site<'c, A, B> {
         Promises (judging site.routes.now (A.takes site.application) site.title.now
         site.catalogs.now) request response };
 
-    fn routes(&self) -> &[Route<Page, B>] {
+    fn routes(&self) -> &[Route<Page<B>, B>] {
         self.routes
     }
 
     fn give(
         &self,
-        wanted: Wanted<Page, B>,
+        wanted: Wanted<Page<B>, B>,
         request: &Request<Bytes>,
         response: &mut Response,
     ) -> Result<(), AllocError>
@@ -209,10 +252,9 @@ impl<'c, B: Copy + Drop, A: Application<Body = B>> Handler for Site<'c, A, B> {
     {
         match wanted {
             Wanted::Get(Page::Empty) => Ok(()),
-            Wanted::Get(Page::Json(text)) => {
-                put_text(response, StatusCode::OK, "application/json", text)
-            }
-            Wanted::Post(kind) => self.judge(kind, request, response),
+            Wanted::Get(Page::Json(text)) => { put_text(response, StatusCode::OK, JSON, text) }
+            Wanted::Get(Page::Asked(kind)) => self.judge_input(kind, request, response),
+            Wanted::Post(kind) => self.judge(kind, request, request.body().as_slice(), response),
         }
     }
 

@@ -27,7 +27,7 @@ fn serve_application<B: Copy + Drop, A: Application<Body = B> + Drop>(
     serving: Serving,
     most: usize,
     title: &'static str,
-    routes: &[Route<Page, B>],
+    routes: &[Route<Page<B>, B>],
     application: A,
 ) -> Result<ExitCode> {
     let (alloc, offered) = (rt.alloc(), languages());
@@ -49,7 +49,7 @@ pub fn run<B: Copy + Drop, A: Application<Body = B> + Drop>(
     program: &Program,
     most: usize,
     title: &'static str,
-    routes: &[Route<Page, B>],
+    routes: &[Route<Page<B>, B>],
     application: A,
 ) -> Result<ExitCode> {
     let words = program.words(rt)?;

@@ -5,6 +5,7 @@ ghost use Rattle.http_header.specs.FieldValue.{is_visible_text};
 ghost use Rattle.garde_service.specs.Routes.{asked, asked_at, asked_by_post, entry_of, media_text, offers, other_method};
 
 use crate::asked::{IDENTITY, elsewhere, has_coding, has_type, is_foreign};
+use crate::paths::fits;
 use crate::rejected::Rejected;
 use bytes::Bytes;
 use http::Request;
@@ -52,6 +53,8 @@ pub struct Post<P> {
 /// A path of a service, and what answers there.
 #[derive(Clone, Copy, Debug)]
 pub struct Route<G, P> {
+    /// A segment as `{id}` is a parameter, which any text fits that is not empty. No other escape is
+    /// decoded, and nothing is left out of a path before it is compared.
     pub path: &'static str,
     /// What answers `GET` and `HEAD`.
     pub get: Option<G>,
@@ -147,7 +150,7 @@ impl<G: Copy, P: Copy> Route<G, P> {
     }
 }
 
-/// What a request asks of the first route with its path.
+/// What a request asks of the first route that its path fits.
 pub fn asked<G: Copy, P: Copy>(
     routes: &[Route<G, P>],
     request: &Request<Bytes>,
@@ -156,7 +159,7 @@ pub fn asked<G: Copy, P: Copy>(
 {
     match routes {
         [] => Asks::Rejection(elsewhere(request), Offer::Nothing),
-        [route, ..] if request.uri().path() == route.path => route.asked(request),
+        [route, ..] if fits(route.path, request.uri().path()) => route.asked(request),
         [_, rest @ ..] => asked(rest, request),
     }
 }

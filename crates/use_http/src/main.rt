@@ -2,6 +2,7 @@
 //! output.
 #![tactic(auto)]
 
+mod list_orders;
 mod order;
 mod service;
 
@@ -13,8 +14,8 @@ use std::process::ExitCode;
 /// A longer body is rejected, where the command line names no other length.
 const MOST: usize = 1024 * 1024;
 
-/// The title of the problem details of an order with faults.
-const TITLE: &str = "the order has faults";
+/// The title of the problem details of an input with faults.
+const TITLE: &str = "the input has faults";
 
 /// How the program is called.
 const PROGRAM: Program = Program {

@@ -130,6 +130,6 @@ judging visits sites speech = record {
   has_report = λ place body report. Reads visits (voice_at speech place) body (Err (Report report));
   is_text = λ place body report text. IsShown (voice_at speech place).texts.form (fields_in body) report text;
   is_unread = λ place body. ⊥;
-  is_short = λ body. ⊤;
-  is_success = λ status. status ≡ 303;
+  is_short = λ place body. ⊤;
+  is_success = λ head status. status ≡ 303;
 }

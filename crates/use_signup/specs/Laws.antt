@@ -12,7 +12,7 @@ use Rattle.garde_service.specs.Author.{is_one_language}
 use Rattle.garde_service.specs.Promised.{IsLawful, judged_stays, promised}
 use Rattle.garde_service.specs.Answers.{IsAnswerOf}
 use Rattle.garde_service.specs.Fits.{Fits}
-use Rattle.garde_service.specs.Judged.{Judges, JudgesBy, Promises}
+use Rattle.garde_service.specs.Judged.{IsUnjudged, Judges, JudgesBy, Promises}
 use Rattle.garde_service.specs.Routes.{asked}
 use Rattle.garde_service.specs.declared.routes.Asks.TheVariants.{Answer}
 use Rattle.garde_service.specs.declared.routes.Sites.{Sites}
@@ -84,7 +84,7 @@ module _ (visits : FormVisits) (sites : Sites) (speech : Speech) where
     apart = λ place body report valid has. clash (voice_at speech place) body report valid has;
     unread = λ place body short unread. absurd unread;
     answers = λ place body status is. (λ e. omega (arith, e, is), λ e. omega (arith, e, is));
-    success = λ status is. omega (arith, is);
+    success = λ head status is. omega (arith, is);
   }
 
   told : (place : Option ℕ) (body : List ℕ) (r : Response) (read : Result (Unit {0}) ValidateError) → Reads visits (voice_at speech place) body read
@@ -94,17 +94,17 @@ module _ (visits : FormVisits) (sites : Sites) (speech : Speech) where
       inr (inl (report, reads, tells.2.status, (tells.1.0, tells.1.1, tells.2.body ∙ tells.1.2)))
   told place body r (Err Memory) reads tells = absurd tells
 
-  judges : (form : Unit {0}) (head : Parts) (body : List ℕ) (r : Response) → asked (routes sites) head ≡ Answer (Post form)
-      → Gives visits speech (Post form) head body r → Judges (judging visits sites speech) head body r
-  judges tt head body r is given = (given.0, (is, given.1), told given.0 body r given.2.0 given.2.1 given.2.2)
-
   page_status : (shown : Page) (head : Parts) (body : List ℕ) (r : Response) → Gives visits speech (Get shown) head body r → r.status ≡ 200
   page_status page.Form head body r given = given.2.2.status
   page_status page.Thanks head body r given = given.2.status
 
-  shows : (shown : Page) (head : Parts) (body : List ℕ) (r : Response) → Gives visits speech (Get shown) head body r → (r.status ≢ 303) × (r.status ≢ 422)
-  shows shown head body r given =
-      let is = page_status shown head body r given in (λ e. omega (arith, e, is), λ e. omega (arith, e, is))
+  judges : (wanted : Wanted Page (Unit {0})) (head : Parts) (body : List ℕ) (r : Response) → asked (routes sites) head ≡ Answer wanted
+      → Gives visits speech wanted head body r
+      → Judges (judging visits sites speech) head body r ⊎ IsUnjudged (judging visits sites speech) head r.status
+  judges (Get shown) head body r is given =
+      let status = page_status shown head body r given in
+      inr (λ place asks. let e = sym is ∙ asks.0 in cc, λ e. omega (arith, e, status), λ e. omega (arith, e, status))
+  judges (Post tt) head body r is given = inl (given.0, (is, given.1), told given.0 body r given.2.0 given.2.1 given.2.2)
 
   -- no answer hands the connection over
   pub stays : (wanted : Wanted Page (Unit {0})) (head : Parts) (body : List ℕ) (r : Response) → Gives visits speech wanted head body r → r.status ≢ 101
@@ -116,4 +116,4 @@ module _ (visits : FormVisits) (sites : Sites) (speech : Speech) where
       → Fits (IsAnswerOf (routes sites) (Gives visits speech) (λ why. (codes "text/html; charset=utf-8", page_of why))) request response
       → Promises (judging visits sites speech) request response
   kept = promised (routes sites) (Gives visits speech) (λ why. (codes "text/html; charset=utf-8", page_of why)) (judging visits sites speech) lawful
-      (λ place head is. (tt, is.0)) judges shows
+      (λ place head is. (Post tt, is.0)) judges
