@@ -1,6 +1,8 @@
-"""Requests of HTTP and their answers, as bytes one behind the other, and which of them every service rejects."""
+"""Requests of HTTP and their answers, as bytes one behind the other, and which of them every service rejects. The fields of a web form and
+of a query are those that `urllib.parse` reads."""
 import re
 import typing
+import urllib.parse
 
 PHRASES = {
     200: "OK", 204: "No Content", 303: "See Other", 400: "Bad Request", 404: "Not Found", 405: "Method Not Allowed",
@@ -30,6 +32,26 @@ def path_of(request):
     elif target != "*" and not target.startswith("/"):
         target = ""
     return target.partition("?")[0]
+
+
+def fields_of(body):
+    """The names and texts of a body. Each byte is read as a character of Latin 1, so what is no UTF-8 is decoded at the end."""
+    pairs = urllib.parse.parse_qsl(body.decode("latin-1"), keep_blank_values=True, encoding="latin-1", separator="&")
+    return [tuple(part.encode("latin-1").decode("utf-8", "replace") for part in pair) for pair in pairs]
+
+
+def byte_of(dice, byte, special):
+    """A byte of a name or a text: as it is where it may be, or by its number."""
+    if byte == 0x20 and dice.random() < 0.8:
+        return b"+"
+    plain = byte > 0x20 and byte not in special
+    return bytes([byte]) if plain and dice.random() < 0.95 else b"%" + f"{byte:02{dice.choice('xX')}}".encode()
+
+
+def field_of(dice, name, text, special=b"%&+="):
+    """A field, with these bytes by their numbers."""
+    name, text = (b"".join(byte_of(dice, it, special) for it in part.encode("utf-8")) for part in (name, text))
+    return name + (b"" if name and not text and dice.random() < 0.3 else b"=") + text
 
 
 def rejected(request, methods, media):

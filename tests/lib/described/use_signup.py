@@ -1,8 +1,6 @@
-"""The program use_signup, by crates/use_signup/README.md: a web form, in any language, its page with faults, and its service. Its
-fields are those that `urllib.parse` reads."""
+"""The program use_signup, by crates/use_signup/README.md: a web form, in any language, its page with faults, and its service."""
 import codecs
 import re
-import urllib.parse
 
 from lib import command_line, languages, pages, repository, requests, tables
 from lib.described import Case
@@ -10,7 +8,7 @@ from lib.faults import ALPHANUMERIC, REQUIRED, between, chars, fault, items, len
 from lib.form import Checked, Closed, ListUnder, Member, Object, OneOf, Optional, OrEmpty, Parsed, Text, Under, read
 from lib.json_values import Pairs
 from lib.reports import lines, quoted
-from lib.requests import Request, bytes_of, path_of, rejected, requests_of, some_coding
+from lib.requests import Request, bytes_of, field_of, fields_of, path_of, rejected, requests_of, some_coding
 from lib.spoiled import LISTED, many, missing, renamed, repeated, some_bytes, some_of, unknown, wrong_type
 
 PHONES = ("+420777123456", "+42077712", "+4207771", "+" + "4" * 16, "420777123456")
@@ -80,19 +78,6 @@ def large():
         yield Case(("--language", "en"), name + b"=" + b"%C3%A9+" * 20_000 + rest)
 
 
-def byte_of(dice, byte):
-    """A byte of a name or a text: as it is where it may be, or by its number."""
-    if byte == 0x20 and dice.random() < 0.8:
-        return b"+"
-    plain = byte > 0x20 and byte not in b"%&+="
-    return bytes([byte]) if plain and dice.random() < 0.95 else b"%" + f"{byte:02{dice.choice('xX')}}".encode()
-
-
-def field_of(dice, name, text):
-    name, equals = b"".join(byte_of(dice, it) for it in name.encode("utf-8")), b"" if name and not text and dice.random() < 0.3 else b"="
-    return name + equals + b"".join(byte_of(dice, it) for it in text.encode("utf-8"))
-
-
 def some_body(dice):
     """A body, and how it was spoiled."""
     ways = (missing, repeated, wrong_type, unknown, renamed, many)
@@ -119,12 +104,6 @@ def some(dice):
         return Case((*command_line.some_language(dice), *dice.choice(((), ("--page",)))), body, ways)
     bodies = [body, *(some_body(dice)[0] for _ in range(dice.choice((0, 0, 1, 2))))]
     return Case(SERVE, b"".join(bytes_of(some_request(dice, it)) for it in bodies), ways)
-
-
-def fields_of(body):
-    """The names and texts of a body. Each byte is read as a character of Latin 1, so what is no UTF-8 is decoded at the end."""
-    pairs = urllib.parse.parse_qsl(body.decode("latin-1"), keep_blank_values=True, encoding="latin-1", separator="&")
-    return [tuple(part.encode("latin-1").decode("utf-8", "replace") for part in pair) for pair in pairs]
 
 
 def object_of(fields):
