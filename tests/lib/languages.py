@@ -48,6 +48,8 @@ def language(said, english):
 # Of each language what a file of texts may have.
 TEXTS = {tag: {code: text for code, text in catalog.tables()[table] if code in catalog.needed()} for table, tag in catalog.offered().items()}
 LANGUAGES = {tag: language(said, TEXTS["en"]) for tag, said in TEXTS.items()}
+# What a form says of a field.
+OF_FIELDS = {tag: {code: text for code, text in catalog.tables()[table] if code.startswith("field_")} for table, tag in catalog.offered().items()}
 
 
 def tag_of(given, tags=(*LANGUAGES, *OTHER_TAGS)):

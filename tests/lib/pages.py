@@ -34,6 +34,8 @@ class Form(typing.NamedTuple):
 
 
 PAGE = string.Template(tables.text_of("page.html"))
+# Where Rust's `trim` cuts: the property `White_Space` of Unicode.
+WHITE = "\t\n\v\f\r \x85\xa0\u1680\u2000\u2001\u2002\u2003\u2004\u2005\u2006\u2007\u2008\u2009\u200a\u2028\u2029\u202f\u205f\u3000"
 
 
 @functools.cache
@@ -106,6 +108,19 @@ def within(main, language, direction, title, said=None):
     """A page with this in its middle, under this heading. What it says as its title is the heading, if it is nothing else."""
     texts = {"language": language, "direction": direction, "title": title, "said": said or title}
     return PAGE.substitute({name: text(it) for name, it in texts.items()}, style=style(), main=main)
+
+
+def worded(form, typed, faults, said):
+    """Faults as a page words them, by the texts of a language: of a field that was left empty, and of a password that was right."""
+    fields, first = {it.name: it for it in form.fields}, dict(reversed(typed))
+    at = {path[0] for path, _ in faults if path}
+    for path, message in faults[:100]:
+        field = fields.get(path[0]) if path else None
+        is_left = field and not field.boxes and not first.get(field.name, "").strip(WHITE)
+        yield path, said["field_empty"].format(label=field.label) if is_left else message
+    for field in form.fields:
+        if field.kind == "password" and first.get(field.name) and field.name not in at:
+            yield (field.name,), said["field_again"].format(label=field.label)
 
 
 def page(form, typed, faults):

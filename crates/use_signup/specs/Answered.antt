@@ -34,7 +34,8 @@ use Rattle.use_signup.specs.declared.service.Page.TheVariants as page
 use Rattle.use_signup.specs.declared.terms.Words.{Words}
 use Rattle.use_signup.specs.declared.texts.Speech.{Speech}
 use Rattle.use_signup.specs.declared.texts.Texts.{Texts}
-use Rattle.use_signup.specs.Shown.{IsShown}
+use Rattle.use_signup.specs.Labels.{labelled}
+use Rattle.use_signup.specs.Shown.{IsShown, empty_page}
 use Rattle.use_signup.specs.Texts.{texts_at}
 
 -- What is said in a language: the texts of faults of form and of rules, what the program says besides, and the tag.
@@ -44,11 +45,11 @@ pub record Voice : Type 0 where
   pub texts : Texts
   pub tag : List ℕ
 
--- what is said by a catalog, under this tag, with these texts besides
+-- what is said by a catalog, under this tag, with these texts besides, which label the fields
 abbrev pub voice : Catalog → List ℕ → Texts → Voice
 voice catalog tag texts = record {
   form_text = λ fault. catalog_form_text catalog fault;
-  text = λ datum. catalog_text catalog datum;
+  text = λ datum. catalog_text catalog (labelled texts.form.fields.now datum);
   texts = texts;
   tag = tag;
 }
@@ -85,22 +86,19 @@ guard_fields =
 abbrev pub page_fields : List ℕ → List Header
 page_fields tag = (codes "content-type", codes "text/html; charset=utf-8") ∷ (language_fields tag ++ guard_fields)
 
--- the response is a page of the form, with these fields and these faults
-abbrev pub ShowsForm : Form → List ℕ → ℕ → FieldTexts → List Entry → Response → Type 0
-ShowsForm form tag status fields entries response =
-    (html : List ℕ) × IsShown form fields entries html × IsResponse status (page_fields tag) html response
-
--- How the result of reading these fields is answered, by this form, in the language of this tag: 303 where there is no fault, or 422 with
--- the page of the fields and of the report.
-abbrev pub Tells : Form → List ℕ → FieldTexts → Result (Unit {0}) ValidateError → Response → Type 0
-Tells form tag fields (Ok done) response = IsResponse 303 ((codes "location", codes "/thanks") ∷ []) [] response
-Tells form tag fields (Err (Report report)) response = ShowsForm form tag 422 fields report response
-Tells form tag fields (Err Memory) response = ⊥
+-- How the result of reading these fields is answered, by this form and these texts, in the language of this tag: 303 where there is no
+-- fault, or 422 with the page of the fields and of the report.
+abbrev pub Tells : Form → (Datum → List ℕ) → List ℕ → FieldTexts → Result (Unit {0}) ValidateError → Response → Type 0
+Tells form text tag fields (Ok done) response = IsResponse 303 ((codes "location", codes "/thanks") ∷ []) [] response
+Tells form text tag fields (Err (Report report)) response =
+    (html : List ℕ) × IsShown form text fields report html × IsResponse 422 (page_fields tag) html response
+Tells form text tag fields (Err Memory) response = ⊥
 
 -- the response tells the result of reading this body
 abbrev pub Judges : FormVisits → Voice → List ℕ → Response → Type 0
 Judges visits voice body response =
-    (read : Result (Unit {0}) ValidateError) × Reads visits voice body read × Tells voice.texts.form voice.tag (fields_in body) read response
+    (read : Result (Unit {0}) ValidateError) × Reads visits voice body read
+    × Tells voice.texts.form voice.text voice.tag (fields_in body) read response
 
 -- this holds in the language that the request asks for
 abbrev pub InLanguage : Speech → Parts → (Voice → Type 0) → Type 0
@@ -114,7 +112,8 @@ routes sites =
 
 -- what is given to a request with this head and this body
 abbrev pub Gives : FormVisits → Speech → Wanted Page (Unit {0}) → Parts → List ℕ → Response → Type 0
-Gives visits speech (Get page.Form) head body response = InLanguage speech head (λ said. ShowsForm said.texts.form said.tag 200 [] [] response)
+Gives visits speech (Get page.Form) head body response =
+    InLanguage speech head (λ said. IsResponse 200 (page_fields said.tag) (empty_page said.texts.form) response)
 Gives visits speech (Get page.Thanks) head body response =
     InLanguage speech head (λ said. IsResponse 200 (page_fields said.tag) said.texts.thanks.now response)
 Gives visits speech (Post form) head body response = InLanguage speech head (λ said. Judges visits said body response)
@@ -128,7 +127,8 @@ judging visits sites speech = record {
   is_accepted = λ place body status. status ≡ 303;
   report = List Entry;
   has_report = λ place body report. Reads visits (voice_at speech place) body (Err (Report report));
-  is_text = λ place body report text. IsShown (voice_at speech place).texts.form (fields_in body) report text;
+  is_text = λ place body report text.
+      IsShown (voice_at speech place).texts.form (voice_at speech place).text (fields_in body) report text;
   is_unread = λ place body. ⊥;
   is_short = λ place body. ⊤;
   is_success = λ head status. status ≡ 303;

@@ -88,14 +88,15 @@ module _ (visits : FormVisits) (sites : Sites) (speech : Speech) where
   }
 
   told : (place : Option ℕ) (body : List ℕ) (r : Response) (read : Result (Unit {0}) ValidateError) → Reads visits (voice_at speech place) body read
-      → Tells (voice_at speech place).texts.form (voice_at speech place).tag (fields_in body) read r → JudgesBy (judging visits sites speech) place body r
+      → Tells (voice_at speech place).texts.form (voice_at speech place).text (voice_at speech place).tag (fields_in body) read r
+      → JudgesBy (judging visits sites speech) place body r
   told place body r (Ok done) reads tells = inl (reads, tells.status)
   told place body r (Err (Report report)) reads tells =
       inr (inl (report, reads, tells.2.status, (tells.1.0, tells.1.1, tells.2.body ∙ tells.1.2)))
   told place body r (Err Memory) reads tells = absurd tells
 
   page_status : (shown : Page) (head : Parts) (body : List ℕ) (r : Response) → Gives visits speech (Get shown) head body r → r.status ≡ 200
-  page_status page.Form head body r given = given.2.2.status
+  page_status page.Form head body r given = given.2.status
   page_status page.Thanks head body r given = given.2.status
 
   judges : (wanted : Wanted Page (Unit {0})) (head : Parts) (body : List ℕ) (r : Response) → asked (routes sites) head ≡ Answer wanted

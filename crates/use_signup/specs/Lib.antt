@@ -1,4 +1,5 @@
 pub mod Answered
+pub mod Labels
 pub mod Laws
 pub mod Refused
 pub mod Shown

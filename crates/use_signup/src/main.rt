@@ -3,6 +3,7 @@
 #![tactic(auto)]
 
 mod command;
+mod labels;
 mod page;
 mod plain;
 mod put;
@@ -14,7 +15,8 @@ mod terms;
 mod texts;
 
 use crate::command::{MOST, PROGRAM, Task};
-use crate::page::write_page;
+use crate::labels::Labelled;
+use crate::page::write_faults;
 use crate::rely::age;
 use crate::service::SignUps;
 use crate::sign_up::{SignUp, read_sign_up};
@@ -49,14 +51,15 @@ fn welcome(rt: &impl Print, who: &SignUp<'_>, age: u8, words: &Words) -> Result<
 }
 
 /// Prints these faults, on the page of the form if there is one.
-fn print_faults(
+fn print_faults<H: I18n>(
     rt: &HostRuntime,
     page: Option<&Form<'_>>,
     fields: &[FormField<'_>],
     report: &Report,
+    h: &H,
 ) -> Result<ExitCode> {
     match page {
-        Some(form) => print!(rt; "{}", write_page(rt.alloc(), form, fields, report)?)?,
+        Some(form) => print!(rt; "{}", write_faults(rt.alloc(), form, fields, report, h)?)?,
         None => print!(rt; "{}", Escaped(rt.alloc(), report))?,
     }
     Ok(ExitCode::FAILURE)
@@ -78,7 +81,7 @@ fn answer<H: I18n + FormI18n>(
             let who = who.into_inner();
             welcome(rt, &who, age(&who), words)
         }
-        Err(ValidateError::Report(report)) => print_faults(rt, page, fields.as_slice(), &report),
+        Err(ValidateError::Report(report)) => print_faults(rt, page, fields.as_slice(), &report, h),
         Err(error) => Err(error.into()),
     }
 }
@@ -107,9 +110,17 @@ fn judge_in(
     let english = offered[0];
     let catalog = Catalog::spoken(rt.alloc(), spoken.tag, &offered, english.table)?;
     let language = Language::named(spoken.tag.unwrap_or("en"), &offered).unwrap_or(english);
-    let page = page.then_some(&texts_in(language.tag).form);
+    let (form, words) = (&texts_in(language.tag).form, Words::of(language.tag));
     let body = read_input(rt, file)?;
-    judge(rt, &body, page, &Words::of(language.tag), &catalog)
+    if page {
+        let labelled = Labelled {
+            fields: form.fields,
+            catalog: &catalog,
+        };
+        judge(rt, &body, Some(form), &words, &labelled)
+    } else {
+        judge(rt, &body, None, &words, &catalog)
+    }
 }
 
 /// The catalogs of the languages that the pages have: English, Czech and Arabic.

@@ -1,11 +1,13 @@
 //! The form as a page, in three languages.
 ghost use Rattle.std.specs.Prelude.{◌≡◌, IfOk, map, string_bytes};
 ghost use Rattle.garde_form.specs.WebForm.{field_texts};
-ghost use Rattle.use_signup.specs.Shown.{IsShown};
+ghost use Rattle.garde_html.specs.Document.{form_pieces};
+ghost use Rattle.garde_html.specs.Page.{rendered};
+ghost use Rattle.use_signup.specs.Shown.{IsShown, empty_page};
 
-use garde::Report;
+use garde::{I18n, Report};
 use garde_form::FormField;
-use garde_html::{Control, Field, Form, form_page};
+use garde_html::{Control, Field, Form, form_page, worded_report};
 use std::alloc::{AllocError, Global};
 
 /// The fields with these labels, hints and texts of boxes. An empty text of those that are required is a
@@ -182,17 +184,39 @@ fn typed_of<'a>(
     Ok(typed)
 }
 
-/// The page of a form with these fields and these faults: that of `form_page` of `garde_html`.
-pub fn write_page(
+// The page of a form with what was typed and these faults.
+fn write_told(
+    alloc: Global,
+    form: &Form<'_>,
+    typed: &[(&str, &str)],
+    told: &Report,
+) -> Result<String, AllocError>
+    ensures { IfOk result (λ html.
+        string_bytes html ≡ rendered (form_pieces form.now typed.now told.now)) }
+{
+    let page = form_page(alloc, form, typed, told)?;
+    page.to_html(alloc)
+}
+
+/// The page of a form to which nothing was sent.
+pub fn write_page(alloc: Global, form: &Form<'_>) -> Result<String, AllocError>
+    ensures { IfOk result (λ html. string_bytes html ≡ empty_page form.now) }
+{
+    write_told(alloc, form, &[], &Report::new(alloc))
+}
+
+/// The page of a form with these fields and these faults, which are worded by the texts of a handler.
+pub fn write_faults<H: I18n>(
     alloc: Global,
     form: &Form<'_>,
     fields: &[FormField<'_>],
     report: &Report,
+    h: &H,
 ) -> Result<String, AllocError>
-    ensures { IfOk result (λ html. IsShown form.now (field_texts fields.now) report.now
+    ensures { IfOk result (λ html. IsShown form.now (H.text h.now) (field_texts fields.now) report.now
         (string_bytes html)) }
 {
     let typed = typed_of(alloc, fields)?;
-    let page = form_page(alloc, form, typed.as_slice(), report)?;
-    page.to_html(alloc)
+    let told = worded_report(alloc, form.fields, typed.as_slice(), report, h)?;
+    write_told(alloc, form, typed.as_slice(), &told)
 }

@@ -1,23 +1,25 @@
 //! The service: what is answered to each request.
 ghost use Rattle.std.specs.Prelude.{◌≡◌, ◌≢◌, [], Err, OnOk, codes, ◌∷◌, IsOk};
-ghost use Rattle.garde_catalog.specs.Catalog.{catalog_text};
 ghost use Rattle.garde_catalog.specs.Forms.{catalog_form_text};
 ghost use Rattle.garde_form.specs.WebForm.{field_texts};
 ghost use Rattle.garde_service.specs.Judged.{Promises};
 ghost use Rattle.http.specs.Request.{head_of, body_of};
 ghost use Rattle.http_server.specs.Response.{IsBlank, IsResponse};
-ghost use Rattle.use_signup.specs.Answered.{Gives, InLanguage, Judges, ReadsFields, ShowsForm, Tells, judging, page_fields, routes, voice};
+ghost use Rattle.use_signup.specs.Answered.{Gives, InLanguage, Judges, ReadsFields, Tells, judging, page_fields, routes, voice};
+ghost use Rattle.use_signup.specs.Labels.{labelled_text};
 ghost use Rattle.use_signup.specs.Laws.{kept, stays};
 ghost use Rattle.use_signup.specs.Refused.{page_of};
+ghost use Rattle.use_signup.specs.Shown.{empty_page};
 
-use crate::page::write_page;
+use crate::labels::Labelled;
+use crate::page::{write_faults, write_page};
 use crate::put::{PAGE_TYPE, put_page, put_signed_up};
 use crate::refused::page_of;
 use crate::sign_up::{SignUp, read_sign_up};
 use crate::terms::Words;
 use crate::texts::{Speech, Texts};
 use bytes::Bytes;
-use garde::{Report, ValidateError};
+use garde::ValidateError;
 use garde_catalog::Catalog;
 use garde_form::{FormField, form_fields};
 use garde_html::Form;
@@ -62,39 +64,20 @@ const ROUTES: &[Route<Page, ()>] = routes!(Sites::Own);
 
 const ROUTES_OF_ANY_SITE: &[Route<Page, ()>] = routes!(Sites::Any);
 
-/// Answers with the page of the form, with these fields and these faults.
-fn put_form(
-    alloc: Global,
-    form: &Form<'_>,
-    tag: &str,
-    status: StatusCode,
-    fields: &[FormField<'_>],
-    report: &Report,
-    response: &mut Response,
-) -> Result<(), AllocError>
-    requires { IsBlank response.old }
-    ensures { OnOk result (ShowsForm form.now tag.now status (field_texts fields.now) report.now
-        response.new) }
-{
-    let html = write_page(alloc, form, fields, report)?;
-    put_page(alloc, tag, status, html.as_str(), response)?;
-    Ok(())
-}
-
 /// Reads the fields of a form, or reports every fault of its form and of its rules. Who signs up is
 /// dropped here: a program that keeps it does so before it answers.
 fn read_fields(
     alloc: Global,
     fields: &[FormField<'_>],
     words: &Words,
-    catalog: &Catalog<'static>,
+    h: &Labelled<'_>,
 ) -> Result<(), ValidateError>
     ensures { result ≢ Err ValidateError.Memory
         → ReadsFields (λ words. (⟦<SignUp<'static> as SpelledUnder>⟧.spelled words).visits) words.now
-        (λ fault. catalog_form_text catalog.now fault) (λ datum. catalog_text catalog.now datum)
+        (λ fault. catalog_form_text h.now.catalog.now fault) (labelled_text h.now)
         (field_texts fields.now) result }
 {
-    match read_sign_up(alloc, fields, words, catalog) {
+    match read_sign_up(alloc, fields, words, h) {
         Ok(who) => {
             let _who = who.into_inner();
             Ok(())
@@ -103,23 +86,27 @@ fn read_fields(
     }
 }
 
-/// Answers with the result of reading these fields, by this form, in the language of this tag.
+/// Answers with the result of reading these fields, by this form and these texts, in the language of this
+/// tag.
 fn put_result(
     alloc: Global,
     form: &Form<'_>,
+    h: &Labelled<'_>,
     tag: &str,
     fields: &[FormField<'_>],
     read: &Result<(), ValidateError>,
     response: &mut Response,
 ) -> Result<(), AllocError>
     requires { IsBlank response.old }
-    ensures { OnOk result (Tells form.now tag.now (field_texts fields.now) read.now response.new) }
+    ensures { OnOk result (Tells form.now (labelled_text h.now) tag.now (field_texts fields.now)
+        read.now response.new) }
 {
     match read {
         Ok(()) => put_signed_up(response),
         Err(ValidateError::Report(report)) => {
+            let html = write_faults(alloc, form, fields, report, h)?;
             let status = StatusCode::UNPROCESSABLE_ENTITY;
-            put_form(alloc, form, tag, status, fields, report, response)
+            put_page(alloc, tag, status, html.as_str(), response)
         }
         Err(ValidateError::Memory) => Err(AllocError),
     }
@@ -140,8 +127,20 @@ fn judge(
         (voice catalog.now tag.now texts.now) body.now response.new) }
 {
     let fields = form_fields(alloc, body)?;
-    let read = read_fields(alloc, fields.as_slice(), &texts.words, catalog);
-    put_result(alloc, &texts.form, tag, fields.as_slice(), &read, response)?;
+    let h = Labelled {
+        fields: texts.form.fields,
+        catalog,
+    };
+    let read = read_fields(alloc, fields.as_slice(), &texts.words, &h);
+    put_result(
+        alloc,
+        &texts.form,
+        &h,
+        tag,
+        fields.as_slice(),
+        &read,
+        response,
+    )?;
     Ok(())
 }
 
@@ -180,20 +179,12 @@ fn put_empty_form(
 ) -> Result<(), AllocError>
     requires { IsBlank response.old }
     ensures { OnOk result (InLanguage speech.now (head_of request.now) (λ voice.
-        ShowsForm voice.texts.form voice.tag 200 [] [] response.new)) }
+        IsResponse 200 (page_fields voice.tag) (empty_page voice.texts.form) response.new)) }
 {
     let place = language_of(speech.catalogs, request);
     let (tag, texts) = (speech.catalogs.tag(place), speech.texts(place));
-    let report = Report::new(alloc);
-    put_form(
-        alloc,
-        &texts.form,
-        tag,
-        StatusCode::OK,
-        &[],
-        &report,
-        response,
-    )?;
+    let html = write_page(alloc, &texts.form)?;
+    put_page(alloc, tag, StatusCode::OK, html.as_str(), response)?;
     Ok(())
 }
 

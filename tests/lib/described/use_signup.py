@@ -76,6 +76,9 @@ def large():
     rest = b"&username=ada123&password=analytical+engine&password_again=analytical+engine&age=36&terms=on&topics=news&topics=events&city=x"
     for name in b"name", b"note":
         yield Case(("--language", "en"), name + b"=" + b"%C3%A9+" * 20_000 + rest)
+    # A page has the first hundred faults.
+    yield Case(("--page",), b"a=1&" * 16_000)
+    yield Case(("--page",), b"topics=x&" * 7_000)
 
 
 def some_body(dice):
@@ -126,9 +129,17 @@ def form_of(tag):
     return pages.Form(tag, *texts, tuple(map(field, NAMES)), said["direction"])
 
 
-def page_of(tag, fields, faults, language):
-    """The page with these fields that were sent and these faults, whose texts are in a language."""
-    return pages.page(form_of(tag if tag in SAID else "en"), fields, [(path, found.text(language)) for path, found in faults])
+def told(tag, form, fields, faults):
+    """What a page in the language of a tag tells of these faults, with the labels of the form."""
+    language, labels = language_of(tag), {it.name: it.label for it in form.fields}
+    found = [(path, it._replace(params={key: labels.get(said, said) for key, said in it.params.items()}).text(language)) for path, it in faults]
+    return [*pages.worded(form, fields, found, languages.OF_FIELDS[languages.OTHER_TAGS.get(tag, tag)])]
+
+
+def page_of(tag, fields, faults):
+    """The page with these fields that were sent and these faults, in the language of a tag and with the labels that there are."""
+    form = form_of(tag if tag in SAID else "en")
+    return pages.page(form, fields, told(tag, form, fields, faults))
 
 
 def language_of(tag):
@@ -151,11 +162,11 @@ def answer(request):
         page = pages.within(f"<p>{said['signed_up']}</p>\n", tag, said["direction"], said["thanks"])
         return 200, fields_of_page(tag), page.encode()
     if request.method != "POST":
-        return 200, fields_of_page(tag), page_of(tag, [], [], language_of(tag)).encode()
+        return 200, fields_of_page(tag), page_of(tag, [], []).encode()
     _, faults = read(FORM, object_of(fields))
     if not faults:
         return 303, (("location", "/thanks"),), b""
-    return 422, fields_of_page(tag), page_of(tag, fields, faults, language_of(tag)).encode()
+    return 422, fields_of_page(tag), page_of(tag, fields, faults).encode()
 
 
 def knows(case):
@@ -185,7 +196,7 @@ def wanted(case):
     welcome, fields, language = WORDS[tag.split("-")[0]][0], fields_of(given), language_of(tag)
     who, faults = read(FORM, object_of(fields))
     if faults:
-        said = page_of(tag, fields, faults, language) if "--page" in case.words else lines(faults, language)
+        said = page_of(tag, fields, faults) if "--page" in case.words else lines(faults, language)
         return 1, said.encode("utf-8"), b""
     said = [f"{welcome}, {quoted(who['name'])} ({who['age']})", *(f"    {topic}" for topic in who["topics"] or ())]
     return 0, "".join(f"{it}\n" for it in said).encode("utf-8"), b""

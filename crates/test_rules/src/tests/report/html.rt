@@ -4,8 +4,9 @@ use crate::tests::report::samples::{have_messages, path_of, report_of};
 use crate::tests::{OrEnd, has_text};
 use garde_html::{
     Control, Field, Form, HtmlText, Page, Piece, field_faults, field_of, form_page, laws,
-    other_faults,
+    other_faults, worded_report,
 };
+use garde_i18n::CodeI18n;
 use garde_report::{Error, Path, Report};
 use std::alloc::Global;
 use std::process::Abort;
@@ -50,7 +51,7 @@ const FAULTS: &[(&str, &str)] = &[
     ("nam>", "unknown"),
     ("name>", "not ASCII"),
     ("x>name>", "deep"),
-    ("plan>", "not sold"),
+    ("plan>", "no such Plan"),
 ];
 
 /// The fields of a page.
@@ -61,7 +62,7 @@ static BESIDE: [(&str, &[&str]); 5] = [
     ("age", &[]),
     ("name", &["short", "not ASCII"]),
     ("topics", &["not known"]),
-    ("plan", &["not sold"]),
+    ("plan", &["no such Plan"]),
     ("x", &["deep"]),
 ];
 
@@ -249,7 +250,7 @@ const FAULTY: &str = "<h1>Sign &amp; up</h1>
 <li><bdi>nam</bdi>: unknown</li>
 <li><a href=\"#field-name\">Name: not ASCII</a></li>
 <li><bdi>x</bdi>: deep</li>
-<li><a href=\"#field-plan\">Plan: not sold</a></li>
+<li><a href=\"#field-plan\">no such Plan</a></li>
 </ul>
 </div>
 <form method=\"post\" action=\"/sign?up\" novalidate>
@@ -290,7 +291,7 @@ const FAULTY: &str = "<h1>Sign &amp; up</h1>
 <label><input type=\"radio\" name=\"plan\" value=\"&gt;\" checked=\"\"> More</label>
 </fieldset>
 <ul class=\"faults\" id=\"faults-plan\">
-<li>not sold</li>
+<li>no such Plan</li>
 </ul>
 </div>
 <div class=\"field\">
@@ -327,6 +328,23 @@ fn a_form_is_a_page(rt: HostRuntime) {
                 FAULTY
             )
     );
+}
+
+#[test]
+fn faults_are_worded(rt: HostRuntime) {
+    let alloc = rt.alloc();
+    let faults = [
+        ("name>", "short"),
+        ("topics>", "few"),
+        ("plan>", "not set"),
+        ("x>", "unknown"),
+    ];
+    let typed = [("name", " \u{3000}"), ("key", "a secret")];
+    let report = report_of(&rt, alloc, &faults);
+    let told = worded_report(alloc, FORM.fields, &typed, &report, &CodeI18n).or_end(&rt);
+    let text =
+        "name: field_empty label=Name\ntopics: few\nplan: field_unchosen label=Plan\nx: unknown\nkey: field_again label=Key\n";
+    assert!(rt; has_text(&rt, alloc, &told, text));
 }
 
 #[test]
